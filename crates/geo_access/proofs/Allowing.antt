@@ -13,7 +13,7 @@ use Rattle.geo_access.specs.declared.counts.Way.TheVariants.{Rises}
 use Rattle.geo_access.specs.declared.order.Order.{Order}
 use Rattle.geo_access.specs.Tries.{Apart}
 use Rattle.geo_access.specs.Access.{granted_by, IsCounted, IsRefusal, IsNamed}
-use Rattle.geo_access.specs.Views.{order_of, finish_geom, IsTried, judged, answer_of}
+use Rattle.geo_access.specs.Views.{order_of, finish_geom, IsTried, judged, grant_answer}
 use Rattle.geo_access.proofs.Trying.{trying}
 use Rattle.geo_access.proofs.Walked.{geoms_below, below_ordered, below_lives, below_covers, tried_order, order_apart}
 use Rattle.geo_access.proofs.Verdict.{IsVerdict}
@@ -78,7 +78,7 @@ module _ {C : Type 0} (t : TopoView C) (sound : IsSoundGraph t.topology) (counte
       (below_covers t sound counted.clear (place t sound counted cons holder add) tried.offer tried.found))).tries
 
   -- the answer is the model's
-  pub its_answer : IsRefusal (answer_of (judged new (place t sound counted cons holder add) add (order_of new o))
+  pub its_answer : IsRefusal (grant_answer (judged new (place t sound counted cons holder add) add (order_of new o))
       cons (place t sound counted cons holder add))
       (grant_refusal (granted_after t sound counted cons holder add) t.topology (place t sound counted cons holder add))
   its_answer =
@@ -97,7 +97,7 @@ module _ {C : Type 0} (t : TopoView C) (sound : IsSoundGraph t.topology) (counte
   -- and names what it has to
   pub its_names : IsNamed (granted_after t sound counted cons holder add) t.topology
       (place t sound counted cons holder add)
-      (answer_of (judged new (place t sound counted cons holder add) add (order_of new o)) cons
+      (grant_answer (judged new (place t sound counted cons holder add) add (order_of new o)) cons
       (place t sound counted cons holder add))
   its_names =
       answer_names its_mesh (place t sound counted cons holder add) cons add (granted_by t)

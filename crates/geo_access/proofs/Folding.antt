@@ -15,7 +15,7 @@ use Rattle.geo_laws_counts.proofs.Members.{in_head, in_tail}
 use Rattle.geo_access.specs.declared.counts.Way.{Way}
 use Rattle.geo_access.specs.declared.counts.Way.TheVariants.{Rises, Falls}
 use Rattle.geo_access.specs.declared.order.Order.{Order}
-use Rattle.geo_access.specs.Views.{links, first_some, mark_at, made_at, order_of, hand, give, gain_of, spread_from, raise_want, raise_wants, finish_provider, finish_geom}
+use Rattle.geo_access.specs.Views.{numbers_along, first_given, mark_at, made_at, order_of, hand, give, gain_of, spread_from, raise_want, raise_wants, finish_provider, finish_geom}
 pub use Rattle.geo_base.proofs.Options.{none_of as none_of_some}
 
 -- Walks
@@ -55,29 +55,30 @@ count_end number xs from_number steps total left done =
 
 module _ {X Y : Type 0} (number : X → ℕ) (f : X → Option Y) (xs : List X) where
   -- at the beginning all is left
-  pub some_begin : first_some f (left_from number 0 xs) ≡ first_some f xs
-  some_begin = ap (first_some f) (WalksMeetAll.begin walks-meet number xs)
+  pub some_begin : first_given f (left_from number 0 xs) ≡ first_given f xs
+  some_begin = ap (first_given f) (WalksMeetAll.begin walks-meet number xs)
 
   -- after an item for which nothing is given
   pub some_more : (from_number id : ℕ) (x : X) (total : Option Y)
       → left_from number from_number xs ≡ x ∷ left_from number (id + 1) xs → f x ≡ None
-      → first_some f (left_from number from_number xs) ≡ total → first_some f (left_from number (id + 1) xs) ≡ total
+      → first_given f (left_from number from_number xs) ≡ total → first_given f (left_from number (id + 1) xs) ≡ total
   some_more from_number id x total left none done =
-      sym (ap (λ o. option_or o (first_some f (left_from number (id + 1) xs))) none)
-      ∙ sym (ap (first_some f) left) ∙ done
+      sym (ap (λ o. option_or o (first_given f (left_from number (id + 1) xs))) none)
+      ∙ sym (ap (first_given f) left) ∙ done
 
   -- at an item for which something is given
   pub some_here : (from_number id : ℕ) (x : X) (total o : Option Y)
       → left_from number from_number xs ≡ x ∷ left_from number (id + 1) xs → f x ≡ o → IsSome o
-      → first_some f (left_from number from_number xs) ≡ total → o ≡ total
+      → first_given f (left_from number from_number xs) ≡ total → o ≡ total
   some_here from_number id x total None left is never done = let no : false ≡ true = never in absurd (cc)
   some_here from_number id x total (Some y) left is some done =
-      sym (ap (λ o. option_or o (first_some f (left_from number (id + 1) xs))) is) ∙ sym (ap (first_some f) left) ∙ done
+      sym (ap (λ o. option_or o (first_given f (left_from number (id + 1) xs))) is) ∙ sym (ap (first_given f) left)
+      ∙ done
 
   -- at the end
   pub some_end : (from_number : ℕ) (total : Option Y) → left_from number from_number xs ≡ []
-      → first_some f (left_from number from_number xs) ≡ total → None ≡ total
-  some_end from_number total left done = sym (ap (first_some f) left) ∙ done
+      → first_given f (left_from number from_number xs) ≡ total → None ≡ total
+  some_end from_number total left done = sym (ap (first_given f) left) ∙ done
 
 module _ {X : Type 0} (number : X → ℕ) (test : X → Bool) (xs : List X) where
   -- the number of the first item left that passes
@@ -127,13 +128,13 @@ module _ {C X : Type 0} (number : X → ℕ) (parts : Topology C → List X) (f 
 -- Orders
 
 -- links that agree along the way are the same
-pub links_same : (next other : ℕ → ℕ) (n x : ℕ) → ((y : ℕ) → Contains (links next n x) y → other y ≡ next y)
-    → links other n x ≡ links next n x
+pub links_same : (next other : ℕ → ℕ) (n x : ℕ) → ((y : ℕ) → Contains (numbers_along next n x) y → other y ≡ next y)
+    → numbers_along other n x ≡ numbers_along next n x
 links_same next other zero x same = refl
 links_same next other (suc n) x same =
-    ap (λ y. x ∷ links other n y) (same x (in_head x (links next n (next x))))
+    ap (λ y. x ∷ numbers_along other n y) (same x (in_head x (numbers_along next n (next x))))
     ∙ ap (λ ys. x ∷ ys)
-    (links_same next other n (next x) (λ y there. same y (in_tail x (links next n (next x)) y there)))
+    (links_same next other n (next x) (λ y there. same y (in_tail x (numbers_along next n (next x)) y there)))
 
 module _ {C : Type 0} (f : TopoView C → ℕ → TopoView C) where
   -- after one geom more, whose step leaves the marks of the rest

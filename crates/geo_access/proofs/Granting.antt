@@ -31,7 +31,7 @@ use Rattle.geo_access.specs.declared.decide.Refused.{Refused}
 use Rattle.geo_access.specs.declared.decide.Refused.TheVariants.{Named, Writer, Exclusive}
 use Rattle.geo_access.specs.declared.refusal.GrantRefusal.TheVariants.{Enxio, Eperm, Eoverflow}
 use Rattle.geo_access.specs.Access.{granted_by, holds_grants, IsCounted, IsHolder, place_of, IsRefusal, IsNamed}
-use Rattle.geo_access.specs.Views.{answer_of}
+use Rattle.geo_access.specs.Views.{grant_answer}
 use Rattle.geo_access.proofs.Verdict.{After, IsVerdict, refused}
 use Rattle.geo_access.proofs.Decided.{consumer_known}
 
@@ -239,7 +239,7 @@ module _ {C : Type 0} (v : TopoView C) (p own : ℕ) (add : Counts) (granted aft
     (ctx : After v.topology p own add granted after u gain more) where
   -- is the model's refusal
   pub answer_refuses : (r : Option Refused) → IsVerdict v p own add granted after u gain more ctx r
-      → IsRefusal (answer_of r own p) (grant_refusal after u p)
+      → IsRefusal (grant_answer r own p) (grant_refusal after u p)
   answer_refuses None says = sym (refused v p own add granted after u gain more ctx None says)
   answer_refuses (Some (Named (Enxio q))) says =
       sym (refused v p own add granted after u gain more ctx (Some (Named (Enxio q))) says)
@@ -256,7 +256,7 @@ pub answer_names : {C : Type 0} (v : TopoView C) (p own : ℕ) (add : Counts) (g
     → Counts) (more : Consumer → Counts)
     (ctx : After v.topology p own add granted after v.topology gain more) (r : Option Refused)
     → IsVerdict v p own add granted after v.topology gain more ctx r
-    → IsNamed after v.topology p (answer_of r own p)
+    → IsNamed after v.topology p (grant_answer r own p)
 answer_names v p own add granted after gain more ctx None says = tt
 answer_names v p own add granted after gain more ctx (Some (Named (Enxio q))) says = says.1
 answer_names v p own add granted after gain more ctx (Some (Named (Eperm q w e))) says = says.2

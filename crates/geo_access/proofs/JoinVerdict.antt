@@ -30,7 +30,7 @@ use Rattle.geo_access.specs.declared.decide.Side.TheVariants.{Writes, Excludes}
 use Rattle.geo_access.specs.declared.refusal.GrantRefusal.TheVariants.{Enxio, Eperm, Eoverflow}
 use Rattle.geo_access.specs.Access.{granted_by}
 use Rattle.geo_access.specs.declared.refusal.JoinRefusal.{JoinRefusal}
-use Rattle.geo_access.specs.Views.{order_of, IsTried, judged, answer_of, give, gain_at, other, first_errored, first_some, fault_in, gathered_from, spread_from}
+use Rattle.geo_access.specs.Views.{order_of, IsTried, judged, grant_answer, give, gain_at, other, first_errored, first_given, fault_in, gathered_from, spread_from}
 use Rattle.geo_access.specs.Join.{IsCountedBut, IsJoinRefusal, IsJoinNamed, join_answer, attach_told, errno_of_join, errored_below, error_answer, attach_answer, demand_answer}
 use Rattle.geo_access.proofs.Judging.{zero_min}
 use Rattle.geo_access.proofs.Trying.{Tries, trying}
@@ -69,7 +69,7 @@ judged_whole v p a b xs is =
     let errors : Option Refused = option_map (λ q. Named (Enxio q)) (first_errored v p xs) in
     let faults : Option Refused =
     option_map (λ r. Named r)
-    (option_or (first_some (fault_in v Exclusion) xs) (first_some (fault_in v Limit) xs)) in
+    (option_or (first_given (fault_in v Exclusion) xs) (first_given (fault_in v Limit) xs)) in
     let judge : Bool → Bool → Option Refused = λ w e.
     option_or errors
     (option_or
@@ -176,7 +176,7 @@ module _ {C : Type 0} (t : Topology C) (c p : ℕ) (granted : ℕ → Counts) wh
     -- the answer to a demand that is judged so
     right_demand : IsPassed → (r : Option Refused)
         → IsVerdict v p c add granted granted (attach t c p) gain more ctx r → SaysError t p r
-        → errored_below r ≡ None → IsRight (demand_answer (answer_of r c p))
+        → errored_below r ≡ None → IsRight (demand_answer (grant_answer r c p))
     right_demand passed None says errors none = (tests_left passed true true says.1 says.2, tt)
     right_demand passed (Some (Named (Enxio q))) says errors none = absurd (cc)
     right_demand passed (Some (Named (Eperm q w e))) says errors none =
@@ -315,7 +315,7 @@ module _ {C : Type 0} (t : TopoView C) (sound : IsSoundGraph t.topology) (cons :
     told_right =
         let errors : SaysError t.topology p its_judgement =
         open_errors t sound (but_told t sound cons counted loose) p offer offered add new o tried in
-        let demand : Result (Unit {0}) JoinRefusal = demand_answer (answer_of its_judgement cons p) in
+        let demand : Result (Unit {0}) JoinRefusal = demand_answer (grant_answer its_judgement cons p) in
         right_error t.topology cons p (granted_by t) its_judgement errors (errored_below its_judgement) refl
         (attach_answer (attach_refusal t.topology cons p) p demand)
         (λ none no_error.

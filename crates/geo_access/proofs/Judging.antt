@@ -16,7 +16,7 @@ use Rattle.geo_laws_counts.proofs.LimitFacts.{of_filter}
 use Rattle.geo_laws_counts.specs.WalkWords.{cap}
 use Rattle.geo_access.specs.declared.decide.Side.{Side}
 use Rattle.geo_access.specs.declared.decide.Side.TheVariants.{Writes, Excludes}
-use Rattle.geo_access.specs.Views.{raised, has_side, other, pair_with, pair_at, lesser, smaller, first_errored, first_some}
+use Rattle.geo_access.specs.Views.{raised, has_side, other, pair_with, pair_at, lesser, smaller, first_errored, first_given}
 
 -- Errors
 
@@ -320,24 +320,24 @@ module _ {C : Type 0} (v : TopoView C) (u : Consumer → Counts)
 -- The first of some that says something
 
 -- where nothing is said of any
-pub first_none : {X Y : Type 0} (f : X → Option Y) (xs : List X) → first_some f xs ≡ None → (x : X) → Contains xs x
+pub first_none : {X Y : Type 0} (f : X → Option Y) (xs : List X) → first_given f xs ≡ None → (x : X) → Contains xs x
     → f x ≡ None
 first_none {X} {Y} f [] none x there = absurd (in_nothing x there)
 first_none {X} {Y} f (y ∷ ys) none x there = step (f y) refl none (λ h rest. first_none f ys h x rest)
   where
-    step : (o : Option Y) → f y ≡ o → option_or o (first_some f ys) ≡ None
-        → (first_some f ys ≡ None → Contains ys x → f x ≡ None) → f x ≡ None
+    step : (o : Option Y) → f y ≡ o → option_or o (first_given f ys) ≡ None
+        → (first_given f ys ≡ None → Contains ys x → f x ≡ None) → f x ≡ None
     step None e h so = elim (in_cases y ys x there) [ inl same ↦ subst (λ z. f z ≡ None) same e | inr rest ↦ so h rest ]
     step (Some z) e h so = absurd (cc)
 
 -- where something is, it is said of one of them
-pub first_of : {X Y : Type 0} (f : X → Option Y) (xs : List X) (r : Y) → first_some f xs ≡ Some r
+pub first_of : {X Y : Type 0} (f : X → Option Y) (xs : List X) (r : Y) → first_given f xs ≡ Some r
     → (x : X) × Contains xs x × (f x ≡ Some r)
 first_of f [] r never = absurd (cc)
 first_of {X} {Y} f (y ∷ ys) r found = step (f y) refl found (first_of f ys r)
   where
-    step : (o : Option Y) → f y ≡ o → option_or o (first_some f ys) ≡ Some r
-        → (first_some f ys ≡ Some r → (x : X) × Contains ys x × (f x ≡ Some r))
+    step : (o : Option Y) → f y ≡ o → option_or o (first_given f ys) ≡ Some r
+        → (first_given f ys ≡ Some r → (x : X) × Contains ys x × (f x ≡ Some r))
         → (x : X) × Contains (y ∷ ys) x × (f x ≡ Some r)
     step None e h so = let rest = so h in (rest.0, in_tail y ys rest.0 rest.1, rest.2)
     step (Some z) e h so = (y, in_head y ys, e ∙ h)

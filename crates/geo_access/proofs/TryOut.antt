@@ -30,7 +30,7 @@ use Rattle.geo_access.specs.declared.counts.Weight.{Weight}
 use Rattle.geo_access.specs.declared.order.Order.{Order}
 use Rattle.geo_access.specs.Tries.{had, made_of}
 use Rattle.geo_access.specs.Access.{clear_scratches}
-use Rattle.geo_access.specs.Views.{Gathered, mark_at, gain_at, have_at, order_of, visit, weigh, gain_of, give, hand, spread_from, gathered_from, links}
+use Rattle.geo_access.specs.Views.{Gathered, mark_at, gain_at, have_at, order_of, visit, weigh, gain_of, give, hand, spread_from, gathered_from, numbers_along}
 use Rattle.geo_access.proofs.Folding.{links_same, spread_marks}
 use Rattle.geo_access.proofs.Trying.{Tries, trying, trying-none, trying-mark, trying-gain, trying-geom, trying-provider, head_or, link_in, kept_order, order_tries, links_order, order_distinct}
 use Rattle.geo_access.proofs.Tried.{trying-same, under_lives, visit_is, made_gain, weigh_is}
@@ -85,7 +85,7 @@ module _ {C : Type 0} (t : TopoView C) (sound : IsSoundGraph t.topology) where
       → ((y : ℕ) → Contains xs y → IsSome (geom_at t.topology y))
       → ((n : ℕ) → s.marks n ≡ link_in end xs n) → order_of (trying t s) (kept_order end xs) ≡ xs
   order_at end xs s order all marks =
-      ap (λ n. links (mark_at (trying t s)) n (head_or end xs)) (order_fits xs order all)
+      ap (λ n. numbers_along (mark_at (trying t s)) n (head_or end xs)) (order_fits xs order all)
       ∙ links_same (link_in end xs) (mark_at (trying t s)) (length xs) (head_or end xs)
       (λ y there. trying-mark t s y
       (all y (subst (λ ys. Contains ys y) (links_order t.topology end xs order) there)) ∙ marks y)

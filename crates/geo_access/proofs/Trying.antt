@@ -18,7 +18,7 @@ use Rattle.geo_laws_counts.specs.WalkWords.{has_number, IsOrder, set_at}
 use Rattle.geo_laws_counts.proofs.Flows.{each_of}
 use Rattle.geo_access.specs.declared.order.Order.{Order}
 use Rattle.geo_access.specs.Access.{clear_scratches}
-use Rattle.geo_access.specs.Views.{links, mark_at, made_at, gain_at}
+use Rattle.geo_access.specs.Views.{numbers_along, mark_at, made_at, gain_at}
 use Rattle.geo_access.proofs.Folding.{links_same}
 
 -- Rows that a function tells
@@ -218,11 +218,11 @@ link_zero end (x ∷ xs) h some each =
 
 -- the marks lead through the order
 pub links_order : {C : Type 0} (t : Topology C) (end : ℕ) (xs : List ℕ) → IsOrder t xs
-    → links (link_in end xs) (length xs) (head_or end xs) ≡ xs
+    → numbers_along (link_in end xs) (length xs) (head_or end xs) ≡ xs
 links_order t end [] order = refl
 links_order t end (x ∷ xs) order =
     ap (λ ys. x ∷ ys)
-    (ap (links (link_in end (x ∷ xs)) (length xs))
+    (ap (numbers_along (link_in end (x ∷ xs)) (length xs))
     (ap (λ b. if b then head_or end xs else link_in end xs x) (eq-eqb x x refl))
     ∙ links_same (link_in end xs) (link_in end (x ∷ xs)) (length xs) (head_or end xs)
     (λ y there.

@@ -31,8 +31,8 @@ use Rattle.geo_access.specs.declared.decide.Refused.{Refused}
 use Rattle.geo_access.specs.declared.decide.Refused.TheVariants.{Named, Writer, Exclusive}
 use Rattle.geo_access.specs.declared.refusal.GrantRefusal.{GrantRefusal}
 use Rattle.geo_access.specs.declared.refusal.GrantRefusal.TheVariants.{Enxio, Eperm, Eoverflow}
-use Rattle.geo_access.specs.Tries.{is_over}
-use Rattle.geo_access.specs.Views.{raised, raised_have, has_side, other, pair_at, fault_at, fault_in, first_errored, first_some, beside_exclusive, beside_writer, against, judged, errno_of_refused}
+use Rattle.geo_access.specs.Tries.{is_too_great}
+use Rattle.geo_access.specs.Views.{raised, raised_have, has_side, other, pair_at, fault_at, fault_in, first_errored, first_given, beside_exclusive, beside_writer, against, judged, errno_of_refused}
 use Rattle.geo_access.proofs.Judging.{errored_at, IsLeastOf, errored_is, other_some, other_none, Clash, Says, pair_says, first_none, first_of}
 
 -- how the state with the demand stands to the one without: consumers at a provider are the one that makes it, or want
@@ -91,7 +91,7 @@ sum_zero_e f (y ∷ ys) x there none =
     ]
 
 -- counts that are stopped are within the limit just where the counts are
-not_over : (a : Counts) → is_over (cap a) ≡ false → IsAtMost a greatest_counts
+not_over : (a : Counts) → is_too_great (cap a) ≡ false → IsAtMost a greatest_counts
 not_over a e =
     within (nat_lt MAX_ACCESS_COUNT (min a.r 4294967295)) (nat_lt MAX_ACCESS_COUNT (min a.w 4294967295))
     (nat_lt MAX_ACCESS_COUNT (min a.e 4294967295)) refl refl refl e
@@ -109,7 +109,7 @@ not_over a e =
     within false false false r w e h = record { r = low a.r r; w = low a.w w; e = low a.e e }
 
 -- and past it just where they are
-is_past : (a : Counts) → is_over (cap a) ≡ true
+is_past : (a : Counts) → is_too_great (cap a) ≡ true
     → (MAX_ACCESS_COUNT < a.r) ⊎ (MAX_ACCESS_COUNT < a.w) ⊎ (MAX_ACCESS_COUNT < a.e)
 is_past a e =
     past (nat_lt MAX_ACCESS_COUNT (min a.r 4294967295)) (nat_lt MAX_ACCESS_COUNT (min a.w 4294967295))
@@ -325,7 +325,7 @@ module _ {C : Type 0} (v : TopoView C) (p own : ℕ) (add : Counts) (granted aft
             )
 
     -- what a fault would say of a provider, where there is none in the order
-    no_fault_at : (asked : Asked) → first_some (fault_in v asked) xs ≡ None → (z : Provider)
+    no_fault_at : (asked : Asked) → first_given (fault_in v asked) xs ≡ None → (z : Provider)
         → Contains v.topology.providers z
         → Contains (below v.topology p) z.number → fault_at v asked z.number ≡ None
     no_fault_at asked none z there near =
@@ -413,7 +413,7 @@ module _ {C : Type 0} (v : TopoView C) (p own : ℕ) (add : Counts) (granted aft
 
     -- where nothing stands in its way, none does in any other's
     none_stand : beside_exclusive v p add ≡ None → beside_writer v p add ≡ None
-        → first_some (fault_in v Exclusion) xs ≡ None → is_exclusive after u ≡ true
+        → first_given (fault_in v Exclusion) xs ≡ None → is_exclusive after u ≡ true
     none_stand no_exclusive no_writer no_fault =
         changed_exclusive granted v.topology after u (below v.topology p) ctx.stays ctx.providers exclusive
         (all_of (λ (z : Provider). Contains (below v.topology p) z.number
@@ -442,19 +442,19 @@ module _ {C : Type 0} (v : TopoView C) (p own : ℕ) (add : Counts) (granted aft
         ]))))
 
     -- where no count is too great
-    none_over : first_some (fault_in v Limit) xs ≡ None → fits_limit after u ≡ true
+    none_over : first_given (fault_in v Limit) xs ≡ None → fits_limit after u ≡ true
     none_over no_fault =
         changed_limit granted v.topology after u (below v.topology p) ctx.stays ctx.providers limit
         (all_of (λ (z : Provider). Contains (below v.topology p) z.number
         → IsAtMost (have after u z.number) greatest_counts) v.topology.providers
         (λ z there near.
-        by z there (is_over (raised_have v z.number)) refl (no_fault_at Limit no_fault z there near)))
+        by z there (is_too_great (raised_have v z.number)) refl (no_fault_at Limit no_fault z there near)))
       where
-        by : (z : Provider) → Contains v.topology.providers z → (b : Bool) → is_over (raised_have v z.number) ≡ b
+        by : (z : Provider) → Contains v.topology.providers z → (b : Bool) → is_too_great (raised_have v z.number) ≡ b
             → ◌≡◌ {A = Option GrantRefusal} (if b then Some (Eoverflow z.number) else None) None
             → IsAtMost (have after u z.number) greatest_counts
         by z there true e f = absurd (cc)
-        by z there false e f = not_over (have after u z.number) (sym (ap is_over (totals z there)) ∙ e)
+        by z there false e f = not_over (have after u z.number) (sym (ap is_too_great (totals z there)) ∙ e)
 
     -- a pair that was found
     pair_stands : HasNoError → (z : Provider) → Contains v.topology.providers z → (r : GrantRefusal) → (x : Bool)
@@ -470,7 +470,7 @@ module _ {C : Type 0} (v : TopoView C) (p own : ℕ) (add : Counts) (granted aft
 
     -- a count that is too great
     over_stands : HasNoError → is_exclusive after u ≡ true → (z : Provider) → Contains v.topology.providers z
-        → (r : GrantRefusal) → (x : Bool) → is_over (raised_have v z.number) ≡ x
+        → (r : GrantRefusal) → (x : Bool) → is_too_great (raised_have v z.number) ≡ x
         → ◌≡◌ {A = Option GrantRefusal} (if x then Some (Eoverflow z.number) else None) (Some r)
         → IsVerdict (Some (Named r))
     over_stands sound fine z there r false e f = absurd (cc)
@@ -478,7 +478,7 @@ module _ {C : Type 0} (v : TopoView C) (p own : ℕ) (add : Counts) (granted aft
         let same : Eoverflow z.number ≡ r = cc in
         let past : (MAX_ACCESS_COUNT < (have after u z.number).r) ⊎ (MAX_ACCESS_COUNT < (have after u z.number).w)
         ⊎ (MAX_ACCESS_COUNT < (have after u z.number).e) =
-        is_past (have after u z.number) (sym (ap is_over (totals z there)) ∙ e) in
+        is_past (have after u z.number) (sym (ap is_too_great (totals z there)) ∙ e) in
         subst (λ q. IsVerdict (Some (Named q))) same (
           sound,
           fine,
@@ -502,7 +502,7 @@ module _ {C : Type 0} (v : TopoView C) (p own : ℕ) (add : Counts) (granted aft
             ]
 
     -- the provider that a fault names
-    fault_of : (asked : Asked) → (r : GrantRefusal) → first_some (fault_in v asked) xs ≡ Some r
+    fault_of : (asked : Asked) → (r : GrantRefusal) → first_given (fault_in v asked) xs ≡ Some r
         → (z : Provider) × Contains v.topology.providers z × (fault_at v asked z.number ≡ Some r)
     fault_of asked r found =
         let x = first_of (fault_in v asked) xs r found in
@@ -511,17 +511,17 @@ module _ {C : Type 0} (v : TopoView C) (p own : ℕ) (add : Counts) (granted aft
 
     -- after the look for what is wrong at providers
     by_limit : HasNoError → is_exclusive after u ≡ true → (o : Option GrantRefusal)
-        → first_some (fault_in v Limit) xs ≡ o → IsVerdict (option_map (λ r. Named r) o)
+        → first_given (fault_in v Limit) xs ≡ o → IsVerdict (option_map (λ r. Named r) o)
     by_limit sound fine None e = (sound, fine, none_over e)
     by_limit sound fine (Some r) e =
         let at = fault_of Limit r e in
-        over_stands sound fine at.0 at.1 r (is_over (raised_have v at.0.number)) refl at.2
+        over_stands sound fine at.0 at.1 r (is_too_great (raised_have v at.0.number)) refl at.2
 
     by_fault : HasNoError → beside_exclusive v p add ≡ None → beside_writer v p add ≡ None
-        → (o : Option GrantRefusal) → first_some (fault_in v Exclusion) xs ≡ o
-        → IsVerdict (option_map (λ r. Named r) (option_or o (first_some (fault_in v Limit) xs)))
+        → (o : Option GrantRefusal) → first_given (fault_in v Exclusion) xs ≡ o
+        → IsVerdict (option_map (λ r. Named r) (option_or o (first_given (fault_in v Limit) xs)))
     by_fault sound no_exclusive no_writer None e =
-        by_limit sound (none_stand no_exclusive no_writer e) (first_some (fault_in v Limit) xs) refl
+        by_limit sound (none_stand no_exclusive no_writer e) (first_given (fault_in v Limit) xs) refl
     by_fault sound no_exclusive no_writer (Some r) e =
         let at = fault_of Exclusion r e in
         pair_stands sound at.0 at.1 r (((raised_have v at.0.number).w == 0)
@@ -550,8 +550,8 @@ module _ {C : Type 0} (v : TopoView C) (p own : ℕ) (add : Counts) (granted aft
     by_writer : HasNoError → beside_exclusive v p add ≡ None → (o : Option Refused) → beside_writer v p add ≡ o
         → IsVerdict (option_or o
         (option_map (λ r. Named r)
-        (option_or (first_some (fault_in v Exclusion) xs) (first_some (fault_in v Limit) xs))))
-    by_writer sound no_exclusive None e = by_fault sound no_exclusive e (first_some (fault_in v Exclusion) xs) refl
+        (option_or (first_given (fault_in v Exclusion) xs) (first_given (fault_in v Limit) xs))))
+    by_writer sound no_exclusive None e = by_fault sound no_exclusive e (first_given (fault_in v Exclusion) xs) refl
     by_writer sound no_exclusive (Some r) e =
         let is = not_writer r e in
         let both = writer_stands is.0 (e ∙ ap (λ q. Some q) is.1) in
@@ -560,7 +560,7 @@ module _ {C : Type 0} (v : TopoView C) (p own : ℕ) (add : Counts) (granted aft
     by_exclusive : HasNoError → (o : Option Refused) → beside_exclusive v p add ≡ o
         → IsVerdict (option_or (option_or o (beside_writer v p add))
         (option_map (λ r. Named r)
-        (option_or (first_some (fault_in v Exclusion) xs) (first_some (fault_in v Limit) xs))))
+        (option_or (first_given (fault_in v Exclusion) xs) (first_given (fault_in v Limit) xs))))
     by_exclusive sound None e = by_writer sound e (beside_writer v p add) refl
     by_exclusive sound (Some r) e =
         let is = not_exclusive r e in
@@ -572,7 +572,7 @@ module _ {C : Type 0} (v : TopoView C) (p own : ℕ) (add : Counts) (granted aft
         → IsVerdict (option_or (option_map (λ q. Named (Enxio q)) o)
         (option_or (against v p add)
         (option_map (λ r. Named r)
-        (option_or (first_some (fault_in v Exclusion) xs) (first_some (fault_in v Limit) xs)))))
+        (option_or (first_given (fault_in v Exclusion) xs) (first_given (fault_in v Limit) xs)))))
     by_error None least =
         by_exclusive
         (any_false (is_errored v.topology) (below v.topology p)

@@ -16,7 +16,7 @@ use Rattle.geo_laws_graph.proofs.Walks.{walks-meet}
 use Rattle.geo_laws_counts.proofs.Members.{in_head}
 use Rattle.geo_laws_counts.proofs.LimitFacts.{of_filter}
 use Rattle.geo_laws_counts.proofs.Numbers.{found_of}
-use Rattle.geo_access.specs.Views.{IsNextConsumer, IsNextProvider, links}
+use Rattle.geo_access.specs.Views.{IsNextConsumer, IsNextProvider, numbers_along}
 pub use Rattle.geo_base.proofs.FindLists.{find-Contains as found_in}
 
 -- the next item of a walk over a part of a list
@@ -137,6 +137,6 @@ offerer_lives t sound p x found =
     (find-Contains (λ (y : Provider). y.number == p) t.providers x found)
 
 -- what holds of all of some links holds of the first
-pub first_link : (P : ℕ → Type 0) (next : ℕ → ℕ) (n x : ℕ) → (n ≡ 0 → ⊥) → All P (links next n x) → P x
+pub first_link : (P : ℕ → Type 0) (next : ℕ → ℕ) (n x : ℕ) → (n ≡ 0 → ⊥) → All P (numbers_along next n x) → P x
 first_link P next zero x some all = absurd (some refl)
-first_link P next (suc n) x some all = All-head P x (links next n (next x)) all
+first_link P next (suc n) x some all = All-head P x (numbers_along next n (next x)) all

@@ -18,15 +18,15 @@ use Rattle.geo_access.specs.declared.refusal.GrantRefusal.{GrantRefusal}
 use Rattle.geo_access.specs.declared.refusal.GrantRefusal.TheVariants.{Enxio, Eperm, Eoverflow}
 
 -- the error of a refused demand
-abbrev pub errno_of : GrantRefusal → Errno
-errno_of (Enxio p) = ENXIO
-errno_of (Eperm p writer exclusive) = EPERM
-errno_of (Eoverflow p) = EOVERFLOW
+abbrev pub grant_errno : GrantRefusal → Errno
+grant_errno (Enxio p) = ENXIO
+grant_errno (Eperm p writer exclusive) = EPERM
+grant_errno (Eoverflow p) = EOVERFLOW
 
 -- the answer to a demand that this refuses, if anything does
 abbrev pub IsRefusal : Result (Unit {0}) GrantRefusal → Option Errno → Type 0
 IsRefusal (Ok _) refusal = refusal ≡ None
-IsRefusal (Err e) refusal = refusal ≡ Some (errno_of e)
+IsRefusal (Err e) refusal = refusal ≡ Some (grant_errno e)
 
 -- whether a write count left zero, and whether it came to zero
 abbrev pub leaves_zero : Counts → Counts → Bool

@@ -20,7 +20,7 @@ use Rattle.geo_access.specs.declared.decide.Refused.{Refused}
 use Rattle.geo_access.specs.declared.decide.Refused.TheVariants.{Named, Writer, Exclusive}
 use Rattle.geo_access.specs.Access.{granted_by, clear_scratches, counted_view, leaves_zero}
 use Rattle.geo_access.specs.Tries.{made_of}
-use Rattle.geo_access.specs.Views.{have_at, answer_of}
+use Rattle.geo_access.specs.Views.{have_at, grant_answer}
 
 -- the error of a refused join
 abbrev pub errno_of_join : JoinRefusal → Errno
@@ -149,4 +149,4 @@ error_answer (Some q) rest = Err (Enxio q)
 -- the answer, by what refuses the demand and by what refuses that the consumer is attached
 abbrev pub join_answer : Option Refused → Option Errno → ℕ → ℕ → Result (Unit {0}) JoinRefusal
 join_answer refused attaching cons prov =
-    error_answer (errored_below refused) (attach_answer attaching prov (demand_answer (answer_of refused cons prov)))
+    error_answer (errored_below refused) (attach_answer attaching prov (demand_answer (grant_answer refused cons prov)))

@@ -13,8 +13,8 @@ use Rattle.geo_access.specs.declared.counts.Way.TheVariants.{Rises, Falls}
 use Rattle.geo_access.specs.declared.counts.Weight.{Weight}
 
 -- whether a count is above what a provider may have
-abbrev pub is_over : Counts → Bool
-is_over a = nat_lt MAX_ACCESS_COUNT a.r || (nat_lt MAX_ACCESS_COUNT a.w || nat_lt MAX_ACCESS_COUNT a.e)
+abbrev pub is_too_great : Counts → Bool
+is_too_great a = nat_lt MAX_ACCESS_COUNT a.r || (nat_lt MAX_ACCESS_COUNT a.w || nat_lt MAX_ACCESS_COUNT a.e)
 
 -- the counts once they are moved by what is gained or lost
 abbrev pub shifted : Way → Counts → Counts → Counts

@@ -28,7 +28,7 @@ use Rattle.geo_access.specs.declared.decide.Refused.TheVariants.{Named, Writer, 
 use Rattle.geo_base.specs.declared.errno.Errno.{Errno}
 use Rattle.geo_base.specs.declared.errno.Errno.TheVariants.{ENXIO, EPERM, EOVERFLOW}
 use Rattle.geo_laws_counts.specs.WalkWords.{cap}
-use Rattle.geo_access.specs.Tries.{is_over, had, shifted, made_of}
+use Rattle.geo_access.specs.Tries.{is_too_great, had, shifted, made_of}
 
 -- a walk over some consumers of the graph comes to this one next
 pub record IsNextConsumer {C : Type 0} (t : Topology C) (xs : List Consumer) (from_number id : ℕ)
@@ -51,14 +51,14 @@ pub record IsNextProvider {C : Type 0} (t : Topology C) (xs : List Provider) (fr
   pub fits : t.next_provider < 2 ^ 64
 
 -- so many numbers, each the one to which the one before leads
-abbrev pub links : (ℕ → ℕ) → ℕ → ℕ → List ℕ
-links next zero x = []
-links next (suc n) x = x ∷ links next n (next x)
+abbrev pub numbers_along : (ℕ → ℕ) → ℕ → ℕ → List ℕ
+numbers_along next zero x = []
+numbers_along next (suc n) x = x ∷ numbers_along next n (next x)
 
 -- the first value that is given for one of the items
-abbrev pub first_some : {X Y : Type 0} → (X → Option Y) → List X → Option Y
-first_some f [] = None
-first_some f (x ∷ xs) = option_or (f x) (first_some f xs)
+abbrev pub first_given : {X Y : Type 0} → (X → Option Y) → List X → Option Y
+first_given f [] = None
+first_given f (x ∷ xs) = option_or (f x) (first_given f xs)
 
 -- whether a write count, or an exclusive count, isn't zero
 abbrev pub has_side : Side → Counts → Bool
@@ -76,11 +76,11 @@ pub record Gathered (C : Type 0) : Type 0 where
   pub order : Order
 
 -- the answer to a consumer at a provider
-abbrev pub answer_of : Option Refused → ℕ → ℕ → Result (Unit {0}) GrantRefusal
-answer_of None cons prov = Ok tt
-answer_of (Some (Named refusal)) cons prov = Err refusal
-answer_of (Some (Writer writer)) cons prov = Err (Eperm prov writer cons)
-answer_of (Some (Exclusive exclusive)) cons prov = Err (Eperm prov cons exclusive)
+abbrev pub grant_answer : Option Refused → ℕ → ℕ → Result (Unit {0}) GrantRefusal
+grant_answer None cons prov = Ok tt
+grant_answer (Some (Named refusal)) cons prov = Err refusal
+grant_answer (Some (Writer writer)) cons prov = Err (Eperm prov writer cons)
+grant_answer (Some (Exclusive exclusive)) cons prov = Err (Eperm prov cons exclusive)
 
 -- the error of what refuses
 abbrev pub errno_of_refused : Refused → Errno
@@ -111,7 +111,7 @@ module _ {C : Type 0} where
 
   -- the geoms of an order
   abbrev pub order_of : TopoView C → Order → List ℕ
-  order_of v o = links (mark_at v) o.count o.head
+  order_of v o = numbers_along (mark_at v) o.count o.head
 
   -- with a geom in front
   abbrev pub put_geom : ℕ → Gathered C → Gathered C
@@ -230,11 +230,11 @@ module _ {C : Type 0} where
       if ((raised_have v q).w == 0) || ((raised_have v q).e == 0)
       then None
       else option_map (λ ab. Eperm q ab.0 ab.1) (pair_at v q)
-  fault_at v Limit q = if is_over (raised_have v q) then Some (Eoverflow q) else None
+  fault_at v Limit q = if is_too_great (raised_have v q) then Some (Eoverflow q) else None
 
   -- what is wrong at the first provider of a geom, or of some geoms, where something is wrong
   abbrev pub fault_in : TopoView C → Asked → ℕ → Option GrantRefusal
-  fault_in v asked x = first_some (λ y. fault_at v asked y.number) (providers_of v.topology x)
+  fault_in v asked x = first_given (λ y. fault_at v asked y.number) (providers_of v.topology x)
 
   -- of a provider and those to which consumers of these geoms are attached, the smallest with an error
   abbrev pub first_errored : TopoView C → ℕ → List ℕ → Option ℕ
@@ -260,7 +260,8 @@ module _ {C : Type 0} where
   judged v p add xs =
       option_or (option_map (λ q. Named (Enxio q)) (first_errored v p xs))
       (option_or (against v p add)
-      (option_map (λ r. Named r) (option_or (first_some (fault_in v Exclusion) xs) (first_some (fault_in v Limit) xs))))
+      (option_map (λ r. Named r)
+      (option_or (first_given (fault_in v Exclusion) xs) (first_given (fault_in v Limit) xs))))
 
   -- The end of a walk
 

@@ -2,7 +2,7 @@
 ghost use Rattle.std.specs.Prelude.{◌≡◌, ◌&&◌, ◌||◌, not};
 ghost use Rattle.geo_model.specs.Demand.{add_counts, no_counts, is_zero};
 ghost use Rattle.geo_laws_counts.specs.CountWords.{more_counts};
-ghost use Rattle.geo_access.specs.Tries.{is_over, had, shifted, made_of, exclusive_where};
+ghost use Rattle.geo_access.specs.Tries.{is_too_great, had, shifted, made_of, exclusive_where};
 ghost use Rattle.geo_laws_counts.specs.WalkWords.{cap};
 
 use geo_base::{Counts, Kind, MAX_ACCESS_COUNT};
@@ -57,7 +57,7 @@ pub fn is_zero(a: Counts) -> bool
 
 /// Whether a count is above what a provider may have.
 pub fn is_over(a: Counts) -> bool
-    ensures { result ≡ is_over a }
+    ensures { result ≡ is_too_great a }
 {
     a.r > MAX_ACCESS_COUNT || (a.w > MAX_ACCESS_COUNT || a.e > MAX_ACCESS_COUNT)
 }

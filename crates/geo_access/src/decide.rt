@@ -5,7 +5,7 @@ ghost use Rattle.geo_model.specs.Topology.{geom_at, provider_at, consumer_at, pr
 ghost use Rattle.geo_mesh.specs.Cells.{consumer_seen};
 ghost use Rattle.geo_model.specs.Demand.{add_counts};
 ghost use Rattle.geo_laws_counts.specs.WalkWords.{cap};
-ghost use Rattle.geo_access.specs.Views.{CountsTell, answer_of, errno_of_refused, judged, against, beside_exclusive, beside_writer, have_at, want_at, made_at, order_of, lesser, raised, has_side, other, second_pair, pair_with, pair_at, raised_have, fault_at, fault_in, first_some};
+ghost use Rattle.geo_access.specs.Views.{CountsTell, grant_answer, errno_of_refused, judged, against, beside_exclusive, beside_writer, have_at, want_at, made_at, order_of, lesser, raised, has_side, other, second_pair, pair_with, pair_at, raised_have, fault_at, fault_in, first_given};
 
 use crate::counts::{NO_COUNTS, add, is_over};
 use crate::order::{Order, take};
@@ -112,7 +112,7 @@ fn have_of<C>(topo: &Topo<C>, prov: ProvId) -> Counts
 
 /// The answer to a consumer at the provider.
 pub fn answer(refused: Option<Refused>, cons: ConsId, prov: ProvId) -> Result<(), GrantRefusal>
-    ensures { result ≡ answer_of refused cons prov }
+    ensures { result ≡ grant_answer refused cons prov }
 {
     match refused {
         Some(why) => Err(refusal(why, cons, prov)),
@@ -122,7 +122,7 @@ pub fn answer(refused: Option<Refused>, cons: ConsId, prov: ProvId) -> Result<()
 
 /// What a consumer at the provider is told of what refuses.
 pub fn refusal(why: Refused, cons: ConsId, prov: ProvId) -> GrantRefusal
-    ensures { answer_of (Some why) cons prov ≡ Err result }
+    ensures { grant_answer (Some why) cons prov ≡ Err result }
 {
     match why {
         Refused::Named(refusal) => refusal,
@@ -207,7 +207,7 @@ fn lesser<C>(topo: &Topo<C>, best: Option<ProvId>, prov: ProvId) -> Option<ProvI
 // What is wrong at a provider of the order's geoms, if anything is.
 fn first_fault<C>(topo: &Topo<C>, order: Order, asked: Asked) -> Option<GrantRefusal>
     requires { All (λ x. IsSome (geom_at topo.now.topology x)) (order_of topo.now order) }
-    ensures { result ≡ first_some (fault_in topo.now asked) (order_of topo.now order) }
+    ensures { result ≡ first_given (fault_in topo.now asked) (order_of topo.now order) }
 {
     let mut rest = order;
     while let Some(geom) = take(topo, &mut rest) {

@@ -8,7 +8,7 @@ ghost use Rattle.geo_model.specs.Opens.{join_refusal};
 ghost use Rattle.geo_slots.specs.Slots.{value_at};
 ghost use Rattle.geo_mesh.specs.Topo.{with_topology};
 ghost use Rattle.geo_mesh.specs.Graph.{IsSoundGraph};
-ghost use Rattle.geo_mesh.specs.Refusals.{errno_of};
+ghost use Rattle.geo_mesh.specs.Refusals.{attach_errno};
 ghost use Rattle.geo_access.specs.Access.{IsCounted, IsQuiet, granted_by, consumers_below, noted};
 ghost use Rattle.geo_access.specs.Join.{IsLoose, IsCountedBut, IsPlacedBut, IsJoinRefusal, IsJoinNamed, joined_view, with_have_of, wanted, demand_told, attach_told, errored_of, errored_below, join_answer};
 
@@ -125,7 +125,7 @@ fn errored_of(why: &GrantRefusal) -> Option<ProvId>
 
 // Why the consumer isn't attached.
 fn not_attached(why: AttachRefusal, prov: ProvId) -> JoinRefusal
-    ensures { result ≡ attach_told (errno_of why) prov }
+    ensures { result ≡ attach_told (attach_errno why) prov }
 {
     match why {
         AttachRefusal::Enxio => JoinRefusal::Enxio { prov },

@@ -6,7 +6,7 @@ use Rattle.std.proofs.lemmas.Fmt.{decimal_by_steps}
 use Rattle.std.proofs.lemmas.List.{length-replicate, replicate-append-replicate}
 use Rattle.std.proofs.lemmas.List.Elements.{recursion_from_All}
 use Rattle.geo_base.specs.Runs.{hex_digit, run_text, IsRuns}
-use Rattle.geo_base.specs.RunsReader.{Reading, last_of, high_place, byte_place, times_place, inside_run, ended_run, read_on}
+use Rattle.geo_base.specs.RunsReader.{Reading, last_of, high_place, byte_place, times_place, inside_run, ended_run, read_one_more}
 use Rattle.geo_base.specs.declared.runs.Place.{Place}
 use Rattle.geo_base.specs.declared.runs.Place.TheVariants.{Start, High, Byte, Times}
 use Rattle.geo_base.proofs.RunsLemmas.{run, text_after, text_after-same, text_after-other, runs_text-after}
@@ -19,7 +19,7 @@ at_place place bytes = record { place = place; bytes = bytes }
 -- what is read behind these bytes
 abbrev onward : Option Reading → ℕ → Option Reading
 onward None b = None
-onward (Some r) b = read_on r.place r.bytes b
+onward (Some r) b = read_one_more r.place r.bytes b
 
 abbrev pub read_more : Option Reading → List ℕ → Option Reading
 read_more o [] = o
@@ -42,25 +42,25 @@ pub record EndsRun (o : Option Reading) (all : List ℕ) : Type 0 where
   pub stands : o ≡ Some (at_place (Times byte times) done)
   pub whole : done ++ replicate times byte ≡ all
 
-read-high : (bytes : List ℕ) (h : ℕ) → h < 16 → read_on Start bytes (hex_digit h) ≡ Some (at_place (High h) bytes)
-unfolding read_on
+read-high : (bytes : List ℕ) (h : ℕ) → h < 16 → read_one_more Start bytes (hex_digit h) ≡ Some (at_place (High h) bytes)
+unfolding read_one_more
 read-high bytes h lt = ap (λ o. inside_run bytes (high_place o)) (hex_value-digit h lt)
 
 read-low : (bytes : List ℕ) (v : ℕ) → v < 256 → (last_of bytes == v) ≡ false
-    → read_on (High (v / 16)) bytes (hex_digit (v % 16)) ≡ Some (at_place (Byte v) bytes)
-unfolding read_on byte_place
+    → read_one_more (High (v / 16)) bytes (hex_digit (v % 16)) ≡ Some (at_place (Byte v) bytes)
+unfolding read_one_more byte_place
 read-low bytes v byte other =
     let parts : 16 * (v / 16) + v % 16 ≡ v = omega arith in
     let low : v % 16 < 16 = omega arith in
     ap (λ o. inside_run bytes (byte_place bytes (v / 16) o)) (hex_value-digit (v % 16) low) ∙ rw (parts, other) refl
 
-read-star : (bytes : List ℕ) (v : ℕ) → read_on (Byte v) bytes 42 ≡ Some (at_place (Times v 0) bytes)
-unfolding read_on
+read-star : (bytes : List ℕ) (v : ℕ) → read_one_more (Byte v) bytes 42 ≡ Some (at_place (Times v 0) bytes)
+unfolding read_one_more
 read-star bytes v = refl
 
 read-digit : (bytes : List ℕ) (v n m d : ℕ) → d < 10 → m ≡ 10 * n + d → 1 ≤ m → length bytes + m ≤ MAX_RUNS_BYTES
-    → read_on (Times v n) bytes (48 + d) ≡ Some (at_place (Times v m) bytes)
-unfolding read_on times_place
+    → read_one_more (Times v n) bytes (48 + d) ≡ Some (at_place (Times v m) bytes)
+unfolding read_one_more times_place
 read-digit bytes v n m d small e some few =
     let not_space : (48 + d == 32) ≡ false = grind (arith, nat_tests) in
     let value : 10 * n + (48 + d - 48) ≡ m = omega arith in
@@ -69,8 +69,8 @@ read-digit bytes v n m d small e some few =
     rw (not_space, value, good) refl
 
 read-space : (bytes : List ℕ) (v n : ℕ) → 1 ≤ n → length bytes + n < MAX_RUNS_BYTES
-    → read_on (Times v n) bytes 32 ≡ Some (at_place Start (bytes ++ replicate n v))
-unfolding read_on ended_run
+    → read_one_more (Times v n) bytes 32 ≡ Some (at_place Start (bytes ++ replicate n v))
+unfolding read_one_more ended_run
 read-space bytes v n some few =
     let good : (nat_le 1 n && nat_lt (length bytes + n) MAX_RUNS_BYTES) ≡ true = grind (arith, nat_tests) in
     rw good refl

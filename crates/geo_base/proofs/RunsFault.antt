@@ -4,7 +4,7 @@ use Rattle.std.proofs.lemmas.List.{take-append-drop, take-take, take_all, length
 use Rattle.std.proofs.Math.Seq.{take-length, take-suc}
 use Rattle.std.proofs.lemmas.Grind.{get_or_default_zero}
 use Rattle.geo_base.specs.Runs.{IsRuns, BeginsRuns, IsRunsFault, runs_text}
-use Rattle.geo_base.specs.RunsReader.{Reading, read_on}
+use Rattle.geo_base.specs.RunsReader.{Reading, read_one_more}
 use Rattle.geo_base.specs.declared.runs.Place.{Place}
 use Rattle.geo_base.specs.declared.runs.Place.TheVariants.{Start, High, Byte, Times}
 use Rattle.geo_base.proofs.RunsReach.{Reached, reached-begins, reached-next}
@@ -16,14 +16,14 @@ from_start text = read_more (Some (at_place Start [])) text
 
 -- one byte more
 pub from_start-next : (text : List ℕ) (place next : Place) (bytes more : List ℕ) (b : ℕ)
-    → from_start text ≡ Some (at_place place bytes) → read_on place bytes b ≡ Some (at_place next more)
+    → from_start text ≡ Some (at_place place bytes) → read_one_more place bytes b ≡ Some (at_place next more)
     → from_start (text ++ b ∷ []) ≡ Some (at_place next more)
 from_start-next text place next bytes more b e f = read_more-append (Some (at_place Start [])) text (b ∷ [])
     ∙ ap (λ o. read_more o (b ∷ [])) e ∙ f
 
 -- no text of runs goes on with a byte that isn't taken
 stuck : (text : List ℕ) (place : Place) (bytes : List ℕ) (b : ℕ) (rest all runs : List ℕ)
-    → from_start text ≡ Some (at_place place bytes) → read_on place bytes b ≡ None → all ≡ text ++ (b ∷ rest)
+    → from_start text ≡ Some (at_place place bytes) → read_one_more place bytes b ≡ None → all ≡ text ++ (b ∷ rest)
     → IsRuns all runs → ⊥
 stuck text place bytes b rest all runs e f g r =
     let ends = runs-end all runs r in
@@ -59,7 +59,7 @@ split_at n i text lt le =
 
 -- a byte that isn't taken is a fault
 pub fault-at : (text bytes : List ℕ) (place : Place) (i : ℕ) → i < length text → Reached place bytes (take i text)
-    → from_start (take i text) ≡ Some (at_place place bytes) → read_on place bytes (get_or text i 0) ≡ None
+    → from_start (take i text) ≡ Some (at_place place bytes) → read_one_more place bytes (get_or text i 0) ≡ None
     → IsRunsFault text i
 fault-at text bytes place i lt r e f = record {
   not_runs = λ runs is.
@@ -95,7 +95,7 @@ fault-end text bytes place r e open_ = record {
 
 -- one byte more is read
 pub next-reached : (text bytes more : List ℕ) (place next : Place) (i : ℕ) → i < length text
-    → Reached place bytes (take i text) → read_on place bytes (get_or text i 0) ≡ Some (at_place next more)
+    → Reached place bytes (take i text) → read_one_more place bytes (get_or text i 0) ≡ Some (at_place next more)
     → Reached next more (take (i + 1) text)
 next-reached text bytes more place next i lt r e =
     subst (Reached next more) (sym (rw add-one (take-suc text i 0 lt)))
@@ -103,7 +103,7 @@ next-reached text bytes more place next i lt r e =
 
 pub next-ran : (text bytes more : List ℕ) (place next : Place) (i : ℕ) → i < length text
     → from_start (take i text) ≡ Some (at_place place bytes)
-    → read_on place bytes (get_or text i 0) ≡ Some (at_place next more)
+    → read_one_more place bytes (get_or text i 0) ≡ Some (at_place next more)
     → from_start (take (i + 1) text) ≡ Some (at_place next more)
 next-ran text bytes more place next i lt e f =
     let longer : take (i + 1) text ≡ take i text ++ (get_or text i 0 ∷ []) = rw add-one (take-suc text i 0 lt) in

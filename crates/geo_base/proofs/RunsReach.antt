@@ -6,7 +6,7 @@ use Rattle.std.proofs.lemmas.Fmt.{decimal_digit, decimal_step}
 use Rattle.std.proofs.lemmas.List.{length-replicate, get_or-append-add, get_or-replicate}
 use Rattle.std.proofs.lemmas.List.Elements.{All-append, All-replicate, All-nil}
 use Rattle.geo_base.specs.Runs.{hex_digit, run_text, runs_text, IsRuns, BeginsRuns}
-use Rattle.geo_base.specs.RunsReader.{Reading, IsPlace, last_of, hex_value, high_place, byte_place, star_place, times_place, inside_run, ended_run, read_on}
+use Rattle.geo_base.specs.RunsReader.{Reading, IsPlace, last_of, hex_digit_value, high_place, byte_place, star_place, times_place, inside_run, ended_run, read_one_more}
 use Rattle.geo_base.specs.declared.runs.Place.{Place}
 use Rattle.geo_base.specs.declared.runs.Place.TheVariants.{Start, High, Byte, Times}
 use Rattle.geo_base.proofs.RunsLemmas.{run, runs_one, runs_more}
@@ -61,22 +61,22 @@ reached-place (High h) bytes text r = r.fits
 reached-place (Byte v) bytes text r = tt
 reached-place (Times v n) bytes text r = tt
 
-hex_value-tells : (b h : ℕ) → hex_value b ≡ Some h → (h < 16) × (hex_digit h ≡ b)
-unfolding hex_value
+hex_value-tells : (b h : ℕ) → hex_digit_value b ≡ Some h → (h < 16) × (hex_digit h ≡ b)
+unfolding hex_digit_value
 hex_value-tells b h e = (grind (arith, nat_tests), grind (arith, nat_tests))
 
-pub hex_value-digit : (h : ℕ) → h < 16 → hex_value (hex_digit h) ≡ Some h
-unfolding hex_value
+pub hex_value-digit : (h : ℕ) → h < 16 → hex_digit_value (hex_digit h) ≡ Some h
+unfolding hex_digit_value
 hex_value-digit h lt = grind (arith, nat_tests)
 
 longer : (text pre s : List ℕ) (b : ℕ) (t : List ℕ) → text ≡ pre ++ s → s ++ b ∷ [] ≡ t → text ++ b ∷ [] ≡ pre ++ t
 longer text pre s b t e f = ap (λ l. l ++ b ∷ []) e ∙ append_assoc pre s (b ∷ []) ∙ ap (λ l. pre ++ l) f
 
 start-on : (bytes text : List ℕ) (b : ℕ) → Reached Start bytes text
-    → IfSome (high_place (hex_value b)) (λ q. Reached q bytes (text ++ b ∷ []))
-start-on bytes text b r = into (hex_value b) refl
+    → IfSome (high_place (hex_digit_value b)) (λ q. Reached q bytes (text ++ b ∷ []))
+start-on bytes text b r = into (hex_digit_value b) refl
   where
-    into : (o : Option ℕ) → hex_value b ≡ o → IfSome (high_place o) (λ q. Reached q bytes (text ++ b ∷ []))
+    into : (o : Option ℕ) → hex_digit_value b ≡ o → IfSome (high_place o) (λ q. Reached q bytes (text ++ b ∷ []))
     into None e = tt
     into (Some h) e =
         let told = hex_value-tells b h e in
@@ -91,11 +91,12 @@ start-on bytes text b r = into (hex_value b) refl
         }
 
 high-on : (bytes text : List ℕ) (h b : ℕ) → Reached (High h) bytes text
-    → IfSome (byte_place bytes h (hex_value b)) (λ q. Reached q bytes (text ++ b ∷ []))
+    → IfSome (byte_place bytes h (hex_digit_value b)) (λ q. Reached q bytes (text ++ b ∷ []))
 unfolding byte_place
-high-on bytes text h b r = into (hex_value b) refl
+high-on bytes text h b r = into (hex_digit_value b) refl
   where
-    into : (o : Option ℕ) → hex_value b ≡ o → IfSome (byte_place bytes h o) (λ q. Reached q bytes (text ++ b ∷ []))
+    into : (o : Option ℕ) → hex_digit_value b ≡ o
+        → IfSome (byte_place bytes h o) (λ q. Reached q bytes (text ++ b ∷ []))
     into None e = tt
     into (Some l) e = among (last_of bytes == 16 * h + l) refl
       where
@@ -247,10 +248,11 @@ inside-on bytes text (Some q) h = h
 
 -- one byte more is read
 reached-on : (place : Place) (bytes text : List ℕ) (b : ℕ) → Reached place bytes text
-    → IfSome (read_on place bytes b) (λ x. Reached x.place x.bytes (text ++ b ∷ []))
-unfolding read_on
-reached-on Start bytes text b r = inside-on bytes _ (high_place (hex_value b)) (start-on bytes text b r)
-reached-on (High h) bytes text b r = inside-on bytes _ (byte_place bytes h (hex_value b)) (high-on bytes text h b r)
+    → IfSome (read_one_more place bytes b) (λ x. Reached x.place x.bytes (text ++ b ∷ []))
+unfolding read_one_more
+reached-on Start bytes text b r = inside-on bytes _ (high_place (hex_digit_value b)) (start-on bytes text b r)
+reached-on (High h) bytes text b r = inside-on bytes _ (byte_place bytes h (hex_digit_value b))
+    (high-on bytes text h b r)
 reached-on (Byte v) bytes text b r = inside-on bytes _ (star_place v b) (byte-on bytes text v b r)
 reached-on (Times v n) bytes text b r = into (b == 32) refl
   where
@@ -264,7 +266,7 @@ reached-on (Times v n) bytes text b r = into (b == 32) refl
         subst P (sym space) (space-on bytes text v n r)
 
 pub reached-next : (place next : Place) (bytes more text : List ℕ) (b : ℕ) → Reached place bytes text
-    → read_on place bytes b ≡ Some (record { place = next; bytes = more }) → Reached next more (text ++ b ∷ [])
+    → read_one_more place bytes b ≡ Some (record { place = next; bytes = more }) → Reached next more (text ++ b ∷ [])
 reached-next place next bytes more text b r e =
     let P : Option Reading → Type 0 = λ o. IfSome o (λ x. Reached x.place x.bytes (text ++ b ∷ [])) in
     subst P e (reached-on place bytes text b r)

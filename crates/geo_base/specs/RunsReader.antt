@@ -21,8 +21,8 @@ abbrev pub last_of : List ℕ → ℕ
 last_of bytes = slice_index_or bytes (length bytes - 1) 256
 
 -- what a digit in lower case is worth
-unfoldable pub hex_value : ℕ → Option ℕ
-hex_value b =
+unfoldable pub hex_digit_value : ℕ → Option ℕ
+hex_digit_value b =
     if nat_le 48 b && nat_le b 57
     then Some (b - 48)
     else (if nat_le 97 b && nat_le b 102 then Some (b - 87) else None)
@@ -62,9 +62,9 @@ ended_run bytes byte times =
     else None
 
 -- behind one byte more
-unfoldable pub read_on : Place → List ℕ → ℕ → Option Reading
-read_on Start bytes b = inside_run bytes (high_place (hex_value b))
-read_on (High high) bytes b = inside_run bytes (byte_place bytes high (hex_value b))
-read_on (Byte byte) bytes b = inside_run bytes (star_place byte b)
-read_on (Times byte times) bytes b =
+unfoldable pub read_one_more : Place → List ℕ → ℕ → Option Reading
+read_one_more Start bytes b = inside_run bytes (high_place (hex_digit_value b))
+read_one_more (High high) bytes b = inside_run bytes (byte_place bytes high (hex_digit_value b))
+read_one_more (Byte byte) bytes b = inside_run bytes (star_place byte b)
+read_one_more (Times byte times) bytes b =
     if b == 32 then ended_run bytes byte times else inside_run bytes (times_place bytes byte times b)

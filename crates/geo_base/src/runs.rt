@@ -1,7 +1,7 @@
 //! Texts of bytes: runs `BB*N`, one for each stretch of equal bytes, with a space between.
 ghost use Rattle.std.specs.Prelude.{◌≡◌, ◌+◌, ◌++◌, ◌≤◌, ◌<◌, ◌^◌, ◌==◌, length, replicate, IfOk, OnOk, IfSome, MatchOption, MatchResult, None, Some, List, ℕ};
 ghost use Rattle.geo_base.specs.Runs.{hex_digit, run_text, runs_text, IsRuns, IsRunsRefusal};
-ghost use Rattle.geo_base.specs.RunsReader.{IsPlace, last_of, hex_value, high_place, byte_place, times_place, ended_run, read_on};
+ghost use Rattle.geo_base.specs.RunsReader.{IsPlace, last_of, hex_digit_value, high_place, byte_place, times_place, ended_run, read_one_more};
 
 use crate::block::{Block, NoMemory};
 use crate::limits::MAX_RUNS_BYTES;
@@ -83,9 +83,9 @@ enum Place {
 }
 
 /// What a hexadecimal digit in lower case is worth.
-#[tactic(auto, unfolding(crate::specs::RunsReader::hex_value))]
+#[tactic(auto, unfolding(crate::specs::RunsReader::hex_digit_value))]
 fn hex_value(b: u8) -> Option<u8>
-    ensures value { result ≡ hex_value b }
+    ensures value { result ≡ hex_digit_value b }
     ensures below { IfSome result (λ n. n < 16) }
 {
     match b {
@@ -97,7 +97,7 @@ fn hex_value(b: u8) -> Option<u8>
 
 /// The place behind the first digit of a byte.
 fn high_place(b: u8) -> Option<Place>
-    ensures { result ≡ high_place (hex_value b) }
+    ensures { result ≡ high_place (hex_digit_value b) }
 {
     Some(Place::High(hex_value(b)?))
 }
@@ -169,12 +169,12 @@ fn push_bytes(bytes: &mut Vec<u8>, byte: u8, times: usize) -> Result<(), NoMemor
 }
 
 /// The place behind one byte more, if a text of runs goes on so. The bytes of a run that ends are kept.
-#[tactic(auto, unfolding(crate::specs::RunsReader::read_on))]
+#[tactic(auto, unfolding(crate::specs::RunsReader::read_one_more))]
 fn read_on(bytes: &mut Vec<u8>, place: Place, b: u8) -> Result<Option<Place>, NoMemory>
     requires { IsPlace place }
     ensures { IfOk result
-        (λ found. MatchOption found (read_on place bytes.old.items b ≡ None)
-        (λ next. read_on place bytes.old.items b ≡ Some (record { place = next; bytes = bytes.new.items }))) }
+        (λ found. MatchOption found (read_one_more place bytes.old.items b ≡ None)
+        (λ next. read_one_more place bytes.old.items b ≡ Some (record { place = next; bytes = bytes.new.items }))) }
 {
     match place {
         Place::Times(byte, times) if b == b' ' => end_run(bytes, byte, times),

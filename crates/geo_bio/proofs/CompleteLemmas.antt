@@ -21,7 +21,7 @@ use Rattle.geo_bio.specs.declared.bio.Bio.{Bio}
 use Rattle.geo_bio.specs.declared.bio.Held.{Held}
 use Rattle.geo_bio.specs.declared.bio.Held.TheVariants as held
 use Rattle.geo_bio.specs.BioTable.{bio_among, with_phase}
-use Rattle.geo_bio.specs.Rows.{seen, seen_row, at_phase, ended, Child, child_of, family, FollowFrom, HasFamily, WaitsIn, IsTable}
+use Rattle.geo_bio.specs.Rows.{as_bio, seen_row, at_phase, up_holding, Child, child_of, family, FollowFrom, HasFamily, WaitsIn, IsTable}
 use Rattle.geo_bio.specs.Gather.{held_error, error_from, bytes_from, without_all, held_of_parts, held_from}
 use Rattle.geo_bio.specs.Up.{resolved, held_as, gathered, completed}
 use Rattle.geo_bio.proofs.ValueLemmas.{value_at-with_value_same, value_at-with_value_other}
@@ -350,32 +350,33 @@ module _ (rows : List (ℕ × Bio)) (next n p k : ℕ) (x y : Bio) (t : IsTable 
   module _ (h : Held) where
     -- the rows once the parent is complete
     abbrev pub complete_rows : List (ℕ × Bio)
-    complete_rows = with_value (without_all rows y.first_child y.children) p (ended h y)
+    complete_rows = with_value (without_all rows y.first_child y.children) p (up_holding h y)
 
     abbrev ended_rows : List (ℕ × Bio)
-    ended_rows = with_value rows p (ended h y)
+    ended_rows = with_value rows p (up_holding h y)
 
     complete_is : complete_rows ≡ others ended_rows p
-    complete_is = ap (λ r. with_value r p (ended h y)) gone
-        ∙ sym (others-with_value p p y (ended h y) 1 rows next t.rising u.parent no_child no_child)
+    complete_is = ap (λ r. with_value r p (up_holding h y)) gone
+        ∙ sym (others-with_value p p y (up_holding h y) 1 rows next t.rising u.parent no_child no_child)
 
-    at_parent : value_at ended_rows p ≡ Some (ended h y)
-    at_parent = value_at-with_value_same p y (ended h y) rows u.parent
+    at_parent : value_at ended_rows p ≡ Some (up_holding h y)
+    at_parent = value_at-with_value_same p y (up_holding h y) rows u.parent
 
     families : (m : ℕ) (z : Bio) → value_at ended_rows m ≡ Some z → not (is_child_of z.owner p) ≡ true
         → HasFamily (family (others ended_rows p) m) z
     families m z at keeps =
         elim (cases_eq m p) [
           | inl here ↦
-              let z_is : ended h y ≡ z = same_Some _ _ (sym at_parent ∙ ap (value_at ended_rows) (sym here) ∙ at) in
+              let z_is : up_holding h y
+              ≡ z = same_Some _ _ (sym at_parent ∙ ap (value_at ended_rows) (sym here) ∙ at) in
               let none : family (others ended_rows p) m ≡ [] = ap (family (others ended_rows p)) here
               ∙ family-others_none p ended_rows in
               rw (← z_is) none
           | inr other ↦
               let same_kin =
-              family-with_value m p y (ended h y) 1 rows next t.rising u.parent
+              family-with_value m p y (up_holding h y) 1 rows next t.rising u.parent
               (ap (λ b. child_of m p b y.owner) (sym (waiting_not_done y.phase u.waits))) in
-              let was = t.families m z (sym (value_at-with_value_other p m (ended h y) rows other) ∙ at) in
+              let was = t.families m z (sym (value_at-with_value_other p m (up_holding h y) rows other) ∙ at) in
               subst (λ f. HasFamily f z) (sym (family-others p m ended_rows other ∙ same_kin)) was
         ]
 
@@ -385,19 +386,20 @@ module _ (rows : List (ℕ × Bio)) (next n p k : ℕ) (x y : Bio) (t : IsTable 
     parents m z q j at keeps of =
         let w : WaitsIn rows q = elim (cases_eq m p) [
           | inl here ↦
-              let z_is : ended h y ≡ z = same_Some _ _ (sym at_parent ∙ ap (value_at ended_rows) (sym here) ∙ at) in
+              let z_is : up_holding h y
+              ≡ z = same_Some _ _ (sym at_parent ∙ ap (value_at ended_rows) (sym here) ∙ at) in
               t.parents p y q j u.parent (ap (λ (v : Bio). v.owner) z_is ∙ of)
-          | inr other ↦ t.parents m z q j (sym (value_at-with_value_other p m (ended h y) rows other) ∙ at) of
+          | inr other ↦ t.parents m z q j (sym (value_at-with_value_other p m (up_holding h y) rows other) ∙ at) of
         ] in
         let differs : q ≢ p = λ same. let own : is_child_of z.owner p ≡ true = ap (λ o. is_child_of o p) of
         ∙ rw (eq-eqb q p same) refl in let e = sym (ap not own) ∙ keeps in absurd (cc) in
-        (w.0, value_at-with_value_other p q (ended h y) rows differs ∙ w.1, w.2, ap not (stays q w.0 w.1 w.2))
+        (w.0, value_at-with_value_other p q (up_holding h y) rows differs ∙ w.1, w.2, ap not (stays q w.0 w.1 w.2))
 
     pub table_complete : IsTable complete_rows next
     table_complete =
         subst (λ r. IsTable r next) (sym complete_is)
         (table_kept (λ row. not (is_child_of row.1.owner p)) ended_rows next
-        (IsRising-with_value p (ended h y) 1 rows next t.rising) families parents)
+        (IsRising-with_value p (up_holding h y) 1 rows next t.rising) families parents)
 
     seen_complete : filter (λ z. not (is_child_of z.owner p))
         (change_number p (up_with h) (change_number n (with_phase phases.Done) (map seen_row rows)))
@@ -408,18 +410,18 @@ module _ (rows : List (ℕ × Bio)) (next n p k : ℕ) (x y : Bio) (t : IsTable 
         let at = parent_done rows next n p k x y t u in
         let own : is_child_of x.owner p ≡ true = ap (λ o. is_child_of o p) u.owner ∙ rw (eq-eqb p p refl) refl in
         let changed =
-        change-items seen_row (λ z. z.number) (λ row. refl) p (ended h y) (up_with h) 1 before next rising
-        (λ value found. ap (λ (v : Bio). up_with h (seen p v)) (same_Some _ _ (sym found ∙ at))) in
+        change-items seen_row (λ z. z.number) (λ row. refl) p (up_holding h y) (up_with h) 1 before next rising
+        (λ value found. ap (λ (v : Bio). up_with h (as_bio p v)) (same_Some _ _ (sym found ∙ at))) in
         ap (λ bios. filter (λ z. not (is_child_of z.owner p)) (change_number p (up_with h) bios))
         (sym (seen_done rows next n p k x y t u))
         ∙ ap (λ bios. filter (λ z. not (is_child_of z.owner p)) bios) changed
-        ∙ seen_others p (with_value before p (ended h y))
-        ∙ ap (map seen_row) (others-with_value p p y (ended h y) 1 before next rising at no_child no_child
-        ∙ ap (λ r. with_value r p (ended h y))
+        ∙ seen_others p (with_value before p (up_holding h y))
+        ∙ ap (map seen_row) (others-with_value p p y (up_holding h y) 1 before next rising at no_child no_child
+        ∙ ap (λ r. with_value r p (up_holding h y))
         (others-with_child p n x (at_phase phases.Done x) 1 rows next t.rising u.child own own ∙ sym gone))
 
   module _ (log : ℕ → Option (List ℕ)) where
-    gathered_is : gathered log (change_number n (with_phase phases.Done) (map seen_row rows)) (seen p y)
+    gathered_is : gathered log (change_number n (with_phase phases.Done) (map seen_row rows)) (as_bio p y)
         ≡ held_from log rows y
     gathered_is =
         let s = split rows next n p k x y t u in
@@ -435,10 +437,10 @@ module _ (rows : List (ℕ × Bio)) (next n p k : ℕ) (x y : Bio) (t : IsTable 
         ≡ map seen_row (complete_rows (held_from log rows y))
     completed_is =
         let bios = change_number n (with_phase phases.Done) (map seen_row rows) in
-        let among : bio_among bios p ≡ Some (seen p y) =
+        let among : bio_among bios p ≡ Some (as_bio p y) =
         ap (λ b. bio_among b p) (sym (seen_done rows next n p k x y t u))
         ∙ bio_among-rows (done_rows rows next n p k x y t u) p
-        ∙ ap (option_map (seen p)) (parent_done rows next n p k x y t u) in
+        ∙ ap (option_map (as_bio p)) (parent_done rows next n p k x y t u) in
         ap (λ o. option_map_or
         (λ z. filter (λ v. not (is_child_of v.owner p)) (change_number p (up_with (gathered log bios z)) bios))
         o bios) among

@@ -15,7 +15,7 @@ use Rattle.geo_slots.proofs.RowLemmas.{IsRising-with_value, with_value_below}
 use Rattle.geo_bio.specs.declared.bio.Bio.{Bio}
 use Rattle.geo_bio.specs.declared.bio.Held.{Held}
 use Rattle.geo_bio.specs.BioTable.{with_phase}
-use Rattle.geo_bio.specs.Rows.{seen, seen_row, at_phase, Child, child_of, family, FollowFrom, HasFamily, IsSplitInto, WaitsIn, IsTable}
+use Rattle.geo_bio.specs.Rows.{as_bio, seen_row, at_phase, Child, child_of, family, FollowFrom, HasFamily, IsSplitInto, WaitsIn, IsTable}
 use Rattle.geo_bio.specs.Gather.{counted}
 use Rattle.geo_bio.specs.Up.{are_in}
 use Rattle.geo_bio.proofs.ValueLemmas.{value_at-with_value_same, value_at-with_value_other}
@@ -154,14 +154,14 @@ family-done p n k x owner busy low (row ∷ rows) high rising found =
 
 -- a change of what isn't seen
 pub seen_same : (p : ℕ) (x w : Bio) (low : ℕ) (rows : List (ℕ × Bio)) (high : ℕ) → IsRising low rows high
-    → value_at rows p ≡ Some x → seen p w ≡ seen p x → map seen_row (with_value rows p w) ≡ map seen_row rows
+    → value_at rows p ≡ Some x → as_bio p w ≡ as_bio p x → map seen_row (with_value rows p w) ≡ map seen_row rows
 seen_same p x w low [] high rising found same = refl
 seen_same p x w low (row ∷ rows) high rising found same =
     elim (cases_eq row.0 p) [
       | inl here ↦
           let is : row.1 ≡ x = same_Some _ _ (rw (eq-eqb row.0 p here) at found) in
           let rest = with_value_below p (row.0 + 1) w rows high rising.1 (omega (arith, here)) in
-          let first : seen p w ≡ seen row.0 row.1 = same ∙ (λ i. seen (sym here i) (sym is i)) in
+          let first : as_bio p w ≡ as_bio row.0 row.1 = same ∙ (λ i. as_bio (sym here i) (sym is i)) in
           rw (eq-eqb row.0 p here) (λ i. first i ∷ map seen_row (rest i))
       | inr other ↦
           rw (ne_eqb row.0 p other)

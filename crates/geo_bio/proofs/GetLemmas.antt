@@ -12,7 +12,7 @@ use Rattle.geo_bio.specs.declared.bio.Bio.{Bio}
 use Rattle.geo_bio.specs.declared.bio.Held.{Held}
 use Rattle.geo_bio.specs.Rows.{seen_row, Child, family, FollowFrom, StandFrom, IsTable, KnowsChildren}
 use Rattle.geo_bio.specs.BioTable.{HasParent}
-use Rattle.geo_bio.specs.Rows.{seen}
+use Rattle.geo_bio.specs.Rows.{as_bio}
 use Rattle.geo_bio.proofs.TableLemmas.{bio_among-rows}
 use Rattle.geo_bio.proofs.CompleteLemmas.{standing, kid, stranger}
 
@@ -75,4 +75,4 @@ parent_told rows next n t (Some x) found = at x.owner refl where
   at (owners.Child parent index) is =
       let w = t.parents n x parent index (sym found) is in
       ap (λ o. option_map_or (λ (y : BioOf Held). is_waiting y.phase) o false) (bio_among-rows rows parent
-      ∙ ap (option_map (seen parent)) w.1) ∙ w.2
+      ∙ ap (option_map (as_bio parent)) w.1) ∙ w.2

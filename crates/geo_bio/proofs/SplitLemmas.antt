@@ -16,7 +16,7 @@ use Rattle.geo_slots.proofs.RowLemmas.{IsRising-with_value, with_value_below, va
 use Rattle.geo_bio.proofs.ValueLemmas.{value_at-with_value_same, value_at-with_value_other}
 use Rattle.geo_bio.proofs.TableLemmas.{family-with_value, family-none, seen_changed}
 use Rattle.geo_bio.specs.declared.bio.Bio.{Bio}
-use Rattle.geo_bio.specs.Rows.{seen, seen_row, Child, child_of, family, FollowFrom, HasFamily, IsSplitInto, WaitsIn, IsTable}
+use Rattle.geo_bio.specs.Rows.{as_bio, seen_row, Child, child_of, family, FollowFrom, HasFamily, IsSplitInto, WaitsIn, IsTable}
 use Rattle.geo_bio.specs.Split.{child_for, children_for, waiting, with_all, numbered, split_into}
 
 -- the children come at the end
@@ -57,11 +57,11 @@ length-children_for p x k (piece ∷ pieces) (target ∷ targets) same =
 -- the children as contracts see them
 pub seen-children : (first p : ℕ) (x : Bio) (k n : ℕ) (pieces : List Piece) (targets : List (ℕ × ℕ))
     → n ≡ first + k
-    → map seen_row (numbered n (children_for p x k pieces targets)) ≡ split_into first (seen p x) k pieces targets
+    → map seen_row (numbered n (children_for p x k pieces targets)) ≡ split_into first (as_bio p x) k pieces targets
 seen-children first p x k n [] targets place = refl
 seen-children first p x k n (piece ∷ pieces) [] place = refl
 seen-children first p x k n (piece ∷ pieces) (target ∷ targets) place =
-    λ i. seen (place i) (child_for p x k piece target)
+    λ i. as_bio (place i) (child_for p x k piece target)
     ∷ seen-children first p x (k + 1) (n + 1) pieces targets (omega (arith, place)) i
 
 pub IsRising-numbered : {T : Type 0} → (low : ℕ) (rows : List (ℕ × T)) (next : ℕ) (xs : List T)
@@ -301,7 +301,7 @@ pub record IsSplit (rows : List (ℕ × Bio)) (next n : ℕ) (x : Bio) (pieces :
     (new : List (ℕ × Bio)) (high : ℕ) : Type 0 where
   pub table : IsTable new high
   pub seen_rows : map seen_row new ≡ change_number n (with_phase phases.Waiting) (map seen_row rows)
-      ++ split_into next (seen n x) 0 pieces targets
+      ++ split_into next (as_bio n x) 0 pieces targets
   pub grows : high ≡ next + length pieces
 
 module _ (rows : List (ℕ × Bio)) (next n : ℕ) (x : Bio) (pieces : List Piece) (targets : List (ℕ × ℕ))
@@ -325,7 +325,7 @@ module _ (rows : List (ℕ × Bio)) (next n : ℕ) (x : Bio) (pieces : List Piec
       (next + length (children_for n x 0 pieces targets)) rising below_next)
 
   seen_split : map seen_row (split_rows rows next n x pieces targets)
-      ≡ change_number n (with_phase phases.Waiting) (map seen_row rows) ++ split_into next (seen n x) 0 pieces targets
+      ≡ change_number n (with_phase phases.Waiting) (map seen_row rows) ++ split_into next (as_bio n x) 0 pieces targets
   seen_split =
       let w = parent rows next n x pieces targets in
       let before = seen_changed rows next n x w (with_phase phases.Waiting) t found refl in

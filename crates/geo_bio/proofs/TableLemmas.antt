@@ -14,7 +14,7 @@ use Rattle.geo_slots.proofs.RowLemmas.{IsRising-push, IsRising-with_value, with_
 use Rattle.geo_bio.specs.declared.bio.Bio.{Bio}
 use Rattle.geo_bio.specs.declared.bio.Held.{Held}
 use Rattle.geo_bio.specs.BioTable.{bio_among, has_phase}
-use Rattle.geo_bio.specs.Rows.{seen, seen_row, child_of, family, HasFamily, WaitsIn, IsTable}
+use Rattle.geo_bio.specs.Rows.{as_bio, seen_row, child_of, family, HasFamily, WaitsIn, IsTable}
 use Rattle.geo_bio.proofs.ValueLemmas.{value_at-with_value_same, value_at-with_value_other, value_at-push_same, value_at-push_other}
 
 -- a change that leaves the owner, and whether the bio is Done, leaves every family
@@ -197,7 +197,7 @@ busy_facts phases.Done e = absurd (cc)
 
 -- the bio of a number among what contracts see
 pub bio_among-rows : (rows : List (ℕ × Bio)) (n : ℕ)
-    → bio_among (map seen_row rows) n ≡ option_map (seen n) (value_at rows n)
+    → bio_among (map seen_row rows) n ≡ option_map (as_bio n) (value_at rows n)
 bio_among-rows rows n = find-items seen_row (λ x. x.number) (λ row. refl) n rows
 
 -- a bio in a phase is there
@@ -208,15 +208,15 @@ bio_of_phase test rows n e =
     (sym (ap (λ o. option_map_or (λ (x : BioOf Held). test x.phase) o false) (bio_among-rows rows n)) ∙ e)
   where
     there : (o : Option Bio) → value_at rows n ≡ o
-        → option_map_or (λ (x : BioOf Held). test x.phase) (option_map (seen n) o) false ≡ true
+        → option_map_or (λ (x : BioOf Held). test x.phase) (option_map (as_bio n) o) false ≡ true
         → (x : Bio) × (value_at rows n ≡ Some x) × (test x.phase ≡ true)
     there (Some x) found passes = (x, found, passes)
     there None found passes = absurd (cc)
 
 -- a changed bio among what contracts see
 pub seen_changed : (rows : List (ℕ × Bio)) (next n : ℕ) (x w : Bio) (change : BioOf Held → BioOf Held)
-    → IsTable rows next → value_at rows n ≡ Some x → change (seen n x) ≡ seen n w
+    → IsTable rows next → value_at rows n ≡ Some x → change (as_bio n x) ≡ as_bio n w
     → map seen_row (with_value rows n w) ≡ change_number n change (map seen_row rows)
 seen_changed rows next n x w change t found changed =
     sym (change-items seen_row (λ y. y.number) (λ row. refl) n w change 1 rows next t.rising
-    (λ value at. ap (λ y. change (seen n y)) (same_Some _ _ (sym at ∙ found)) ∙ changed))
+    (λ value at. ap (λ y. change (as_bio n y)) (same_Some _ _ (sym at ∙ found)) ∙ changed))

@@ -16,7 +16,7 @@ use Rattle.geo_bio.specs.declared.bio.Held.{Held}
 use Rattle.geo_bio.specs.declared.bio.Risen.{Risen}
 use Rattle.geo_bio.specs.declared.bio.Risen.TheVariants as risen
 use Rattle.geo_bio.specs.BioTable.{bio_among, has_phase, with_phase}
-use Rattle.geo_bio.specs.Rows.{seen, seen_row, at_phase, ended, Child, family, FollowFrom, IsTable}
+use Rattle.geo_bio.specs.Rows.{as_bio, seen_row, at_phase, up_holding, Child, family, FollowFrom, IsTable}
 use Rattle.geo_bio.specs.Gather.{without_all, counted, held_from, changed_at, is_last, rows_up}
 use Rattle.geo_bio.specs.Up.{resolved, are_in, after_up, told_of_up}
 use Rattle.geo_bio.proofs.TableLemmas.{bio_among-rows}
@@ -97,7 +97,7 @@ module _ (rows : List (ℕ × Bio)) (next n p k : ℕ) (x y : Bio) (t : IsTable 
   module _ (log : ℕ → Option (List ℕ)) where
     pub record IsRisen (after : List (ℕ × Bio)) : Type 0 where
       pub table : IsTable after next
-      pub seen_rows : map seen_row after ≡ after_up log (map seen_row rows) (seen n x) (owners.Child p k)
+      pub seen_rows : map seen_row after ≡ after_up log (map seen_row rows) (as_bio n x) (owners.Child p k)
       pub told : is_last y ≡ are_in (change_number n (with_phase phases.Done) (map seen_row rows)) p
 
     last_up : y.finished + 1 ≡ y.children → IsRisen (rows_up log rows n p y)
@@ -110,7 +110,7 @@ module _ (rows : List (ℕ × Bio)) (next n p k : ℕ) (x y : Bio) (t : IsTable 
         (ap not (no_child rows next n p k x y t u last)) in
         let is : is_last y ≡ true = eq-eqb (y.finished + 1) y.children last in
         let after : rows_up log rows n p y ≡ complete_rows rows next n p k x y t u last h =
-        rw is (changed_at-some (ended h) (without_all rows y.first_child y.children) p y stands) in
+        rw is (changed_at-some (up_holding h) (without_all rows y.first_child y.children) p y stands) in
         let in_ = are_in-last rows next n p k x y t u last in
         record {
           table = subst (λ r. IsTable r next) (sym after) (table_complete rows next n p k x y t u last h);
@@ -173,7 +173,7 @@ pub phase_there : (test : Phase → Bool) (rows : List (ℕ × Bio)) (n : ℕ) (
     → has_phase test (map seen_row rows) n ≡ true → test x.phase ≡ true
 phase_there test rows n x found e =
     sym (ap (λ o. option_map_or (λ (y : BioOf Held). test y.phase) o false) (bio_among-rows rows n
-    ∙ ap (option_map (seen n)) found)) ∙ e
+    ∙ ap (option_map (as_bio n)) found)) ∙ e
 
 module _ (log : ℕ → Option (List ℕ)) (old new : SlotsView Bio) (n p k : ℕ) (x : Bio)
     (t : IsTable old.rows old.next) (found : value_at old.rows n ≡ Some x) (up : is_up x.phase ≡ true)
@@ -203,8 +203,8 @@ module _ (log : ℕ → Option (List ℕ)) (old new : SlotsView Bio) (n p k : �
       (rises : IfSome (value_at old.rows p)
       (λ y. OnOk r (new ≡ record old { rows = rows_up log old.rows n p y })))
       (stays : OnErr r (new ≡ old)) where
-    among : bio_among (map seen_row old.rows) n ≡ Some (seen n x)
-    among = bio_among-rows old.rows n ∙ ap (option_map (seen n)) found
+    among : bio_among (map seen_row old.rows) n ≡ Some (as_bio n x)
+    among = bio_among-rows old.rows n ∙ ap (option_map (as_bio n)) found
 
     rises_there : OnOk r (new ≡ record old { rows = rows_up log old.rows n p its_parent.0 })
     rises_there =
@@ -237,8 +237,8 @@ module _ (log : ℕ → Option (List ℕ)) (old new : SlotsView Bio) (n p k : �
         let there = subst (λ o. IfSome o (λ y. IfOk r (λ z. z ≡ risen.InParent p (is_last y))))
         its_parent.1.parent told in
         let e : risen.InParent p (is_last its_parent.0)
-        ≡ told_of_up log (map seen_row old.rows) (seen n x) x.owner = ap (risen.InParent p) risen_rows.told
-        ∙ ap (told_of_up log (map seen_row old.rows) (seen n x)) (sym owner) in
+        ≡ told_of_up log (map seen_row old.rows) (as_bio n x) x.owner = ap (risen.InParent p) risen_rows.told
+        ∙ ap (told_of_up log (map seen_row old.rows) (as_bio n x)) (sym owner) in
         subst (λ o. IfSome o (λ z. IfOk r (λ v. v ≡ told_of_up log (map seen_row old.rows) z z.owner))) (sym among)
         (subst (λ w. IfOk r (λ v. v ≡ w)) e there)
 
@@ -246,8 +246,8 @@ module _ (log : ℕ → Option (List ℕ)) (old new : SlotsView Bio) (n p k : �
         (λ z. OnOk r (map seen_row new.rows ≡ after_up log (map seen_row old.rows) z z.owner))
     rises_after_child =
         let e : map seen_row (rows_up log old.rows n p its_parent.0)
-        ≡ after_up log (map seen_row old.rows) (seen n x) x.owner = risen_rows.seen_rows
-        ∙ ap (after_up log (map seen_row old.rows) (seen n x)) (sym owner) in
+        ≡ after_up log (map seen_row old.rows) (as_bio n x) x.owner = risen_rows.seen_rows
+        ∙ ap (after_up log (map seen_row old.rows) (as_bio n x)) (sym owner) in
         subst (λ o. IfSome o
         (λ z. OnOk r (map seen_row new.rows ≡ after_up log (map seen_row old.rows) z z.owner))) (sym among)
         (on_ok_weaker r (λ became. ap (λ (s : SlotsView Bio). map seen_row s.rows) became ∙ e) rises_there)
@@ -257,8 +257,8 @@ module _ {E : Type 0} (log : ℕ → Option (List ℕ)) (old new : SlotsView Bio
     (root : is_root x.owner ≡ true) (r : Result Risen E)
     (told : IfSome (value_at old.rows n) (λ y. IfOk r (λ z. z ≡ risen.Root (resolved log y.held))))
     (gone : OnOk r (new ≡ record old { rows = without old.rows n })) (stays : OnErr r (new ≡ old)) where
-  among_roots : bio_among (map seen_row old.rows) n ≡ Some (seen n x)
-  among_roots = bio_among-rows old.rows n ∙ ap (option_map (seen n)) found
+  among_roots : bio_among (map seen_row old.rows) n ≡ Some (as_bio n x)
+  among_roots = bio_among-rows old.rows n ∙ ap (option_map (as_bio n)) found
 
   root_became : (new ≡ record old { rows = without old.rows n }) ⊎ (new ≡ old)
   root_became = either_answer r _ _ gone stays
@@ -281,14 +281,14 @@ module _ {E : Type 0} (log : ℕ → Option (List ℕ)) (old new : SlotsView Bio
       (λ z. IfOk r (λ v. v ≡ told_of_up log (map seen_row old.rows) z z.owner))
   told_after_root =
       let there = subst (λ o. IfSome o (λ y. IfOk r (λ z. z ≡ risen.Root (resolved log y.held)))) found told in
-      let e = told_root log (map seen_row old.rows) (seen n x) x.owner root in
+      let e = told_root log (map seen_row old.rows) (as_bio n x) x.owner root in
       subst (λ o. IfSome o (λ z. IfOk r (λ v. v ≡ told_of_up log (map seen_row old.rows) z z.owner)))
       (sym among_roots) (subst (λ w. IfOk r (λ v. v ≡ w)) (sym e) there)
 
   pub rises_after_root : IfSome (bio_among (map seen_row old.rows) n)
       (λ z. OnOk r (map seen_row new.rows ≡ after_up log (map seen_row old.rows) z z.owner))
   rises_after_root =
-      let e = after_root log old.rows n (seen n x) x.owner refl root in
+      let e = after_root log old.rows n (as_bio n x) x.owner refl root in
       subst (λ o. IfSome o (λ z. OnOk r (map seen_row new.rows ≡ after_up log (map seen_row old.rows) z z.owner)))
       (sym among_roots) (on_ok_weaker r (λ became. ap (λ (s : SlotsView Bio). map seen_row s.rows) became ∙ e) gone)
 

@@ -39,8 +39,8 @@ HasParent bios (owners.Child parent index) = IsTrue (has_phase is_waiting bios p
 HasParent bios owner = ⊤
 
 -- the first bio that isn't below a number
-abbrev pub first_bio : {R : Type 0} → List (BioOf R) → ℕ → Option ℕ
-first_bio bios number = option_map (λ x. x.number) (find (λ x. nat_le number x.number) bios)
+abbrev pub bio_from : {R : Type 0} → List (BioOf R) → ℕ → Option ℕ
+bio_from bios number = option_map (λ x. x.number) (find (λ x. nat_le number x.number) bios)
 
 -- the bio in another phase
 abbrev pub with_phase : {R : Type 0} → Phase → BioOf R → BioOf R

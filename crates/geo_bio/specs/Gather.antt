@@ -12,7 +12,7 @@ use Rattle.geo_slots.specs.Slots.{value_at, with_value, without}
 use Rattle.geo_bio.specs.declared.bio.Bio.{Bio}
 use Rattle.geo_bio.specs.declared.bio.Held.{Held}
 use Rattle.geo_bio.specs.declared.bio.Held.TheVariants as held
-use Rattle.geo_bio.specs.Rows.{at_phase, ended}
+use Rattle.geo_bio.specs.Rows.{at_phase, up_holding}
 use Rattle.geo_bio.specs.Up.{resolved}
 
 -- the bytes of a place, where a bio names one
@@ -77,5 +77,5 @@ is_last x = x.finished + 1 == x.children
 abbrev pub rows_up : (ℕ → Option (List ℕ)) → List (ℕ × Bio) → ℕ → ℕ → Bio → List (ℕ × Bio)
 rows_up log rows number parent x =
     if is_last x
-    then changed_at (ended (held_from log rows x)) (without_all rows x.first_child x.children) parent
+    then changed_at (up_holding (held_from log rows x)) (without_all rows x.first_child x.children) parent
     else changed_at counted (changed_at (at_phase phases.Done) rows number) parent

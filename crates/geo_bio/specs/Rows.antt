@@ -11,8 +11,8 @@ use Rattle.geo_bio.specs.declared.bio.Bio.{Bio}
 use Rattle.geo_bio.specs.declared.bio.Held.{Held}
 
 -- a bio as the definitions of the mesh have it
-abbrev pub seen : ℕ → Bio → BioOf Held
-seen number x = record {
+abbrev pub as_bio : ℕ → Bio → BioOf Held
+as_bio number x = record {
   number = number;
   cmd = x.cmd;
   offset = x.span.offset;
@@ -26,15 +26,15 @@ seen number x = record {
 }
 
 abbrev pub seen_row : ℕ × Bio → BioOf Held
-seen_row row = seen row.0 row.1
+seen_row row = as_bio row.0 row.1
 
 -- the bio in another phase
 abbrev pub at_phase : Phase → Bio → Bio
 at_phase phase x = record x { phase = phase }
 
 -- the bio in phase Up, with what it holds
-abbrev pub ended : Held → Bio → Bio
-ended held x = record x { phase = phases.Up; held = Some held }
+abbrev pub up_holding : Held → Bio → Bio
+up_holding held x = record x { phase = phases.Up; held = Some held }
 
 -- a child in a family: its number, its place and whether it is Done
 pub record Child : Type 0 where

@@ -1,7 +1,7 @@
 //! Changes of one bio among the rows of a table.
 ghost use Rattle.std.specs.Prelude.{◌≡◌, MatchOption, Some};
 ghost use Rattle.geo_slots.specs.Slots.{value_at, with_value};
-ghost use Rattle.geo_bio.specs.Rows.{at_phase, ended};
+ghost use Rattle.geo_bio.specs.Rows.{at_phase, up_holding};
 
 use crate::bio::{Bio, Held};
 use geo_model::Phase;
@@ -20,7 +20,7 @@ pub fn set_phase(bios: &mut Slots<Bio>, number: u64, phase: Phase)
 // The bio of a number, if there is one, goes up with what it holds.
 pub fn end_with(bios: &mut Slots<Bio>, number: u64, held: Held)
     ensures { MatchOption (value_at bios.old.rows number) (bios.new ≡ bios.old) (λ x.
-        bios.new ≡ record bios.old { rows = with_value bios.old.rows number (ended held x) }) }
+        bios.new ≡ record bios.old { rows = with_value bios.old.rows number (up_holding held x) }) }
 {
     if let Some(bio) = bios.get_mut(number) {
         bio.phase = Phase::Up;

@@ -4,9 +4,9 @@ ghost use Rattle.std.specs.Option.{option_map};
 ghost use Rattle.geo_model.specs.Bios.{new_bio, up_with};
 ghost use Rattle.geo_model.specs.World.{change_number, children_among, is_down, is_sent, is_busy, is_up, is_waiting, is_root};
 ghost use Rattle.geo_model.specs.Words.{is_write};
-ghost use Rattle.geo_bio.specs.BioTable.{AreInOrder, HasParent, bio_among, has_phase, first_bio, with_phase, delivered, delivered_result};
+ghost use Rattle.geo_bio.specs.BioTable.{AreInOrder, HasParent, bio_among, has_phase, bio_from, with_phase, delivered, delivered_result};
 ghost use Rattle.geo_slots.specs.Slots.{value_at};
-ghost use Rattle.geo_bio.specs.Rows.{seen, KnowsChildren};
+ghost use Rattle.geo_bio.specs.Rows.{as_bio, KnowsChildren};
 ghost use Rattle.geo_bio.specs.Split.{split_into};
 ghost use Rattle.geo_bio.specs.Up.{told_of_up, after_up};
 
@@ -70,7 +70,7 @@ impl BioTable {
     /// of them are done; the parent of a child waits. The numbers of the bios count from 1, rise, and are below the
     /// next one.
     pub fn get(&self, bio: BioId) -> Option<&Bio>
-        ensures found { option_map (seen bio) (option_copied result) ≡ bio_among self.now.bios bio }
+        ensures found { option_map (as_bio bio) (option_copied result) ≡ bio_among self.now.bios bio }
         ensures family { IfSome (option_copied result) (λ x.
             IsTrue (is_waiting x.phase) → KnowsChildren bio (children_among self.now.bios bio) x) }
         ensures parent { IfSome (option_copied result) (λ x. HasParent self.now.bios x.owner) }
@@ -82,7 +82,7 @@ impl BioTable {
 
     /// The bio with the least number that isn't below a number: the first one, since they stand in order of numbers.
     pub fn next_from(&self, number: u64) -> Option<BioId>
-        ensures first { result ≡ first_bio self.now.bios number }
+        ensures first { result ≡ bio_from self.now.bios number }
         ensures in_order { AreInOrder self.now }
     {
         match self.bios.first_from(number) {

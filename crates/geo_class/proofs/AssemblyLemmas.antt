@@ -5,7 +5,7 @@ use Rattle.std.specs.List.{list_all, list_any}
 use Rattle.std.proofs.lemmas.Bool.Decides.{nat_tests}
 use Rattle.geo_base.specs.declared.limits.TheConstants.{MAX_MEDIA_BYTES}
 use Rattle.geo_model.specs.Acceptance.{is_size, smallest}
-use Rattle.geo_class.specs.Assembly.{size_of}
+use Rattle.geo_class.specs.Assembly.{allowed_size}
 use Rattle.geo_class.specs.Places.{IsStriped}
 
 -- a place is free exactly where not all are filled
@@ -26,7 +26,7 @@ some-if : (b : Bool) (n : ℕ) → is_some (if b then Some n else None) ≡ b
 some-if true n = refl
 some-if false n = refl
 
-pub size_is : (n : ℕ) → is_some (size_of n) ≡ is_size n
+pub size_is : (n : ℕ) → is_some (allowed_size n) ≡ is_size n
 size_is n = some-if (is_size n) n
 
 -- such a size has its bounds

@@ -6,8 +6,8 @@ use Rattle.geo_model.specs.Acceptance.{is_size, joined_size, places_of}
 use Rattle.geo_model.specs.World.{Config, Concat, Nop}
 
 -- a size, where a provider may have it
-abbrev pub size_of : ℕ → Option ℕ
-size_of size = if is_size size then Some size else None
+abbrev pub allowed_size : ℕ → Option ℕ
+allowed_size size = if is_size size then Some size else None
 
 -- whether a place is free, or the size of the whole is one that a provider may have
 abbrev pub can_stand : Config → Bool

@@ -4,7 +4,7 @@ ghost use Rattle.std.specs.List.{list_all};
 ghost use Rattle.std.specs.Option.{option_flatten};
 ghost use Rattle.geo_model.specs.Acceptance.{add_place, empty_concat, empty_stripe, fill_place, is_same_assembly, is_size, joined_size, places_of, smallest};
 ghost use Rattle.geo_model.specs.World.{Concat, Stripe};
-ghost use Rattle.geo_class.specs.Assembly.{CanGrow, size_of, standing};
+ghost use Rattle.geo_class.specs.Assembly.{CanGrow, allowed_size, standing};
 
 use crate::config::{Config, Layout};
 use crate::places::Places;
@@ -134,7 +134,7 @@ impl Config {
     /// The size of the provider of the assembly, as far as its components are known. None where no provider may
     /// have it.
     pub fn joined_size(&self) -> Option<u64>
-        ensures { result ≡ size_of (joined_size self.now) }
+        ensures { result ≡ allowed_size (joined_size self.now) }
     {
         match self.layout() {
             Layout::Concat { places, .. } => concat_size(places.sizes()),

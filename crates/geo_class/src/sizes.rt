@@ -1,7 +1,7 @@
 //! The sizes of assemblies.
 ghost use Rattle.std.specs.Prelude.{◌≡◌, ◌*◌, ◌/◌, ◌≤◌, length, nat_le, None, Some, sum, if◌then◌else◌};
 ghost use Rattle.geo_model.specs.Acceptance.{smallest};
-ghost use Rattle.geo_class.specs.Assembly.{size_of};
+ghost use Rattle.geo_class.specs.Assembly.{allowed_size};
 
 use geo_base::{MAX_COMPONENTS, MAX_MEDIA_BYTES};
 
@@ -32,7 +32,7 @@ fn total(sizes: &[u64]) -> Option<u64>
 /// The size of a provider whose components of these sizes stand one behind the other. None where no provider may
 /// have it: it is 0, or above 2^60.
 pub fn concat_size(sizes: &[u64]) -> Option<u64>
-    ensures { result ≡ size_of (sum sizes.now) }
+    ensures { result ≡ allowed_size (sum sizes.now) }
 {
     match total(sizes) {
         Some(size) if size >= 1 => Some(size),
@@ -44,7 +44,7 @@ pub fn concat_size(sizes: &[u64]) -> Option<u64>
 /// smallest goes. None where no provider may have it: it is 0, or above 2^60.
 pub fn stripe_size(stripe: u32, sizes: &[u64]) -> Option<u64>
     requires { length sizes.now ≤ MAX_COMPONENTS }
-    ensures { result ≡ size_of (length sizes.now * ((smallest sizes.now / stripe) * stripe)) }
+    ensures { result ≡ allowed_size (length sizes.now * ((smallest sizes.now / stripe) * stripe)) }
 {
     if stripe == 0 {
         return None;

@@ -8,7 +8,7 @@ ghost use Rattle.geo_model.specs.Events.{tasting_classes};
 ghost use Rattle.geo_model.specs.Tasting.{verdict_on};
 ghost use Rattle.geo_model.specs.World.{NoClass, ReadBack, ReadOut, NextSector, is_read_out};
 ghost use Rattle.geo_model.specs.declared.step.BioResult.TheVariants.{Bytes as BytesValue};
-ghost use Rattle.geo_ebr.specs.ChainView.{chain_after, verdict_of};
+ghost use Rattle.geo_ebr.specs.ChainView.{chain_after, link_verdict};
 ghost use Rattle.geo_class.specs.Taste.{after_back, after_verdict, asked_of, chain_with, ended, sector_back, settled, verdict_back, verdict_with, weighed, with_link_of, with_next};
 
 use crate::verdict::judge;
@@ -69,7 +69,7 @@ impl Model for Taste {
 
 /// An answer of a chain as a verdict of the class.
 fn verdict_of(link: Link) -> Verdict
-    ensures { result ≡ verdict_of link }
+    ensures { result ≡ link_verdict link }
 {
     match link {
         Link::More(sector) => Verdict::More(sector),

@@ -3,7 +3,7 @@ ghost use Rattle.std.specs.Prelude.{◌≡◌, ◌≤◌, ◌*◌, length};
 ghost use Rattle.geo_base.specs.declared.kind.Kind.TheVariants as kinds;
 ghost use Rattle.geo_model.specs.Acceptance.{is_other_size, judge, label_verdict, taste_where, verdict_of};
 ghost use Rattle.geo_model.specs.declared.class.Shape.TheVariants.{Slices, Joined, Striped};
-ghost use Rattle.geo_record.specs.Head.{answer_of};
+ghost use Rattle.geo_record.specs.Head.{decoder_answer};
 
 use geo_base::{DeclineCause, Declined, Kind};
 use geo_model::{ConcatRecord, Facts, LabelRecord, MbrTable, Shape, StripeRecord, Verdict};
@@ -50,7 +50,7 @@ fn is_other_size(said: Option<u64>, facts: &Facts) -> bool
 
 /// What MBR says to what it found.
 fn verdict_on_table(found: Result<MbrTable, Declined>) -> Verdict
-    ensures { result ≡ verdict_of Slices (answer_of found) }
+    ensures { result ≡ verdict_of Slices (decoder_answer found) }
 {
     match found {
         Ok(table) => Verdict::Accept(Shape::Slices(table)),
@@ -60,7 +60,7 @@ fn verdict_on_table(found: Result<MbrTable, Declined>) -> Verdict
 
 /// What LABEL says to what it found: a media size that isn't that of the tasted provider is declined.
 fn verdict_on_label(found: Result<LabelRecord, Declined>, facts: &Facts) -> Verdict
-    ensures { result ≡ label_verdict facts.now (answer_of found) }
+    ensures { result ≡ label_verdict facts.now (decoder_answer found) }
 {
     match found {
         Ok(record) => {
@@ -75,7 +75,7 @@ fn verdict_on_label(found: Result<LabelRecord, Declined>, facts: &Facts) -> Verd
 
 /// What CONCAT says to what it found.
 fn verdict_on_concat(found: Result<ConcatRecord, Declined>) -> Verdict
-    ensures { result ≡ verdict_of Joined (answer_of found) }
+    ensures { result ≡ verdict_of Joined (decoder_answer found) }
 {
     match found {
         Ok(record) => Verdict::Accept(Shape::Joined(record)),
@@ -85,7 +85,7 @@ fn verdict_on_concat(found: Result<ConcatRecord, Declined>) -> Verdict
 
 /// What STRIPE says to what it found.
 fn verdict_on_stripe(found: Result<StripeRecord, Declined>) -> Verdict
-    ensures { result ≡ verdict_of Striped (answer_of found) }
+    ensures { result ≡ verdict_of Striped (decoder_answer found) }
 {
     match found {
         Ok(record) => Verdict::Accept(Shape::Striped(record)),

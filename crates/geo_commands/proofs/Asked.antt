@@ -12,7 +12,7 @@ use Rattle.geo_model.specs.Topology.{Topology}
 use Rattle.geo_model.specs.World.{Bio, BioOf, Config, Taste}
 use Rattle.geo_bio.specs.declared.bio.Held.{Held}
 use Rattle.geo_log.specs.Places.{delivered_at}
-use Rattle.geo_state.specs.Shown.{shown}
+use Rattle.geo_state.specs.Shown.{shown_bios}
 use Rattle.geo_state.specs.declared.state.State.{State}
 use Rattle.geo_state.specs.Oldest.{first_passing}
 use Rattle.geo_state.specs.World.{world}
@@ -51,7 +51,7 @@ module _ (t : Topology Config) (prov : ℕ) (above : List ℕ)
   -- so for the bios
   pub asked-is : (log : ℕ → Option (List ℕ)) (bios : List (BioOf Held))
       → list_any (λ (x : BioOf Held). has_number above x.target) bios
-      ≡ list_any (λ (x : Bio). is_below t prov x.target) (shown log bios)
+      ≡ list_any (λ (x : Bio). is_below t prov x.target) (shown_bios log bios)
   asked-is log [] = refl
   asked-is log (x ∷ xs) =
       ap (λ b. b || list_any (λ (y : BioOf Held). has_number above y.target) xs) (reached x.target)
@@ -73,5 +73,5 @@ pub busy-is : (s : State) (prov : ℕ) (above : List ℕ)
 busy-is s prov above reached a b asked tasted actors log =
     ap (λ x. x || b) (asked ∙ asked-is s.topo.topology prov above reached (delivered_at log) s.traffic.bios)
     ∙ ap (λ y. list_any (λ (x : Bio). is_below s.topo.topology prov x.target)
-    (shown (delivered_at log) s.traffic.bios) || y)
+    (shown_bios (delivered_at log) s.traffic.bios) || y)
     (tasted ∙ tasted-is s.topo.topology prov above reached s.taste)

@@ -24,7 +24,7 @@ use Rattle.geo_model.specs.Acceptance.{is_size, joined_size, smallest}
 use Rattle.geo_model.specs.GeomCommands.{concat_config, found_providers, is_invalid_stripe, joined_tests, new_places, sector_of, stripe_config, with_made, do_concat, do_stripe}
 use Rattle.geo_model.specs.HandleCommands.{answer}
 use Rattle.geo_model.specs.Fitting.{Firm}
-use Rattle.geo_class.specs.Assembly.{size_of}
+use Rattle.geo_class.specs.Assembly.{allowed_size}
 use Rattle.geo_class.specs.Places.{ArePlaces, IsStriped}
 use Rattle.geo_laws_graph.proofs.Members.{find-Contains}
 use Rattle.geo_laws_making.proofs.Joined.{concats_stay, stripes_stay}
@@ -45,7 +45,7 @@ use Rattle.geo_commands.proofs.Commanded.{JoinFits, join-fits, joined_answer, jo
 -- Sizes
 
 -- a size that is told is it
-pub told-size : (n m : ℕ) → size_of n ≡ Some m → m ≡ n
+pub told-size : (n m : ℕ) → allowed_size n ≡ Some m → m ≡ n
 told-size n m told = by (is_size n) told
   where
     by : (b : Bool) → (if b then Some n else None) ≡ Some m → m ≡ n
@@ -53,7 +53,7 @@ told-size n m told = by (is_size n) told
     by false never = absurd (cc)
 
 -- one that a provider may have is told
-pub size-told : (n : ℕ) → 1 ≤ n → n ≤ MAX_MEDIA_BYTES → size_of n ≡ None → ⊥
+pub size-told : (n : ℕ) → 1 ≤ n → n ≤ MAX_MEDIA_BYTES → allowed_size n ≡ None → ⊥
 size-told n some limited none =
     let fits : is_size n ≡ true =
     and_from (nat_le 1 n) (nat_le n MAX_MEDIA_BYTES) (le-leb 1 n some) (le-leb n MAX_MEDIA_BYTES limited) in
@@ -244,25 +244,27 @@ module _ (s : State) (firm : IsFirm s) (names : List (List ℕ)) (few : length n
   module _ (below : List Below) (found : below ≡ map (below_seen t) ps) (name full : List ℕ) (size : Option ℕ)
       (sizes : List ℕ) (sizes_are : sizes ≡ map (λ (x : Below). x.size) below) (r : Option Errno) where
     -- what refuses a concat
-    pub concat-told : full ≡ concat_name name → size ≡ size_of (sum sizes)
-        → ((config : Config) (qs : List Provider) → below ≡ map (below_seen t) qs → size ≡ size_of (joined_size config)
+    pub concat-told : full ≡ concat_name name → size ≡ allowed_size (sum sizes)
+        → ((config : Config) (qs : List Provider) → below ≡ map (below_seen t) qs → size
+        ≡ allowed_size (joined_size config)
         → r ≡ first_error (joined_tests t full config (length names) qs false))
         → r ≡ first_error (joined_tests t (concat_name name) (concat_config t ps) (length names) ps false)
     concat-told full_is size_is told =
         told (concat_config t ps) ps found
-        (size_is ∙ ap (λ (ns : List ℕ). size_of (sum ns)) (sizes_are ∙ below-sizes t ps below found))
+        (size_is ∙ ap (λ (ns : List ℕ). allowed_size (sum ns)) (sizes_are ∙ below-sizes t ps below found))
         ∙ ap (λ n. first_error (joined_tests t n (concat_config t ps) (length names) ps false)) full_is
 
     -- what refuses a stripe
     pub stripe-told : (stripe : ℕ) (bad : Bool) → full ≡ stripe_name name
-        → size ≡ size_of (length sizes * ((smallest sizes / stripe) * stripe)) → bad ≡ is_bad_stripe stripe below
-        → ((config : Config) (qs : List Provider) → below ≡ map (below_seen t) qs → size ≡ size_of (joined_size config)
+        → size ≡ allowed_size (length sizes * ((smallest sizes / stripe) * stripe)) → bad ≡ is_bad_stripe stripe below
+        → ((config : Config) (qs : List Provider) → below ≡ map (below_seen t) qs → size
+        ≡ allowed_size (joined_size config)
         → r ≡ first_error (joined_tests t full config (length names) qs bad))
         → r ≡ first_error (joined_tests t (stripe_name name) (stripe_config t stripe ps) (length names) ps
         (is_invalid_stripe stripe ps))
     stripe-told stripe bad full_is size_is bad_is told =
         told (stripe_config t stripe ps) ps found
-        (size_is ∙ ap (λ (ns : List ℕ). size_of (length ns * ((smallest ns / stripe) * stripe)))
+        (size_is ∙ ap (λ (ns : List ℕ). allowed_size (length ns * ((smallest ns / stripe) * stripe)))
         (sizes_are ∙ below-sizes t ps below found))
         ∙ ap (λ n. first_error (joined_tests t n (stripe_config t stripe ps) (length names) ps bad)) full_is
         ∙ ap (λ b. first_error (joined_tests t (stripe_name name) (stripe_config t stripe ps) (length names) ps b))
@@ -272,7 +274,7 @@ module _ (s : State) (firm : IsFirm s) (names : List (List ℕ)) (few : length n
 
   module _ (below : List Below) (found : below ≡ map (below_seen t) ps) (full wanted_name : List ℕ) (config : Config)
       (can : CanAssemble w ps wanted_name config) (full_is : full ≡ wanted_name) (size sector : ℕ)
-      (told : size_of (joined_size config) ≡ Some size) (sector_told : sector ≡ sector_below below) (over : List ℕ)
+      (told : allowed_size (joined_size config) ≡ Some size) (sector_told : sector ≡ sector_below below) (over : List ℕ)
       (over_is : over ≡ map (λ (x : Below). x.prov) below) where
     -- it can stand on what is below
     pub join-stands : All (CanStandOn t) over

@@ -14,7 +14,7 @@ use Rattle.geo_model.specs.Opens.{open_refusal_at}
 use Rattle.geo_model.specs.HandleCommands.{do_open, open_answered, close_handle}
 use Rattle.geo_model.specs.Commands.{do_command}
 use Rattle.geo_model.specs.Log.{owed}
-use Rattle.geo_laws_owed.specs.OwedLaws.{is_ok_reply}
+use Rattle.geo_laws_owed.specs.OwedLaws.{is_ok_outcome}
 use Rattle.geo_laws_owed.proofs.OwedCommands.{HandlesInOrder, command_owes}
 use Rattle.geo_log.specs.Places.{delivered_at}
 use Rattle.geo_state.specs.ShownLaws.{ShownAreFound}
@@ -83,32 +83,33 @@ owed_is s actors log =
 module _ (w : World) (line actor : ℕ) where
   -- an open is answered ok where nothing refuses it
   open_ok : (name prov : List ℕ) (grant : Counts)
-      → is_ok_reply (do_open w line actor name prov grant).1 ≡ is_none (refusal_in w actor name prov grant)
+      → is_ok_outcome (do_open w line actor name prov grant).1 ≡ is_none (refusal_in w actor name prov grant)
   open_ok name prov grant = by (is_some (handle_of w actor name)) refl
     where
       told : (p : ℕ) (e : Option Errno)
-          → is_ok_reply (open_answered w line actor name (Some p) grant e).1 ≡ is_none e
+          → is_ok_outcome (open_answered w line actor name (Some p) grant e).1 ≡ is_none e
       told p None = refl
       told p (Some e) = refl
 
       found : (o : Option ℕ)
-          → is_ok_reply (open_answered w line actor name o grant (open_refusal_at (granted_in w) w.topology o grant)).1
+          → is_ok_outcome
+          (open_answered w line actor name o grant (open_refusal_at (granted_in w) w.topology o grant)).1
           ≡ is_none (open_refusal_at (granted_in w) w.topology o grant)
       found None = refl
       found (Some p) = told p (open_refusal_at (granted_in w) w.topology (Some p) grant)
 
       by : (b : Bool) → is_some (handle_of w actor name) ≡ b
-          → is_ok_reply (do_open w line actor name prov grant).1 ≡ is_none (refusal_in w actor name prov grant)
+          → is_ok_outcome (do_open w line actor name prov grant).1 ≡ is_none (refusal_in w actor name prov grant)
       by true e = rw e refl
       by false e = rw e (found (find_provider w.topology prov))
 
   -- a close is answered ok where there is the handle and nothing is out through it
-  close_ok : (o : Option Handle) → is_ok_reply (close_handle w line o).1 ≡ is_closed w o
+  close_ok : (o : Option Handle) → is_ok_outcome (close_handle w line o).1 ≡ is_closed w o
   close_ok None = refl
   close_ok (Some h) = by (option_map_or (is_active w) h.consumer false) refl
     where
       by : (b : Bool) → option_map_or (is_active w) h.consumer false ≡ b
-          → is_ok_reply (close_handle w line (Some h)).1 ≡ is_closed w (Some h)
+          → is_ok_outcome (close_handle w line (Some h)).1 ≡ is_closed w (Some h)
       by true e = rw e refl
       by false e = rw e refl
 
@@ -119,7 +120,7 @@ module _ (w : World) (line actor : ℕ) where
     unfolding do_command
     opens_owe name prov grant r is = by r (open_ok name prov grant ∙ ap is_none is)
       where
-        by : (r : Option Errno) → is_ok_reply (do_open w line actor name prov grant).1 ≡ is_none r
+        by : (r : Option Errno) → is_ok_outcome (do_open w line actor name prov grant).1 ≡ is_none r
             → owed_by (owed w) (Opens r) ≡ owed (do_open w line actor name prov grant).0
         by r ok =
             let changes : owed (do_open w line actor name prov grant).0 + 0

@@ -27,7 +27,7 @@ use Rattle.geo_state.specs.Holds.{Holds, IsSeat}
 use Rattle.geo_state.specs.Trips.{trips}
 use Rattle.geo_state.specs.Parts.{geom_of_disk}
 use Rattle.geo_state.specs.Steps.{IsFirm}
-use Rattle.geo_state.specs.World.{header_disk, world}
+use Rattle.geo_state.specs.World.{disk_of_seat, world}
 use Rattle.geo_commands.specs.Disks.{disk_named, has_name, item_at}
 use Rattle.geo_commands.specs.Names.{stands}
 
@@ -39,7 +39,7 @@ pub record IsFoundFrom (name : List ℕ) (k : ℕ) (seats : List DiskSeat) (disk
   pub place : ℕ
   pub number : disk ≡ k + place
   pub at : slice_get seats place ≡ Some seat
-  pub found : find (λ (item : ℕ × HeaderDisk). same_name item.1.name name) (enumerate_from k (map header_disk seats))
+  pub found : find (λ (item : ℕ × HeaderDisk). same_name item.1.name name) (enumerate_from k (map disk_of_seat seats))
       ≡ Some (item_at disk seat)
 
 found-from : (name : List ℕ) (k : ℕ) (seats : List DiskSeat) (disk : ℕ)
@@ -70,16 +70,16 @@ found-from name k (seat ∷ seats) disk is = by (has_name name seat) refl is (fo
         }
 
 none-from : (name : List ℕ) (k : ℕ) (seats : List DiskSeat) → position_from (has_name name) k seats ≡ None
-    → find (λ (item : ℕ × HeaderDisk). same_name item.1.name name) (enumerate_from k (map header_disk seats)) ≡ None
+    → find (λ (item : ℕ × HeaderDisk). same_name item.1.name name) (enumerate_from k (map disk_of_seat seats)) ≡ None
 none-from name k [] none = refl
 none-from name k (seat ∷ seats) none = by (has_name name seat) refl none (none-from name (k + 1) seats)
   where
     by : (b : Bool) → has_name name seat ≡ b → cond b (Some k) (position_from (has_name name) (k + 1) seats) ≡ None
         → (position_from (has_name name) (k + 1) seats ≡ None
         → find (λ (item : ℕ × HeaderDisk). same_name item.1.name name)
-        (enumerate_from (k + 1) (map header_disk seats)) ≡ None)
+        (enumerate_from (k + 1) (map disk_of_seat seats)) ≡ None)
         → find (λ (item : ℕ × HeaderDisk). same_name item.1.name name)
-        (enumerate_from k (map header_disk (seat ∷ seats)))
+        (enumerate_from k (map disk_of_seat (seat ∷ seats)))
         ≡ None
     by true e never after = absurd (cc)
     by false e later after = rw e (after later)

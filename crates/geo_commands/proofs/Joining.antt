@@ -19,7 +19,7 @@ use Rattle.geo_model.specs.Rank.{rank}
 use Rattle.geo_model.specs.World.{Config}
 use Rattle.geo_model.specs.Acceptance.{joined_size, is_size}
 use Rattle.geo_model.specs.GeomCommands.{sector_of, rank_over, is_invalid_joined, joined_tests}
-use Rattle.geo_class.specs.Assembly.{size_of}
+use Rattle.geo_class.specs.Assembly.{allowed_size}
 use Rattle.geo_commands.specs.declared.below.Below.{Below}
 use Rattle.geo_laws_texts.specs.Naming.{HaveNames}
 use Rattle.geo_commands.specs.Below.{any_errored, below_seen, have_sector, is_bad_join, rank_below, sector_below, tests_below}
@@ -47,7 +47,7 @@ module _ (t : Topology Config) where
   rank_is (p ∷ ps) = ap (max (rank t p.geom)) (rank_is ps)
 
 -- a size is one just where there is one
-size_there : (n : ℕ) → is_none (size_of n) ≡ not (is_size n)
+size_there : (n : ℕ) → is_none (allowed_size n) ≡ not (is_size n)
 size_there n = by (is_size n) refl
   where
     by : (b : Bool) → is_size n ≡ b → is_none (if b then Some n else None) ≡ not b
@@ -56,10 +56,11 @@ size_there n = by (is_size n) refl
 
 -- what doesn't fit together
 pub join_is : (t : Topology Config) (config : Config) (ps : List Provider)
-    → is_bad_join (map (below_seen t) ps) (size_of (joined_size config)) ≡ is_invalid_joined config ps
+    → is_bad_join (map (below_seen t) ps) (allowed_size (joined_size config)) ≡ is_invalid_joined config ps
 join_is t config ps =
-    ap (λ n. not (have_sector n (map (below_seen t) ps)) || is_none (size_of (joined_size config))) (sector_is t ps)
-    ∙ ap (λ b. not b || is_none (size_of (joined_size config))) (sectors_are t (sector_of ps) ps)
+    ap (λ n. not (have_sector n (map (below_seen t) ps)) || is_none (allowed_size (joined_size config)))
+    (sector_is t ps)
+    ∙ ap (λ b. not b || is_none (allowed_size (joined_size config))) (sectors_are t (sector_of ps) ps)
     ∙ ap (λ b. not (list_all (λ p. p.sector == sector_of ps) ps) || b) (size_there (joined_size config))
 
 -- A name that isn't one
@@ -125,7 +126,7 @@ module _ (t : Topology Config) (name : List ℕ) (config : Config) (ps : List Pr
   seen = map (below_seen t) ps
 
   abbrev whole : Option ℕ
-  whole = size_of (joined_size config)
+  whole = allowed_size (joined_size config)
 
   depth_is : nat_le MAX_RANK (rank_below seen) ≡ nat_lt MAX_RANK (rank_over t ps)
   depth_is = ap (nat_le MAX_RANK) (rank_is t ps) ∙ sym (deeper (largest (map (λ p. rank t p.geom) ps)))

@@ -48,7 +48,7 @@ use Rattle.geo_life.proofs.Spared.{handles_are_spared}
 use Rattle.geo_state.specs.declared.state.State.{State}
 use Rattle.geo_state.specs.Changes.{IsSettled}
 use Rattle.geo_state.specs.Holds.{Holds, granted_of, owed_events}
-use Rattle.geo_state.specs.Parts.{SameParts, disk_row, geom_row}
+use Rattle.geo_state.specs.Parts.{SameParts, disk_row, owner_row}
 use Rattle.geo_state.specs.Sites.{HasComers}
 use Rattle.geo_state.specs.Steps.{IsFirm}
 use Rattle.geo_state.specs.World.{world}
@@ -276,7 +276,7 @@ module _ (s : State) (kept : Holds s) (firm : IsFirm s) (sound : IsSoundGraph s.
             active =
                 ap (λ (z : TopoView Config). z.active) grew.mesh ∙ ap (λ (z : TopoView Config). z.active) joined.mesh;
             geoms = parts.geoms ∙ sym (append-nil (map disk_row t.geoms));
-            providers = parts.providers ∙ sym (append-nil (map geom_row t.providers));
+            providers = parts.providers ∙ sym (append-nil (map owner_row t.providers));
           }
 
           -- a provider without a note

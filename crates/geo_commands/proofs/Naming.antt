@@ -17,7 +17,7 @@ use Rattle.geo_laws_graph.proofs.Members.{Contains-here, filter-Contains}
 use Rattle.geo_laws_graph.proofs.Lists.{found_itself}
 use Rattle.geo_laws_graph.proofs.Finding.{found_lives}
 use Rattle.geo_laws_graph.proofs.Numbered.{number_found}
-use Rattle.geo_commands.specs.Names.{IsNextNamed, named_from, named_geoms, offers, stands}
+use Rattle.geo_commands.specs.Names.{IsNextNamed, can_grow, named_from, named_geoms, stands}
 
 -- Providers
 
@@ -131,7 +131,7 @@ stands_agree kind name g = turn (is_kind g.kind kind) (not g.withering) (same_na
 
 -- the geom that can grow
 pub offers_agree : (t : Topology Config) (name : List ℕ) (g : Geom Config)
-    → is_growing t name g ≡ ((is_kind g.kind kinds.Concat && same_name g.name name) && offers t g)
+    → is_growing t name g ≡ ((is_kind g.kind kinds.Concat && same_name g.name name) && can_grow t g)
 offers_agree t name g =
     turn (is_kind g.kind kinds.Concat) (not g.withering) (same_name g.name name)
     (not (length (providers_of t g.number) == 0))
@@ -147,7 +147,7 @@ offers_agree t name g =
 pub cannot_grow : (t : Topology Config) (name : List ℕ) (from_number n : ℕ)
     (next : IsNextNamed t kinds.Concat name from_number n)
     → (if option_map_or stands (geom_at t n) false then first_provider (providers_of t n) 0 else None) ≡ None
-    → offers t next.geom ≡ false
+    → can_grow t next.geom ≡ false
 cannot_grow t name from_number n next none =
     by (not next.geom.withering) (providers_of t next.geom.number) refl refl
     (subst
@@ -158,7 +158,7 @@ cannot_grow t name from_number n next none =
         → (if option_map_or stands (geom_at t n) false then first_provider (providers_of t next.geom.number) 0
         else None)
         ≡ None
-        → offers t next.geom ≡ false
+        → can_grow t next.geom ≡ false
     by false ps e f is = rw e refl
     by true [] e f is = rw (e, f) refl
     by true (p ∷ ps) e f is =

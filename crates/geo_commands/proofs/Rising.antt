@@ -27,7 +27,7 @@ use Rattle.geo_access.specs.Access.{granted_by, holds_grants, IsCounted, IsQuiet
 use Rattle.geo_requests.specs.Making.{with_all_attached, with_attached, with_geom_on}
 use Rattle.geo_requests.proofs.Adding.{consumer_kept, geom_kept, no_consumer, no_geom, provider_kept}
 use Rattle.geo_requests.proofs.Kept.{kept_counted}
-use Rattle.geo_state.specs.Parts.{disk_row, geom_row}
+use Rattle.geo_state.specs.Parts.{disk_row, owner_row}
 use Rattle.geo_state.specs.Sites.{HasComers, no_row}
 use Rattle.geo_state.proofs.GrantLaws.{comers_hold_nothing}
 
@@ -284,10 +284,10 @@ module _ (t : TopoView Config) (counted : IsCounted t) (quiet : IsQuiet t) (soun
           ap (map disk_row) (all-geoms g provs (with_geom t kind name config false))
           ∙ map-append disk_row t.topology.geoms (new_geom t.topology kind name config false ∷ []);
       providers =
-          map-append geom_row over.topology.providers (new_provider over.topology g offered size sector ∷ [])
-          ∙ ap (λ (ps : List Provider). map geom_row ps ++ (over.topology.next_provider, g) ∷ [])
+          map-append owner_row over.topology.providers (new_provider over.topology g offered size sector ∷ [])
+          ∙ ap (λ (ps : List Provider). map owner_row ps ++ (over.topology.next_provider, g) ∷ [])
           (all-providers g provs (with_geom t kind name config false))
-          ∙ ap (λ n. let row : ℕ × ℕ = (n, g) in map geom_row t.topology.providers ++ row ∷ [])
+          ∙ ap (λ n. let row : ℕ × ℕ = (n, g) in map owner_row t.topology.providers ++ row ∷ [])
           (all-next g provs (with_geom t kind name config false));
     };
   }

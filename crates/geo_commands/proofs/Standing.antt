@@ -33,9 +33,9 @@ use Rattle.geo_state.specs.Changes.{IsSettled}
 use Rattle.geo_state.specs.Holds.{Holds}
 use Rattle.geo_state.specs.Sites.{HasComers}
 use Rattle.geo_state.specs.Parts.{geom_of_disk}
-use Rattle.geo_state.specs.Seats.{change_seat, with_geom_at}
+use Rattle.geo_state.specs.Seats.{change_seat, with_disk_geom}
 use Rattle.geo_state.specs.Steps.{IsFirm}
-use Rattle.geo_state.specs.World.{header_disk, world}
+use Rattle.geo_state.specs.World.{disk_of_seat, world}
 use Rattle.geo_state.proofs.SiteLemmas.{kept_with_sites}
 use Rattle.geo_commands.specs.Disks.{item_at}
 use Rattle.geo_commands.specs.Makes.{HasGrown, built}
@@ -67,9 +67,9 @@ module _ (s : State) (disk : ℕ) (seat : DiskSeat) (at : slice_get s.disks.item
   -- a disk of the header has the sizes of a provider
   pub disk-size : IsFirm s → is_provider_size seat.size seat.sector ≡ true
   disk-size firm =
-      let fits : IsHeaderDisk (header_disk seat) =
-      All-contains IsHeaderDisk (map header_disk s.disks.items) (header_disk seat) firm.1.1.fitting.disks
-      (Contains-map header_disk s.disks.items seat (slot-contained s.disks.items disk seat at)) in
+      let fits : IsHeaderDisk (disk_of_seat seat) =
+      All-contains IsHeaderDisk (map disk_of_seat s.disks.items) (disk_of_seat seat) firm.1.1.fitting.disks
+      (Contains-map disk_of_seat s.disks.items seat (slot-contained s.disks.items disk seat at)) in
       media_size seat.size seat.sector fits.sector fits.size
 
   -- its name is free
@@ -79,16 +79,16 @@ module _ (s : State) (disk : ℕ) (seat : DiskSeat) (at : slice_get s.disks.item
 
   -- the disks of the header stay, whatever geom stands for one
   same-disks : (geom : Option ℕ)
-      → map header_disk (with_geom_at s.disks.items disk geom) ≡ map header_disk s.disks.items
+      → map disk_of_seat (with_disk_geom s.disks.items disk geom) ≡ map disk_of_seat s.disks.items
   same-disks geom =
-      ap (λ o. map header_disk (change_seat (λ x. record x { geom = geom }) s.disks.items disk o)) at
-      ∙ slot-seen header_disk s.disks.items disk (record seat { geom = geom }) seat at refl
+      ap (λ o. map disk_of_seat (change_seat (λ x. record x { geom = geom }) s.disks.items disk o)) at
+      ∙ slot-seen disk_of_seat s.disks.items disk (record seat { geom = geom }) seat at refl
 
   module _ (g new : State) (config : Config) (is : config ≡ Disk disk) (id : ℕ)
       (number : id ≡ s.topo.topology.next_geom)
       (grown : HasGrown s g (record { kind = kinds.Disk; name = seat.name; config = config }) []
       (record { name = seat.name; size = seat.size; sector = seat.sector }))
-      (seats : new.disks.items ≡ with_geom_at g.disks.items disk (Some id))
+      (seats : new.disks.items ≡ with_disk_geom g.disks.items disk (Some id))
       (rest : new ≡ record g { disks = new.disks }) where
     -- the geom, and its provider
     abbrev geom : NewGeom
@@ -98,11 +98,11 @@ module _ (s : State) (disk : ℕ) (seat : DiskSeat) (at : slice_get s.disks.item
     offer = record { name = seat.name; size = seat.size; sector = seat.sector }
 
     -- the seats, by those before
-    seats-now : new.disks.items ≡ with_geom_at s.disks.items disk (Some s.topo.topology.next_geom)
+    seats-now : new.disks.items ≡ with_disk_geom s.disks.items disk (Some s.topo.topology.next_geom)
     seats-now =
         seats
-        ∙ ap (λ (z : State). with_geom_at z.disks.items disk (Some id)) grown.rest
-        ∙ ap (λ n. with_geom_at s.disks.items disk (Some n)) number
+        ∙ ap (λ (z : State). with_disk_geom z.disks.items disk (Some id)) grown.rest
+        ∙ ap (λ n. with_disk_geom s.disks.items disk (Some n)) number
 
     -- what is made
     same-made : (actors : List (List LineCommand)) (log : List Entry)
@@ -112,7 +112,7 @@ module _ (s : State) (disk : ℕ) (seat : DiskSeat) (at : slice_get s.disks.item
     same-made actors log =
         ap (λ c. with_queued (world actors log s) (queued
         (built s (record { kind = kinds.Disk; name = seat.name; config = c }) [] offer))) is
-        ∙ ap (with_queued (world actors log s)) (makes_as_model.disk (both s.topo s.queue) disk (header_disk seat))
+        ∙ ap (with_queued (world actors log s)) (makes_as_model.disk (both s.topo s.queue) disk (disk_of_seat seat))
 
     -- the world that it stands for
     stood-world : (actors : List (List LineCommand)) (log : List Entry)
@@ -120,8 +120,8 @@ module _ (s : State) (disk : ℕ) (seat : DiskSeat) (at : slice_get s.disks.item
     stood-world actors log =
         ap (world actors log) rest
         ∙ (λ i. record (world actors log g) {
-          disks = (ap (map header_disk) seats-now ∙ same-disks (Some s.topo.topology.next_geom)
-              ∙ ap (λ (z : State). map header_disk z.disks.items) (sym grown.rest)) i;
+          disks = (ap (map disk_of_seat) seats-now ∙ same-disks (Some s.topo.topology.next_geom)
+              ∙ ap (λ (z : State). map disk_of_seat z.disks.items) (sym grown.rest)) i;
         })
         ∙ grown-world s g geom [] offer grown actors log
         ∙ same-made actors log

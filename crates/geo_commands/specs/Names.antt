@@ -31,8 +31,8 @@ abbrev pub stands : Geom Config → Bool
 stands g = not g.withering
 
 -- whether a geom can grow: it doesn't wither, and has a provider
-abbrev pub offers : Topology Config → Geom Config → Bool
-offers t g = not g.withering && not (length (providers_of t g.number) == 0)
+abbrev pub can_grow : Topology Config → Geom Config → Bool
+can_grow t g = not g.withering && not (length (providers_of t g.number) == 0)
 
 -- a concat that may grow, by the numbers of its geom and of its provider
 abbrev pub growing_seen : GrowingConcat → Growing

@@ -8,7 +8,7 @@ ghost use Rattle.geo_model.specs.Topology.{Provider, is_name_taken};
 ghost use Rattle.geo_model.specs.World.{Config as Seen};
 ghost use Rattle.geo_model.specs.Acceptance.{joined_size, is_size};
 ghost use Rattle.geo_model.specs.GeomCommands.{is_invalid_nop, is_invalid_stripe, joined_tests, nop_tests};
-ghost use Rattle.geo_class.specs.Assembly.{size_of};
+ghost use Rattle.geo_class.specs.Assembly.{allowed_size};
 ghost use Rattle.geo_laws_texts.specs.Naming.{HaveNames};
 ghost use Rattle.geo_commands.specs.Below.{any_errored, below_seen, have_sector, is_bad_join, is_bad_nop, is_bad_stripe, rank_below, sector_below, tests_below};
 
@@ -73,7 +73,7 @@ pub fn joined_refusal(
     is_bad: bool,
 ) -> Option<Errno>
     ensures { (config : Seen) (ps : List Provider) → below.now ≡ map (below_seen topo.now.topology) ps
-        → size ≡ size_of (joined_size config)
+        → size ≡ allowed_size (joined_size config)
         → result ≡ first_error (joined_tests topo.now.topology name.now config wanted ps is_bad) }
 {
     first_against(topo, name, below, wanted, size, is_bad)

@@ -11,10 +11,10 @@ pub record IsKept (cells : List ℕ) (count : ℕ) : Type 0 where
   pub fits : sum (take count cells) ≤ MAX_MEDIA_BYTES
 
 -- the cells come back from the sizes
-pub kept_again : {X : Type 0} (f : List ℕ → ℕ → X) (cells : List ℕ) (count : ℕ) → IsKept cells count →
+pub sizes_kept_again : {X : Type 0} (f : List ℕ → ℕ → X) (cells : List ℕ) (count : ℕ) → IsKept cells count →
     f (take count cells ++ replicate (MAX_COMPONENTS - length (take count cells)) 0) (length (take count cells))
     ≡ f cells count
-kept_again f cells count kept =
+sizes_kept_again f cells count kept =
     let short : count ≤ length cells = omega (arith, kept.whole, kept.few) in
     let taken : length (take count cells) ≡ count = length-take-le count cells short in
     let again : take count cells ++ replicate (MAX_COMPONENTS - count) 0

@@ -23,7 +23,7 @@ impl Model for ConcatMap {
 
     ghost Value = { ConcatView };
 
-    ghost use Rattle.geo_concat.specs.Kept.{IsKept, kept_again};
+    ghost use Rattle.geo_concat.specs.Kept.{IsKept, sizes_kept_again};
     ghost use Rattle.geo_base.specs.declared.limits.TheConstants.{MAX_COMPONENTS};
 
     ghost view = { λ map. record { sizes = take map.count map.cells; sector = map.sector } };
@@ -38,7 +38,8 @@ impl Model for ConcatMap {
     } };
 
     ghost inverse_ok = { λ map kept.
-        kept_again (λ cells n. record { cells = cells; count = n; sector = map.sector }) map.cells map.count kept };
+        sizes_kept_again
+        (λ cells n. record { cells = cells; count = n; sector = map.sector }) map.cells map.count kept };
 }
 
 /// The component in which an offset lies, and the offset there.

@@ -2,7 +2,7 @@
 ghost use Rattle.std.specs.Prelude.{◌≡◌, ◌≤◌, length, IsTrue};
 ghost use Rattle.geo_base.specs.Name.{is_short_name};
 ghost use Rattle.geo_model.specs.Records.{concat_record, concat_sector};
-ghost use Rattle.geo_record.specs.Head.{answer_of};
+ghost use Rattle.geo_record.specs.Head.{decoder_answer};
 ghost use Rattle.geo_concat.specs.Record.{EncodedIsDecoded};
 
 use geo_base::{DeclineCause, Declined};
@@ -19,7 +19,7 @@ const VERSION: u32 = 1;
 /// count isn't 1 to 16 or the place isn't below it.
 pub fn decode(sector: &[u8]) -> Result<ConcatRecord, Declined>
     requires { 44 ≤ length sector.now }
-    ensures { answer_of result ≡ concat_record sector.now }
+    ensures { decoder_answer result ≡ concat_record sector.now }
 {
     let name = decode_head(sector, &MAGIC, VERSION)?;
     let place = u16_at(sector, 40);

@@ -16,7 +16,7 @@ use Rattle.geo_model.specs.Log.{owed, is_full_after}
 use Rattle.geo_state.specs.declared.state.State.{State}
 use Rattle.geo_state.specs.Steps.{against}
 use Rattle.geo_state.specs.World.{world}
-use Rattle.geo_core.specs.Left.{left_of, next_of, rest_of}
+use Rattle.geo_core.specs.Left.{left_of, next_command_of, rest_of}
 use Rattle.geo_core.specs.Moves.{IsFound}
 
 -- what is against a step is so in each world for which the state stands with these commands left
@@ -47,7 +47,7 @@ found_none (Err found) e = absurd (let no : ⊥ = cc in no)
 -- what a Go answers, by the actor's next command
 
 -- where there is none
-pub go_none : (w : World) (actor : ℕ) (o : Option (List LineCommand)) (f : Found) → next_of o ≡ Err f
+pub go_none : (w : World) (actor : ℕ) (o : Option (List LineCommand)) (f : Found) → next_command_of o ≡ Err f
     → against (go_of w actor o) ≡ Some f
 go_none w actor None f e = cc
 go_none w actor (Some []) f e = cc
@@ -58,7 +58,7 @@ unless None made = refl
 unless (Some f) made = refl
 
 -- where there is one, what it waits for
-pub go_some : (w : World) (actor : ℕ) (o : Option (List LineCommand)) (c : LineCommand) → next_of o ≡ Ok c
+pub go_some : (w : World) (actor : ℕ) (o : Option (List LineCommand)) (c : LineCommand) → next_command_of o ≡ Ok c
     → against (go_of w actor o) ≡ waits_for w actor c.command
 go_some w actor None c e = absurd (let no : ⊥ = cc in no)
 go_some w actor (Some []) c e = absurd (let no : ⊥ = cc in no)
@@ -68,7 +68,7 @@ go_some w actor (Some (d ∷ rest)) c e =
     ∙ ap (λ (x : LineCommand). waits_for w actor x.command) same
 
 -- an enabled Go makes its command, with what is left after it
-pub go_does : (w : World) (actor : ℕ) (o : Option (List LineCommand)) (c : LineCommand) → next_of o ≡ Ok c
+pub go_does : (w : World) (actor : ℕ) (o : Option (List LineCommand)) (c : LineCommand) → next_command_of o ≡ Ok c
     → against (go_of w actor o) ≡ None
     → go_of w actor o ≡ Ok (do_command (with_commands w actor (rest_of o)) c.line actor c.command)
 go_does w actor None c e none = absurd (let no : ⊥ = cc in no)

@@ -15,7 +15,7 @@ use Rattle.geo_core.specs.declared.running.Running.{Running}
 use Rattle.geo_core.specs.Goes.{IsReady, IsAdmitted, IsOwedAfter}
 use Rattle.geo_core.specs.Mesh.{MeshView, world_of, Refuses}
 use Rattle.geo_core.specs.Moves.{IsFound}
-use Rattle.geo_core.specs.Places.{IsPlaced}
+use Rattle.geo_core.specs.Places.{IsRoomAnswer}
 use Rattle.geo_core.specs.Running.{seen, world_now, IsMesh}
 use Rattle.geo_core.proofs.Applying.{enabled, full, placed, roomed}
 
@@ -74,7 +74,7 @@ module _ (r : Running) (is : IsMesh r) (s : State) (l : Room Entry) (state_is : 
   }
 
   -- and is refused where it hasn't, or where memory is wanting
-  pub other_refused : (refusal : ApplyRefusal) → IsPlaced (Err refusal) (length r.log.items) n l.spare
+  pub other_refused : (refusal : ApplyRefusal) → IsRoomAnswer (Err refusal) (length r.log.items) n l.spare
       → Refuses refusal (seen r) (seen now) seat st
   other_refused (refusals.NotEnabled f) is_placed = absurd is_placed
   other_refused refusals.LogFull over = (full r is seat st n found owes over, seen_now)

@@ -15,14 +15,14 @@ use Rattle.geo_state.specs.World.{world}
 use Rattle.geo_commands.specs.declared.decisions.Decision.{Decision}
 use Rattle.geo_commands.specs.Decisions.{IsDecided}
 use Rattle.geo_core.specs.Goes.{IsReady}
-use Rattle.geo_core.specs.Left.{left_of, next_of}
+use Rattle.geo_core.specs.Left.{left_of, next_command_of}
 use Rattle.geo_core.specs.Moves.{IsFound}
 use Rattle.geo_core.proofs.Admits.{go_none, go_some}
 
 module _ (commands : List LineCommand) (left : List ℕ) (s : State) (actor : ℕ) where
   -- against a Go is what its command waits for
   pub found_next : (c : LineCommand) (f : Option Found)
-      → next_of (slice_get (left_of commands left) actor) ≡ Ok c
+      → next_command_of (slice_get (left_of commands left) actor) ≡ Ok c
       → ((actors : List (List LineCommand)) (log : List Entry) → f ≡ waits_for (world actors log s) actor c.command)
       → (log : List Entry) → against (go (world (left_of commands left) log s) actor) ≡ f
   unfolding go
@@ -31,19 +31,19 @@ module _ (commands : List LineCommand) (left : List ℕ) (s : State) (actor : �
       ∙ sym (waits (left_of commands left) log)
 
   -- or that there is none
-  pub found_nothing : (f : Found) → next_of (slice_get (left_of commands left) actor) ≡ Err f
+  pub found_nothing : (f : Found) → next_command_of (slice_get (left_of commands left) actor) ≡ Err f
       → (log : List Entry) → against (go (world (left_of commands left) log s) actor) ≡ Some f
   unfolding go
   found_nothing f e log =
       go_none (world (left_of commands left) log s) actor (slice_get (left_of commands left) actor) f e
 
   -- what is decided of the next command
-  pub ready_some : (c : LineCommand) (d : Decision) → next_of (slice_get (left_of commands left) actor) ≡ Ok c
+  pub ready_some : (c : LineCommand) (d : Decision) → next_command_of (slice_get (left_of commands left) actor) ≡ Ok c
       → IsDecided s actor c.command d → IsReady commands left s (steps.Go actor) (Some d)
   ready_some c d e decided other same =
       let one : c ≡ other = cc (e, same) in subst (λ (x : LineCommand). IsDecided s actor x.command d) one decided
 
-  pub ready_none : (f : Found) → next_of (slice_get (left_of commands left) actor) ≡ Err f
+  pub ready_none : (f : Found) → next_command_of (slice_get (left_of commands left) actor) ≡ Err f
       → IsReady commands left s (steps.Go actor) None
   ready_none f e other same = let wrong : ⊥ = cc (e, same) in wrong
 

@@ -28,14 +28,14 @@ use Rattle.geo_commands.specs.declared.decisions.Decision.{Decision}
 use Rattle.geo_commands.specs.declared.decisions.Decision.TheVariants as decisions
 use Rattle.geo_commands.specs.Decisions.{decision_of, is_closed}
 use Rattle.geo_core.specs.Goes.{IsDecidedNext}
-use Rattle.geo_core.specs.Left.{left_of, next_of, rest_of}
+use Rattle.geo_core.specs.Left.{left_of, next_command_of, rest_of}
 use Rattle.geo_core.specs.Moves.{Moves}
 use Rattle.geo_core.proofs.Admits.{go_does}
 use Rattle.geo_core.proofs.Meshes.{longer_world}
 
 -- a Go leads where its command does
 pub went : (commands : List LineCommand) (left rest : List ℕ) (old new : State) (actor : ℕ) (c : LineCommand)
-    (o : Outcome) (log : List Entry) → next_of (slice_get (left_of commands left) actor) ≡ Ok c
+    (o : Outcome) (log : List Entry) → next_command_of (slice_get (left_of commands left) actor) ≡ Ok c
     → against (go (world (left_of commands left) log old) actor) ≡ None
     → Does (λ w. do_command w c.line actor c.command) log old new o
     → left_of commands rest
@@ -66,17 +66,17 @@ abbrev AreCommands : List LineCommand → Type 0
 AreCommands = All (λ (x : LineCommand). IsCommand x.command)
 
 pub next_is_command : (xss : List (List LineCommand)) (actor : ℕ) (c : LineCommand)
-    → next_of (slice_get xss actor) ≡ Ok c → All AreCommands xss → IsCommand c.command
+    → next_command_of (slice_get xss actor) ≡ Ok c → All AreCommands xss → IsCommand c.command
 next_is_command xss actor c e all = by (slice_get xss actor) refl where
   by : (o : Option (List LineCommand)) → slice_get xss actor ≡ o → IsCommand c.command
-  by None at = absurd (let no : ⊥ = cc (ap next_of at, e) in no)
-  by (Some []) at = absurd (let no : ⊥ = cc (ap next_of at, e) in no)
+  by None at = absurd (let no : ⊥ = cc (ap next_command_of at, e) in no)
+  by (Some []) at = absurd (let no : ⊥ = cc (ap next_command_of at, e) in no)
   by (Some (d ∷ rest)) at =
       let front : AreCommands (d ∷ rest) =
       All-contains AreCommands xss (d ∷ rest) all (slot-contained xss actor (d ∷ rest) at) in
       let one : IsCommand d.command =
       All-contains (λ (x : LineCommand). IsCommand x.command) (d ∷ rest) d front (Contains-here d rest) in
-      let same : d ≡ c = cc (ap next_of at, e) in
+      let same : d ≡ c = cc (ap next_command_of at, e) in
       subst (λ (x : LineCommand). IsCommand x.command) same one
 
 -- a close that is answered ok
@@ -93,7 +93,7 @@ closed_ok w line (Some h) after e = by (option_map_or (is_active w) h.consumer f
       absurd (let no : ⊥ = cc (ap (λ (made : World × Outcome). made.1) e, refused) in no)
 
 next_first : (o : Option (List LineCommand)) (c : LineCommand) → option_and_then first_command o ≡ Some c
-    → next_of o ≡ Ok c
+    → next_command_of o ≡ Ok c
 next_first None c e = absurd (let no : ⊥ = cc in no)
 next_first (Some []) c e = absurd (let no : ⊥ = cc in no)
 next_first (Some (d ∷ rest)) c e =
@@ -109,7 +109,7 @@ closes_surely commands left s log seat actor d closes decided =
     let o : Option (List LineCommand) = slice_get all actor in
     let w : World = world all log s in
     let c : LineCommand = closes.command in
-    let next : next_of o ≡ Ok c = next_first o c closes.is_next in
+    let next : next_command_of o ≡ Ok c = next_first o c closes.is_next in
     let here : go_of w actor o ≡ Ok (closes.after, outcomes.Replied c.line replies.Ok) = closes.is_ok in
     let does = go_does w actor o c next (ap against here) in
     let v : World = with_commands w actor (rest_of o) in

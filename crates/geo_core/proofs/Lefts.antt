@@ -9,35 +9,35 @@ use Rattle.std.proofs.lemmas.Option.{slice_get_within}
 use Rattle.geo_model.specs.declared.command.LineCommand.{LineCommand}
 use Rattle.geo_model.specs.declared.step.Found.TheVariants.{NoSuchActor, NoCommand}
 use Rattle.geo_model.specs.World.{Plan}
-use Rattle.geo_core.specs.Left.{left_from, left_at, left_of, IsNext, AreNext, next_of, rest_of}
+use Rattle.geo_core.specs.Left.{commands_from, left_at, left_of, IsNext, AreNext, next_command_of, rest_of}
 
 -- those of an actor, by its place, where the actors are counted from a number on
 abbrev from : List LineCommand → ℕ → List ℕ → List (List LineCommand)
 from commands k places = map (left_at commands) (enumerate_from k places)
 
 get-from : (commands : List LineCommand) (k : ℕ) (places : List ℕ) (i j : ℕ) → j ≡ k + i
-    → slice_get (from commands k places) i ≡ option_map (left_from commands j) (slice_get places i)
+    → slice_get (from commands k places) i ≡ option_map (commands_from commands j) (slice_get places i)
 get-from commands k [] i j e = refl
 get-from commands k (p ∷ places) zero j e =
-    let same : k ≡ j = omega (arith, e) in ap (λ (n : ℕ). Some (left_from commands n p)) same
+    let same : k ≡ j = omega (arith, e) in ap (λ (n : ℕ). Some (commands_from commands n p)) same
 get-from commands k (p ∷ places) (suc i) j e = get-from commands (k + 1) places i j (omega (arith, e))
 
 set-from : (commands : List LineCommand) (k : ℕ) (places : List ℕ) (i j p : ℕ) → j ≡ k + i
-    → from commands k (slice_set places i p) ≡ slice_set (from commands k places) i (left_from commands j p)
+    → from commands k (slice_set places i p) ≡ slice_set (from commands k places) i (commands_from commands j p)
 set-from commands k [] i j p e = refl
 set-from commands k (q ∷ places) zero j p e =
     let same : k ≡ j = omega (arith, e) in
-    ap (λ (n : ℕ). left_from commands n p ∷ from commands (k + 1) places) same
+    ap (λ (n : ℕ). commands_from commands n p ∷ from commands (k + 1) places) same
 set-from commands k (q ∷ places) (suc i) j p e =
-    ap (λ (rest : List (List LineCommand)). left_from commands k q ∷ rest)
+    ap (λ (rest : List (List LineCommand)). commands_from commands k q ∷ rest)
     (set-from commands (k + 1) places i j p (omega (arith, e)))
 
 push-from : (commands : List LineCommand) (k : ℕ) (places : List ℕ) (p j : ℕ) → j ≡ k + length places
-    → from commands k (places ++ p ∷ []) ≡ from commands k places ++ left_from commands j p ∷ []
+    → from commands k (places ++ p ∷ []) ≡ from commands k places ++ commands_from commands j p ∷ []
 push-from commands k [] p j e =
-    let same : k ≡ j = omega (arith, e) in ap (λ (n : ℕ). left_from commands n p ∷ []) same
+    let same : k ≡ j = omega (arith, e) in ap (λ (n : ℕ). commands_from commands n p ∷ []) same
 push-from commands k (q ∷ places) p j e =
-    ap (λ (rest : List (List LineCommand)). left_from commands k q ∷ rest)
+    ap (λ (rest : List (List LineCommand)). commands_from commands k q ∷ rest)
     (push-from commands (k + 1) places p j (omega (arith, e)))
 
 -- one number more
@@ -49,21 +49,21 @@ range-more a (suc n) j e = ap (λ (rest : List ℕ). a ∷ rest) (range-more (a 
 
 -- a command of the actor is the first from its place on
 here : (commands : List LineCommand) (actor place : ℕ) (c : LineCommand) → slice_get commands place ≡ Some c
-    → (c.actor == actor) ≡ true → left_from commands actor place ≡ c ∷ left_from commands actor (suc place)
+    → (c.actor == actor) ≡ true → commands_from commands actor place ≡ c ∷ commands_from commands actor (suc place)
 here [] actor place c at own = absurd (let no : ⊥ = cc in no)
 here (x ∷ xs) actor zero c at own = let same : x ≡ c = cc in rw (same, own) refl
 here (x ∷ xs) actor (suc place) c at own = here xs actor place c at own
 
 -- another's is passed over
 pub passed : (commands : List LineCommand) (actor place : ℕ) (c : LineCommand) → slice_get commands place ≡ Some c
-    → (c.actor == actor) ≡ false → left_from commands actor (suc place) ≡ left_from commands actor place
+    → (c.actor == actor) ≡ false → commands_from commands actor (suc place) ≡ commands_from commands actor place
 passed [] actor place c at other = absurd (let no : ⊥ = cc in no)
 passed (x ∷ xs) actor zero c at other = let same : x ≡ c = cc in rw (same, other) refl
 passed (x ∷ xs) actor (suc place) c at other = passed xs actor place c at other
 
 -- behind all there is none
 nothing : (commands : List LineCommand) (actor place : ℕ) → slice_get commands place ≡ None
-    → left_from commands actor place ≡ []
+    → commands_from commands actor place ≡ []
 nothing [] actor zero at = refl
 nothing [] actor (suc place) at = refl
 nothing (x ∷ xs) actor zero at = absurd (let no : ⊥ = cc in no)
@@ -81,20 +81,20 @@ module _ (plan : Plan) (places : List ℕ) (next : AreNext plan places) (actor :
   left = slice_get (left_of plan.commands places) actor
 
   at_place : (place : ℕ) → slice_get places actor ≡ Some place
-      → left ≡ Some (left_from plan.commands actor place)
+      → left ≡ Some (commands_from plan.commands actor place)
   at_place place at =
       get-from plan.commands 0 places actor actor (omega arith)
-      ∙ ap (option_map (left_from plan.commands actor)) at
+      ∙ ap (option_map (commands_from plan.commands actor)) at
 
-  pub no_actor : slice_get places actor ≡ None → next_of left ≡ Err NoSuchActor
+  pub no_actor : slice_get places actor ≡ None → next_command_of left ≡ Err NoSuchActor
   no_actor at =
-      ap next_of (get-from plan.commands 0 places actor actor (omega arith)
-      ∙ ap (option_map (left_from plan.commands actor)) at)
+      ap next_command_of (get-from plan.commands 0 places actor actor (omega arith)
+      ∙ ap (option_map (commands_from plan.commands actor)) at)
 
   pub no_command : (place : ℕ) → slice_get places actor ≡ Some place → slice_get plan.commands place ≡ None
-      → next_of left ≡ Err NoCommand
+      → next_command_of left ≡ Err NoCommand
   no_command place at end =
-      ap next_of (at_place place at ∙ ap Some (nothing plan.commands actor place end))
+      ap next_command_of (at_place place at ∙ ap Some (nothing plan.commands actor place end))
 
   own : (place : ℕ) (c : LineCommand) → slice_get places actor ≡ Some place
       → slice_get plan.commands place ≡ Some c → (c.actor == actor) ≡ true
@@ -105,17 +105,17 @@ module _ (plan : Plan) (places : List ℕ) (next : AreNext plan places) (actor :
 
   pub all_left : (place : ℕ) (c : LineCommand) → slice_get places actor ≡ Some place
       → slice_get plan.commands place ≡ Some c
-      → left ≡ Some (c ∷ left_from plan.commands actor (suc place))
+      → left ≡ Some (c ∷ commands_from plan.commands actor (suc place))
   all_left place c at has =
       at_place place at ∙ ap Some (here plan.commands actor place c has (own place c at has))
 
   pub a_command : (place : ℕ) (c : LineCommand) → slice_get places actor ≡ Some place
-      → slice_get plan.commands place ≡ Some c → next_of left ≡ Ok c
-  a_command place c at has = ap next_of (all_left place c at has)
+      → slice_get plan.commands place ≡ Some c → next_command_of left ≡ Ok c
+  a_command place c at has = ap next_command_of (all_left place c at has)
 
   -- the places after its next command is gone
-  pub gone : (place after : ℕ) → slice_get places actor ≡ Some place → IsOk (next_of left)
-      → left_from plan.commands actor after ≡ left_from plan.commands actor (place + 1)
+  pub gone : (place after : ℕ) → slice_get places actor ≡ Some place → IsOk (next_command_of left)
+      → commands_from plan.commands actor after ≡ commands_from plan.commands actor (place + 1)
       → left_of plan.commands (slice_set places actor after)
       ≡ slice_set (left_of plan.commands places) actor (rest_of left)
   gone place after at some skips = by (slice_get plan.commands place) refl where
@@ -123,32 +123,32 @@ module _ (plan : Plan) (places : List ℕ) (next : AreNext plan places) (actor :
         → left_of plan.commands (slice_set places actor after)
         ≡ slice_set (left_of plan.commands places) actor (rest_of left)
     by None end =
-        absurd (let no : IsOk (next_of left) = some in let e = no_command place at end in
+        absurd (let no : IsOk (next_command_of left) = some in let e = no_command place at end in
         let wrong : ⊥ = cc (e, no) in wrong)
     by (Some c) has =
         let whole = all_left place c at has in
         let one : place + 1 ≡ suc place = add-one place in
         set-from plan.commands 0 places actor actor after (omega arith)
         ∙ ap (λ (rest : List LineCommand). slice_set (left_of plan.commands places) actor rest)
-        (skips ∙ ap (left_from plan.commands actor) one ∙ sym (ap rest_of whole))
+        (skips ∙ ap (commands_from plan.commands actor) one ∙ sym (ap rest_of whole))
 
   -- there is one more command at the place
-  pub inside_place : (place : ℕ) → slice_get places actor ≡ Some place → IsOk (next_of left)
+  pub inside_place : (place : ℕ) → slice_get places actor ≡ Some place → IsOk (next_command_of left)
       → place + 1 ≤ length plan.commands
   inside_place place at some = by (slice_get plan.commands place) refl where
     by : (o : Option LineCommand) → slice_get plan.commands place ≡ o → place + 1 ≤ length plan.commands
     by None end =
-        absurd (let no : IsOk (next_of left) = some in let e = no_command place at end in
+        absurd (let no : IsOk (next_command_of left) = some in let e = no_command place at end in
         let wrong : ⊥ = cc (e, no) in wrong)
     by (Some c) has = let less = slice_get_within plan.commands place c has in omega (arith, less)
 
 -- an actor that has a next command has a place
 pub has_place : (plan : Plan) (places : List ℕ) (actor : ℕ)
-    → IsOk (next_of (slice_get (left_of plan.commands places) actor)) → slice_get places actor ≡ None → ⊥
+    → IsOk (next_command_of (slice_get (left_of plan.commands places) actor)) → slice_get places actor ≡ None → ⊥
 has_place plan places actor some none =
-    let e : next_of (slice_get (left_of plan.commands places) actor) ≡ Err NoSuchActor =
-    ap next_of (get-from plan.commands 0 places actor actor (omega arith)
-    ∙ ap (option_map (left_from plan.commands actor)) none) in
+    let e : next_command_of (slice_get (left_of plan.commands places) actor) ≡ Err NoSuchActor =
+    ap next_command_of (get-from plan.commands 0 places actor actor (omega arith)
+    ∙ ap (option_map (commands_from plan.commands actor)) none) in
     let wrong : ⊥ = cc (e, some) in wrong
 
 -- another place of one actor, which is that of its next command
@@ -189,10 +189,10 @@ some xs = ne_eqb (suc (length xs)) 0 (λ same. omega (arith, same))
 
 module _ (commands : List LineCommand) where
   one-done : (actor place : ℕ) → IsNext commands actor place
-      → (length (left_from commands actor place) == 0) ≡ (place == length commands)
+      → (length (commands_from commands actor place) == 0) ≡ (place == length commands)
   one-done actor place is = by (slice_get commands place) refl where
     by : (o : Option LineCommand) → slice_get commands place ≡ o
-        → (length (left_from commands actor place) == 0) ≡ (place == length commands)
+        → (length (commands_from commands actor place) == 0) ≡ (place == length commands)
     by None end =
         let none = nothing commands actor place end in
         let at_end : place ≡ length commands = ends commands place is.inside end in
@@ -201,7 +201,7 @@ module _ (commands : List LineCommand) where
         let of : c.actor ≡ actor = rw has at is.own in
         let first = here commands actor place c has (eq-eqb c.actor actor of) in
         let less = slice_get_within commands place c has in
-        ap (λ (rest : List LineCommand). length rest == 0) first ∙ some (left_from commands actor (suc place))
+        ap (λ (rest : List LineCommand). length rest == 0) first ∙ some (commands_from commands actor (suc place))
         ∙ sym (ne_eqb place (length commands) (λ same. omega (arith, less, same)))
 
   done-from : (k : ℕ) (places : List ℕ) → ((i : ℕ) → IfSome (slice_get places i) (IsNext commands (k + i)))
@@ -229,7 +229,7 @@ all_done plan places next =
 pub record AreFirst (commands : List LineCommand) (places : List ℕ) (actors : ℕ) : Type 0 where
   pub each : length places ≡ actors
   pub next : (actor : ℕ) → IfSome (slice_get places actor) (IsNext commands actor)
-  pub left : left_of commands places ≡ map (λ actor. left_from commands actor 0) (range_with_len 0 actors)
+  pub left : left_of commands places ≡ map (λ actor. commands_from commands actor 0) (range_with_len 0 actors)
 
 push-each : {X : Type 0} (P : ℕ → X → Type 0) (xs : List X) (x : X) → P (length xs) x
     → ((j : ℕ) → IfSome (slice_get xs j) (P j)) → (j : ℕ) → IfSome (slice_get (xs ++ x ∷ []) j) (P j)
@@ -241,10 +241,10 @@ push-each {X} P (y ∷ xs) x is each (suc j) =
 
 -- those of one actor more
 pub first-push : (commands : List LineCommand) (places : List ℕ) (actors place : ℕ) → AreFirst commands places actors
-    → IsNext commands actors place → left_from commands actors place ≡ left_from commands actors 0
+    → IsNext commands actors place → commands_from commands actors place ≡ commands_from commands actors 0
     → AreFirst commands (places ++ place ∷ []) (actors + 1)
 first-push commands places actors place first is skips =
-    let f : ℕ → List LineCommand = λ actor. left_from commands actor 0 in
+    let f : ℕ → List LineCommand = λ actor. commands_from commands actor 0 in
     let long : actors ≡ 0 + length places = (let e = first.each in omega (arith, e)) in
     let more : range_with_len 0 (actors + 1) ≡ range_with_len 0 actors ++ actors ∷ [] =
     ap (range_with_len 0) (add-one actors) ∙ range-more 0 actors actors (omega arith) in
@@ -253,7 +253,7 @@ first-push commands places actors place first is skips =
       next = push-each (IsNext commands) places place (subst (λ n. IsNext commands n place) (sym first.each) is)
           first.next;
       left = push-from commands 0 places place actors long
-          ∙ ap (λ (xs : List (List LineCommand)). xs ++ left_from commands actors place ∷ []) first.left
+          ∙ ap (λ (xs : List (List LineCommand)). xs ++ commands_from commands actors place ∷ []) first.left
           ∙ ap (λ (c : List LineCommand). map f (range_with_len 0 actors) ++ c ∷ []) skips
           ∙ sym (map_push f (range_with_len 0 actors) actors) ∙ ap (map f) (sym more);
     }

@@ -15,7 +15,7 @@ use Rattle.geo_state.specs.declared.state.State.{State}
 use Rattle.geo_state.specs.Steps.{against, IsAgainst}
 use Rattle.geo_state.specs.World.{world, HasBytes}
 use Rattle.geo_core.specs.declared.running.Running.{Running}
-use Rattle.geo_core.specs.Left.{left_of, next_of}
+use Rattle.geo_core.specs.Left.{left_of, next_command_of}
 use Rattle.geo_core.specs.Mesh.{world_of, IsSure}
 use Rattle.geo_core.specs.Moves.{IsFound, IsTurn, IsDeliver, Turns, Moves}
 use Rattle.geo_core.specs.Running.{seen, world_now, IsMesh}
@@ -71,14 +71,14 @@ turn_moves commands log left old new seat st o turns e same = turns (left_of com
 
 -- an enabled one has a next command
 pub go_next : (w : World) (actor : ℕ) (o : Option (List LineCommand)) → against (go_of w actor o) ≡ None
-    → (c : LineCommand) × (next_of o ≡ Ok c)
+    → (c : LineCommand) × (next_command_of o ≡ Ok c)
 go_next w actor None none = absurd (let no : ⊥ = cc in no)
 go_next w actor (Some []) none = absurd (let no : ⊥ = cc in no)
 go_next w actor (Some (c ∷ rest)) none = (c, refl)
 
 pub go_next_of : (commands : List LineCommand) (left : List ℕ) (s : State) (actor : ℕ) → ((log : List Entry)
     → against (go (world (left_of commands left) log s) actor) ≡ None)
-    → (c : LineCommand) × (next_of (slice_get (left_of commands left) actor) ≡ Ok c)
+    → (c : LineCommand) × (next_command_of (slice_get (left_of commands left) actor) ≡ Ok c)
 unfolding go
 go_next_of commands left s actor none =
     go_next (world (left_of commands left) [] s) actor (slice_get (left_of commands left) actor) (none [])

@@ -20,7 +20,7 @@ use Rattle.geo_commands.specs.declared.decisions.Decision.{Decision}
 use Rattle.geo_core.specs.declared.running.Running.{Running}
 use Rattle.geo_commands.specs.Decisions.{IsDecided, places_owed}
 use Rattle.geo_core.specs.Goes.{IsReady, IsOwedAfter}
-use Rattle.geo_core.specs.Left.{left_of, next_of, rest_of}
+use Rattle.geo_core.specs.Left.{left_of, next_command_of, rest_of}
 use Rattle.geo_core.specs.Mesh.{world_of}
 use Rattle.geo_core.specs.Running.{seen, world_now, IsMesh}
 use Rattle.geo_core.proofs.Meshes.{mesh_firm, owed_shown}
@@ -43,7 +43,7 @@ log_few r is = let same = owed_is r is in let most = is.lawful.1 in omega (arith
 
 -- an enabled Go has a next command
 go_command : (w : World) (actor : ℕ) (o : Option (List LineCommand)) (after : World) (outcome : Outcome)
-    → go_of w actor o ≡ Ok (after, outcome) → (c : LineCommand) × (next_of o ≡ Ok c)
+    → go_of w actor o ≡ Ok (after, outcome) → (c : LineCommand) × (next_command_of o ≡ Ok c)
 go_command w actor None after outcome e = absurd (let no : ⊥ = cc in no)
 go_command w actor (Some []) after outcome e = absurd (let no : ⊥ = cc in no)
 go_command w actor (Some (c ∷ rest)) after outcome e = (c, refl)

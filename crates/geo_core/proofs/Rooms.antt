@@ -18,7 +18,7 @@ use Rattle.geo_log.specs.Places.{delivered_at}
 use Rattle.geo_state.specs.Shown.{shown_bio}
 use Rattle.geo_state.proofs.ShownLemmas.{shown_are_found}
 use Rattle.geo_core.specs.declared.running.Running.{Running}
-use Rattle.geo_core.specs.Mesh.{bytes_read, room_of, world_of}
+use Rattle.geo_core.specs.Mesh.{bytes_read, bytes_read_by, world_of}
 use Rattle.geo_core.specs.Running.{seen, IsMesh}
 use Rattle.geo_core.proofs.Meshes.{mesh_firm}
 
@@ -48,13 +48,13 @@ module _ (r : Running) (is : IsMesh r) (bio : ℕ) where
 
   -- where the state has it
   pub room_there : (x : BioOf Held) → Some x ≡ bio_among bios bio
-      → bytes_read x.cmd x.len ≡ room_of (world_of (seen r)) bio
+      → bytes_read x.cmd x.len ≡ bytes_read_by (world_of (seen r)) bio
   room_there x there =
       sym (ap (λ (o : Option Bio). option_map_or (λ y. bytes_read y.cmd y.len) o 0)
       (shown_at ∙ ap (option_map (shown_bio log)) (sym there)))
 
   -- where it hasn't
-  pub room_gone : None ≡ bio_among bios bio → 0 ≡ room_of (world_of (seen r)) bio
+  pub room_gone : None ≡ bio_among bios bio → 0 ≡ bytes_read_by (world_of (seen r)) bio
   room_gone gone =
       sym (ap (λ (o : Option Bio). option_map_or (λ y. bytes_read y.cmd y.len) o 0)
       (shown_at ∙ ap (option_map (shown_bio log)) (sym gone)))

@@ -19,7 +19,7 @@ use Rattle.geo_state.specs.declared.state.DiskSeat.{DiskSeat}
 use Rattle.geo_state.specs.declared.state.OwnBios.{OwnBios}
 use Rattle.geo_state.specs.Holds.{Holds}
 use Rattle.geo_state.specs.Opening.{IsEmpty, IsFreeSeat}
-use Rattle.geo_state.specs.World.{header_disk}
+use Rattle.geo_state.specs.World.{disk_of_seat}
 use Rattle.geo_core.specs.Openings.{stood, IsOpened}
 use Rattle.geo_core.proofs.Openings.{bare_firm}
 use Rattle.geo_core.proofs.Stands.{FactAt, fact_at, has_item}
@@ -27,17 +27,17 @@ use Rattle.geo_core.proofs.Stands.{FactAt, fact_at, has_item}
 -- the seats of so many disks
 pub record AreSeats (disks : List DiskDecl) (facts : List (ℕ × ℕ)) (count : ℕ) (seats : List DiskSeat) : Type 0 where
   pub free : AllByRecursion IsFreeSeat seats
-  pub shown : map header_disk seats ≡ take count (map disk_in_size (zip disks facts))
+  pub shown : map disk_of_seat seats ≡ take count (map disk_in_size (zip disks facts))
 
 -- with one more
 pub seats_push : (disks : List DiskDecl) (facts : List (ℕ × ℕ)) (k : ℕ) (seats : List DiskSeat) (seat : DiskSeat)
     → AllZip IsFact disks facts → k < length disks → AreSeats disks facts k seats → IsFreeSeat seat
-    → IfSome (slice_get (zip disks facts) k) (λ z. header_disk seat ≡ disk_in_size z)
+    → IfSome (slice_get (zip disks facts) k) (λ z. disk_of_seat seat ≡ disk_in_size z)
     → AreSeats disks facts (k + 1) (seats ++ seat ∷ [])
 seats_push disks facts k seats seat fit there are free shows =
     let d = has_item disks k there in
     let its = fact_at disks facts k d.0 fit d.1 in
-    let one : header_disk seat ≡ disk_in_size (d.0, its.fact) = rw its.at at shows in
+    let one : disk_of_seat seat ≡ disk_in_size (d.0, its.fact) = rw its.at at shows in
     let at : slice_get (map disk_in_size (zip disks facts)) k ≡ Some (disk_in_size (d.0, its.fact)) =
     slice_get-map disk_in_size (zip disks facts) k ∙ ap (option_map disk_in_size) its.at in
     let more : take (k + 1) (map disk_in_size (zip disks facts))
@@ -46,8 +46,8 @@ seats_push disks facts k seats seat fit there are free shows =
     ∙ take_one (map disk_in_size (zip disks facts)) k (disk_in_size (d.0, its.fact)) at in
     record {
       free = all_pushed IsFreeSeat seats seat are.free free;
-      shown = map-append header_disk seats (seat ∷ [])
-          ∙ ap (λ (xs : List HeaderDisk). xs ++ header_disk seat ∷ []) are.shown
+      shown = map-append disk_of_seat seats (seat ∷ [])
+          ∙ ap (λ (xs : List HeaderDisk). xs ++ disk_of_seat seat ∷ []) are.shown
           ∙ ap (λ (x : HeaderDisk). take k (map disk_in_size (zip disks facts)) ++ x ∷ []) one ∙ sym more;
     }
 
@@ -59,7 +59,7 @@ few (d ∷ disks) (fact ∷ facts) = let rest = few disks facts in omega (arith,
 
 -- all of them
 pub seats_all : (disks : List DiskDecl) (facts : List (ℕ × ℕ)) (k : ℕ) (seats : List DiskSeat) → k ≡ length disks
-    → AreSeats disks facts k seats → map header_disk seats ≡ map disk_in_size (zip disks facts)
+    → AreSeats disks facts k seats → map disk_of_seat seats ≡ map disk_in_size (zip disks facts)
 seats_all disks facts k seats e are =
     let low = few disks facts in
     are.shown ∙ take_all k (map disk_in_size (zip disks facts)) (omega (arith, low, e))
@@ -113,7 +113,7 @@ module _ (disks : List DiskDecl) (facts : List (ℕ × ℕ)) (k : ℕ) (d : Disk
 
 module _ (plan : Plan) (facts : List (ℕ × ℕ)) (s : State) (seats : List DiskSeat) (own : List OwnBios)
     (is : IsPlan plan) (fit : FactsFit plan facts) (empty : IsEmpty s seats own) (holds : Holds s)
-    (sizes : map header_disk seats ≡ map disk_in_size (zip plan.disks facts)) where
+    (sizes : map disk_of_seat seats ≡ map disk_in_size (zip plan.disks facts)) where
   graph : s.topo.topology ≡ first_topology
   graph = ap (λ (t : TopoView Config). t.topology) empty.topo
 
@@ -123,8 +123,8 @@ module _ (plan : Plan) (facts : List (ℕ × ℕ)) (s : State) (seats : List Dis
   next_handle : s.handles.next ≡ 1
   next_handle = ap (λ (v : HandlesView). v.next) empty.handles
 
-  disks : map header_disk s.disks.items ≡ map disk_in_size (zip plan.disks facts)
-  disks = ap (map header_disk) empty.disks ∙ sizes
+  disks : map disk_of_seat s.disks.items ≡ map disk_in_size (zip plan.disks facts)
+  disks = ap (map disk_of_seat) empty.disks ∙ sizes
 
   pub empty_opened : IsOpened (stood plan facts 0) s
   empty_opened = record {
@@ -136,7 +136,7 @@ module _ (plan : Plan) (facts : List (ℕ × ℕ)) (s : State) (seats : List Dis
 
 pub empty_result : (plan : Plan) (facts : List (ℕ × ℕ)) (seats : List DiskSeat) (own : List OwnBios)
     (result : Result State NoMemory) → IsPlan plan → FactsFit plan facts → IfOk result (λ s. IsEmpty s seats own)
-    → IfOk result (λ s. Holds s) → map header_disk seats ≡ map disk_in_size (zip plan.disks facts)
+    → IfOk result (λ s. Holds s) → map disk_of_seat seats ≡ map disk_in_size (zip plan.disks facts)
     → IfOk result (λ s. IsOpened (stood plan facts 0) s)
 empty_result plan facts seats own (Ok s) is fit empty holds sizes =
     empty_opened plan facts s seats own is fit empty holds sizes

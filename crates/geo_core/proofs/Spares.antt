@@ -31,7 +31,7 @@ use Rattle.geo_state.specs.World.{world}
 use Rattle.geo_core.specs.declared.running.Running.{Running}
 use Rattle.geo_core.specs.declared.twin.Spare.{Spare}
 use Rattle.geo_core.specs.declared.twin.Spare.TheVariants as spares
-use Rattle.geo_core.specs.Left.{left_of, next_of, rest_of}
+use Rattle.geo_core.specs.Left.{left_of, next_command_of, rest_of}
 use Rattle.geo_core.specs.Mesh.{world_of}
 use Rattle.geo_core.specs.Running.{seen, world_now, IsMesh}
 use Rattle.geo_core.specs.Twins.{HasReply, HasTwin, HasOutcome, HasCommand, HasReplyOf, HasRead, prints}
@@ -58,7 +58,7 @@ module _ (r : Running) (is : IsMesh r) where
 
   -- a Go, by its command
   pub spare_go : (actor : ℕ) (c : LineCommand) (spare : Spare)
-      → next_of (slice_get (left_of r.plan.commands r.left) actor) ≡ Ok c → HasCommand r.state c.command spare
+      → next_command_of (slice_get (left_of r.plan.commands r.left) actor) ≡ Ok c → HasCommand r.state c.command spare
       → HasOutcome (world_of (seen r)) (steps.Go actor) spare
   unfolding step go
   spare_go actor c spare next has =
@@ -71,7 +71,7 @@ module _ (r : Running) (is : IsMesh r) where
       (has _ r.log.items c.line actor)))
 
   pub spare_no_go : (actor : ℕ) (f : Found) (spare : Spare)
-      → next_of (slice_get (left_of r.plan.commands r.left) actor) ≡ Err f
+      → next_command_of (slice_get (left_of r.plan.commands r.left) actor) ≡ Err f
       → HasOutcome (world_of (seen r)) (steps.Go actor) spare
   unfolding step go
   spare_no_go actor f spare next =
@@ -164,21 +164,21 @@ module _ (r : Running) (is : IsMesh r) where
 
   -- a Go, by what comes of the copy
   pub spare_go_result : (actor : ℕ) (c : LineCommand) (result : Result Spare NoMemory)
-      → next_of (slice_get (left_of r.plan.commands r.left) actor) ≡ Ok c
+      → next_command_of (slice_get (left_of r.plan.commands r.left) actor) ≡ Ok c
       → IfOk result (λ spare. HasCommand r.state c.command spare)
       → IfOk result (λ spare. HasOutcome (world_of (seen r)) (steps.Go actor) spare)
   spare_go_result actor c (Ok spare) next has = spare_go actor c spare next has
   spare_go_result actor c (Err e) next has = tt
 
   -- a close prints nothing
-  same_command : (o : Option (List LineCommand)) (c d : LineCommand) → next_of o ≡ Ok c
+  same_command : (o : Option (List LineCommand)) (c d : LineCommand) → next_command_of o ≡ Ok c
       → option_and_then first_command o ≡ Some d → c ≡ d
   same_command None c d next first = absurd (let wrong : ⊥ = cc next in wrong)
   same_command (Some []) c d next first = absurd (let wrong : ⊥ = cc next in wrong)
   same_command (Some (x ∷ rest)) c d next first = cc (next, first)
 
   pub close_is_quiet : (seat actor : ℕ) (c : LineCommand)
-      → next_of (slice_get (left_of r.plan.commands r.left) actor) ≡ Ok c
+      → next_command_of (slice_get (left_of r.plan.commands r.left) actor) ≡ Ok c
       → ClosesOk (world_of (seen r)) seat actor → prints c.command ≡ false
   close_is_quiet seat actor c next closes =
       let left = slice_get (left_of r.plan.commands r.left) actor in

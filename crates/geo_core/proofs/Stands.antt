@@ -20,7 +20,7 @@ use Rattle.geo_state.specs.declared.state.State.{State}
 use Rattle.geo_state.specs.declared.state.DiskSeat.{DiskSeat}
 use Rattle.geo_state.specs.Holds.{Holds}
 use Rattle.geo_state.specs.Parts.{geom_of_disk}
-use Rattle.geo_state.specs.World.{world, header_disk}
+use Rattle.geo_state.specs.World.{world, disk_of_seat}
 use Rattle.geo_state.specs.Steps.{IsFirm}
 use Rattle.geo_commands.specs.Disks.{item_at}
 use Rattle.geo_commands.proofs.Finding.{seat-absent}
@@ -52,10 +52,10 @@ fact_at (e ∷ disks) (fact ∷ facts) (suc k) d fit here =
     record { fact = more.fact; is = more.is; at = more.at; got = more.got }
 
 -- the seat of a disk of the header
-has_seat : (o : Option DiskSeat) (disk : HeaderDisk) → option_map header_disk o ≡ Some disk
-    → (seat : DiskSeat) × (o ≡ Some seat) × (header_disk seat ≡ disk)
+has_seat : (o : Option DiskSeat) (disk : HeaderDisk) → option_map disk_of_seat o ≡ Some disk
+    → (seat : DiskSeat) × (o ≡ Some seat) × (disk_of_seat seat ≡ disk)
 has_seat None disk e = absurd (let no : ⊥ = cc in no)
-has_seat (Some seat) disk e = (seat, refl, let same : header_disk seat ≡ disk = cc in same)
+has_seat (Some seat) disk e = (seat, refl, let same : disk_of_seat seat ≡ disk = cc in same)
 
 -- the state of an opening stands for a firm world
 pub opened_firm : (w : World) (s : State) → IsOpened w s → IsFirm s
@@ -100,10 +100,10 @@ module _ (plan : Plan) (facts : List (ℕ × ℕ)) (k : ℕ) (d : DiskDecl) (is 
       (header_stays (filter stands (take k (enumerate_from 0 (zip plan.disks facts)))) (bare_world plan facts))
       ∙ slice_get-map disk_in_size (zip plan.disks facts) k ∙ ap (option_map disk_in_size) its.at
 
-  its_seat : (seat : DiskSeat) × (slice_get s.disks.items k ≡ Some seat) × (header_disk seat ≡ disk)
+  its_seat : (seat : DiskSeat) × (slice_get s.disks.items k ≡ Some seat) × (disk_of_seat seat ≡ disk)
   its_seat =
       has_seat (slice_get s.disks.items k) disk
-      (sym (slice_get-map header_disk s.disks.items k)
+      (sym (slice_get-map disk_of_seat s.disks.items k)
       ∙ ap (λ (v : World). slice_get v.disks k) (opened.world []) ∙ in_header)
 
   module _ (now : d.later ≡ false) where
@@ -133,9 +133,9 @@ module _ (plan : Plan) (facts : List (ℕ × ℕ)) (k : ℕ) (d : DiskDecl) (is 
         let after : IsOpened (stand w (k, disk)) t = record {
           world = λ log.
               let led = one.stood w.actors log in
-              let there : world w.actors log t ≡ stand (world w.actors log s) (k, header_disk its_seat.0) =
+              let there : world w.actors log t ≡ stand (world w.actors log s) (k, disk_of_seat its_seat.0) =
               rw its_seat.1 at led in
-              there ∙ ap (λ (v : World). stand v (k, header_disk its_seat.0)) (opened.world log)
+              there ∙ ap (λ (v : World). stand v (k, disk_of_seat its_seat.0)) (opened.world log)
               ∙ ap (λ (x : HeaderDisk). stand w (k, x)) its_seat.2;
           bios = ap (λ (v : TrafficView). v.bios) one.traffic ∙ opened.bios;
           holds = one.kept;

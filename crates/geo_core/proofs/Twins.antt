@@ -36,7 +36,7 @@ use Rattle.geo_model.specs.Step.{Answer, unless_found, event_of, judge_of, taste
 use Rattle.geo_model.proofs.WayLemmas.{starts_in_parts}
 use Rattle.geo_core.specs.declared.twin.Spare.{Spare}
 use Rattle.geo_core.specs.declared.twin.Spare.TheVariants as spares
-use Rattle.geo_core.specs.Left.{next_of, rest_of}
+use Rattle.geo_core.specs.Left.{next_command_of, rest_of}
 use Rattle.geo_core.specs.Twins.{HasReply, HasTwin, prints}
 
 module _ (w : World) (spare : Spare) where
@@ -258,7 +258,7 @@ up_twin w spare (Some x) is = by (is_up x.phase) where
 -- Go
 
 pub go_twin : (w : World) (spare : Spare) (actor : ℕ) (o : Option (List LineCommand))
-    → ((v : World) (c : LineCommand) → next_of o ≡ Ok c
+    → ((v : World) (c : LineCommand) → next_command_of o ≡ Ok c
     → HasTwin (do_command (with_commands w actor (rest_of o)) c.line actor c.command).1 spare)
     → TwinAnswer (go_of w actor o) spare
 go_twin w spare actor None is = tt

@@ -11,7 +11,7 @@ use Rattle.geo_state.specs.declared.state.State.{State}
 use Rattle.geo_commands.specs.declared.decisions.Decision.{Decision}
 use Rattle.geo_core.specs.declared.running.Running.{Running}
 use Rattle.geo_commands.specs.Decisions.{IsDecided}
-use Rattle.geo_core.specs.Left.{left_of, next_of}
+use Rattle.geo_core.specs.Left.{left_of, next_command_of}
 use Rattle.geo_core.specs.Mesh.{world_of}
 use Rattle.geo_core.specs.Moves.{IsFound}
 use Rattle.geo_core.specs.Running.{seen}
@@ -19,13 +19,13 @@ use Rattle.geo_core.specs.Running.{seen}
 -- what is decided of the actor's next command
 abbrev pub IsDecidedNext : List LineCommand → List ℕ → State → ℕ → Decision → Type 0
 IsDecidedNext commands left s actor d =
-    (c : LineCommand) → next_of (slice_get (left_of commands left) actor) ≡ Ok c → IsDecided s actor c.command d
+    (c : LineCommand) → next_command_of (slice_get (left_of commands left) actor) ≡ Ok c → IsDecided s actor c.command d
 
 -- a Go has the decision of its command, if there is one
 abbrev pub IsReady : List LineCommand → List ℕ → State → Step → Option Decision → Type 0
 IsReady commands left s (steps.Go actor) (Some d) = IsDecidedNext commands left s actor d
 IsReady commands left s (steps.Go actor) None =
-    (c : LineCommand) → next_of (slice_get (left_of commands left) actor) ≡ Ok c → ⊥
+    (c : LineCommand) → next_command_of (slice_get (left_of commands left) actor) ≡ Ok c → ⊥
 IsReady commands left s st d = ⊤
 
 -- so many places are owed after the step in the world

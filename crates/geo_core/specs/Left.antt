@@ -7,12 +7,12 @@ use Rattle.geo_model.specs.declared.step.Found.TheVariants.{NoSuchActor, NoComma
 use Rattle.geo_model.specs.World.{Plan}
 
 -- the actor's commands from a place on
-abbrev pub left_from : List LineCommand → ℕ → ℕ → List LineCommand
-left_from commands actor place = filter (λ c. c.actor == actor) (drop place commands)
+abbrev pub commands_from : List LineCommand → ℕ → ℕ → List LineCommand
+commands_from commands actor place = filter (λ c. c.actor == actor) (drop place commands)
 
 -- the same of an actor with its place
 abbrev pub left_at : List LineCommand → ℕ × ℕ → List LineCommand
-left_at commands item = left_from commands item.0 item.1
+left_at commands item = commands_from commands item.0 item.1
 
 -- the commands that each actor has left, from its place on
 abbrev pub left_of : List LineCommand → List ℕ → List (List LineCommand)
@@ -29,10 +29,10 @@ pub record AreNext (plan : Plan) (places : List ℕ) : Type 0 where
   pub next : (actor : ℕ) → IfSome (slice_get places actor) (IsNext plan.commands actor)
 
 -- the first of the commands that an actor has left; else why there is none
-abbrev pub next_of : Option (List LineCommand) → Result LineCommand Found
-next_of None = Err NoSuchActor
-next_of (Some []) = Err NoCommand
-next_of (Some (c ∷ rest)) = Ok c
+abbrev pub next_command_of : Option (List LineCommand) → Result LineCommand Found
+next_command_of None = Err NoSuchActor
+next_command_of (Some []) = Err NoCommand
+next_command_of (Some (c ∷ rest)) = Ok c
 
 -- the commands that are left after it
 abbrev pub rest_of : Option (List LineCommand) → List LineCommand

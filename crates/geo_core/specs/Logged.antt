@@ -22,8 +22,8 @@ use Rattle.geo_core.specs.declared.refusal.ApplyRefusal.TheVariants as refusals
 use Rattle.geo_core.specs.Mesh.{MeshView, world_of}
 
 -- what a mesh began with, and the mesh that began so and has a log
-abbrev pub start_of : MeshView → MeshStart
-start_of m = record { plan = m.plan; facts = m.facts }
+abbrev pub mesh_start : MeshView → MeshStart
+mesh_start m = record { plan = m.plan; facts = m.facts }
 
 abbrev pub mesh_of : MeshStart → List Entry → MeshView
 mesh_of s log = record { plan = s.plan; facts = s.facts; log = log }

@@ -36,8 +36,8 @@ abbrev pub bytes_read : BioCmd → ℕ → ℕ
 bytes_read cmd len = if is_read cmd then len else 0
 
 -- how many bytes the bio of a number reads; 0 if there is no such bio
-abbrev pub room_of : World → ℕ → ℕ
-room_of w bio = option_map_or (λ x. bytes_read x.cmd x.len) (bio_at w bio) 0
+abbrev pub bytes_read_by : World → ℕ → ℕ
+bytes_read_by w bio = option_map_or (λ x. bytes_read x.cmd x.len) (bio_at w bio) 0
 
 -- the log is one that the mesh can have, by which it keeps all that a history does
 pub record IsHistory (m : MeshView) : Type 0 where

@@ -20,12 +20,12 @@ abbrev pub world_now : Running → World
 world_now r = world (left_of r.plan.commands r.left) r.log.items r.state
 
 -- no bio, event or taste is left
-abbrev pub is_quiet : {A B C : Type 0} → List A → List B → Option C → Bool
-is_quiet bios events taste = (length bios == 0) && ((length events == 0) && is_none taste)
+abbrev pub is_none_left : {A B C : Type 0} → List A → List B → Option C → Bool
+is_none_left bios events taste = (length bios == 0) && ((length events == 0) && is_none taste)
 
 -- nor a command
 abbrev pub is_idle : World → Bool
-is_idle w = is_quiet w.bios w.events w.taste && list_all (λ rest. length rest == 0) w.actors
+is_idle w = is_none_left w.bios w.events w.taste && list_all (λ rest. length rest == 0) w.actors
 
 -- the log is one that a mesh can have, the parts stand for the world to which it leads, what is kept beside them is
 -- kept, and there is room for each entry that is owed

@@ -4,7 +4,7 @@ ghost use Rattle.geo_core.specs.declared.refusal.ApplyRefusal.TheVariants as ref
 ghost use Rattle.geo_core.specs.Mesh.{world_of, Refuses};
 ghost use Rattle.geo_core.specs.Running.{seen, IsMesh};
 ghost use Rattle.geo_core.specs.Goes.{IsAdmitted, PaysOff};
-ghost use Rattle.geo_core.specs.Places.{IsPlaced};
+ghost use Rattle.geo_core.specs.Places.{IsRoomAnswer};
 
 use crate::found::found_against;
 use crate::owed::{decide_step, places_after};
@@ -46,7 +46,7 @@ fn make_place(log: &mut Log, owed: u64) -> Result<(), ApplyRefusal>
     requires { length log.old.items ≤ MAX_LOG_ENTRIES }
     ensures entries { log.new.items ≡ log.old.items }
     ensures spare { log.old.spare ≤ log.new.spare }
-    ensures placed { IsPlaced result (length log.old.items) owed log.new.spare }
+    ensures placed { IsRoomAnswer result (length log.old.items) owed log.new.spare }
     ensures sure { owed + 1 ≤ log.old.spare → length log.old.items + 1 + owed ≤ MAX_LOG_ENTRIES → IsOk result }
 {
     if MAX_LOG_ENTRIES - log.len() <= owed {

@@ -2,7 +2,7 @@
 ghost use Rattle.std.specs.Prelude.{◌≡◌, ◌==◌, ◌≤◌, length, map, IfOk, IsOk, MatchResult, Ok, Err, option_copied, slice_get, slice_set};
 ghost use Rattle.std.specs.List.{list_all, range_with_len};
 ghost use Rattle.geo_model.specs.World.{commands_of};
-ghost use Rattle.geo_core.specs.Left.{left_from, left_of, next_of, rest_of, AreNext, IsNext};
+ghost use Rattle.geo_core.specs.Left.{commands_from, left_of, next_command_of, rest_of, AreNext, IsNext};
 
 use geo_base::NoMemory;
 use geo_model::{Found, LineCommand};
@@ -51,8 +51,8 @@ impl Left {
     pub fn next<'a>(&self, plan: &'a Plan, actor: u32) -> Result<&'a LineCommand, Found>
         requires { AreNext plan.now self.now }
         ensures { MatchResult result
-            (λ c. next_of (slice_get (left_of plan.now.commands self.now) actor) ≡ Ok c.now)
-            (λ found. next_of (slice_get (left_of plan.now.commands self.now) actor) ≡ Err found) }
+            (λ c. next_command_of (slice_get (left_of plan.now.commands self.now) actor) ≡ Ok c.now)
+            (λ found. next_command_of (slice_get (left_of plan.now.commands self.now) actor) ≡ Err found) }
     {
         let Some(place) = self.place_of(actor) else {
             return Err(Found::NoSuchActor);
@@ -66,7 +66,7 @@ impl Left {
     /// The actor's next command is gone.
     pub fn advance(&mut self, plan: &Plan, actor: u32)
         requires next { AreNext plan.now self.old }
-        requires some { IsOk (next_of (slice_get (left_of plan.now.commands self.old) actor)) }
+        requires some { IsOk (next_command_of (slice_get (left_of plan.now.commands self.old) actor)) }
         ensures next { AreNext plan.now self.new }
         ensures gone { left_of plan.now.commands self.new ≡ slice_set (left_of plan.now.commands self.old) actor
             (rest_of (slice_get (left_of plan.now.commands self.old) actor)) }
@@ -104,7 +104,7 @@ fn command_at(commands: &[LineCommand], place: usize) -> Option<&LineCommand>
 fn next_place(commands: &[LineCommand], actor: u32, from: usize) -> usize
     requires { from ≤ length commands.now }
     ensures next { IsNext commands.now actor result }
-    ensures skips { left_from commands.now actor result ≡ left_from commands.now actor from }
+    ensures skips { commands_from commands.now actor result ≡ commands_from commands.now actor from }
 {
     for place in from..commands.len() {
         if commands[place].actor == actor {

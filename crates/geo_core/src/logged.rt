@@ -27,9 +27,9 @@ impl Logged for Mesh {
 
     ghost use Rattle.std.specs.Prelude.{refl};
     ghost use Rattle.geo_core.specs.Mesh.{IsHistory, entry_of, world_of};
-    ghost use Rattle.geo_core.specs.Logged.{answer_of, is_sure, is_want, mesh_of, start_of};
+    ghost use Rattle.geo_core.specs.Logged.{answer_of, is_sure, is_want, mesh_of, mesh_start};
 
-    ghost start = { start_of };
+    ghost start = { mesh_start };
 
     ghost log = { λ m. m.log };
 

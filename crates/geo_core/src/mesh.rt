@@ -9,7 +9,7 @@ ghost use Rattle.geo_model.specs.Order.{is_at_rest, first_bio, is_to_take, take_
 ghost use Rattle.geo_model.specs.Plans.{FactsFit};
 ghost use Rattle.geo_model.specs.Step.{is_enabled};
 ghost use Rattle.geo_model.specs.World.{is_up, is_down};
-ghost use Rattle.geo_core.specs.Mesh.{MeshView, IsHistory, world_of, room_of, Applies, Advances, IsSure};
+ghost use Rattle.geo_core.specs.Mesh.{MeshView, IsHistory, world_of, bytes_read_by, Applies, Advances, IsSure};
 ghost use Rattle.geo_core.specs.Sent.{spot_of};
 
 use crate::apply::{advance, apply, begin};
@@ -133,7 +133,7 @@ impl Mesh {
 
     /// How many bytes a READ of this bio gives; 0 for another command, or if there is no such bio.
     pub fn room(&self, bio: BioId) -> u32
-        ensures { result ≡ room_of (world_of self.now) bio }
+        ensures { result ≡ bytes_read_by (world_of self.now) bio }
     {
         room(&self.running, bio)
     }

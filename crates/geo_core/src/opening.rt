@@ -5,7 +5,7 @@ ghost use Rattle.geo_model.specs.Opening.{opening, disk_in_size};
 ghost use Rattle.geo_model.specs.Plans.{IsPlan, IsFact, FactsFit};
 ghost use Rattle.geo_state.specs.declared.state.OwnBios.{OwnBios as OwnBiosValue};
 ghost use Rattle.geo_state.specs.Opening.{IsFreeSeat};
-ghost use Rattle.geo_state.specs.World.{header_disk};
+ghost use Rattle.geo_state.specs.World.{disk_of_seat};
 ghost use Rattle.geo_core.specs.Openings.{IsOpened, stood};
 
 use geo_base::NoMemory;
@@ -90,7 +90,7 @@ fn seats_of(
 ) -> Result<Vec<DiskSeat>, NoMemory>
     requires { AllZip IsFact disks.now facts.now }
     ensures free { IfOk result (λ seats. AllByRecursion IsFreeSeat seats.items) }
-    ensures disks { IfOk result (λ seats. map header_disk seats.items
+    ensures disks { IfOk result (λ seats. map disk_of_seat seats.items
         ≡ map disk_in_size (zip disks.now facts.now)) }
 {
     let mut seats = Vec::new(alloc);

@@ -8,8 +8,8 @@ ghost use Rattle.geo_model.specs.Words.{is_read};
 ghost use Rattle.geo_model.specs.World.{is_up, is_down};
 ghost use Rattle.geo_model.specs.Bios.{disk_at};
 ghost use Rattle.geo_bio.specs.BioTable.{AreInOrder, bio_among};
-ghost use Rattle.geo_core.specs.Mesh.{bytes_read, room_of, world_of};
-ghost use Rattle.geo_core.specs.Running.{seen, is_idle, is_quiet, IsMesh};
+ghost use Rattle.geo_core.specs.Mesh.{bytes_read, bytes_read_by, world_of};
+ghost use Rattle.geo_core.specs.Running.{seen, is_idle, is_none_left, IsMesh};
 
 use crate::running::Running;
 use geo_base::{BioCmd, BioId, ProvId};
@@ -44,7 +44,7 @@ fn is_idle(running: &Running) -> bool
 // Whether no bio, event or taste is left.
 #[tactic(auto, using(crate::proofs::Due::no_items))]
 fn is_quiet(state: &State) -> bool
-    ensures { result ≡ is_quiet state.now.traffic.bios state.now.queue.events state.now.taste }
+    ensures { result ≡ is_none_left state.now.traffic.bios state.now.queue.events state.now.taste }
 {
     state.traffic.is_empty() && (state.queue.head().is_none() && state.taste.is_none())
 }
@@ -124,7 +124,7 @@ pub fn next_bio(running: &Running, from: u64) -> Option<BioId>
 /// How many bytes a READ of this bio gives; 0 for another command, or if there is no such bio.
 pub fn room(running: &Running, bio: BioId) -> u32
     requires { IsMesh running.now }
-    ensures { result ≡ room_of (world_of (seen running.now)) bio }
+    ensures { result ≡ bytes_read_by (world_of (seen running.now)) bio }
 {
     match running.state.traffic.get(bio) {
         Some(found) => bytes_read(found),

@@ -1,7 +1,7 @@
 //! Where a bio goes that waits for its disk.
 ghost use Rattle.std.specs.Prelude.{◌≡◌, ◌<◌, ◌^◌};
 ghost use Rattle.geo_model.specs.Bios.{sector_at};
-ghost use Rattle.geo_bio.specs.Rows.{seen as bio_seen};
+ghost use Rattle.geo_bio.specs.Rows.{as_bio as bio_seen};
 ghost use Rattle.geo_core.specs.Mesh.{world_of};
 ghost use Rattle.geo_core.specs.Running.{seen, IsMesh};
 ghost use Rattle.geo_core.specs.Sent.{spot_in, spot_of};

@@ -5,7 +5,7 @@ use Rattle.std.proofs.lemmas.Bool.{false_from_ne_true}
 use Rattle.std.specs.Option.{option_map}
 use Rattle.geo_base.proofs.Tests.{bytes_eq-same, bytes_eq-other, same_or_other}
 use Rattle.geo_base.specs.Sectors.{sectors_of, IsSectorSize}
-use Rattle.geo_disk.specs.Names.{is_among, without}
+use Rattle.geo_disk.specs.Names.{is_among, names_without}
 use Rattle.geo_disk.specs.Memory.{Memory}
 use Rattle.geo_disk.specs.MemShelf.{HasSlots, emptied_slot, image_in, kept_slot, slot_of}
 use Rattle.geo_base.specs.Images.{IsDiskSize}
@@ -62,12 +62,12 @@ other_lent lent name other apart = among-push other name lent
 
 -- other names stay lent when one is given back
 other_stays : (lent : List (List ℕ)) (name other : List ℕ) → other ≢ name
-    → is_among other (without name lent) ≡ is_among other lent
+    → is_among other (names_without name lent) ≡ is_among other lent
 other_stays lent name other apart = among-without other name lent
     ∙ rw (bytes_eq-other name other (λ e. apart (sym e))) refl
 
 -- a name that was given back isn't lent
-given_back : (lent : List (List ℕ)) (name : List ℕ) → is_among name (without name lent) ≡ false
+given_back : (lent : List (List ℕ)) (name : List ℕ) → is_among name (names_without name lent) ≡ false
 given_back lent name = among-without name name lent ∙ rw (bytes_eq-same name) refl
 
 -- a name that was pushed is lent
@@ -104,17 +104,17 @@ slots_after_take slots lent name at place had other among =
 pub after_give : (slots news : List Slot) (lent : List (List ℕ)) (name : List ℕ) (disk : Memory)
     → slot_of news name ≡ Some (kept_slot name disk)
     → ((other : List ℕ) → other ≢ name → slot_of news other ≡ slot_of slots other)
-    → IsGivenTo name (Some disk.sectors) (image_in slots lent) (image_in news (without name lent))
+    → IsGivenTo name (Some disk.sectors) (image_in slots lent) (image_in news (names_without name lent))
 after_give slots news lent name disk here others = record {
-  bytes = image_there news (without name lent) name (kept_slot name disk) (given_back lent name) here;
-  others = λ other apart. image_same slots news lent (without name lent) other (other_stays lent name other apart)
+  bytes = image_there news (names_without name lent) name (kept_slot name disk) (given_back lent name) here;
+  others = λ other apart. image_same slots news lent (names_without name lent) other (other_stays lent name other apart)
       (others other apart);
 }
 
 -- each lent name has its place after a disk came back
 pub slots_after_give : (slots news : List Slot) (lent : List (List ℕ)) (name : List ℕ) (slot : Slot)
     → slot_of news name ≡ Some slot → ((other : List ℕ) → other ≢ name → slot_of news other ≡ slot_of slots other)
-    → HasSlots lent slots → HasSlots (without name lent) news
+    → HasSlots lent slots → HasSlots (names_without name lent) news
 slots_after_give slots news lent name slot here others had other among =
     elim (same_or_other other name) [
       | inl same ↦ rw (same, here) refl

@@ -14,7 +14,7 @@ use Rattle.std.proofs.lemmas.Slice.Eq.{bytes_eq-Decides}
 use Rattle.geo_base.proofs.Tests.{bytes_eq-same, same_from_bytes_eq, bytes_eq-other, same_or_other}
 use Rattle.geo_base.proofs.Options.{or_none}
 use Rattle.geo_base.proofs.FindLists.{found_passes}
-use Rattle.geo_disk.specs.Names.{is_among, is_named, named, without}
+use Rattle.geo_disk.specs.Names.{is_among, is_named, named, names_without}
 
 -- what a test decides holds or not
 decided : {P : Type 0} (b : Bool) → Decides b P → P ⊎ (P → ⊥)
@@ -47,7 +47,7 @@ among-push name last (first ∷ names) = ap (λ b. bytes_eq name first || b) (am
 
 -- a name is among names without one if it is among them, and isn't that one
 pub among-without : (name gone : List ℕ) (names : List (List ℕ))
-    → is_among name (without gone names) ≡ (not (bytes_eq gone name) && is_among name names)
+    → is_among name (names_without gone names) ≡ (not (bytes_eq gone name) && is_among name names)
 among-without name gone names =
     any-filter_same (bytes_eq name) (λ other. not (bytes_eq gone other)) (not (bytes_eq gone name))
     (λ other same. ap (λ n. not (bytes_eq gone n)) (sym (same_from_bytes_eq name other same))) names

@@ -10,5 +10,5 @@ failed_of (Ok _) = None
 failed_of (Err e) = Some e.done
 
 -- the call that asked for so many sectors from the first on, and was answered so
-abbrev pub call_of : BioCmd → ℕ → ℕ → Result (Unit {0}) DiskFailed → DiskCall
-call_of cmd first count answer = record { cmd = cmd; first = first; count = count; failed = failed_of answer }
+abbrev pub disk_call : BioCmd → ℕ → ℕ → Result (Unit {0}) DiskFailed → DiskCall
+disk_call cmd first count answer = record { cmd = cmd; first = first; count = count; failed = failed_of answer }

@@ -46,8 +46,8 @@ abbrev pub slot_at : List Slot → ℕ → Slot
 slot_at slots at = slice_index_or slots at (emptied_slot [])
 
 -- the disk of a place, which failed so often and was asked this before
-abbrev pub disk_of : ℕ → ℕ → List DiskCall → Slot → Memory
-disk_of sector faults asked slot = record {
+abbrev pub disk_of_slot : ℕ → ℕ → List DiskCall → Slot → Memory
+disk_of_slot sector faults asked slot = record {
   sector = sector;
   sectors = sectors_of sector slot.bytes;
   fails = slot.fails;

@@ -7,8 +7,8 @@ abbrev pub is_among : List ℕ → List (List ℕ) → Bool
 is_among name names = list_any (bytes_eq name) names
 
 -- names without one
-abbrev pub without : List ℕ → List (List ℕ) → List (List ℕ)
-without name names = filter (λ other. not (bytes_eq name other)) names
+abbrev pub names_without : List ℕ → List (List ℕ) → List (List ℕ)
+names_without name names = filter (λ other. not (bytes_eq name other)) names
 
 -- whether an item has the name
 abbrev pub is_named : {X : Type 0} → (X → List ℕ) → List ℕ → X → Bool

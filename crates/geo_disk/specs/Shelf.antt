@@ -4,7 +4,7 @@ use Rattle.geo_base.specs.Images.{Images, IsDiskSize}
 use Rattle.geo_base.specs.Sectors.{joined_sectors, sectors_of}
 use Rattle.geo_base.specs.declared.limits.TheConstants.{MAX_IMAGE_BYTES}
 use Rattle.geo_disk.specs.Disk.{DiskView}
-use Rattle.geo_disk.specs.Names.{without}
+use Rattle.geo_disk.specs.Names.{names_without}
 use Rattle.geo_disk.specs.declared.calls.DiskCall.{DiskCall}
 use Rattle.geo_disk.specs.declared.shelf.ShelfCall.{ShelfCall}
 use Rattle.geo_disk.specs.declared.shelf.Taken.{Taken}
@@ -41,11 +41,11 @@ pub record IsOfSize (sector bytes count : ℕ) : Type 0 where
   pub limited : count * bytes ≤ MAX_IMAGE_BYTES
 
 -- a fact on what a shelf tells before and after a call; a shelf that doesn't tell goes on not telling
-abbrev pub WhereTold : (Images → Images → Type 0) → Option Images → Option Images → Type 0
-WhereTold P None None = Unit {0}
-WhereTold P (Some old) (Some new) = P old new
-WhereTold P None (Some new) = ⊥
-WhereTold P (Some old) None = ⊥
+abbrev pub WhereBothTell : (Images → Images → Type 0) → Option Images → Option Images → Type 0
+WhereBothTell P None None = Unit {0}
+WhereBothTell P (Some old) (Some new) = P old new
+WhereBothTell P None (Some new) = ⊥
+WhereBothTell P (Some old) None = ⊥
 
 -- each name has what it had
 abbrev pub IsAsBefore : Images → Images → Type 0
@@ -63,8 +63,8 @@ pub record IsGivenTo (name : List ℕ) (held : Option (List (List ℕ))) (old ne
   pub others : (other : List ℕ) → other ≢ name → new other ≡ old other
 
 -- the shelf has no such name
-abbrev pub IsMissing : List ℕ → Images → Images → Type 0
-IsMissing name old new = (old name ≡ None) × IsAsBefore old new
+abbrev pub WasMissing : List ℕ → Images → Images → Type 0
+WasMissing name old new = (old name ≡ None) × IsAsBefore old new
 
 -- what the shelf has under the name isn't whole sectors, or is too long
 abbrev pub IsOfBadSize : List ℕ → ℕ → Images → Images → Type 0
@@ -86,14 +86,14 @@ MatchTaken (Ok BadSize) disk missing bad fault = bad
 MatchTaken (Err _) disk missing bad fault = fault
 
 -- what `take` does to what a shelf tells
-abbrev pub Takes : {D : Type 0} → (D → DiskView) → List ℕ → ℕ → Result (Taken D) ShelfFault
+abbrev pub TakesFromShelf : {D : Type 0} → (D → DiskView) → List ℕ → ℕ → Result (Taken D) ShelfFault
     → Option Images → Option Images → Type 0
-Takes view name sector result old new =
+TakesFromShelf view name sector result old new =
     MatchTaken result
-    (λ d. WhereTold (IsTakenFrom name sector (view d).held) old new)
-    (WhereTold (IsMissing name) old new)
-    (WhereTold (IsOfBadSize name sector) old new)
-    (WhereTold IsAsBefore old new)
+    (λ d. WhereBothTell (IsTakenFrom name sector (view d).held) old new)
+    (WhereBothTell (WasMissing name) old new)
+    (WhereBothTell (IsOfBadSize name sector) old new)
+    (WhereBothTell IsAsBefore old new)
 
 -- the names that are lent after a call of `take`
 abbrev pub lent_by : {D : Type 0} → Result (Taken D) ShelfFault → List ℕ → List (List ℕ) → List (List ℕ)
@@ -103,14 +103,14 @@ lent_by (Ok BadSize) name lent = lent
 lent_by (Err _) name lent = lent
 
 -- what `give` does to what a shelf tells
-abbrev pub Gives : {E : Type 0} → Option (List (List ℕ)) → List ℕ → Result (Unit {0}) E → Option Images
+abbrev pub GivesToShelf : {E : Type 0} → Option (List (List ℕ)) → List ℕ → Result (Unit {0}) E → Option Images
     → Option Images → Type 0
-Gives held name (Ok _) old new = WhereTold (IsGivenTo name held) old new
-Gives held name (Err _) old new = WhereTold IsAsBefore old new
+GivesToShelf held name (Ok _) old new = WhereBothTell (IsGivenTo name held) old new
+GivesToShelf held name (Err _) old new = WhereBothTell IsAsBefore old new
 
 -- the names that are lent after a call of `give`
 abbrev pub lent_without : {E : Type 0} → Result (Unit {0}) E → List ℕ → List (List ℕ) → List (List ℕ)
-lent_without (Ok _) name lent = without name lent
+lent_without (Ok _) name lent = names_without name lent
 lent_without (Err _) name lent = lent
 
 -- what is known of each name after a call of `give`: a disk that came back has brought what is known of its own
@@ -123,9 +123,9 @@ abbrev pub is_failure : ShelfFault → Bool
 is_failure Failed = true
 is_failure NoMemory = false
 
-abbrev pub is_failed : {D : Type 0} → Result (Taken D) ShelfFault → Bool
-is_failed (Ok taken) = false
-is_failed (Err fault) = is_failure fault
+abbrev pub is_take_failed : {D : Type 0} → Result (Taken D) ShelfFault → Bool
+is_take_failed (Ok taken) = false
+is_take_failed (Err fault) = is_failure fault
 
 -- a call of a name counts for it where it failed, and for no other name
 pub record CountsCall (failed : Bool) (name : List ℕ) (old new : List ℕ → ℕ) : Type 0 where

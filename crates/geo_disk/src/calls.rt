@@ -1,6 +1,6 @@
 //! What a disk is asked, and what it answers.
 ghost use Rattle.std.specs.Prelude.{◌≡◌};
-ghost use Rattle.geo_disk.specs.Calls.{call_of};
+ghost use Rattle.geo_disk.specs.Calls.{disk_call};
 
 use crate::disk::DiskFailed;
 use geo_base::BioCmd;
@@ -21,7 +21,7 @@ pub struct DiskCall {
 impl DiskCall {
     /// The call that asked for `count` sectors from `first` on, and was answered so.
     pub fn new(cmd: BioCmd, first: u64, count: u64, answer: &Result<(), DiskFailed>) -> DiskCall
-        ensures { result ≡ call_of cmd first count answer.now }
+        ensures { result ≡ disk_call cmd first count answer.now }
     {
         match answer {
             Ok(()) => DiskCall {

@@ -1,7 +1,7 @@
 //! Which names of a shelf are lent, how often the disks of each name failed, and with what they came back.
 ghost use Rattle.std.specs.Prelude.{◌≡◌, ◌≢◌, ℕ, ◌↔◌, [], ◌∷◌, ◌++◌, List, true, Contains, IsTrue, OnErr, OnOk, bytes_eq, is_some};
 ghost use Rattle.std.specs.List.{position};
-ghost use Rattle.geo_disk.specs.Names.{is_among, is_named, without};
+ghost use Rattle.geo_disk.specs.Names.{is_among, is_named, names_without};
 ghost use Rattle.geo_disk.specs.Lending.{HasCount, asked_in, count_of, faults_of, give_failed, returned_asked, returned_sectors, take_failed, tally_in, tally_of, with_faults};
 
 use crate::calls::DiskCall;
@@ -217,7 +217,7 @@ impl Lending {
     /// sectors. It takes no memory.
     pub fn give_back(&mut self, name: &Name, faults: u64, asked: Notes<DiskCall>, sectors: u64)
         requires { Contains self.old.lent name.now }
-        ensures lent { self.new.lent ≡ without name.now self.old.lent }
+        ensures lent { self.new.lent ≡ names_without name.now self.old.lent }
         ensures own { tally_of self.new name.now ≡ with_faults faults (tally_of self.old name.now) }
         ensures others { (other : List ℕ) → other ≢ name.now → tally_of self.new other ≡ tally_of self.old other }
         ensures asked { returned_asked self.new name.now ≡ asked.items }

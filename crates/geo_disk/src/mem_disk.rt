@@ -3,7 +3,7 @@ ghost use Rattle.std.specs.Prelude.{◌≡◌, ◌+◌, ◌*◌, ◌/◌, ◌≤
 ghost use Rattle.geo_base.specs.declared.request.BioCmd.TheVariants as cmds;
 ghost use Rattle.std.specs.List.{replace_range};
 ghost use Rattle.geo_base.specs.Sectors.{joined_sectors, sectors_of};
-ghost use Rattle.geo_disk.specs.Calls.{call_of};
+ghost use Rattle.geo_disk.specs.Calls.{disk_call};
 ghost use Rattle.geo_disk.specs.Counts.{counted_if, counted_on};
 ghost use Rattle.geo_disk.specs.Disk.{AreSectors, IsRead, done_of};
 ghost use Rattle.geo_disk.specs.Memory.{AreWhole, after_write, after_zero, called, memory_view, part_of};
@@ -162,7 +162,7 @@ impl MemDisk {
         answer: Result<(), DiskFailed>,
     ) -> Result<(), DiskFailed>
         ensures same { result ≡ answer }
-        ensures called { self.new ≡ called (call_of cmd first count answer) self.old }
+        ensures called { self.new ≡ called (disk_call cmd first count answer) self.old }
         ensures faults { self.new.faults ≡ counted_if (is_err answer) self.old.faults }
     {
         self.asked = self.asked.and(&DiskCall::new(cmd, first, count, &answer));
@@ -248,7 +248,7 @@ impl Disk for MemDisk {
     fn read(&mut self, first: u64, out: &mut [u8]) -> Result<(), DiskFailed>
         requires { AreSectors self.old.sector (length self.old.sectors) first (length out.old) }
         ensures memory { self.new
-            ≡ called (call_of cmds.Read first (length out.old / self.old.sector) result) self.old }
+            ≡ called (disk_call cmds.Read first (length out.old / self.old.sector) result) self.old }
         ensures fails { IsErr result ↔ Contains self.old.fails (counted_on self.old.calls) }
         ensures read { OnOk result (IsRead (Some self.old.sectors) self.old.sector first out.new) }
         ensures none_done { IfErr result (λ e. e.done ≡ 0) }
@@ -266,7 +266,7 @@ impl Disk for MemDisk {
     fn write(&mut self, first: u64, bytes: &[u8]) -> Result<(), DiskFailed>
         requires { AreSectors self.old.sector (length self.old.sectors) first (length bytes.now) }
         ensures memory { let all = length bytes.now / self.old.sector in self.new
-            ≡ called (call_of cmds.Write first all result)
+            ≡ called (disk_call cmds.Write first all result)
             (after_write self.old first (done_of result all) bytes.now) }
         ensures count { length self.new.sectors ≡ length self.old.sectors }
         ensures fails { IsErr result ↔ Contains self.old.fails (counted_on self.old.calls) }
@@ -286,7 +286,7 @@ impl Disk for MemDisk {
     fn zero(&mut self, first: u64, count: u64) -> Result<(), DiskFailed>
         requires { first + count ≤ length self.old.sectors }
         ensures memory { self.new
-            ≡ called (call_of cmds.Delete first count result) (after_zero self.old first (done_of result count)) }
+            ≡ called (disk_call cmds.Delete first count result) (after_zero self.old first (done_of result count)) }
         ensures count { length self.new.sectors ≡ length self.old.sectors }
         ensures fails { IsErr result ↔ Contains self.old.fails (counted_on self.old.calls) }
         ensures done { IfErr result (λ e. e.done ≡ part_of self.old.part count) }
@@ -302,7 +302,7 @@ impl Disk for MemDisk {
     }
 
     fn flush(&mut self) -> Result<(), DiskFailed>
-        ensures memory { self.new ≡ called (call_of cmds.Flush 0 0 result) self.old }
+        ensures memory { self.new ≡ called (disk_call cmds.Flush 0 0 result) self.old }
         ensures fails { IsErr result ↔ Contains self.old.fails (counted_on self.old.calls) }
         ensures none_done { IfErr result (λ e. e.done ≡ 0) }
         ensures faults { self.new.faults ≡ counted_if (is_err result) self.old.faults }

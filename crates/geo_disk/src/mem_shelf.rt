@@ -7,10 +7,10 @@ ghost use Rattle.geo_base.specs.Faults.{HasCause, Rose};
 ghost use Rattle.geo_base.specs.Sectors.{joined_sectors, IsSectorSize};
 ghost use Rattle.geo_disk.specs.Counts.{counted_if, counted_on};
 ghost use Rattle.geo_disk.specs.Memory.{AreWhole, memory_view};
-ghost use Rattle.geo_disk.specs.Names.{is_named, without};
+ghost use Rattle.geo_disk.specs.Names.{is_named, names_without};
 ghost use Rattle.geo_disk.specs.Lending.{faults_of, give_faults_of, returned_asked, returned_sectors, take_faults_of, tally_of, with_faults};
-ghost use Rattle.geo_disk.specs.Shelf.{Brings, CountsCall, Gives, IfTaken, IsGivenTo, IsOfSize, Takes, UnlessTaken, is_failed, is_failure, lent_by, lent_without};
-ghost use Rattle.geo_disk.specs.MemShelf.{AreSameCalls, disk_of, emptied_slot, images_of, kept_slot, lent_has_nothing, shelf_called, shelf_view, slot_at, slot_of, with_slot};
+ghost use Rattle.geo_disk.specs.Shelf.{Brings, CountsCall, GivesToShelf, IfTaken, IsGivenTo, IsOfSize, TakesFromShelf, UnlessTaken, is_failure, is_take_failed, lent_by, lent_without};
+ghost use Rattle.geo_disk.specs.MemShelf.{AreSameCalls, disk_of_slot, emptied_slot, images_of, kept_slot, lent_has_nothing, shelf_called, shelf_view, slot_at, slot_of, with_slot};
 
 use crate::calls::DiskCall;
 use crate::counts::one_more;
@@ -94,7 +94,7 @@ fn lend_out(
 ) -> MemDisk
     requires inside { at < length slots.old.items }
     requires whole { AreWhole sector (slot_at slots.old.items at).bytes }
-    ensures disk { result ≡ disk_of sector faults asked.items (slot_at slots.old.items at) }
+    ensures disk { result ≡ disk_of_slot sector faults asked.items (slot_at slots.old.items at) }
     ensures slots { slots.new.items ≡ slice_set slots.old.items at (emptied_slot (slot_at slots.old.items at).name) }
 {
     let name = slots[at].name;
@@ -238,7 +238,7 @@ impl MemShelf {
     /// Takes a disk, where the call doesn't fail.
     fn take_now(&mut self, name: &Name, sector: u32) -> Result<Taken<MemDisk>, ShelfFault>
         requires { IsSectorSize sector }
-        ensures found { Takes memory_view name.now sector result (Some (images_of self.old)) (Some
+        ensures found { TakesFromShelf memory_view name.now sector result (Some (images_of self.old)) (Some
             (images_of self.new)) }
         ensures not_lent { IfTaken result (λ d. Contains self.old.loans.lent name.now → ⊥) }
         ensures size { IfTaken result (λ d. IsOfSize sector d.sector (length d.sectors)) }
@@ -249,7 +249,7 @@ impl MemShelf {
         ensures returned { self.new.loans.returned ≡ self.old.loans.returned }
         ensures not_failed { IsErrOf result ShelfFault.Failed → ⊥ }
         ensures disk { IfTaken result (λ d. IfSome (slot_of self.old.slots name.now) (λ slot. d
-            ≡ disk_of sector (faults_of self.old.loans name.now) (returned_asked self.old.loans name.now) slot)) }
+            ≡ disk_of_slot sector (faults_of self.old.loans name.now) (returned_asked self.old.loans name.now) slot)) }
         ensures emptied { IfTaken result (λ d. slot_of self.new.slots name.now ≡ Some (emptied_slot name.now)) }
         ensures others { (other : List ℕ) → other ≢ name.now → slot_of self.new.slots other
             ≡ slot_of self.old.slots other }
@@ -277,7 +277,7 @@ impl MemShelf {
     fn give_now(&mut self, name: &Name, disk: MemDisk)
         requires { Contains self.old.loans.lent name.now }
         ensures given { IsGivenTo name.now (Some disk.sectors) (images_of self.old) (images_of self.new) }
-        ensures lent { self.new.loans.lent ≡ without name.now self.old.loans.lent }
+        ensures lent { self.new.loans.lent ≡ names_without name.now self.old.loans.lent }
         ensures count { tally_of self.new.loans name.now ≡ with_faults disk.faults (tally_of self.old.loans name.now) }
         ensures counts { (other : List ℕ) → other ≢ name.now → tally_of self.new.loans other
             ≡ tally_of self.old.loans other }
@@ -305,7 +305,7 @@ impl Shelf for MemShelf {
 
     fn take(&mut self, name: &Name, sector: u32) -> Result<Taken<MemDisk>, ShelfFault>
         requires { IsSectorSize sector }
-        ensures found { Takes memory_view name.now sector result (Some (images_of self.old)) (Some
+        ensures found { TakesFromShelf memory_view name.now sector result (Some (images_of self.old)) (Some
             (images_of self.new)) }
         ensures not_lent { IfTaken result (λ d. Contains self.old.loans.lent name.now → ⊥) }
         ensures size { IfTaken result (λ d. IsOfSize sector d.sector (length d.sectors)) }
@@ -317,7 +317,7 @@ impl Shelf for MemShelf {
         ensures later { self.old.faults ≤ self.new.faults }
         ensures failed { IsErrOf result ShelfFault.Failed → Rose self.old.faults self.new.faults }
         ensures no_fault { OnOk result (self.new.faults ≡ self.old.faults) }
-        ensures takes { CountsCall (is_failed result) name.now (take_faults_of self.old.loans)
+        ensures takes { CountsCall (is_take_failed result) name.now (take_faults_of self.old.loans)
             (take_faults_of self.new.loans) }
         ensures gives { (other : List ℕ) → give_faults_of self.new.loans other ≡ give_faults_of self.old.loans other }
 
@@ -330,7 +330,7 @@ impl Shelf for MemShelf {
             ≡ slot_of self.old.slots other }
         ensures slots { UnlessTaken result (self.new.slots ≡ self.old.slots) }
         ensures disk { IfTaken result (λ d. IfSome (slot_of self.old.slots name.now) (λ slot. d
-            ≡ disk_of sector (faults_of self.old.loans name.now) (returned_asked self.old.loans name.now) slot)) }
+            ≡ disk_of_slot sector (faults_of self.old.loans name.now) (returned_asked self.old.loans name.now) slot)) }
         ensures calls { (self.new.fails ≡ self.old.fails) × (self.new.calls ≡ counted_on self.old.calls) }
         ensures called { self.new.asked ≡ self.old.asked ++ ShelfCall.Take name.now ∷ [] }
     {
@@ -342,7 +342,7 @@ impl Shelf for MemShelf {
 
     fn give(&mut self, name: &Name, disk: MemDisk) -> Result<(), GiveFault<MemDisk>>
         requires { Contains self.old.loans.lent name.now }
-        ensures given { Gives (Some disk.sectors) name.now result (Some (images_of self.old)) (Some
+        ensures given { GivesToShelf (Some disk.sectors) name.now result (Some (images_of self.old)) (Some
             (images_of self.new)) }
         ensures lent { self.new.loans.lent ≡ lent_without result name.now self.old.loans.lent }
         ensures counts { Brings result name.now disk.faults (faults_of self.old.loans) (faults_of self.new.loans) }

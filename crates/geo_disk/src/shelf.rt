@@ -3,7 +3,7 @@ ghost use Rattle.std.specs.Prelude.{◌≡◌, ℕ, ◌≤◌, ◌<◌, ◌↔�
 ghost use Rattle.geo_base.specs.Faults.{HasCause, Rose};
 ghost use Rattle.geo_base.specs.Images.{IsDiskSize};
 ghost use Rattle.geo_base.specs.Sectors.{IsSectorSize};
-ghost use Rattle.geo_disk.specs.Shelf.{Brings, CountsCall, Gives, IfTaken, IsOfSize, ShelfView, Takes, is_failed, lent_by, lent_without};
+ghost use Rattle.geo_disk.specs.Shelf.{Brings, CountsCall, GivesToShelf, IfTaken, IsOfSize, ShelfView, TakesFromShelf, is_take_failed, lent_by, lent_without};
 
 use crate::disk::Disk;
 use geo_base::{MAX_IMAGE_BYTES, Name};
@@ -69,7 +69,7 @@ pub trait Shelf {
     /// Takes the disk of a name, to be used in sectors of this size. A call that goes through counts no fault.
     fn take(&mut self, name: &Name, sector: u32) -> Result<Taken<Self::D>, ShelfFault>
         requires { IsSectorSize sector }
-        ensures found { Takes Self.D.view name.now sector result (view self.old).told (view self.new).told }
+        ensures found { TakesFromShelf Self.D.view name.now sector result (view self.old).told (view self.new).told }
         ensures not_lent { IfTaken result (λ d. Contains (view self.old).lent name.now → ⊥) }
         ensures size { IfTaken result (λ d. IsOfSize sector (Self.D.view d).sector (Self.D.view d).count) }
         ensures brought { IfTaken result (λ d. (Self.D.view d).faults ≡ (view self.old).faults_of name.now) }
@@ -81,7 +81,7 @@ pub trait Shelf {
         ensures later { (view self.old).faults ≤ (view self.new).faults }
         ensures failed { IsErrOf result ShelfFault.Failed → Rose (view self.old).faults (view self.new).faults }
         ensures no_fault { OnOk result ((view self.new).faults ≡ (view self.old).faults) }
-        ensures takes { CountsCall (is_failed result) name.now (view self.old).take_faults
+        ensures takes { CountsCall (is_take_failed result) name.now (view self.old).take_faults
             (view self.new).take_faults }
         ensures gives { (other : List ℕ) → (view self.new).give_faults other ≡ (view self.old).give_faults other }
         ensures called { (view self.new).calls ≡ (view self.old).calls ++ ShelfCall.Take name.now ∷ [] };
@@ -91,7 +91,7 @@ pub trait Shelf {
     fn give(&mut self, name: &Name, disk: Self::D) -> Result<(), GiveFault<Self::D>>
         requires is_lent { Contains (view self.old).lent name.now }
         requires counted { (view self.old).faults_of name.now ≤ (Self.D.view disk).faults }
-        ensures given { Gives (Self.D.view disk).held name.now result (view self.old).told (view self.new).told }
+        ensures given { GivesToShelf (Self.D.view disk).held name.now result (view self.old).told (view self.new).told }
         ensures lent { (view self.new).lent ≡ lent_without result name.now (view self.old).lent }
         ensures counts { Brings result name.now (Self.D.view disk).faults (view self.old).faults_of
             (view self.new).faults_of }

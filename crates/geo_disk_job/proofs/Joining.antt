@@ -21,7 +21,7 @@ use Rattle.geo_view.specs.Passes.{Goes, IsGoodPass, MeshPass}
 use Rattle.geo_view.proofs.Joins.{goes_join, goes_self, history_of, still_of}
 use Rattle.geo_disk_job.specs.declared.disk_job.DiskJob.{DiskJob}
 use Rattle.geo_disk_job.specs.Drives.{HasDrives, ServesAt, disks_of}
-use Rattle.geo_disk_job.specs.Turns.{DidTurn, ServesBio, take_in, with_ticket}
+use Rattle.geo_disk_job.specs.Turns.{DidDiskTurn, ServesBio, take_in, with_ticket}
 use Rattle.geo_disk_job.specs.Served.{IsOfDisks}
 use Rattle.geo_disk_job.specs.Ran.{DisksRan, TurnsAddUp}
 use Rattle.geo_disk_job.proofs.Places.{place_contained}
@@ -148,7 +148,7 @@ module _ {D : Type 0} (y : YardView _) (facts : List (ℕ × ℕ)) (seen : Drive
 pub ran_on : {D : Type 0} (y : YardView _) (opened : World) (facts : List (ℕ × ℕ)) (seen : Drive D → DriveView)
     (p m q : MeshPass) (before : List (ℕ × Drive D)) (a b : DiskJob D) (r : Turn) → IsPassOf y p → IsGoodPass q
     → HasDrives facts seen a.drives.items → DisksRan seen p m before a.drives.items
-    → DidTurn opened seen m q a b r → DisksRan seen p q before b.drives.items
+    → DidDiskTurn opened seen m q a b r → DisksRan seen p q before b.drives.items
 ran_on {D} y opened facts seen p m q before a b turns.Worked of good has ran did = by (take_in did.0.step) did.1
   where
     by : (o : Option (ℕ × ℕ)) → IsSomeAnd o (λ (x : ℕ × ℕ). ServesBio seen x.0 x.1 m q (with_ticket a did.0) b)

@@ -6,7 +6,7 @@ use Rattle.std.proofs.lemmas.List.Elements.{All-cons, All-get_or, All-nil}
 use Rattle.std.proofs.lemmas.Option.{get_or_from_slice_get, slice_get_within}
 use Rattle.geo_disk.specs.declared.drive.Drive.{Drive}
 use Rattle.geo_laws_graph.proofs.Members.{Contains-here, Contains-there}
-use Rattle.geo_disk_job.specs.Drives.{IsForeign, disks_of}
+use Rattle.geo_disk_job.specs.Drives.{LacksDisk, disks_of}
 
 module _ {X : Type 0} (xs : List X) (i : ℕ) (x : X) (at : slice_get xs i ≡ Some x) where
   -- what holds of each item of a list holds of the one at a place
@@ -18,12 +18,12 @@ module _ {X : Type 0} (xs : List X) (i : ℕ) (x : X) (at : slice_get xs i ≡ S
   place_contained = (i, slice_get_within xs i x at, get_or_from_slice_get xs i x x at)
 
 -- a disk that isn't foreign is one of the worker's
-pub own_disk : {D : Type 0} (items : List (ℕ × Drive D)) (disk : ℕ) → (IsForeign items disk → ⊥)
+pub own_disk : {D : Type 0} (items : List (ℕ × Drive D)) (disk : ℕ) → (LacksDisk items disk → ⊥)
     → Contains (disks_of items) disk
 own_disk {D} [] disk has = absurd (has (All-nil (λ (x : ℕ × Drive D). x.0 ≢ disk)))
 own_disk {D} (x ∷ items) disk has = by (eqb x.0 disk) refl (own_disk items disk)
   where
-    by : (b : Bool) → eqb x.0 disk ≡ b → ((IsForeign items disk → ⊥) → Contains (disks_of items) disk)
+    by : (b : Bool) → eqb x.0 disk ≡ b → ((LacksDisk items disk → ⊥) → Contains (disks_of items) disk)
         → Contains (disks_of (x ∷ items)) disk
     by true is among =
         subst (λ n. Contains (disks_of (x ∷ items)) n) (eqb-true x.0 disk is) (Contains-here x.0 (disks_of items))

@@ -23,7 +23,7 @@ use Rattle.geo_view.proofs.Budgets.{has_room}
 use Rattle.geo_view.proofs.Delivering.{can_deliver, goes_two}
 use Rattle.geo_view.proofs.Joins.{still_of}
 use Rattle.geo_disk_job.specs.declared.disk_job.DiskJob.{DiskJob}
-use Rattle.geo_disk_job.specs.Drives.{AnswersOne, CanAnswer, HasDrives, IsForeign, take_and_deliver}
+use Rattle.geo_disk_job.specs.Drives.{AnswersOne, CanAnswer, HasDrives, LacksDisk, take_and_deliver}
 use Rattle.geo_disk_job.specs.Turns.{DidBio, ServesBio}
 use Rattle.geo_disk_job.proofs.Places.{at_place}
 
@@ -49,8 +49,8 @@ module _ {D : Type 0} (y : YardView _) (seen : Drive D → DriveView) (p q : Mes
 
   module _ (request : Request) (asked : IsAskedOf y.start disk request) where
     -- the worker has the disk that is asked
-    pub has_disk : (items : List (ℕ × Drive D)) → (IsForeign items disk → ⊥) → IsForeign items request.disk → ⊥
-    has_disk items has = subst (λ n. IsForeign items n → ⊥) (sym asked.disk_is) has
+    pub has_disk : (items : List (ℕ × Drive D)) → (LacksDisk items disk → ⊥) → LacksDisk items request.disk → ⊥
+    has_disk items has = subst (λ n. LacksDisk items n → ⊥) (sym asked.disk_is) has
 
     -- the drive of a disk can serve what a Take asks of it, in room for the longest request
     pub can_answer : (items : List (ℕ × Drive D)) (room : List ℕ) → HasDrives y.start.facts seen items

@@ -21,8 +21,8 @@ use Rattle.geo_view.proofs.Budgets.{within_worked}
 use Rattle.geo_view.proofs.Joins.{goes_self}
 use Rattle.geo_view.proofs.Tickets.{puts_one, puts_same}
 use Rattle.geo_disk_job.specs.declared.disk_job.DiskJob.{DiskJob}
-use Rattle.geo_disk_job.specs.Drives.{AnswersOne, HasDrives, IsForeign, ServesAt, disks_of}
-use Rattle.geo_disk_job.specs.Turns.{DidBio, DidTurn, IsDiskJob, Rests, ServesBio, WasEmpty, lane_of, take_in, with_ticket}
+use Rattle.geo_disk_job.specs.Drives.{AnswersOne, HasDrives, LacksDisk, ServesAt, disks_of}
+use Rattle.geo_disk_job.specs.Turns.{DidBio, DidDiskTurn, IsDiskJob, Rests, ServesBio, WasEmpty, lane_of, take_in, with_ticket}
 use Rattle.geo_disk_job.proofs.Places.{at_place}
 
 -- a worker with another pass of its own lane
@@ -36,11 +36,11 @@ Took p q t = q ≡ record p { taken = p.taken ++ t ∷ [] }
 module _ {D : Type 0} (opened : World) (seen : Drive D → DriveView) (a : DiskJob D) where
   -- why a ticket to take a bio is passed over
   abbrev IsVain : MeshPass → ℕ × ℕ → Type 0
-  IsVain q x = IsForeign a.drives.items x.0 ⊎ WasIdle opened q.seen q.number (steps.Take x.0 x.1)
+  IsVain q x = LacksDisk a.drives.items x.0 ⊎ WasIdle opened q.seen q.number (steps.Take x.0 x.1)
 
   -- a lane that was empty
   pub found_empty : (p : MeshPass) (own : LanePassView) → own ≡ a.own → WasEmpty a.own
-      → DidTurn opened seen p p a (with_own a own) turns.Idle
+      → DidDiskTurn opened seen p p a (with_own a own) turns.Idle
   found_empty p own same empty = inl (record { goes = goes_self p; same = ap (λ l. with_own a l) same }, empty)
 
   -- a turn that took a ticket and did nothing else
@@ -50,30 +50,30 @@ module _ {D : Type 0} (opened : World) (seen : Drive D → DriveView) (a : DiskJ
 
   -- a ticket that isn't one to take a bio
   pub other_ticket : (p : MeshPass) (own : LanePassView) (t : Ticket) → Took a.own own t → None ≡ take_in t.step
-      → DidTurn opened seen p p a (with_own a own) turns.Idle
+      → DidDiskTurn opened seen p p a (with_own a own) turns.Idle
   other_ticket p own t took none =
       inr (t, took_one p own t took, subst (λ o. IfSome o (IsVain p)) none tt)
 
   -- one for a disk that the worker hasn't
   pub foreign_ticket : (p : MeshPass) (own : LanePassView) (t : Ticket) (disk bio : ℕ) → Took a.own own t
-      → Some (disk, bio) ≡ take_in t.step → IsForeign a.drives.items disk
-      → DidTurn opened seen p p a (with_own a own) turns.Idle
+      → Some (disk, bio) ≡ take_in t.step → LacksDisk a.drives.items disk
+      → DidDiskTurn opened seen p p a (with_own a own) turns.Idle
   foreign_ticket p own t disk bio took named foreign =
       inr (t, took_one p own t took, subst (λ o. IfSome o (IsVain p)) named (inl foreign))
 
   -- one for which there was no room
   pub without_room : (p : MeshPass) (own : LanePassView) (t : Ticket) → Took a.own own t
-      → DidTurn opened seen p p a (with_own a own) turns.NoMemory
+      → DidDiskTurn opened seen p p a (with_own a own) turns.NoMemory
   without_room p own t took = (t, took_one p own t took)
 
   -- one that was tried
   pub tried_ticket : (p q : MeshPass) (b : DiskJob D) (own : LanePassView) (t : Ticket) (disk bio : ℕ) (r : Turn)
       → Took a.own own t → Some (disk, bio) ≡ take_in t.step → Contains (disks_of a.drives.items) disk
-      → DidBio opened seen disk bio p q (with_own a own) b r → DidTurn opened seen p q a b r
+      → DidBio opened seen disk bio p q (with_own a own) b r → DidDiskTurn opened seen p q a b r
   tried_ticket p q b own t disk bio r took named has did =
       by r (subst (λ l. DidBio opened seen disk bio p q (with_own a l) b r) took did)
     where
-      by : (r : Turn) → DidBio opened seen disk bio p q (with_ticket a t) b r → DidTurn opened seen p q a b r
+      by : (r : Turn) → DidBio opened seen disk bio p q (with_ticket a t) b r → DidDiskTurn opened seen p q a b r
       by turns.Worked did =
           (t, subst (λ o. IsSomeAnd o (λ (x : ℕ × ℕ). ServesBio seen x.0 x.1 p q (with_ticket a t) b)) named did)
       by turns.Idle did = inr (t, did.0, subst (λ o. IfSome o (IsVain q)) named (inr did.1))
@@ -133,7 +133,7 @@ module _ {D : Type 0} (opened : World) (seen : Drive D → DriveView) (lanes : L
 
   -- its passes stay those of the lanes
   pub job_stays : (p q : MeshPass) (a b : DiskJob D) (r : Turn) → IsDiskJob lanes p.own a
-      → DidTurn opened seen p q a b r → IsDiskJob lanes q.own b
+      → DidDiskTurn opened seen p q a b r → IsDiskJob lanes q.own b
   job_stays p q a b turns.Worked job did = by (take_in did.0.step) did.1
     where
       by : (o : Option (ℕ × ℕ))
@@ -185,7 +185,7 @@ module _ {D : Type 0} (opened : World) (facts : List (ℕ × ℕ)) (seen : Drive
 
   -- the drives stay those of their disks
   pub drives_stay : (p q : MeshPass) (a b : DiskJob D) (r : Turn) → HasDrives facts seen a.drives.items
-      → DidTurn opened seen p q a b r → HasDrives facts seen b.drives.items
+      → DidDiskTurn opened seen p q a b r → HasDrives facts seen b.drives.items
   drives_stay p q a b turns.Worked has did = by (take_in did.0.step) did.1
     where
       by : (o : Option (ℕ × ℕ))

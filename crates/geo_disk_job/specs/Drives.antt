@@ -14,8 +14,8 @@ abbrev pub disks_of : {D : Type 0} → List (ℕ × Drive D) → List ℕ
 disks_of {D} items = map (λ (x : ℕ × Drive D). x.0) items
 
 -- the worker hasn't the disk
-abbrev pub IsForeign : {D : Type 0} → List (ℕ × Drive D) → ℕ → Type 0
-IsForeign {D} items disk = All (λ (x : ℕ × Drive D). x.0 ≢ disk) items
+abbrev pub LacksDisk : {D : Type 0} → List (ℕ × Drive D) → ℕ → Type 0
+LacksDisk {D} items disk = All (λ (x : ℕ × Drive D). x.0 ≢ disk) items
 
 -- no disk has two drives, and each drive has the sector size and the sectors that the facts tell of its disk
 pub record HasDrives {D : Type 0} (facts : List (ℕ × ℕ)) (seen : Drive D → DriveView) (items : List (ℕ × Drive D))

@@ -10,7 +10,7 @@ use Rattle.geo_view.specs.Passes.{Goes, IsGoodPass, MeshPass}
 use Rattle.geo_disk_job.specs.declared.disk_job.DiskJob.{DiskJob}
 use Rattle.geo_disk_job.specs.Drives.{HasDrives, disks_of}
 use Rattle.geo_disk_job.specs.Served.{HasServed, IsOfDisks}
-use Rattle.geo_disk_job.specs.Turns.{DidTurn}
+use Rattle.geo_disk_job.specs.Turns.{DidDiskTurn}
 
 -- a disk worker went on: what its pass added are Takes of its disks and their Delivers, and its drives did what these
 -- say
@@ -27,4 +27,4 @@ pub record TurnsAddUp {D : Type 0} (seen : Drive D → DriveView) : Type 0 where
   pub one_more : (y : YardView _) (opened : World) (facts : List (ℕ × ℕ)) (p m q : MeshPass)
       (before : List (ℕ × Drive D)) (a b : DiskJob D) (r : Turn) → IsPassOf y p → IsGoodPass q
       → HasDrives facts seen a.drives.items → DisksRan seen p m before a.drives.items
-      → DidTurn opened seen m q a b r → DisksRan seen p q before b.drives.items
+      → DidDiskTurn opened seen m q a b r → DisksRan seen p q before b.drives.items

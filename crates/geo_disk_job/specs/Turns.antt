@@ -19,7 +19,7 @@ use Rattle.geo_view.specs.Turn.TheVariants as turns
 use Rattle.geo_view.specs.Passes.{Goes, MeshPass}
 use Rattle.geo_view.specs.Putting.{IsWithin, PutsOne}
 use Rattle.geo_disk_job.specs.declared.disk_job.DiskJob.{DiskJob}
-use Rattle.geo_disk_job.specs.Drives.{IsForeign, ServesAt, disks_of}
+use Rattle.geo_disk_job.specs.Drives.{LacksDisk, ServesAt, disks_of}
 
 -- the lane of a disk worker; there are two workers, with the numbers 0 and 1
 abbrev pub lane_of : Lanes → ℕ → TableId
@@ -75,19 +75,20 @@ DidBio opened seen disk bio p q a b turns.NoMemory = Rests p q a b
 abbrev pub IsPassedOver : {D : Type 0} → World → MeshPass → List (ℕ × Drive D) → TicketStep → Type 0
 IsPassedOver opened q items t =
     IfSome (take_in t)
-    (λ (x : ℕ × ℕ). IsForeign items x.0 ⊎ WasIdle opened q.seen q.number (steps.Take x.0 x.1))
+    (λ (x : ℕ × ℕ). LacksDisk items x.0 ⊎ WasIdle opened q.seen q.number (steps.Take x.0 x.1))
 
 -- what a turn did, by its answer
-abbrev pub DidTurn : {D : Type 0} → World → (Drive D → DriveView) → MeshPass → MeshPass → DiskJob D → DiskJob D → Turn
+abbrev pub DidDiskTurn : {D : Type 0} → World → (Drive D → DriveView) → MeshPass → MeshPass → DiskJob D → DiskJob D
+    → Turn
     → Type 0
-DidTurn opened seen p q a b turns.Worked =
+DidDiskTurn opened seen p q a b turns.Worked =
     (t : Ticket) × IsSomeAnd (take_in t.step) (λ (x : ℕ × ℕ). ServesBio seen x.0 x.1 p q (with_ticket a t) b)
-DidTurn opened seen p q a b turns.Idle =
+DidDiskTurn opened seen p q a b turns.Idle =
     (Rests p q a b × WasEmpty a.own)
     ⊎ ((t : Ticket) × Rests p q (with_ticket a t) b × IsPassedOver opened q a.drives.items t.step)
-DidTurn opened seen p q a b turns.Finished = ⊥
-DidTurn opened seen p q a b turns.LogFull =
+DidDiskTurn opened seen p q a b turns.Finished = ⊥
+DidDiskTurn opened seen p q a b turns.LogFull =
     (t : Ticket) × Rests p q (with_ticket a t) b
     × IsSomeAnd (take_in t.step)
     (λ (x : ℕ × ℕ). Contains (disks_of a.drives.items) x.0 × FoundFull opened q.seen q.number (steps.Take x.0 x.1))
-DidTurn opened seen p q a b turns.NoMemory = (t : Ticket) × Rests p q (with_ticket a t) b
+DidDiskTurn opened seen p q a b turns.NoMemory = (t : Ticket) × Rests p q (with_ticket a t) b

@@ -3,8 +3,8 @@ ghost use Rattle.std.specs.Prelude.{◌≡◌, ◌≤◌, length, IfOk};
 ghost use Rattle.geo_lock.specs.Yard.{IsPassOf};
 ghost use Rattle.geo_serve.specs.Drives.{drive_view};
 ghost use Rattle.geo_view.specs.Passes.{IsGoodPass, opened_by};
-ghost use Rattle.geo_disk_job.specs.Drives.{HasDrives, IsForeign};
-ghost use Rattle.geo_disk_job.specs.Turns.{DidBio, DidTurn, IsDiskJob, lane_of, take_in};
+ghost use Rattle.geo_disk_job.specs.Drives.{HasDrives, LacksDisk};
+ghost use Rattle.geo_disk_job.specs.Turns.{DidBio, DidDiskTurn, IsDiskJob, lane_of, take_in};
 
 use crate::drive_list::DriveList;
 use geo_base::{BioId, Block, MAX_REQUEST_BYTES, NoMemory};
@@ -43,7 +43,7 @@ impl<D: Disk> DiskJob<D> {
         ensures job { IsDiskJob lanes.now pass.new.own self.new }
         ensures drives { HasDrives yard.now.start.facts (drive_view D.view) self.new.drives.items }
         ensures good { IsGoodPass pass.new }
-        ensures did { DidTurn (opened_by yard.now.start) (drive_view D.view) pass.old pass.new self.old self.new
+        ensures did { DidDiskTurn (opened_by yard.now.start) (drive_view D.view) pass.old pass.new self.old self.new
             result }
     {
         // The number of a pass tells that it is good at this moment too.
@@ -80,7 +80,7 @@ impl<D: Disk> DiskJob<D> {
         requires own { IsPassOf yard.now pass.old }
         requires job { IsDiskJob lanes.now pass.old.own self.old }
         requires drives { HasDrives yard.now.start.facts (drive_view D.view) self.old.drives.items }
-        requires has { IsForeign self.old.drives.items disk → ⊥ }
+        requires has { LacksDisk self.old.drives.items disk → ⊥ }
         requires room { MAX_REQUEST_BYTES ≤ length room }
         ensures good { IsGoodPass pass.new }
         ensures did { DidBio (opened_by yard.now.start) (drive_view D.view) disk bio pass.old pass.new self.old self.new

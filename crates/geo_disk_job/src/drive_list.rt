@@ -2,7 +2,7 @@
 ghost use Rattle.std.specs.Prelude.{◌≡◌, ◌+◌, ◌<◌, ◌≤◌, [], ◌∷◌, ◌++◌, drop, slice_get, Some, IfNone, IfSome, IsFalse, IsOk, IsTrue, OnOk};
 ghost use Rattle.geo_disk.specs.declared.drive.Drive.{Drive as DriveValue};
 ghost use Rattle.geo_serve.specs.Drives.{drive_view};
-ghost use Rattle.geo_disk_job.specs.Drives.{AnswersOne, CanAnswer, IsForeign};
+ghost use Rattle.geo_disk_job.specs.Drives.{AnswersOne, CanAnswer, LacksDisk};
 
 use geo_base::{Block, NoMemory};
 use geo_disk::{Disk, Drive};
@@ -76,8 +76,8 @@ impl<D> DriveList<D> {
 
     // Is there a drive of the disk?
     pub(crate) fn has(&self, disk: u32) -> bool
-        ensures yes { IsTrue result → IsForeign self.now.items disk → ⊥ }
-        ensures no { IsFalse result → IsForeign self.now.items disk }
+        ensures yes { IsTrue result → LacksDisk self.now.items disk → ⊥ }
+        ensures no { IsFalse result → LacksDisk self.now.items disk }
     {
         place_of(&self.drives, disk).is_some()
     }
@@ -88,7 +88,7 @@ impl<D: Disk> DriveList<D> {
     // memory for it, and are shared, so that a reply needs no copy; they share the memory of those that were read last,
     // if these begin with them.
     pub(crate) fn answer(&mut self, alloc: Global, request: &Request, room: Block) -> DeviceResult
-        requires has { IsForeign self.old.items request.now.disk → ⊥ }
+        requires has { LacksDisk self.old.items request.now.disk → ⊥ }
         requires can { CanAnswer (drive_view D.view) self.old.items request.now room }
         ensures { AnswersOne (drive_view D.view) request.now self.old.items self.new.items result }
     {
@@ -104,7 +104,7 @@ impl<D: Disk> DriveList<D> {
 // The place of the first drive of a disk.
 fn place_of<D>(drives: &[(u32, Drive<D>)], disk: u32) -> Option<usize>
     ensures some { IfSome result (λ k. (d : DriveValue D) × (slice_get drives.now k ≡ Some (disk, d))) }
-    ensures none { IfNone result (IsForeign drives.now disk) }
+    ensures none { IfNone result (LacksDisk drives.now disk) }
 {
     for k in 0..drives.len() {
         if drives[k].0 == disk {

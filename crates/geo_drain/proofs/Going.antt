@@ -34,7 +34,7 @@ use Rattle.geo_laws_disks.proofs.Splits.{each_more, none_in}
 use Rattle.geo_core.specs.Mesh.{IsHistory, Made, MeshView, entry_of, opened, with_entry, world_of}
 use Rattle.geo_drain.specs.Drain.{DrivesFit, with_entries}
 use Rattle.geo_drain.specs.Running.{IsRunning}
-use Rattle.geo_drain.specs.Turns.{MakesStep, ServesTake, Turns}
+use Rattle.geo_drain.specs.Turns.{MakesStep, MakesTurn, ServesTake}
 
 -- a run that made no step
 pub begins : (order : StepOrder) (m : MeshView) (drives : List DriveView) → NoneBusy (world_of m) → IsHistory m
@@ -239,7 +239,7 @@ take_turn order old new next before after later disk b run due history turn = re
 
 pub goes_on : (order : StepOrder) (old new next : MeshView) (before after later : List DriveView) (s : Step)
     → IsRunning order old new before after → order (world_of new) new.log ≡ Some s → IsHistory next
-    → Turns new next after later s → IsRunning order old next before later
+    → MakesTurn new next after later s → IsRunning order old next before later
 goes_on order old new next before after later (steps.Take disk b) run due history turn =
     take_turn order old new next before after later disk b run due history turn
 goes_on order old new next before after later (steps.Deliver b got) run due history turn =
@@ -268,7 +268,7 @@ made_longer old new s o made =
     ap (λ (m : MeshView). length m.log) made.logged ∙ length-append old.log (entry_of 0 s o ∷ [])
 
 -- so does each turn
-pub turns_longer : (old new : MeshView) (before after : List DriveView) (s : Step) → Turns old new before after s
+pub turns_longer : (old new : MeshView) (before after : List DriveView) (s : Step) → MakesTurn old new before after s
     → length old.log + 1 ≤ length new.log
 turns_longer old new before after (steps.Take disk b) turn =
     let one = made_longer old turn.taken (steps.Take disk b) (outcomes.Asked turn.request) turn.take in
@@ -293,7 +293,7 @@ turns_longer old new before after (steps.Up b) turn =
 
 -- a step that isn't a Take
 pub plain_turns : (old new : MeshView) (before after : List DriveView) (s : Step) → taken_in s ≡ None
-    → MakesStep old new before after s → Turns old new before after s
+    → MakesStep old new before after s → MakesTurn old new before after s
 plain_turns old new before after (steps.Take disk b) other makes = absurd (let bad : ⊥ = cc in bad)
 plain_turns old new before after (steps.Go actor) other makes = makes
 plain_turns old new before after steps.Event other makes = makes

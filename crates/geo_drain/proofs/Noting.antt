@@ -10,7 +10,7 @@ use Rattle.geo_serve.specs.Drives.{DriveView}
 use Rattle.geo_core.specs.Mesh.{IsHistory, MeshView, opened, world_of}
 use Rattle.geo_drain.specs.Drain.{DrivesFit, with_entries}
 use Rattle.geo_drain.specs.Noted.{KnowsAll, KnowsPart}
-use Rattle.geo_drain.specs.Turns.{Turns}
+use Rattle.geo_drain.specs.Turns.{MakesTurn}
 use Rattle.geo_drain.specs.Running.{IsRunning}
 use Rattle.geo_drain.proofs.Going.{begins, goes_on}
 
@@ -40,7 +40,7 @@ module _ (knows : World → List Entry → Type 0) where
   -- so it is after a turn
   pub part_after : (order : StepOrder) (old new : MeshView) (before after : List DriveView) (s : Step)
       → NoneBusy (world_of old) → IsHistory old → DrivesFit old before → order (world_of old) old.log ≡ Some s
-      → IsHistory new → Turns old new before after s → KnowsAll knows old → KnowsPart knows new
+      → IsHistory new → MakesTurn old new before after s → KnowsAll knows old → KnowsPart knows new
   part_after order old new before after s none_busy history fit due then turn all =
       let run : IsRunning order old new before after =
       goes_on order old old new before before after s (begins order old before none_busy history fit) due then turn in

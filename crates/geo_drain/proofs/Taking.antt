@@ -21,7 +21,7 @@ use Rattle.geo_serve.specs.Drives.{DriveView}
 use Rattle.geo_serve.specs.Serve.{CanServe, HasRoom, fits_request}
 use Rattle.geo_laws_disks.specs.DriveLaws.{IsReadOf, IsServable}
 use Rattle.geo_laws_disks.proofs.Takes.{takes_are_servable}
-use Rattle.geo_core.specs.Mesh.{IsHistory, Made, MeshView, bytes_read, entry_of, opened, room_of, world_of}
+use Rattle.geo_core.specs.Mesh.{IsHistory, Made, MeshView, bytes_read, bytes_read_by, entry_of, opened, world_of}
 use Rattle.geo_drain.specs.Drain.{DrivesFit}
 use Rattle.geo_drain.specs.Turns.{AnswersRequest, EndsWithRequest}
 use Rattle.geo_laws_disks.proofs.Opened.{DriveAt, drive_at, opening_disks}
@@ -34,7 +34,7 @@ pub record TakesRequest (old taken : MeshView) (drives : List DriveView) (bio : 
     pub drive : DriveView
     pub is_its : slice_get drives q.disk ≡ Some drive
     pub can : CanServe drive q
-    pub room : (block : List ℕ) → length block ≡ room_of (world_of old) bio → HasRoom drive q block
+    pub room : (block : List ℕ) → length block ≡ bytes_read_by (world_of old) bio → HasRoom drive q block
     pub fits : (got : DeviceResult) → IsTrue (fits_request drive.sector q got)
         → IsTrue (is_enabled (world_of taken) 0 (steps.Deliver bio got))
 
@@ -134,7 +134,7 @@ last_can old taken drives bio o q it = subst (λ x. IsSomeAnd x (λ d. CanServe 
 
 -- in room of as many bytes as the bio reads
 pub last_room : (old taken : MeshView) (drives : List DriveView) (bio : ℕ) (o : Outcome) (q : Request)
-    (block : List ℕ) → TakesRequest old taken drives bio o q → length block ≡ room_of (world_of old) bio
+    (block : List ℕ) → TakesRequest old taken drives bio o q → length block ≡ bytes_read_by (world_of old) bio
     → IsSomeAnd (slice_get drives q.disk) (λ d. HasRoom d q block)
 last_room old taken drives bio o q block it long =
     subst (λ x. IsSomeAnd x (λ d. HasRoom d q block)) (sym it.is_its) (it.room block long)

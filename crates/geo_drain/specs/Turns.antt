@@ -43,6 +43,6 @@ pub record ServesTake (old new : MeshView) (before after : List DriveView) (disk
   pub deliver : Made taken new 0 (steps.Deliver bio got) outcome
 
 -- a turn of a step
-abbrev pub Turns : MeshView → MeshView → List DriveView → List DriveView → Step → Type 0
-Turns old new before after (steps.Take disk bio) = ServesTake old new before after disk bio
-Turns old new before after s = MakesStep old new before after s
+abbrev pub MakesTurn : MeshView → MeshView → List DriveView → List DriveView → Step → Type 0
+MakesTurn old new before after (steps.Take disk bio) = ServesTake old new before after disk bio
+MakesTurn old new before after s = MakesStep old new before after s

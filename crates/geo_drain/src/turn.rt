@@ -10,7 +10,7 @@ ghost use Rattle.geo_serve.specs.Drives.{drive_view};
 ghost use Rattle.geo_serve.specs.Serve.{CanServe, HasRoom};
 ghost use Rattle.geo_core.specs.Mesh.{IsHistory, Made, world_of};
 ghost use Rattle.geo_drain.specs.Drain.{DrivesFit};
-ghost use Rattle.geo_drain.specs.Turns.{AnswersRequest, EndsWithRequest, ServesTake, Turns};
+ghost use Rattle.geo_drain.specs.Turns.{AnswersRequest, EndsWithRequest, MakesTurn, ServesTake};
 
 use crate::refusal::DrainRefusal;
 use geo_base::{BioId, Block};
@@ -34,7 +34,7 @@ pub fn turn<D: Disk>(
     requires enabled { IsTrue (is_enabled (world_of mesh.old) 0 step) }
     requires fit { DrivesFit mesh.old
         (map (drive_view D.view) disks.old) }
-    ensures made { OnOk result (Turns mesh.old mesh.new
+    ensures made { OnOk result (MakesTurn mesh.old mesh.new
         (map (drive_view D.view) disks.old)
         (map (drive_view D.view) disks.new) step) }
     ensures full { IsErrOf result DrainRefusal.LogFull → IsTrue (is_full mesh.old.log (world_of mesh.old) 0 step) }

@@ -10,7 +10,7 @@ use Rattle.geo_model.specs.declared.class.EbrPart.{EbrPart}
 use Rattle.geo_model.specs.Chain.{has_part, is_link_type, leads_on, next_link}
 use Rattle.geo_model.specs.Records.{entry_type, has_signature}
 use Rattle.geo_model.specs.Words.{first_error}
-use Rattle.geo_ebr.specs.Links.{cause_against, is_back, links_of}
+use Rattle.geo_ebr.specs.Links.{cause_against, is_back, links_read}
 use Rattle.geo_ebr.proofs.LinkLemmas.{links-any_sector, links-has_part, links-length}
 
 -- the first cause, by the tests: the signature, the second entry's type, whether it leads on, back, past the media or
@@ -48,10 +48,10 @@ module _ (sectors : ℕ) (visited : List ℕ) (parts : List (Option EbrPart)) (b
   against-is : against
       ≡ by_rows (is_back visited (next_link bytes)) (nat_le MAX_LINKS (length visited)) (list_any is_some parts)
   against-is =
-      ap (λ back. by_rows ((next_link bytes == 0) || back) (nat_le MAX_LINKS (length (links_of visited parts)))
-      (has_part (links_of visited parts)))
+      ap (λ back. by_rows ((next_link bytes == 0) || back) (nat_le MAX_LINKS (length (links_read visited parts)))
+      (has_part (links_read visited parts)))
       (links-any_sector visited parts (next_link bytes) alike)
-      ∙ ap (λ n. by_rows (is_back visited (next_link bytes)) (nat_le MAX_LINKS n) (has_part (links_of visited parts)))
+      ∙ ap (λ n. by_rows (is_back visited (next_link bytes)) (nat_le MAX_LINKS n) (has_part (links_read visited parts)))
       (links-length visited parts alike)
       ∙ ap (by_rows (is_back visited (next_link bytes)) (nat_le MAX_LINKS (length visited)))
       (links-has_part visited parts alike)

@@ -10,7 +10,7 @@ use Rattle.geo_model.specs.declared.class.Verdict.TheVariants.{Decline, More, Ac
 use Rattle.geo_model.specs.Chain.{LinkRead, Chain, with_link, named_part, next_link, leads_on, link_tests, feed, chain_verdict, table_of}
 use Rattle.geo_model.specs.Words.{first_error}
 use Rattle.geo_ebr.specs.ChainView.{ChainView}
-use Rattle.geo_ebr.specs.Links.{AreLinks, chain_in, links_of}
+use Rattle.geo_ebr.specs.Links.{AreLinks, chain_in, links_read}
 use Rattle.geo_ebr.proofs.LinkLemmas.{links-length, links-parts, links-more}
 use Rattle.geo_ebr.proofs.CauseLemmas.{against-few}
 
@@ -60,10 +60,10 @@ module _ (sectors next count : ℕ) (visited : List ℕ) (parts : List (Option E
   with_link-is =
       let in_visited : count < length visited = omega (arith, kept.sectors, kept.few) in
       let in_parts : count < length parts = omega (arith, kept.places, kept.few) in
-      let links : links_of (take (count + 1) more_visited) (take (count + 1) more_parts)
-      ≡ links_of (take count visited) (take count parts) ++ record { sector = next; part = part } ∷ [] =
-      ap (λ vs. links_of vs (take (count + 1) more_parts)) (take_more_set visited count next in_visited)
-      ∙ ap (λ ps. links_of (take count visited ++ next ∷ []) ps) (take_more_set parts count part in_parts)
+      let links : links_read (take (count + 1) more_visited) (take (count + 1) more_parts)
+      ≡ links_read (take count visited) (take count parts) ++ record { sector = next; part = part } ∷ [] =
+      ap (λ vs. links_read vs (take (count + 1) more_parts)) (take_more_set visited count next in_visited)
+      ∙ ap (λ ps. links_read (take count visited ++ next ∷ []) ps) (take_more_set parts count part in_parts)
       ∙ links-more (take count visited) (take count parts) next part (old_visited ∙ sym old_parts) in
       ap (λ p. record { links = old.links ++ record { sector = next; part = p } ∷ []; next = next_link bytes })
       (sym named)

@@ -13,10 +13,10 @@ pub record ChainView : Type 0 where
   pub chain : Chain
 
 -- an answer as a verdict of the class
-abbrev pub verdict_of : Link → Verdict
-verdict_of (links.More sector) = More sector
-verdict_of (links.Declined cause) = Decline cause
-verdict_of (links.Whole table) = Accept (Logical table)
+abbrev pub link_verdict : Link → Verdict
+link_verdict (links.More sector) = More sector
+link_verdict (links.Declined cause) = Decline cause
+link_verdict (links.Whole table) = Accept (Logical table)
 
 -- the chain after a verdict on a link with these bytes: with that link where more is wanted, else as it was
 abbrev pub chain_after : ChainView → List ℕ → Verdict → ChainView

@@ -8,18 +8,18 @@ use Rattle.geo_model.specs.Chain.{Chain, LinkRead, link_tests, next_link}
 use Rattle.geo_model.specs.Words.{first_error}
 
 -- the links at these sectors, with these partitions
-abbrev pub links_of : List ℕ → List (Option EbrPart) → List LinkRead
-links_of (sector ∷ sectors) (part ∷ parts) = record { sector = sector; part = part } ∷ links_of sectors parts
-links_of _ _ = []
+abbrev pub links_read : List ℕ → List (Option EbrPart) → List LinkRead
+links_read (sector ∷ sectors) (part ∷ parts) = record { sector = sector; part = part } ∷ links_read sectors parts
+links_read _ _ = []
 
 -- the chain whose links have the first cells of two rows, and whose next link stands at a sector
 abbrev pub chain_in : List ℕ → List (Option EbrPart) → ℕ → ℕ → Chain
-chain_in visited parts count next = record { links = links_of (take count visited) (take count parts); next = next }
+chain_in visited parts count next = record { links = links_read (take count visited) (take count parts); next = next }
 
 -- what is against the links in two rows, of a provider of n sectors, where the last one has these bytes
 abbrev pub cause_against : ℕ → List ℕ → List (Option EbrPart) → List ℕ → Option DeclineCause
 cause_against n visited parts bytes =
-    first_error (link_tests n (record { links = links_of visited parts; next = next_link bytes }) bytes)
+    first_error (link_tests n (record { links = links_read visited parts; next = next_link bytes }) bytes)
 
 -- whether a sector is 0 or one of the visited ones
 abbrev pub is_back : List ℕ → ℕ → Bool

@@ -1,7 +1,7 @@
 //! A chain of links that is read sector by sector.
 ghost use Rattle.std.specs.Prelude.{◌≡◌, ◌≤◌, length};
 ghost use Rattle.geo_model.specs.Chain.{feed, no_links};
-ghost use Rattle.geo_ebr.specs.ChainView.{chain_after, verdict_of};
+ghost use Rattle.geo_ebr.specs.ChainView.{chain_after, link_verdict};
 
 use crate::link::{cause_against, leads_on, named_part, next_link};
 use geo_base::{DeclineCause, MAX_LINKS};
@@ -70,8 +70,8 @@ impl Chain {
     /// chain stays as it was.
     pub fn feed(&mut self, sector: &[u8]) -> Link
         requires { 512 ≤ length sector.now }
-        ensures answer { verdict_of result ≡ feed self.old.sectors self.old.chain sector.now }
-        ensures chain { self.new ≡ chain_after self.old sector.now (verdict_of result) }
+        ensures answer { link_verdict result ≡ feed self.old.sectors self.old.chain sector.now }
+        ensures chain { self.new ≡ chain_after self.old sector.now (link_verdict result) }
     {
         let mut visited = self.visited;
         let mut parts = self.parts;

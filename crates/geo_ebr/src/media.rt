@@ -1,7 +1,7 @@
 //! Chains of a whole media.
 ghost use Rattle.std.specs.Prelude.{◌≡◌};
 ghost use Rattle.geo_model.specs.Chain.{chain_table};
-ghost use Rattle.geo_record.specs.Head.{answer_of};
+ghost use Rattle.geo_record.specs.Head.{decoder_answer};
 
 use crate::chain::{Chain, Link};
 use geo_base::{DeclineCause, Declined, MAX_LINKS};
@@ -23,7 +23,7 @@ pub trait Media {
 /// The partitions of the chain of a media with so many sectors, read link by link from sector 0 on. It is declined with
 /// the first cause at the earliest link.
 pub fn read_chain<M: Media>(media: &M, sectors: u64) -> Result<EbrTable, Declined>
-    ensures { answer_of result ≡ chain_table (M.bytes media.now) sectors }
+    ensures { decoder_answer result ≡ chain_table (M.bytes media.now) sectors }
 {
     let mut chain = Chain::new(sectors);
     let mut next = 0;

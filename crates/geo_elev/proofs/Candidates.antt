@@ -4,7 +4,7 @@ use Rattle.std.specs.List.{list_any}
 use Rattle.std.proofs.Common.{refl, sym, ◌∙◌, ap, arith}
 use Rattle.std.proofs.lemmas.Bool.{eqb-true, ne_eqb}
 use Rattle.geo_headline.specs.Sweep.{Waiting, before_flush, candidates}
-use Rattle.geo_elev.specs.Lists.{Rises, is_open, is_none_of, joins, without}
+use Rattle.geo_elev.specs.Lists.{Rises, has_no_flush, is_none_of, joins, without}
 
 -- whether the bio is among them
 abbrev pub has_bio : ℕ → List Waiting → Bool
@@ -69,8 +69,8 @@ absent_stays bio low (x ∷ xs) rise below =
 
 -- by whether the first is a FLUSH
 one_open : (b : Bool) (x y : Waiting) (xs : List Waiting) → x.flush ≡ b → y.flush ≡ false
-    → is_open (x ∷ xs) ≡ true
-    → (is_open xs ≡ true → before_flush (xs ++ y ∷ []) ≡ before_flush xs ++ y ∷ [])
+    → has_no_flush (x ∷ xs) ≡ true
+    → (has_no_flush xs ≡ true → before_flush (xs ++ y ∷ []) ≡ before_flush xs ++ y ∷ [])
     → before_flush (x ∷ xs ++ y ∷ []) ≡ before_flush (x ∷ xs) ++ y ∷ []
 one_open true x y xs e f all rest = absurd (let no : false ≡ true = rw e at all in let bad : ⊥ = cc in bad)
 one_open false x y xs e f all rest =
@@ -78,15 +78,15 @@ one_open false x y xs e f all rest =
     ∙ ap (λ ys. ys ++ y ∷ []) (sym (front_at false x xs e))
 
 -- where no FLUSH waits, one more that is none stands before the first one
-front_open : (xs : List Waiting) (y : Waiting) → is_open xs ≡ true → y.flush ≡ false
+front_open : (xs : List Waiting) (y : Waiting) → has_no_flush xs ≡ true → y.flush ≡ false
     → before_flush (xs ++ y ∷ []) ≡ before_flush xs ++ y ∷ []
 front_open [] y all f = rw f refl
 front_open (x ∷ xs) y all f = one_open x.flush x y xs refl f all (λ rest. front_open xs y rest f)
 
 -- by whether the first is a FLUSH
 one_shut : (b : Bool) (x y : Waiting) (xs : List Waiting) → x.flush ≡ b
-    → (is_open (x ∷ xs) && not y.flush) ≡ false
-    → ((is_open xs && not y.flush) ≡ false → before_flush (xs ++ y ∷ []) ≡ before_flush xs)
+    → (has_no_flush (x ∷ xs) && not y.flush) ≡ false
+    → ((has_no_flush xs && not y.flush) ≡ false → before_flush (xs ++ y ∷ []) ≡ before_flush xs)
     → before_flush (x ∷ xs ++ y ∷ []) ≡ before_flush (x ∷ xs)
 one_shut true x y xs e none rest = front_at true x (xs ++ y ∷ []) e ∙ sym (front_at true x xs e)
 one_shut false x y xs e none rest =
@@ -98,7 +98,7 @@ alone_shut true y e none = rw e refl
 alone_shut false y e none = absurd (let bad : ⊥ = cc in bad)
 
 -- else it doesn't
-front_shut : (xs : List Waiting) (y : Waiting) → (is_open xs && not y.flush) ≡ false
+front_shut : (xs : List Waiting) (y : Waiting) → (has_no_flush xs && not y.flush) ≡ false
     → before_flush (xs ++ y ∷ []) ≡ before_flush xs
 front_shut [] y none = alone_shut y.flush y refl none
 front_shut (x ∷ xs) y none = one_shut x.flush x y xs refl none (front_shut xs y)
@@ -109,16 +109,16 @@ joined b xs y = if b then xs ++ y ∷ [] else xs
 
 -- by whether the first is a FLUSH
 first_joins : (b c : Bool) (x y : Waiting) (xs : List Waiting) → x.flush ≡ b
-    → (is_open (x ∷ xs) && not y.flush) ≡ c
+    → (has_no_flush (x ∷ xs) && not y.flush) ≡ c
     → candidates (x ∷ xs ++ y ∷ []) ≡ joined c (candidates (x ∷ xs)) y
 first_joins true true x y xs e f = absurd (let no : false ≡ true = rw e at f in let bad : ⊥ = cc in bad)
 first_joins true false x y xs e f = next_at true x (xs ++ y ∷ []) e ∙ sym (next_at true x xs e)
 first_joins false true x y xs e f =
     next_at false x (xs ++ y ∷ []) e
-    ∙ ap (λ ys. x ∷ ys) (both_open (is_open xs) y.flush refl refl (rw e at f))
+    ∙ ap (λ ys. x ∷ ys) (both_open (has_no_flush xs) y.flush refl refl (rw e at f))
     ∙ ap (λ ys. ys ++ y ∷ []) (sym (next_at false x xs e))
   where
-    both_open : (b c : Bool) → is_open xs ≡ b → y.flush ≡ c → (b && not c) ≡ true
+    both_open : (b c : Bool) → has_no_flush xs ≡ b → y.flush ≡ c → (b && not c) ≡ true
         → before_flush (xs ++ y ∷ []) ≡ before_flush xs ++ y ∷ []
     both_open true false g h both = front_open xs y g h
     both_open true true g h both = absurd (let bad : ⊥ = cc in bad)
@@ -135,7 +135,7 @@ alone_joins false y e = rw e refl
 pub candidates_joined : (xs : List Waiting) (y : Waiting)
     → candidates (xs ++ y ∷ []) ≡ joined (joins xs y.flush) (candidates xs) y
 candidates_joined [] y = alone_joins y.flush y refl
-candidates_joined (x ∷ xs) y = first_joins x.flush (is_open (x ∷ xs) && not y.flush) x y xs refl refl
+candidates_joined (x ∷ xs) y = first_joins x.flush (has_no_flush (x ∷ xs) && not y.flush) x y xs refl refl
 
 -- where some stand before the first FLUSH, these may be taken next
 some_by : (b : Bool) (x : Waiting) (xs : List Waiting) → x.flush ≡ b → is_none_of (before_flush (x ∷ xs)) ≡ false

@@ -20,7 +20,7 @@ use Rattle.geo_laws_sweep.specs.SweepLaws.{WaitingChanges, OneMore, is_queued, i
 use Rattle.geo_laws_sweep.proofs.WaitingFacts.{steps_change_waiting}
 use Rattle.geo_elev.specs.declared.disks.DiskHead.{DiskHead}
 use Rattle.geo_elev.specs.Lists.{are_below, without}
-use Rattle.geo_elev.specs.Disks.{ChangesOne, Queues, asked_of}
+use Rattle.geo_elev.specs.Disks.{ChangesOne, Queues, after_asking}
 use Rattle.geo_elev.specs.Heads.{disk_head, disk_heads}
 
 -- Tables by number
@@ -191,10 +191,10 @@ module _ (w : World) (firm : Firm w) (log : List Entry) (e : Entry)
 
   -- a disk is asked for a bio
   pub asked_then : (q : Request) (d b : ℕ) → e.outcome ≡ outcomes.Asked q → e.step ≡ steps.Take d b
-      → (new : List DiskHead) → ChangesOne q.disk (λ x y. y ≡ asked_of q b x) (disk_heads w log n) new
+      → (new : List DiskHead) → ChangesOne q.disk (λ x y. y ≡ after_asking q b x) (disk_heads w log n) new
       → new ≡ disk_heads v (log ++ e ∷ []) n
   asked_then q d b is take new does =
-      change_one (disk_head w log) (disk_head v (log ++ e ∷ [])) (λ x y. y ≡ asked_of q b x) q.disk n others
+      change_one (disk_head w log) (disk_head v (log ++ e ∷ [])) (λ x y. y ≡ after_asking q b x) q.disk n others
       (λ y made_so. made_so ∙ this) new does
     where
       not_asked : (j : ℕ) → j ≢ q.disk → (q.disk == j) ≡ false
@@ -212,7 +212,7 @@ module _ (w : World) (firm : Firm w) (log : List Entry) (e : Entry)
       same_bio : by_take.0 ≡ b
       same_bio = let both : steps.Take q.disk by_take.0 ≡ steps.Take d b = sym by_take.1 ∙ take in cc
 
-      this : asked_of q b (disk_head w log q.disk) ≡ disk_head v (log ++ e ∷ []) q.disk
+      this : after_asking q b (disk_head w log q.disk) ≡ disk_head v (log ++ e ∷ []) q.disk
       this =
           let head : head_of (log ++ e ∷ []) q.disk ≡ (if not (is_flush q.cmd) then q.first else head_of log q.disk) =
           head_then q.disk ∙ ap (head_after q.disk (head_of log q.disk)) is

@@ -18,10 +18,10 @@ use Rattle.geo_laws_disks.proofs.Legal.{firm_after}
 use Rattle.geo_drain.specs.Meshes.{Spot, MeshView, IsHistory, world_of, spot_in, spot_of}
 use Rattle.geo_elev.specs.declared.disks.DiskHead.{DiskHead}
 use Rattle.geo_elev.specs.Lists.{are_below, one_at}
-use Rattle.geo_elev.specs.Disks.{ChangesOne, Moves, Queues}
+use Rattle.geo_elev.specs.Disks.{ChangesOne, HeadMoves, Queues}
 use Rattle.geo_elev.specs.Heads.{disk_head, disk_heads, no_head}
 use Rattle.geo_elev.specs.Following.{place_of}
-use Rattle.geo_elev.specs.Gathering.{below, waiting_below, bare_head, bare_heads, head_below, heads_below, Puts}
+use Rattle.geo_elev.specs.Gathering.{numbered_below, waiting_below, bare_head, bare_heads, head_below, heads_below, PutsAtSpot}
 use Rattle.geo_elev.proofs.Following.{all_same, change_one}
 use Rattle.geo_elev.proofs.Spots.{spot_says, no_spot_says}
 use Rattle.geo_elev.proofs.Walking.{none_below, below_more, all_below, one_more, gathered_below, found_passes}
@@ -72,9 +72,9 @@ module _ (log : List Entry) (e : Entry) (n : ℕ) where
 
   -- a request moves the head of its disk
   pub moved_then : (q : Request) → e.outcome ≡ outcomes.Asked q → (new : List DiskHead)
-      → ChangesOne q.disk (Moves q) (bare_heads log n) new → new ≡ bare_heads (log ++ e ∷ []) n
+      → ChangesOne q.disk (HeadMoves q) (bare_heads log n) new → new ≡ bare_heads (log ++ e ∷ []) n
   moved_then q is new does =
-      change_one (bare_head log) (bare_head (log ++ e ∷ [])) (Moves q) q.disk n
+      change_one (bare_head log) (bare_head (log ++ e ∷ [])) (HeadMoves q) q.disk n
       (λ j other. bare_same (outcomes.Asked q) is j
       (ap (λ (c : Bool). if c && not (is_flush q.cmd) then q.first else head_of log j)
       (ne_eqb q.disk j (λ same. other (sym same)))))
@@ -185,9 +185,9 @@ module _ (m : MeshView) (history : IsHistory m) where
         → waiting_below w (b + 1) disk ≡ waiting_below w from disk ++ (if c then waiting_of w y ∷ [] else [])
     then_waits disk c e =
         ap (λ (xs : List Bio). map (waiting_of w) (filter (is_sent_to w disk) xs))
-        (subst (λ (k : ℕ). below (k + 1) w.bios ≡ below from w.bios ++ y ∷ []) found.2
+        (subst (λ (k : ℕ). numbered_below (k + 1) w.bios ≡ numbered_below from w.bios ++ y ∷ []) found.2
         (below_more from 0 w.next_bio y w.bios rising found.1))
-        ∙ one_more w disk y c e (below from w.bios)
+        ∙ one_more w disk y c e (numbered_below from w.bios)
 
     not_there : (log : List Entry) (disk : ℕ) → is_sent_to w disk y ≡ false
         → head_below w log from disk ≡ head_below w log (b + 1) disk
@@ -197,7 +197,7 @@ module _ (m : MeshView) (history : IsHistory m) where
 
     -- the bio is put in
     pub walk_goes_on : (log : List Entry) (n : ℕ) (new : List DiskHead)
-        → Puts (spot_of w b) b (heads_below w log from n) new
+        → PutsAtSpot (spot_of w b) b (heads_below w log from n) new
         → new ≡ heads_below w log (b + 1) n
     walk_goes_on log n new puts = by (spot_in w.topology y) refl
       where
@@ -207,12 +207,12 @@ module _ (m : MeshView) (history : IsHistory m) where
         by : (o : Option Spot) → spot_in w.topology y ≡ o → new ≡ heads_below w log (b + 1) n
         by None e =
             let did : new ≡ heads_below w log from n =
-            subst (λ (o : Option Spot). Puts o b (heads_below w log from n) new) (spot_is ∙ e) puts in
+            subst (λ (o : Option Spot). PutsAtSpot o b (heads_below w log from n) new) (spot_is ∙ e) puts in
             did ∙ all_same (head_below w log from) (head_below w log (b + 1))
             (λ j. not_there log j (no_spot_says w y e j)) 0 n
         by (Some spot) e =
-            let did : Puts (Some spot) b (heads_below w log from n) new =
-            subst (λ (o : Option Spot). Puts o b (heads_below w log from n) new) (spot_is ∙ e) puts in
+            let did : PutsAtSpot (Some spot) b (heads_below w log from n) new =
+            subst (λ (o : Option Spot). PutsAtSpot o b (heads_below w log from n) new) (spot_is ∙ e) puts in
             let says = spot_says w y spot e in
             let one : waiting_of w y ≡ one_at b (place_of spot) =
             says.1 ∙ ap (λ (k : ℕ). one_at k (place_of spot)) found.2 in

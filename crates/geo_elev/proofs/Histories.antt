@@ -22,7 +22,7 @@ use Rattle.geo_drain.specs.Meshes.{MeshView, IsHistory, opened, world_of, spot_o
 use Rattle.geo_elev.specs.declared.disks.DiskHead.{DiskHead}
 use Rattle.geo_elev.specs.Lists.{one_at}
 use Rattle.geo_elev.specs.Heads.{AreHeads, HeadsView, disk_head, disk_heads}
-use Rattle.geo_elev.specs.Following.{ComesAfter, Followed, Starts, Takes, heads_at, is_quiet, place_of}
+use Rattle.geo_elev.specs.Following.{ComesAfter, Followed, Starts, TakesIfFollowed, heads_at, is_quiet, place_of}
 use Rattle.geo_elev.proofs.Following.{all_stay, asked_then, queued_then}
 use Rattle.geo_elev.proofs.Spots.{spot_waits}
 
@@ -82,7 +82,7 @@ module _ (m : MeshView) (history : IsHistory m) (seen : List Entry) (e : Entry) 
 
   -- a request that a disk was asked for
   pub take_then : (b : Bool) (q : Request) (new : List DiskHead) → e.outcome ≡ outcomes.Asked q
-      → Takes b q e.step (heads_at (opened m) seen n) new
+      → TakesIfFollowed b q e.step (heads_at (opened m) seen n) new
       → Followed b (opened m) seen e n new
   take_then true q new is (d, b, take, does) = asked_then w firm seen e made n q d b is take new does ∙ then_at
   take_then false q new is does = tt

@@ -12,7 +12,7 @@ use Rattle.std.proofs.lemmas.List.Folds.{list_all-append}
 use Rattle.std.proofs.lemmas.Nat.{mod-mul-add}
 use Rattle.geo_headline.specs.Sweep.{Waiting, before_flush, candidates, next_of}
 use Rattle.geo_elev.specs.declared.lists.Place.{Place}
-use Rattle.geo_elev.specs.Lists.{AreLists, HasKeys, IsNextKey, Rises, all_waiting, are_below, at_key, is_kept, is_none_of, is_open, joins, key_of, listed, waiting_at, waiting_in, without}
+use Rattle.geo_elev.specs.Lists.{AreLists, HasKeys, IsNextKey, Rises, all_waiting, are_below, at_key, has_no_flush, is_kept, is_none_of, joins, key_of, listed, waiting_at, waiting_in, without}
 use Rattle.geo_elev.proofs.Candidates.{absent_stays, candidates_joined, front_at, gone, has_bio, joined, kept, next_at, one_less, wider, without_rises}
 use Rattle.geo_elev.proofs.Keys.{next_ahead, next_least}
 use Rattle.geo_elev.proofs.Listed.{among_listed, at_own, listed_below, listed_keys, listed_less, listed_more, listed_open, none_listed, open_listed}
@@ -112,22 +112,23 @@ below_without b bio (x ∷ xs) below = by (x.bio == bio) refl (below_without b b
 -- What may be taken next of a list in two parts
 
 -- where no FLUSH waits all may be
-open_front : (xs ys : List Waiting) → is_open xs ≡ true → before_flush ys ≡ [] → before_flush (xs ++ ys) ≡ xs
+open_front : (xs ys : List Waiting) → has_no_flush xs ≡ true → before_flush ys ≡ [] → before_flush (xs ++ ys) ≡ xs
 open_front [] ys all end = end
 open_front (x ∷ xs) ys all end =
-    let both = and_parts (not x.flush) (is_open xs) all in
+    let both = and_parts (not x.flush) (has_no_flush xs) all in
     front_at false x (xs ++ ys) (not-true x.flush both.0) ∙ ap (λ zs. x ∷ zs) (open_front xs ys both.1 end)
 
 -- so are those that stand before the first one
-pub open_next : (xs ys : List Waiting) → is_none_of xs ≡ false → is_open xs ≡ true → before_flush ys ≡ []
+pub open_next : (xs ys : List Waiting) → is_none_of xs ≡ false → has_no_flush xs ≡ true → before_flush ys ≡ []
     → candidates (xs ++ ys) ≡ xs
 open_next [] ys some all end = absurd (let bad : ⊥ = cc in bad)
 open_next (x ∷ xs) ys some all end =
-    let both = and_parts (not x.flush) (is_open xs) all in
+    let both = and_parts (not x.flush) (has_no_flush xs) all in
     next_at false x (xs ++ ys) (not-true x.flush both.0) ∙ ap (λ zs. x ∷ zs) (open_front xs ys both.1 end)
 
 -- whether one more joins some
-joins_some : (xs : List Waiting) (flush : Bool) → is_none_of xs ≡ false → joins xs flush ≡ (is_open xs && not flush)
+joins_some : (xs : List Waiting) (flush : Bool) → is_none_of xs ≡ false → joins xs flush
+    ≡ (has_no_flush xs && not flush)
 joins_some [] flush some = absurd (let bad : ⊥ = cc in bad)
 joins_some (x ∷ xs) flush some = refl
 
@@ -138,15 +139,15 @@ module _ (keys : List ℕ) (flush : Bool) where
   joins_later [] last more are some = absurd (let bad : ⊥ = cc in bad)
   joins_later (e ∷ later) last more are some =
       sym (joins_some all more (some_behind (listed flush keys) (waiting_at e) (waiting_in later))
-      ∙ ap (λ (c : Bool). c && not more) (shut (is_open all) refl))
+      ∙ ap (λ (c : Bool). c && not more) (shut (has_no_flush all) refl))
     where
       all : List Waiting
       all = all_waiting keys flush (e ∷ later)
 
-      all_next : (xs : List Waiting) → is_none_of xs ≡ false → is_open xs ≡ true → candidates xs ≡ xs
+      all_next : (xs : List Waiting) → is_none_of xs ≡ false → has_no_flush xs ≡ true → candidates xs ≡ xs
       all_next xs are_some e = sym (ap candidates (append-nil xs)) ∙ open_next xs [] are_some e refl
 
-      shut : (b : Bool) → is_open all ≡ b → b ≡ false
+      shut : (b : Bool) → has_no_flush all ≡ b → b ≡ false
       shut true f =
           absurd (not_longer (listed flush keys) (waiting_at e) (waiting_in later)
           (sym are.next ∙ all_next all (some_behind (listed flush keys) (waiting_at e) (waiting_in later)) f))

@@ -12,7 +12,7 @@ use Rattle.std.proofs.lemmas.Bool.{and_parts, eqb-true, eq-eqb, ne_eqb, le-ltb, 
 use Rattle.std.proofs.lemmas.Bool.Decides.{nat_tests}
 use Rattle.std.proofs.lemmas.Nat.{div-add-mod', div-mul-add, mod-mul-add}
 use Rattle.geo_headline.specs.Sweep.{Waiting}
-use Rattle.geo_elev.specs.Lists.{HasKeys, Rises, are_below, at_key, has_key, is_kept, is_none_of, is_open, key_of, listed, with_one, without}
+use Rattle.geo_elev.specs.Lists.{HasKeys, Rises, are_below, at_key, has_key, has_no_flush, is_kept, is_none_of, key_of, listed, with_waiting, without}
 use Rattle.geo_elev.proofs.Candidates.{absent, absent_stays, gone, has_bio, kept, wider}
 use Rattle.geo_elev.proofs.Keys.{key_is_bio}
 
@@ -51,7 +51,7 @@ is_greater key n e = by (nat_lt n key) refl
 
 module _ (p : Waiting → Bool) (x : Waiting) where
   -- whether all pass
-  pub all_with : (ys : List Waiting) → list_all p (with_one x ys) ≡ (p x && list_all p ys)
+  pub all_with : (ys : List Waiting) → list_all p (with_waiting x ys) ≡ (p x && list_all p ys)
   all_with [] = refl
   all_with (y ∷ ys) = by (nat_lt x.bio y.bio) refl (all_with ys)
     where
@@ -60,15 +60,15 @@ module _ (p : Waiting → Bool) (x : Waiting) where
       swap false true c = refl
       swap false false c = refl
 
-      by : (b : Bool) → nat_lt x.bio y.bio ≡ b → list_all p (with_one x ys) ≡ (p x && list_all p ys)
-          → list_all p (with_one x (y ∷ ys)) ≡ (p x && list_all p (y ∷ ys))
-      by true e rest = ap (λ (c : Bool). list_all p (if c then x ∷ y ∷ ys else y ∷ with_one x ys)) e
+      by : (b : Bool) → nat_lt x.bio y.bio ≡ b → list_all p (with_waiting x ys) ≡ (p x && list_all p ys)
+          → list_all p (with_waiting x (y ∷ ys)) ≡ (p x && list_all p (y ∷ ys))
+      by true e rest = ap (λ (c : Bool). list_all p (if c then x ∷ y ∷ ys else y ∷ with_waiting x ys)) e
       by false e rest =
-          ap (λ (c : Bool). list_all p (if c then x ∷ y ∷ ys else y ∷ with_one x ys)) e
+          ap (λ (c : Bool). list_all p (if c then x ∷ y ∷ ys else y ∷ with_waiting x ys)) e
           ∙ ap (λ (c : Bool). p y && c) rest ∙ swap (p y) (p x) (list_all p ys)
 
   -- whether one does
-  any_with : (ys : List Waiting) → list_any p (with_one x ys) ≡ (p x || list_any p ys)
+  any_with : (ys : List Waiting) → list_any p (with_waiting x ys) ≡ (p x || list_any p ys)
   any_with [] = refl
   any_with (y ∷ ys) = by (nat_lt x.bio y.bio) refl (any_with ys)
     where
@@ -77,23 +77,24 @@ module _ (p : Waiting → Bool) (x : Waiting) where
       swap true true c = refl
       swap true false c = refl
 
-      by : (b : Bool) → nat_lt x.bio y.bio ≡ b → list_any p (with_one x ys) ≡ (p x || list_any p ys)
-          → list_any p (with_one x (y ∷ ys)) ≡ (p x || list_any p (y ∷ ys))
-      by true e rest = ap (λ (c : Bool). list_any p (if c then x ∷ y ∷ ys else y ∷ with_one x ys)) e
+      by : (b : Bool) → nat_lt x.bio y.bio ≡ b → list_any p (with_waiting x ys) ≡ (p x || list_any p ys)
+          → list_any p (with_waiting x (y ∷ ys)) ≡ (p x || list_any p (y ∷ ys))
+      by true e rest = ap (λ (c : Bool). list_any p (if c then x ∷ y ∷ ys else y ∷ with_waiting x ys)) e
       by false e rest =
-          ap (λ (c : Bool). list_any p (if c then x ∷ y ∷ ys else y ∷ with_one x ys)) e
+          ap (λ (c : Bool). list_any p (if c then x ∷ y ∷ ys else y ∷ with_waiting x ys)) e
           ∙ ap (λ (c : Bool). p y || c) rest ∙ swap (p y) (p x) (list_any p ys)
 
 -- before one with a greater number
-with_before : (x y : Waiting) (ys : List Waiting) → nat_lt x.bio y.bio ≡ true → with_one x (y ∷ ys) ≡ x ∷ y ∷ ys
-with_before x y ys e = ap (λ (c : Bool). if c then x ∷ y ∷ ys else y ∷ with_one x ys) e
+with_before : (x y : Waiting) (ys : List Waiting) → nat_lt x.bio y.bio ≡ true → with_waiting x (y ∷ ys) ≡ x ∷ y ∷ ys
+with_before x y ys e = ap (λ (c : Bool). if c then x ∷ y ∷ ys else y ∷ with_waiting x ys) e
 
 -- behind another
-with_behind : (x y : Waiting) (ys : List Waiting) → nat_lt x.bio y.bio ≡ false → with_one x (y ∷ ys) ≡ y ∷ with_one x ys
-with_behind x y ys e = ap (λ (c : Bool). if c then x ∷ y ∷ ys else y ∷ with_one x ys) e
+with_behind : (x y : Waiting) (ys : List Waiting) → nat_lt x.bio y.bio ≡ false → with_waiting x (y ∷ ys) ≡ y
+    ∷ with_waiting x ys
+with_behind x y ys e = ap (λ (c : Bool). if c then x ∷ y ∷ ys else y ∷ with_waiting x ys) e
 
 -- one with a greater number than all comes last
-goes_last : (x : Waiting) (ys : List Waiting) → are_below x.bio ys ≡ true → with_one x ys ≡ ys ++ x ∷ []
+goes_last : (x : Waiting) (ys : List Waiting) → are_below x.bio ys ≡ true → with_waiting x ys ≡ ys ++ x ∷ []
 goes_last x [] below = refl
 goes_last x (y ∷ ys) below =
     let both = and_parts (nat_lt y.bio x.bio) (are_below x.bio ys) below in
@@ -101,12 +102,13 @@ goes_last x (y ∷ ys) below =
     with_behind x y ys (le-ltb x.bio y.bio (omega (arith, less))) ∙ ap (λ zs. y ∷ zs) (goes_last x ys both.1)
 
 -- one with a smaller number comes before the last
-goes_before : (x z : Waiting) (ys : List Waiting) → x.bio < z.bio → with_one x (ys ++ z ∷ []) ≡ with_one x ys ++ z ∷ []
+goes_before : (x z : Waiting) (ys : List Waiting) → x.bio < z.bio → with_waiting x (ys ++ z ∷ []) ≡ with_waiting x ys
+    ++ z ∷ []
 goes_before x z [] less = with_before x z [] (lt-ltb x.bio z.bio less)
 goes_before x z (y ∷ ys) less = by (nat_lt x.bio y.bio) refl (goes_before x z ys less)
   where
-    by : (b : Bool) → nat_lt x.bio y.bio ≡ b → with_one x (ys ++ z ∷ []) ≡ with_one x ys ++ z ∷ []
-        → with_one x (y ∷ ys ++ z ∷ []) ≡ with_one x (y ∷ ys) ++ z ∷ []
+    by : (b : Bool) → nat_lt x.bio y.bio ≡ b → with_waiting x (ys ++ z ∷ []) ≡ with_waiting x ys ++ z ∷ []
+        → with_waiting x (y ∷ ys ++ z ∷ []) ≡ with_waiting x (y ∷ ys) ++ z ∷ []
     by true e rest =
         with_before x y (ys ++ z ∷ []) e ∙ sym (ap (λ zs. zs ++ z ∷ []) (with_before x y ys e))
     by false e rest =
@@ -114,99 +116,99 @@ goes_before x z (y ∷ ys) less = by (nat_lt x.bio y.bio) refl (goes_before x z 
         ∙ sym (ap (λ zs. zs ++ z ∷ []) (with_behind x y ys e))
 
 -- one with a smaller number than all comes first
-goes_first : (x : Waiting) (low : ℕ) (ys : List Waiting) → Rises low ys → x.bio < low → with_one x ys ≡ x ∷ ys
+goes_first : (x : Waiting) (low : ℕ) (ys : List Waiting) → Rises low ys → x.bio < low → with_waiting x ys ≡ x ∷ ys
 goes_first x low [] rise less = refl
 goes_first x low (y ∷ ys) rise less = with_before x y ys (lt-ltb x.bio y.bio (omega (arith, less, rise.0)))
 
 -- where the numbers rise, so do those of the others
-pub rises_with : (low : ℕ) (x : Waiting) (ys : List Waiting) → Rises low (with_one x ys) → Rises low ys
+pub rises_with : (low : ℕ) (x : Waiting) (ys : List Waiting) → Rises low (with_waiting x ys) → Rises low ys
 rises_with low x [] rise = tt
 rises_with low x (y ∷ ys) rise = by (nat_lt x.bio y.bio) refl (rises_with (y.bio + 1) x ys)
   where
-    by : (b : Bool) → nat_lt x.bio y.bio ≡ b → (Rises (y.bio + 1) (with_one x ys) → Rises (y.bio + 1) ys)
+    by : (b : Bool) → nat_lt x.bio y.bio ≡ b → (Rises (y.bio + 1) (with_waiting x ys) → Rises (y.bio + 1) ys)
         → Rises low (y ∷ ys)
     by true e rest =
         let first : Rises low (x ∷ y ∷ ys) = subst (Rises low) (with_before x y ys e) rise in
         wider low (x.bio + 1) (y ∷ ys) first.2 (let least = first.0 in omega (arith, least))
     by false e rest =
-        let other : Rises low (y ∷ with_one x ys) = subst (Rises low) (with_behind x y ys e) rise in
+        let other : Rises low (y ∷ with_waiting x ys) = subst (Rises low) (with_behind x y ys e) rise in
         (other.0, other.1, rest other.2)
 
 -- and its own is not below
-above_with : (low : ℕ) (x : Waiting) (ys : List Waiting) → Rises low (with_one x ys) → low ≤ x.bio
+above_with : (low : ℕ) (x : Waiting) (ys : List Waiting) → Rises low (with_waiting x ys) → low ≤ x.bio
 above_with low x [] rise = rise.0
 above_with low x (y ∷ ys) rise = by (nat_lt x.bio y.bio) refl (above_with (y.bio + 1) x ys)
   where
-    by : (b : Bool) → nat_lt x.bio y.bio ≡ b → (Rises (y.bio + 1) (with_one x ys) → y.bio + 1 ≤ x.bio) → low ≤ x.bio
+    by : (b : Bool) → nat_lt x.bio y.bio ≡ b → (Rises (y.bio + 1) (with_waiting x ys) → y.bio + 1 ≤ x.bio) → low ≤ x.bio
     by true e rest = let first : Rises low (x ∷ y ∷ ys) = subst (Rises low) (with_before x y ys e) rise in first.0
     by false e rest =
-        let other : Rises low (y ∷ with_one x ys) = subst (Rises low) (with_behind x y ys e) rise in
+        let other : Rises low (y ∷ with_waiting x ys) = subst (Rises low) (with_behind x y ys e) rise in
         let more = rest other.2 in
         let least = other.0 in
         omega (arith, least, more)
 
 -- the others are other bios
-none_same : (low : ℕ) (x : Waiting) (ys : List Waiting) → Rises low (with_one x ys) → has_bio x.bio ys ≡ false
+none_same : (low : ℕ) (x : Waiting) (ys : List Waiting) → Rises low (with_waiting x ys) → has_bio x.bio ys ≡ false
 none_same low x [] rise = refl
 none_same low x (y ∷ ys) rise = by (nat_lt x.bio y.bio) refl (none_same (y.bio + 1) x ys)
   where
-    by : (b : Bool) → nat_lt x.bio y.bio ≡ b → (Rises (y.bio + 1) (with_one x ys) → has_bio x.bio ys ≡ false)
+    by : (b : Bool) → nat_lt x.bio y.bio ≡ b → (Rises (y.bio + 1) (with_waiting x ys) → has_bio x.bio ys ≡ false)
         → has_bio x.bio (y ∷ ys) ≡ false
     by true e rest =
         let first : Rises low (x ∷ y ∷ ys) = subst (Rises low) (with_before x y ys e) rise in
         absent x.bio (x.bio + 1) (y ∷ ys) first.2 (omega arith)
     by false e rest =
-        let other : Rises low (y ∷ with_one x ys) = subst (Rises low) (with_behind x y ys e) rise in
+        let other : Rises low (y ∷ with_waiting x ys) = subst (Rises low) (with_behind x y ys e) rise in
         let more = above_with (y.bio + 1) x ys other.2 in
         ap (λ (c : Bool). c || has_bio x.bio ys) (ne_eqb y.bio x.bio (λ same. omega (arith, same, more)))
         ∙ rest other.2
 
 -- without it the others are left
-without_with : (low : ℕ) (x : Waiting) (ys : List Waiting) → Rises low (with_one x ys)
-    → without x.bio (with_one x ys) ≡ ys
+without_with : (low : ℕ) (x : Waiting) (ys : List Waiting) → Rises low (with_waiting x ys)
+    → without x.bio (with_waiting x ys) ≡ ys
 without_with low x [] rise = gone x.bio x [] (eq-eqb x.bio x.bio refl)
 without_with low x (y ∷ ys) rise = by (nat_lt x.bio y.bio) refl (without_with (y.bio + 1) x ys)
   where
     by : (b : Bool) → nat_lt x.bio y.bio ≡ b
-        → (Rises (y.bio + 1) (with_one x ys) → without x.bio (with_one x ys) ≡ ys)
-        → without x.bio (with_one x (y ∷ ys)) ≡ y ∷ ys
+        → (Rises (y.bio + 1) (with_waiting x ys) → without x.bio (with_waiting x ys) ≡ ys)
+        → without x.bio (with_waiting x (y ∷ ys)) ≡ y ∷ ys
     by true e rest =
         let first : Rises low (x ∷ y ∷ ys) = subst (Rises low) (with_before x y ys e) rise in
         ap (without x.bio) (with_before x y ys e) ∙ gone x.bio x (y ∷ ys) (eq-eqb x.bio x.bio refl)
         ∙ absent_stays x.bio (x.bio + 1) (y ∷ ys) first.2 (omega arith)
     by false e rest =
-        let other : Rises low (y ∷ with_one x ys) = subst (Rises low) (with_behind x y ys e) rise in
+        let other : Rises low (y ∷ with_waiting x ys) = subst (Rises low) (with_behind x y ys e) rise in
         let more = above_with (y.bio + 1) x ys other.2 in
         ap (without x.bio) (with_behind x y ys e)
-        ∙ kept x.bio y (with_one x ys) (ne_eqb y.bio x.bio (λ same. omega (arith, same, more)))
+        ∙ kept x.bio y (with_waiting x ys) (ne_eqb y.bio x.bio (λ same. omega (arith, same, more)))
         ∙ ap (λ zs. y ∷ zs) (rest other.2)
 
 -- another may go before it comes
 with_without : (b low : ℕ) (x : Waiting) (ys : List Waiting) → Rises low ys → (x.bio == b) ≡ false
-    → with_one x (without b ys) ≡ without b (with_one x ys)
+    → with_waiting x (without b ys) ≡ without b (with_waiting x ys)
 with_without b low x [] rise other = sym (kept b x [] other)
 with_without b low x (y ∷ ys) rise other =
     by (nat_lt x.bio y.bio) (y.bio == b) refl refl (with_without b (y.bio + 1) x ys rise.2 other)
   where
     by : (c d : Bool) → nat_lt x.bio y.bio ≡ c → (y.bio == b) ≡ d
-        → with_one x (without b ys) ≡ without b (with_one x ys)
-        → with_one x (without b (y ∷ ys)) ≡ without b (with_one x (y ∷ ys))
+        → with_waiting x (without b ys) ≡ without b (with_waiting x ys)
+        → with_waiting x (without b (y ∷ ys)) ≡ without b (with_waiting x (y ∷ ys))
     by true true e f rest =
         let less = ltb-true x.bio y.bio e in
         let number = eqb-true y.bio b f in
         let all : without b ys ≡ ys = absent_stays b (y.bio + 1) ys rise.2 (omega (arith, number)) in
-        ap (with_one x) (gone b y ys f ∙ all) ∙ goes_first x (y.bio + 1) ys rise.2 (omega (arith, less))
+        ap (with_waiting x) (gone b y ys f ∙ all) ∙ goes_first x (y.bio + 1) ys rise.2 (omega (arith, less))
         ∙ sym (ap (without b) (with_before x y ys e) ∙ kept b x (y ∷ ys) other
         ∙ ap (λ zs. x ∷ zs) (gone b y ys f ∙ all))
     by true false e f rest =
-        ap (with_one x) (kept b y ys f) ∙ with_before x y (without b ys) e
+        ap (with_waiting x) (kept b y ys f) ∙ with_before x y (without b ys) e
         ∙ sym (ap (without b) (with_before x y ys e) ∙ kept b x (y ∷ ys) other ∙ ap (λ zs. x ∷ zs) (kept b y ys f))
     by false true e f rest =
-        ap (with_one x) (gone b y ys f) ∙ rest
-        ∙ sym (ap (without b) (with_behind x y ys e) ∙ gone b y (with_one x ys) f)
+        ap (with_waiting x) (gone b y ys f) ∙ rest
+        ∙ sym (ap (without b) (with_behind x y ys e) ∙ gone b y (with_waiting x ys) f)
     by false false e f rest =
-        ap (with_one x) (kept b y ys f) ∙ with_behind x y (without b ys) e ∙ ap (λ zs. y ∷ zs) rest
-        ∙ sym (ap (without b) (with_behind x y ys e) ∙ kept b y (with_one x ys) f)
+        ap (with_waiting x) (kept b y ys f) ∙ with_behind x y (without b ys) e ∙ ap (λ zs. y ∷ zs) rest
+        ∙ sym (ap (without b) (with_behind x y ys e) ∙ kept b y (with_waiting x ys) f)
 
 -- Lists by keys
 
@@ -232,11 +234,11 @@ module _ (flush : Bool) where
   none_listed [] = refl
   none_listed (k ∷ ks) = some_with (at_key flush k) (listed flush ks)
     where
-      some_with : (x : Waiting) (ys : List Waiting) → is_none_of (with_one x ys) ≡ false
+      some_with : (x : Waiting) (ys : List Waiting) → is_none_of (with_waiting x ys) ≡ false
       some_with x [] = refl
       some_with x (y ∷ ys) = by (nat_lt x.bio y.bio) refl
         where
-          by : (b : Bool) → nat_lt x.bio y.bio ≡ b → is_none_of (with_one x (y ∷ ys)) ≡ false
+          by : (b : Bool) → nat_lt x.bio y.bio ≡ b → is_none_of (with_waiting x (y ∷ ys)) ≡ false
           by true e = ap is_none_of (with_before x y ys e)
           by false e = ap is_none_of (with_behind x y ys e)
 
@@ -265,7 +267,7 @@ module _ (flush : Bool) where
           let same : j % 2 ^ 64 ≡ k % 2 ^ 64 = ap (λ (n : ℕ). n % 2 ^ 64) (is_equal k j e) in
           absurd (omega (arith, same, less))
       by Greater e rest =
-          ap at_order e ∙ ap (with_one (at_key flush j)) rest
+          ap at_order e ∙ ap (with_waiting (at_key flush j)) rest
           ∙ goes_before (at_key flush j) (at_key flush k) (listed flush js) less
 
   -- there is one then
@@ -318,15 +320,15 @@ module _ (flush : Bool) where
             (none_same low (at_key flush j) (listed flush js) rise) in
             let no : false ≡ true = sym none ∙ here in
             let bad : ⊥ = cc in bad) in
-            ap at_test (finds k j ∙ e) ∙ ap (with_one (at_key flush j)) (rest more)
+            ap at_test (finds k j ∙ e) ∙ ap (with_waiting (at_key flush j)) (rest more)
             ∙ with_without (k % 2 ^ 64) low (at_key flush j) (listed flush js) others not_it
 
 -- no FLUSH is among them
-pub listed_open : (keys : List ℕ) → is_open (listed false keys) ≡ true
+pub listed_open : (keys : List ℕ) → has_no_flush (listed false keys) ≡ true
 listed_open [] = refl
 listed_open (k ∷ ks) = all_with (λ y. not y.flush) (at_key false k) (listed false ks) ∙ listed_open ks
 
 -- they are FLUSHes, or none is
-pub open_listed : (flush : Bool) (k : ℕ) (keys : List ℕ) → is_open (listed flush (k ∷ keys)) ≡ not flush
+pub open_listed : (flush : Bool) (k : ℕ) (keys : List ℕ) → has_no_flush (listed flush (k ∷ keys)) ≡ not flush
 open_listed true k keys = all_with (λ y. not y.flush) (at_key true k) (listed true keys)
 open_listed false k keys = listed_open (k ∷ keys)

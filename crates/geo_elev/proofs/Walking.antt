@@ -6,19 +6,19 @@ use Rattle.geo_model.specs.World.{World, Bio}
 use Rattle.geo_headline.specs.Sweep.{waiting_of, is_sent_to}
 use Rattle.geo_laws_graph.proofs.Lists.{Rise}
 use Rattle.geo_elev.specs.Lists.{are_below}
-use Rattle.geo_elev.specs.Gathering.{below}
+use Rattle.geo_elev.specs.Gathering.{numbered_below}
 
 -- those whose numbers rise
 abbrev Rising : ℕ → List Bio → ℕ → Type 0
 Rising low xs high = Rise low (map (λ (x : Bio). x.number) xs) high
 
 -- none is below 0
-pub none_below : (xs : List Bio) → below 0 xs ≡ []
+pub none_below : (xs : List Bio) → numbered_below 0 xs ≡ []
 none_below [] = refl
 none_below (x ∷ xs) = rw (le-ltb x.number 0 (omega arith)) (none_below xs)
 
 -- nor below the first
-high_none : (n low high : ℕ) (xs : List Bio) → Rising low xs high → n ≤ low → below n xs ≡ []
+high_none : (n low high : ℕ) (xs : List Bio) → Rising low xs high → n ≤ low → numbered_below n xs ≡ []
 high_none n low high [] rise most = refl
 high_none n low high (x ∷ xs) rise most =
     rw (le-ltb x.number n (omega (arith, rise.0, most)))
@@ -37,24 +37,25 @@ found_passes test y (x ∷ xs) found = by (test x) refl (found_passes test y xs)
 
 -- up to the next one
 pub below_more : (from low high : ℕ) (y : Bio) (xs : List Bio) → Rising low xs high
-    → find (λ x. nat_le from x.number) xs ≡ Some y → below (y.number + 1) xs ≡ below from xs ++ y ∷ []
+    → find (λ x. nat_le from x.number) xs ≡ Some y → numbered_below (y.number + 1) xs ≡ numbered_below from xs ++ y ∷ []
 below_more from low high y [] rise found = absurd (let bad : ⊥ = cc in bad)
 below_more from low high y (x ∷ xs) rise found =
     by (nat_le from x.number) refl (below_more from (x.number + 1) high y xs rise.2)
   where
     by : (b : Bool) → nat_le from x.number ≡ b
-        → (find (λ z. nat_le from z.number) xs ≡ Some y → below (y.number + 1) xs ≡ below from xs ++ y ∷ [])
-        → below (y.number + 1) (x ∷ xs) ≡ below from (x ∷ xs) ++ y ∷ []
+        → (find (λ z. nat_le from z.number) xs ≡ Some y → numbered_below (y.number + 1) xs ≡ numbered_below from xs ++ y
+        ∷ [])
+        → numbered_below (y.number + 1) (x ∷ xs) ≡ numbered_below from (x ∷ xs) ++ y ∷ []
     by true e rest =
         let it : x ≡ y = let is : Some x ≡ Some y = rw e at found in cc in
         let high_enough : from ≤ x.number = leb-true from x.number e in
-        let last : below (x.number + 1) (x ∷ xs) ≡ x ∷ [] =
+        let last : numbered_below (x.number + 1) (x ∷ xs) ≡ x ∷ [] =
         rw (lt-ltb x.number (x.number + 1) (omega arith))
         (ap (λ zs. x ∷ zs) (high_none (x.number + 1) (x.number + 1) high xs rise.2 (omega arith))) in
-        let none : below from (x ∷ xs) ≡ [] =
+        let none : numbered_below from (x ∷ xs) ≡ [] =
         rw (le-ltb x.number from high_enough)
         (high_none from (x.number + 1) high xs rise.2 (omega (arith, high_enough))) in
-        subst (λ (z : Bio). below (z.number + 1) (x ∷ xs) ≡ below from (x ∷ xs) ++ z ∷ []) it
+        subst (λ (z : Bio). numbered_below (z.number + 1) (x ∷ xs) ≡ numbered_below from (x ∷ xs) ++ z ∷ []) it
         (last ∙ ap (λ zs. zs ++ x ∷ []) (sym none))
     by false e rest =
         let found_later : find (λ z. nat_le from z.number) xs ≡ Some y = rw e at found in
@@ -65,12 +66,13 @@ below_more from low high y (x ∷ xs) rise found =
         (ap (λ zs. x ∷ zs) (rest found_later))
 
 -- where there is no next one, these are all
-pub all_below : (from : ℕ) (xs : List Bio) → find (λ x. nat_le from x.number) xs ≡ None → below from xs ≡ xs
+pub all_below : (from : ℕ) (xs : List Bio) → find (λ x. nat_le from x.number) xs ≡ None → numbered_below from xs ≡ xs
 all_below from [] none = refl
 all_below from (x ∷ xs) none = by (nat_le from x.number) refl (all_below from xs)
   where
-    by : (b : Bool) → nat_le from x.number ≡ b → (find (λ z. nat_le from z.number) xs ≡ None → below from xs ≡ xs)
-        → below from (x ∷ xs) ≡ x ∷ xs
+    by : (b : Bool) → nat_le from x.number ≡ b
+        → (find (λ z. nat_le from z.number) xs ≡ None → numbered_below from xs ≡ xs)
+        → numbered_below from (x ∷ xs) ≡ x ∷ xs
     by true e rest = absurd (let no : Some x ≡ None = rw e at none in let bad : ⊥ = cc in bad)
     by false e rest =
         rw (lt-ltb x.number from (leb-false from x.number e)) (ap (λ zs. x ∷ zs) (rest (rw e at none)))
@@ -94,14 +96,14 @@ module _ (w : World) (disk : ℕ) where
 
   -- all that were gathered have smaller numbers
   pub gathered_below : (from b : ℕ) (xs : List Bio) → from ≤ b
-      → are_below b (map (waiting_of w) (filter (is_sent_to w disk) (below from xs))) ≡ true
+      → are_below b (map (waiting_of w) (filter (is_sent_to w disk) (numbered_below from xs))) ≡ true
   gathered_below from b [] most = refl
   gathered_below from b (x ∷ xs) most =
       by (nat_lt x.number from) (is_sent_to w disk x) refl refl (gathered_below from b xs most)
     where
       by : (c d : Bool) → nat_lt x.number from ≡ c → is_sent_to w disk x ≡ d
-          → are_below b (map (waiting_of w) (filter (is_sent_to w disk) (below from xs))) ≡ true
-          → are_below b (map (waiting_of w) (filter (is_sent_to w disk) (below from (x ∷ xs)))) ≡ true
+          → are_below b (map (waiting_of w) (filter (is_sent_to w disk) (numbered_below from xs))) ≡ true
+          → are_below b (map (waiting_of w) (filter (is_sent_to w disk) (numbered_below from (x ∷ xs)))) ≡ true
       by true true e f rest =
           let less = ltb-true x.number from e in
           rw (e, f, lt-ltb x.number b (omega (arith, less, most))) rest

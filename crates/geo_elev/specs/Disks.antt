@@ -11,17 +11,17 @@ abbrev pub moved : Request → ℕ → ℕ
 moved q head = if not (is_flush q.cmd) then q.first else head
 
 -- a disk that was asked for a bio
-abbrev pub asked_of : Request → ℕ → DiskHead → DiskHead
-asked_of q bio d = record { head = moved q d.head; waiting = without bio d.waiting }
+abbrev pub after_asking : Request → ℕ → DiskHead → DiskHead
+after_asking q bio d = record { head = moved q d.head; waiting = without bio d.waiting }
 
 -- so it is, if that was followed
 abbrev pub IsAsked : Bool → Request → ℕ → DiskHead → DiskHead → Type 0
-IsAsked true q bio d e = e ≡ asked_of q bio d
+IsAsked true q bio d e = e ≡ after_asking q bio d
 IsAsked false q bio d e = ⊤
 
 -- its head alone moves
-abbrev pub Moves : Request → DiskHead → DiskHead → Type 0
-Moves q d e = e ≡ record d { head = moved q d.head }
+abbrev pub HeadMoves : Request → DiskHead → DiskHead → Type 0
+HeadMoves q d e = e ≡ record d { head = moved q d.head }
 
 -- one more waits, behind all; or as before, where not all have smaller numbers
 abbrev pub Queues : Bool → Waiting → DiskHead → DiskHead → Type 0

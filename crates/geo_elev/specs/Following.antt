@@ -13,7 +13,7 @@ use Rattle.geo_drain.specs.Meshes.{Spot, spot_of}
 use Rattle.geo_elev.specs.declared.disks.DiskHead.{DiskHead}
 use Rattle.geo_elev.specs.declared.lists.Place.{Place}
 use Rattle.geo_elev.specs.Lists.{one_at}
-use Rattle.geo_elev.specs.Disks.{ChangesOne, Queues, asked_of}
+use Rattle.geo_elev.specs.Disks.{ChangesOne, Queues, after_asking}
 use Rattle.geo_elev.specs.Heads.{disk_heads}
 
 -- so many disks after a log
@@ -38,10 +38,10 @@ is_quiet (outcomes.Queued d) = false
 is_quiet _ = true
 
 -- the step is a Take, whose request changes its disk, if it was followed
-abbrev pub Takes : Bool → Request → Step → List DiskHead → List DiskHead → Type 0
-Takes true q s old new =
-    (d : ℕ) × (b : ℕ) × (s ≡ steps.Take d b) × ChangesOne q.disk (λ x y. y ≡ asked_of q b x) old new
-Takes false q s old new = ⊤
+abbrev pub TakesIfFollowed : Bool → Request → Step → List DiskHead → List DiskHead → Type 0
+TakesIfFollowed true q s old new =
+    (d : ℕ) × (b : ℕ) × (s ≡ steps.Take d b) × ChangesOne q.disk (λ x y. y ≡ after_asking q b x) old new
+TakesIfFollowed false q s old new = ⊤
 
 -- the place of a spot
 abbrev pub place_of : Spot → Place

@@ -11,12 +11,12 @@ use Rattle.geo_elev.specs.Disks.{ChangesOne, Queues}
 use Rattle.geo_elev.specs.Following.{place_of}
 
 -- the bios with smaller numbers
-abbrev pub below : ℕ → List Bio → List Bio
-below n xs = filter (λ x. nat_lt x.number n) xs
+abbrev pub numbered_below : ℕ → List Bio → List Bio
+numbered_below n xs = filter (λ x. nat_lt x.number n) xs
 
 -- of those that wait for a disk, what has smaller numbers
 abbrev pub waiting_below : World → ℕ → ℕ → List Waiting
-waiting_below w n disk = map (waiting_of w) (filter (is_sent_to w disk) (below n w.bios))
+waiting_below w n disk = map (waiting_of w) (filter (is_sent_to w disk) (numbered_below n w.bios))
 
 -- a disk of which the head alone is known
 abbrev pub bare_head : List Entry → ℕ → DiskHead
@@ -35,6 +35,6 @@ abbrev pub heads_below : World → List Entry → ℕ → ℕ → List DiskHead
 heads_below w log from count = map (head_below w log from) (range_with_len 0 count)
 
 -- a bio is put in where it waits for a disk
-abbrev pub Puts : Option Spot → ℕ → List DiskHead → List DiskHead → Type 0
-Puts None bio old new = new ≡ old
-Puts (Some spot) bio old new = (b : Bool) × ChangesOne spot.disk (Queues b (one_at bio (place_of spot))) old new
+abbrev pub PutsAtSpot : Option Spot → ℕ → List DiskHead → List DiskHead → Type 0
+PutsAtSpot None bio old new = new ≡ old
+PutsAtSpot (Some spot) bio old new = (b : Bool) × ChangesOne spot.disk (Queues b (one_at bio (place_of spot))) old new

@@ -27,14 +27,14 @@ abbrev pub at_key : Bool → ℕ → Waiting
 at_key flush key = record { bio = key % 2 ^ 64; flush = flush; first = key / 2 ^ 64 }
 
 -- with one more, before the first with a greater number
-abbrev pub with_one : Waiting → List Waiting → List Waiting
-with_one x [] = x ∷ []
-with_one x (y ∷ ys) = if nat_lt x.bio y.bio then x ∷ y ∷ ys else y ∷ with_one x ys
+abbrev pub with_waiting : Waiting → List Waiting → List Waiting
+with_waiting x [] = x ∷ []
+with_waiting x (y ∷ ys) = if nat_lt x.bio y.bio then x ∷ y ∷ ys else y ∷ with_waiting x ys
 
 -- those with these keys, in order of numbers
 abbrev pub listed : Bool → List ℕ → List Waiting
 listed flush [] = []
-listed flush (key ∷ keys) = with_one (at_key flush key) (listed flush keys)
+listed flush (key ∷ keys) = with_waiting (at_key flush key) (listed flush keys)
 
 -- all that waits: what may be taken next, and what comes behind it
 abbrev pub all_waiting : List ℕ → Bool → List (ℕ × Place) → List Waiting
@@ -49,13 +49,13 @@ abbrev pub is_kept : ℕ → List ℕ → Bool
 is_kept key keys = list_any (is_at (nat_cmp key)) keys
 
 -- no FLUSH waits
-abbrev pub is_open : List Waiting → Bool
-is_open xs = list_all (λ x. not x.flush) xs
+abbrev pub has_no_flush : List Waiting → Bool
+has_no_flush xs = list_all (λ x. not x.flush) xs
 
 -- whether one more at the end may be taken next
 abbrev pub joins : List Waiting → Bool → Bool
 joins [] flush = true
-joins (x ∷ xs) flush = is_open (x ∷ xs) && not flush
+joins (x ∷ xs) flush = has_no_flush (x ∷ xs) && not flush
 
 -- there are none
 abbrev pub is_none_of : {X : Type 0} → List X → Bool

@@ -1,6 +1,6 @@
 //! The heads of disks, and what waits for them.
 ghost use Rattle.std.specs.Prelude.{◌≡◌, IfOk, length};
-ghost use Rattle.geo_elev.specs.Disks.{ChangesOne, IsAsked, Moves, Queues};
+ghost use Rattle.geo_elev.specs.Disks.{ChangesOne, HeadMoves, IsAsked, Queues};
 ghost use Rattle.geo_elev.specs.Lists.{one_at};
 
 use crate::lists::Place;
@@ -44,7 +44,7 @@ fn ask(disk: &mut DiskHead, request: &Request, bio: BioId) -> Result<bool, NoMem
 
 /// The disk of a request was asked, which moves its head alone.
 pub fn move_head(disks: &mut [DiskHead], request: &Request)
-    ensures moves { ChangesOne request.now.disk (Moves request.now) disks.old disks.new }
+    ensures moves { ChangesOne request.now.disk (HeadMoves request.now) disks.old disks.new }
     ensures length { length disks.new ≡ length disks.old }
 {
     let at = request.disk as usize;
@@ -55,7 +55,7 @@ pub fn move_head(disks: &mut [DiskHead], request: &Request)
 
 // The same of its disk.
 fn move_to(disk: &mut DiskHead, request: &Request)
-    ensures { Moves request.now disk.old disk.new }
+    ensures { HeadMoves request.now disk.old disk.new }
 {
     if request.cmd != BioCmd::Flush {
         disk.head = request.first;

@@ -4,7 +4,7 @@ ghost use Rattle.std.specs.List.{range_with_len};
 ghost use Rattle.geo_model.specs.declared.step.Entry.{Entry as EntryValue};
 ghost use Rattle.geo_drain.specs.Meshes.{IsHistory, opened, world_of, spot_of};
 ghost use Rattle.geo_elev.specs.Heads.{disk_heads, no_head};
-ghost use Rattle.geo_elev.specs.Gathering.{Puts, bare_heads};
+ghost use Rattle.geo_elev.specs.Gathering.{PutsAtSpot, bare_heads};
 
 use crate::disks::{DiskHead, move_head, queued};
 use crate::heads::place_of;
@@ -73,7 +73,7 @@ pub fn see_all(disks: &mut [DiskHead], entries: &[Entry])
 
 // Puts in a bio, with a greater number than all, if it waits for a disk.
 fn put_in(disks: &mut [DiskHead], mesh: &Mesh, bio: BioId) -> Result<(), NoMemory>
-    ensures put { OnOk result (Puts (spot_of (world_of mesh.now) bio) bio disks.old disks.new) }
+    ensures put { OnOk result (PutsAtSpot (spot_of (world_of mesh.now) bio) bio disks.old disks.new) }
     ensures length { length disks.new ≡ length disks.old }
     ensures bound { (world_of mesh.now).next_bio < 2 ^ 64 }
 {

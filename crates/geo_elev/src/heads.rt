@@ -4,7 +4,7 @@ ghost use Rattle.geo_model.specs.declared.step.Entry.{Entry as EntryValue};
 ghost use Rattle.geo_model.specs.declared.step.Step.TheVariants as steps;
 ghost use Rattle.geo_model.specs.Words.{is_flush};
 ghost use Rattle.geo_drain.specs.Meshes.{IsHistory, opened, world_of};
-ghost use Rattle.geo_elev.specs.Following.{ComesAfter, Followed, Starts, Takes, heads_at, is_quiet, place_of};
+ghost use Rattle.geo_elev.specs.Following.{ComesAfter, Followed, Starts, TakesIfFollowed, heads_at, is_quiet, place_of};
 
 use crate::disks::{DiskHead, asked, queued};
 use crate::lists::Place;
@@ -84,7 +84,7 @@ fn started(step: &Step) -> Option<BioId>
 
 // Follows a Take.
 fn follow_take(disks: &mut [DiskHead], request: &Request, step: &Step) -> Result<bool, NoMemory>
-    ensures takes { IfOk result (λ b. Takes b request.now step.now disks.old disks.new) }
+    ensures takes { IfOk result (λ b. TakesIfFollowed b request.now step.now disks.old disks.new) }
     ensures length { length disks.new ≡ length disks.old }
 {
     let Some(bio) = taken(step) else {

@@ -20,7 +20,7 @@ use Rattle.geo_model.specs.Tasting.{judge_step}
 use Rattle.geo_model.specs.Step.{Answer, event, event_of, judge_next, judge_of, taste_bio, wash_next}
 use Rattle.geo_bio.specs.declared.bio.Held.{Held}
 use Rattle.geo_log.specs.Places.{delivered_at}
-use Rattle.geo_state.specs.Shown.{shown, shown_bio, AreLogged}
+use Rattle.geo_state.specs.Shown.{shown_bios, shown_bio, AreLogged}
 use Rattle.geo_state.specs.Traffic.{TrafficView}
 use Rattle.geo_access.specs.Access.{granted_by}
 use Rattle.geo_life.specs.Life.{is_out, AreStored}
@@ -39,7 +39,7 @@ use Rattle.geo_events.specs.Washing.{HasWashed}
 
 -- whether a request is out through a consumer, whatever the log has
 active-is : (log : List Entry) (bios : List (BioOf Held)) (c : ℕ)
-    → list_any (λ (x : Bio). (x.source == c) && not (is_done x.phase)) (shown (delivered_at log) bios)
+    → list_any (λ (x : Bio). (x.source == c) && not (is_done x.phase)) (shown_bios (delivered_at log) bios)
     ≡ not (out_through (trips bios) c == 0)
 active-is log bios c =
     any-map (λ (x : Bio). (x.source == c) && not (is_done x.phase)) (shown_bio (delivered_at log)) bios
@@ -49,17 +49,17 @@ active-is log bios c =
 
 -- the number of the taste's read
 pub read-is : (log : List Entry) (bios : List (BioOf Held))
-    → option_map (λ (x : Bio). x.number) (find (λ x. is_taste_root x.owner) (shown (delivered_at log) bios))
+    → option_map (λ (x : Bio). x.number) (find (λ x. is_taste_root x.owner) (shown_bios (delivered_at log) bios))
     ≡ taste_read (trips bios)
 read-is log [] = refl
 read-is log (x ∷ xs) = by (is_taste_root x.owner) (read-is log xs)
   where
     by : (b : Bool)
-        → option_map (λ (y : Bio). y.number) (find (λ y. is_taste_root y.owner) (shown (delivered_at log) xs))
+        → option_map (λ (y : Bio). y.number) (find (λ y. is_taste_root y.owner) (shown_bios (delivered_at log) xs))
         ≡ option_map (λ (y : Trip). y.number) (find (λ y. is_taste_root y.owner) (trips xs))
         → option_map (λ (y : Bio). y.number)
         (cond b (Some (shown_bio (delivered_at log) x))
-        (find (λ y. is_taste_root y.owner) (shown (delivered_at log) xs)))
+        (find (λ y. is_taste_root y.owner) (shown_bios (delivered_at log) xs)))
         ≡ option_map (λ (y : Trip). y.number) (cond b (Some (trip_of x)) (find (λ y. is_taste_root y.owner) (trips xs)))
     by true rest = refl
     by false rest = rest

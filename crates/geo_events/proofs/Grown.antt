@@ -20,7 +20,7 @@ use Rattle.geo_mesh.specs.Topo.{TopoView}
 use Rattle.geo_laws_graph.proofs.Members.{find-Contains}
 use Rattle.geo_access.specs.Access.{IsCounted, granted_by, holds_grants}
 use Rattle.geo_access.proofs.Decided.{item_at}
-use Rattle.geo_state.specs.Parts.{disk_row, geom_row}
+use Rattle.geo_state.specs.Parts.{disk_row, owner_row}
 use Rattle.geo_state.specs.Sites.{Comers, HasComers}
 use Rattle.geo_state.proofs.Frames.{under, under_read}
 use Rattle.geo_state.proofs.Lists.{find-past}
@@ -66,7 +66,7 @@ module _ (t u : TopoView Config) (g : Grows t u) where
   comers = record {
     consumers = map number_of g.consumers;
     geoms = map disk_part g.geoms;
-    providers = map geom_row g.providers;
+    providers = map owner_row g.providers;
   }
 
   -- they came at the ends
@@ -79,7 +79,7 @@ module _ (t u : TopoView Config) (g : Grows t u) where
         ∙ ap (map disk_part) g.with_geoms
         ∙ map-append disk_part (map class_row t.topology.geoms) g.geoms
         ∙ ap (λ rows. rows ++ map disk_part g.geoms) (sym (disk-rows t.topology.geoms));
-    providers = ap (map geom_row) g.with_providers ∙ map-append geom_row t.topology.providers g.providers;
+    providers = ap (map owner_row) g.with_providers ∙ map-append owner_row t.topology.providers g.providers;
   }
 
   -- none is of a disk

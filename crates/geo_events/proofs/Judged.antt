@@ -45,7 +45,7 @@ use Rattle.geo_taste.proofs.Taking.{but_for_room, goes_found}
 use Rattle.geo_state.specs.declared.state.State.{State}
 use Rattle.geo_state.specs.Changes.{IsSettled}
 use Rattle.geo_state.specs.Holds.{Holds, granted_of, owed_events}
-use Rattle.geo_state.specs.Parts.{disk_row, geom_row}
+use Rattle.geo_state.specs.Parts.{disk_row, owner_row}
 use Rattle.geo_state.specs.Sites.{Comers, AreFresh}
 use Rattle.geo_state.specs.Steps.{IsFirm, Makes}
 use Rattle.geo_state.specs.Trips.{trips, out_through}
@@ -204,8 +204,8 @@ module _ (s : State) (a : Taste) (ready : Ready s a) where
                   ap (λ (v : Topology Config). map disk_row v.geoms) graph
                   ∙ sym (append-nil (map disk_row t.geoms));
               providers =
-                  ap (λ (v : Topology Config). map geom_row v.providers) graph
-                  ∙ sym (append-nil (map geom_row t.providers));
+                  ap (λ (v : Topology Config). map owner_row v.providers) graph
+                  ∙ sym (append-nil (map owner_row t.providers));
             }) tt tt grants (owed-kept u settled 0 (omega arith) same))
 
         -- The taste goes on
@@ -262,12 +262,12 @@ module _ (s : State) (a : Taste) (ready : Ready s a) where
           pub came-first : t.next_provider ≤ u.topology.next_provider
           came-first = let up = parts-come.grows.next_provider in omega (arith, up)
 
-          came-count : u.topology.next_provider - t.next_provider ≡ length (map geom_row parts-come.grows.providers)
+          came-count : u.topology.next_provider - t.next_provider ≡ length (map owner_row parts-come.grows.providers)
           came-count =
               let up : u.topology.next_provider ≡ t.next_provider + length parts-come.grows.providers =
               parts-come.grows.next_provider in
-              let rows : length (map geom_row parts-come.grows.providers) ≡ length parts-come.grows.providers =
-              length-map parts-come.grows.providers geom_row in
+              let rows : length (map owner_row parts-come.grows.providers) ≡ length parts-come.grows.providers =
+              length-map parts-come.grows.providers owner_row in
               omega (arith, up, rows)
 
           all-providers : length u.topology.providers ≡ length t.providers + length parts-come.grows.providers
@@ -277,8 +277,8 @@ module _ (s : State) (a : Taste) (ready : Ready s a) where
           pub came-all : s.providers + (u.topology.next_provider - t.next_provider) ≡ length u.topology.providers
           came-all =
               let count = came-count in
-              let rows : length (map geom_row parts-come.grows.providers) ≡ length parts-come.grows.providers =
-              length-map parts-come.grows.providers geom_row in
+              let rows : length (map owner_row parts-come.grows.providers) ≡ length parts-come.grows.providers =
+              length-map parts-come.grows.providers owner_row in
               let before : s.providers ≡ length t.providers = ready.kept.providers in
               let all = all-providers in
               omega (arith, count, rows, before, all)

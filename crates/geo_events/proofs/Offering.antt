@@ -19,7 +19,7 @@ use Rattle.geo_taste.specs.Taster.{IsSettled, first_taste, with_taster}
 use Rattle.geo_state.specs.declared.state.State.{State}
 use Rattle.geo_state.specs.Trips.{trips, out_through}
 use Rattle.geo_state.specs.Holds.{Holds, granted_of, owed_events}
-use Rattle.geo_state.specs.Parts.{SameParts, disk_row, geom_row}
+use Rattle.geo_state.specs.Parts.{SameParts, disk_row, owner_row}
 use Rattle.geo_state.specs.Sites.{Comers, HasComers}
 use Rattle.geo_state.specs.World.{world}
 use Rattle.geo_state.specs.Steps.{IsFirm, SameWorld}
@@ -98,8 +98,8 @@ module _ (s : State) (kept : Holds s) (firm : IsFirm s) where
             ap (λ (v : TopoView Config). map disk_row v.topology.geoms) came
             ∙ sym (append-nil (map disk_row t.geoms));
         providers =
-            ap (λ (v : TopoView Config). map geom_row v.topology.providers) came
-            ∙ sym (append-nil (map geom_row t.providers));
+            ap (λ (v : TopoView Config). map owner_row v.topology.providers) came
+            ∙ sym (append-nil (map owner_row t.providers));
       }
 
       -- nobody is granted more by it

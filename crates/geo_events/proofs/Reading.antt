@@ -13,7 +13,7 @@ use Rattle.geo_model.specs.Topology.{Topology, Provider, provider_at}
 use Rattle.geo_model.specs.World.{World, Config, Taste}
 use Rattle.geo_model.specs.Bios.{new_bio, submit}
 use Rattle.geo_log.specs.Places.{delivered_at}
-use Rattle.geo_state.specs.Shown.{shown, AreLogged}
+use Rattle.geo_state.specs.Shown.{shown_bios, AreLogged}
 use Rattle.geo_state.proofs.LoggedLemmas.{places_stay_logged}
 use Rattle.geo_state.proofs.StepLemmas.{world_shows_bios}
 use Rattle.geo_laws_graph.proofs.Members.{find-Contains}
@@ -56,12 +56,12 @@ module _ (s new : State) (a : Taste) (sector : ℕ) (only : OnlyBios (with_taste
         let w : World = world actors log (with_taste s a) in
         ap (world actors log) only.rest
         ∙ ap (λ ds. let v : World = record w {
-          bios = shown (delivered_at log) new.traffic.bios;
+          bios = shown_bios (delivered_at log) new.traffic.bios;
           next_bio = new.traffic.next;
           disks = ds;
         } in v) only.disks
         ∙ (λ i. let v : World = record w {
-          bios = shown (delivered_at log) (bios i);
+          bios = shown_bios (delivered_at log) (bios i);
           next_bio = next i;
         } in v)
         ∙ sym ((world_shows_bios (delivered_at log) s.traffic.bios w refl).submits cmds.Read span.offset span.len bytes

@@ -22,7 +22,7 @@ use Rattle.geo_model.proofs.DemandLemmas.{find_passes, names_some}
 use Rattle.geo_slots.specs.Slots.{value_at}
 use Rattle.geo_bio.specs.declared.bio.Held.{Held}
 use Rattle.geo_log.specs.Places.{delivered_at}
-use Rattle.geo_state.specs.Shown.{shown, shown_bio}
+use Rattle.geo_state.specs.Shown.{shown_bio, shown_bios}
 use Rattle.geo_mesh.specs.Graph.{IsSoundGraph}
 use Rattle.geo_laws_graph.proofs.Lists.{found_itself}
 use Rattle.geo_laws_graph.proofs.Members.{find-Contains}
@@ -36,7 +36,7 @@ use Rattle.geo_access.specs.Access.{granted_by}
 use Rattle.geo_access.proofs.Decided.{item_at}
 use Rattle.geo_class.specs.Taste.{sector_back}
 use Rattle.geo_handles.specs.Handles.{handle_at, holding_handle}
-use Rattle.geo_taste.specs.Taster.{held_by, IsTasteOf}
+use Rattle.geo_taste.specs.Taster.{held_by_taste, IsTasteOf}
 use Rattle.geo_taste.proofs.Coming.{taste_holds}
 use Rattle.geo_taste.proofs.Reading.{held_idle, taster_found}
 use Rattle.geo_state.specs.declared.state.State.{State}
@@ -190,7 +190,7 @@ module _ (s : State) (kept : Holds s) (firm : IsFirm s) (a : Taste) (is : s.tast
             absurd (omega (arith, bad))
 
     -- what the taste holds is granted to it, and stored
-    granted-it : granted_by s.topo a.consumer ≡ held_by a
+    granted-it : granted_by s.topo a.consumer ≡ held_by_taste a
     granted-it =
         ap (λ (g : ℕ → Counts). g a.consumer) kept.grants
         ∙ ap (λ o. option_map_or (λ (h : Handle). h.grant) o (taste_grant s.taste a.consumer)) nobodys
@@ -198,7 +198,7 @@ module _ (s : State) (kept : Holds s) (firm : IsFirm s) (a : Taste) (is : s.tast
         ∙ ap (λ b. if b && is_read_out a.asked then one_read else no_counts) (eq-eqb a.consumer a.consumer refl)
 
     -- so its consumer wants that
-    wants-it : want (granted_by s.topo) t tasting-of.consumer ≡ held_by a
+    wants-it : want (granted_by s.topo) t tasting-of.consumer ≡ held_by_taste a
     wants-it =
         wants_grant (granted_by s.topo) t tasting-of.consumer
         (subst (HoldsGrants t) (sym of-taste) (taste_holds t sound))
@@ -244,7 +244,8 @@ module _ (s : State) (kept : Holds s) (firm : IsFirm s) (a : Taste) (is : s.tast
               omega (arith, some, none)
 
       -- nor any of those that the state has
-      none-through : (bios : List (BioOf Held)) → AllByRecursion (IsBioInOrder w) (shown (delivered_at firm.0) bios)
+      none-through : (bios : List (BioOf Held))
+          → AllByRecursion (IsBioInOrder w) (shown_bios (delivered_at firm.0) bios)
           → AllByRecursion (λ (x : Trip). goes_through a.consumer x ≡ false) (trips bios)
       none-through [] order = tt
       none-through (x ∷ xs) order = (by (x.source == a.consumer) refl, none-through xs order.1)

@@ -28,10 +28,10 @@ use Rattle.geo_state.specs.declared.state.State.{State}
 use Rattle.geo_state.specs.Steps.{IsFirm}
 use Rattle.geo_state.specs.declared.state.DiskSeat.{DiskSeat}
 use Rattle.geo_state.specs.Holds.{Holds, owed_events}
-use Rattle.geo_state.specs.Seats.{change_seat, with_geom_at}
+use Rattle.geo_state.specs.Seats.{change_seat, with_disk_geom}
 use Rattle.geo_state.specs.Sites.{seats_without}
 use Rattle.geo_state.specs.Changes.{IsSettled}
-use Rattle.geo_state.specs.World.{world, header_disk}
+use Rattle.geo_state.specs.World.{world, disk_of_seat}
 use Rattle.geo_state.proofs.Lists.{Around, around, around-gone}
 use Rattle.geo_state.proofs.SiteLemmas.{kept_after_provider, kept_after_consumer, kept_after_geom}
 use Rattle.geo_events.specs.Washing.{IsDue, HasWashed}
@@ -74,16 +74,16 @@ fewer-events (e ∷ rest) p = by (provider_of_event e == p) refl (fewer-events r
 
 -- they don't see which geom stands for them
 disks-geom : (seats : List DiskSeat) (disk : ℕ) (geom : Option ℕ)
-    → map header_disk (with_geom_at seats disk geom) ≡ map header_disk seats
+    → map disk_of_seat (with_disk_geom seats disk geom) ≡ map disk_of_seat seats
 disks-geom seats disk geom = on (slice_get seats disk) refl
   where
     on : (o : Option DiskSeat) → slice_get seats disk ≡ o
-        → map header_disk (change_seat (λ x. record x { geom = geom }) seats disk o) ≡ map header_disk seats
+        → map disk_of_seat (change_seat (λ x. record x { geom = geom }) seats disk o) ≡ map disk_of_seat seats
     on None is = refl
-    on (Some seat) is = slot-seen header_disk seats disk (record seat { geom = geom }) seat is refl
+    on (Some seat) is = slot-seen disk_of_seat seats disk (record seat { geom = geom }) seat is refl
 
 -- nor whether one stands for them
-disks-stay : (seats : List DiskSeat) (o : Option ℕ) → map header_disk (seats_without seats o) ≡ map header_disk seats
+disks-stay : (seats : List DiskSeat) (o : Option ℕ) → map disk_of_seat (seats_without seats o) ≡ map disk_of_seat seats
 disks-stay seats None = refl
 disks-stay seats (Some disk) = disks-geom seats disk None
 
@@ -104,8 +104,8 @@ module _ (s : State) (firm : IsFirm s) where
       let sizes : HasDiskSizes (world firm.1.0 firm.0 s) g =
       All-contains (HasDiskSizes (world firm.1.0 firm.0 s)) s.topo.topology.geoms g
       firm.1.1.sound.numbers.disk_sizes here in
-      below-length header_disk s.disks.items d
-      (some-and _ (slice_get (map header_disk s.disks.items) d) (rw is at sizes))
+      below-length disk_of_seat s.disks.items d
+      (some-and _ (slice_get (map disk_of_seat s.disks.items) d) (rw is at sizes))
     where
       some-and : (P : HeaderDisk → Type 0) (o : Option HeaderDisk) → IsSomeAnd o P → IsSome o
       some-and P None has = absurd has
@@ -149,7 +149,7 @@ module _ (s : State) (kept : Holds s) (firm : IsFirm s) (u : TopoView Config) (q
   -- the world, where nothing but the graph, the queue and what no world sees is other
   pub washed-world : (new : State) (work : WashWork)
       → new ≡ record s { topo = u; queue = q; providers = new.providers; disks = new.disks }
-      → map header_disk new.disks.items ≡ map header_disk s.disks.items
+      → map disk_of_seat new.disks.items ≡ map disk_of_seat s.disks.items
       → queued u q ≡ washed (queued s.topo s.queue) work → HasWashed s new work
   unfolding wash
   washed-world new work is disks same actors log =
@@ -296,4 +296,4 @@ module _ (s : State) (kept : Holds s) (firm : IsFirm s) (u : TopoView Config) (q
         washed-world new (works.Geom geom)
         (is ∙ ap (λ n. record s { topo = u; queue = q; providers = n; disks = new.disks })
         (sym (ap (λ (z : State). z.providers) is)))
-        (ap (map header_disk) seats ∙ disks-stay s.disks.items o) same
+        (ap (map disk_of_seat) seats ∙ disks-stay s.disks.items o) same

@@ -5,8 +5,8 @@ use Rattle.std.specs.Option.{option_and_then}
 use Rattle.geo_slots.specs.Slots.{value_at, without}
 use Rattle.geo_family.specs.declared.family.Link.{Link}
 use Rattle.geo_family.specs.declared.family.Ends.{Ends}
-use Rattle.geo_family.specs.Nearest.{IsNearest, IsNext, IsFirst, Up, Down, put, put_at, put_unless}
-use Rattle.geo_family.specs.Links.{part_at, parent_of, before_of, after_of, first_of, last_of, IsFamily, with_after, with_before, with_first, with_last, with_link, next_of}
+use Rattle.geo_family.specs.Nearest.{IsNearest, NextIsNearest, IsFirst, Up, Down, put, put_at, put_unless}
+use Rattle.geo_family.specs.Links.{part_at, parent_of, before_of, after_of, first_in_ends, last_in_ends, IsFamily, with_after, with_before, with_first, with_last_child, with_child_link, child_after}
 use Rattle.geo_family.proofs.LinkLemmas.{part-kept, part-set, IsSome-change}
 use Rattle.geo_family.proofs.NearestLemmas.{put-here, put-other}
 use Rattle.geo_family.proofs.OrderLemmas.{link_next, link_first, unlink_next, unlink_first, behind_prev, behind_first}
@@ -152,14 +152,15 @@ with_before-there (Some b) to links c there = IsSome-change b (λ l. record l { 
 
 -- where no child stands before, the parent has another first child, and the other parents keep theirs
 with_first-first : (o : Option ℕ) (p : ℕ) (to : Option ℕ) (ends : List (ℕ × Ends)) → IsSome (value_at ends p)
-    → part_at first_of (with_first o p to ends) ≡ put_unless (part_at first_of ends) o p to
-with_first-first None p to ends there = part-set p first_of (λ e. record e { first = to }) to (λ e. refl) ends there
+    → part_at first_in_ends (with_first o p to ends) ≡ put_unless (part_at first_in_ends ends) o p to
+with_first-first None p to ends there = part-set p first_in_ends (λ e. record e { first = to }) to
+    (λ e. refl) ends there
 with_first-first (Some c) p to ends there = refl
 
 -- another first child leaves the last child of each parent
 with_first-last : (o : Option ℕ) (p : ℕ) (to : Option ℕ) (ends : List (ℕ × Ends))
-    → part_at last_of (with_first o p to ends) ≡ part_at last_of ends
-with_first-last None p to ends = part-kept p last_of (λ e. record e { first = to }) (λ e. refl) ends
+    → part_at last_in_ends (with_first o p to ends) ≡ part_at last_in_ends ends
+with_first-last None p to ends = part-kept p last_in_ends (λ e. record e { first = to }) (λ e. refl) ends
 with_first-last (Some c) p to ends = refl
 
 -- with another first child, each parent that was there still is
@@ -170,14 +171,14 @@ with_first-there (Some c) p to ends q there = there
 
 -- where no child stands behind, the parent has another last child, and the other parents keep theirs
 with_last-last : (o : Option ℕ) (p : ℕ) (to : Option ℕ) (ends : List (ℕ × Ends)) → IsSome (value_at ends p)
-    → part_at last_of (with_last o p to ends) ≡ put_unless (part_at last_of ends) o p to
-with_last-last None p to ends there = part-set p last_of (λ e. record e { last = to }) to (λ e. refl) ends there
+    → part_at last_in_ends (with_last_child o p to ends) ≡ put_unless (part_at last_in_ends ends) o p to
+with_last-last None p to ends there = part-set p last_in_ends (λ e. record e { last = to }) to (λ e. refl) ends there
 with_last-last (Some c) p to ends there = refl
 
 -- another last child leaves the first child of each parent
 with_last-first : (o : Option ℕ) (p : ℕ) (to : Option ℕ) (ends : List (ℕ × Ends))
-    → part_at first_of (with_last o p to ends) ≡ part_at first_of ends
-with_last-first None p to ends = part-kept p first_of (λ e. record e { last = to }) (λ e. refl) ends
+    → part_at first_in_ends (with_last_child o p to ends) ≡ part_at first_in_ends ends
+with_last-first None p to ends = part-kept p first_in_ends (λ e. record e { last = to }) (λ e. refl) ends
 with_last-first (Some c) p to ends = refl
 
 -- All the changes at once: another number after the child before, another one before the child behind, another link
@@ -186,11 +187,11 @@ module _ (links : List (ℕ × Link)) (ends : List (ℕ × Ends)) (child parent 
     (to_after to_before : Option ℕ) (link : Link) where
   -- the links of the children with all the changes
   abbrev pub relinked : List (ℕ × Link)
-  relinked = with_link child link (with_before behind to_before (with_after prev to_after links))
+  relinked = with_child_link child link (with_before behind to_before (with_after prev to_after links))
 
   -- the ends of the parents with all the changes
   abbrev pub rehung : List (ℕ × Ends)
-  rehung = with_last behind parent to_before (with_first prev parent to_after ends)
+  rehung = with_last_child behind parent to_before (with_first prev parent to_after ends)
 
   -- the neighbours are there
   pub record AreThere : Type 0 where
@@ -234,12 +235,14 @@ module _ (links : List (ℕ × Link)) (ends : List (ℕ × Ends)) (child parent 
       ∙ ap (λ f. put_at f behind to_before) (with_after-before prev to_after links))
 
   -- the first children: that of the parent changes where no child stands before
-  pub rehung-first : AreThere → part_at first_of rehung ≡ put_unless (part_at first_of ends) prev parent to_after
+  pub rehung-first : AreThere → part_at first_in_ends rehung
+      ≡ put_unless (part_at first_in_ends ends) prev parent to_after
   rehung-first there = with_last-first behind parent to_before (with_first prev parent to_after ends)
       ∙ with_first-first prev parent to_after ends there.the_parent
 
   -- the last children: that of the parent changes where no child stands behind
-  pub rehung-last : AreThere → part_at last_of rehung ≡ put_unless (part_at last_of ends) behind parent to_before
+  pub rehung-last : AreThere → part_at last_in_ends rehung
+      ≡ put_unless (part_at last_in_ends ends) behind parent to_before
   rehung-last there =
       with_last-last behind parent to_before (with_first prev parent to_after ends)
       (with_first-there prev parent to_after ends parent there.the_parent)
@@ -248,14 +251,16 @@ module _ (links : List (ℕ × Link)) (ends : List (ℕ × Ends)) (child parent 
 -- where the parts are these functions, the order is that of the functions
 family_of : (links : List (ℕ × Link)) (ends : List (ℕ × Ends)) (f a b x z : ℕ → Option ℕ)
     → part_at parent_of links ≡ f → part_at after_of links ≡ a → part_at before_of links ≡ b
-    → part_at first_of ends ≡ x → part_at last_of ends ≡ z
-    → IsNext Up f a → IsNext Down f b → IsFirst Up f x → IsFirst Down f z → IsFamily links ends
+    → part_at first_in_ends ends ≡ x → part_at last_in_ends ends ≡ z
+    → NextIsNearest Up f a → NextIsNearest Down f b → IsFirst Up f x → IsFirst Down f z → IsFamily links ends
 family_of links ends f a b x z is_f is_a is_b is_x is_z afters befores firsts lasts = record {
-  afters = subst (λ g. IsNext Up g (part_at after_of links)) (sym is_f) (subst (λ g. IsNext Up f g) (sym is_a) afters);
-  befores = subst (λ g. IsNext Down g (part_at before_of links)) (sym is_f)
-      (subst (λ g. IsNext Down f g) (sym is_b) befores);
-  firsts = subst (λ g. IsFirst Up g (part_at first_of ends)) (sym is_f) (subst (λ g. IsFirst Up f g) (sym is_x) firsts);
-  lasts = subst (λ g. IsFirst Down g (part_at last_of ends)) (sym is_f)
+  afters = subst (λ g. NextIsNearest Up g (part_at after_of links)) (sym is_f)
+      (subst (λ g. NextIsNearest Up f g) (sym is_a) afters);
+  befores = subst (λ g. NextIsNearest Down g (part_at before_of links)) (sym is_f)
+      (subst (λ g. NextIsNearest Down f g) (sym is_b) befores);
+  firsts = subst (λ g. IsFirst Up g (part_at first_in_ends ends)) (sym is_f)
+      (subst (λ g. IsFirst Up f g) (sym is_x) firsts);
+  lasts = subst (λ g. IsFirst Down g (part_at last_in_ends ends)) (sym is_f)
       (subst (λ g. IsFirst Down f g) (sym is_z) lasts);
 }
 
@@ -272,10 +277,10 @@ module _ (links : List (ℕ × Link)) (ends : List (ℕ × Ends)) (family : IsFa
   -- the next one after the child before, else the first child, is the nearest behind the new child
   behind_is : (free : part_at parent_of links child ≡ None) (prev : Option ℕ)
       → IsNearest (λ d. d < child) Down (part_at parent_of links) parent prev
-      → IsNearest (λ d. child < d) Up (part_at parent_of links) parent (next_of links ends prev parent)
+      → IsNearest (λ d. child < d) Up (part_at parent_of links) parent (child_after links ends prev parent)
   behind_is free None is =
       behind_first Up up_irreflexive up_transitive up_total (part_at parent_of links) child parent free
-      (part_at first_of ends) family.firsts is
+      (part_at first_in_ends ends) family.firsts is
   behind_is free (Some b) is =
       behind_prev Up up_irreflexive up_transitive up_total (part_at parent_of links) child parent free
       (part_at after_of links) b family.afters is
@@ -283,7 +288,7 @@ module _ (links : List (ℕ × Link)) (ends : List (ℕ × Ends)) (family : IsFa
   -- a child under a parent
   pub family-link : (free : part_at parent_of links child ≡ None) → IsSome (value_at links child)
       → (prev : Option ℕ) → IsNearest (λ d. d < child) Down (part_at parent_of links) parent prev
-      → (behind : Option ℕ) → behind ≡ next_of links ends prev parent
+      → (behind : Option ℕ) → behind ≡ child_after links ends prev parent
       → IsFamily
       (relinked links ends child parent prev behind (Some child) (Some child)
       (record { parent = Some parent; before = prev; after = behind }))
@@ -306,8 +311,8 @@ module _ (links : List (ℕ × Link)) (ends : List (ℕ × Ends)) (family : IsFa
       (put f child (Some parent))
       (put (put_at (part_at after_of links) prev (Some child)) child behind)
       (put (put_at (part_at before_of links) behind (Some child)) child prev)
-      (put_unless (part_at first_of ends) prev parent (Some child))
-      (put_unless (part_at last_of ends) behind parent (Some child))
+      (put_unless (part_at first_in_ends ends) prev parent (Some child))
+      (put_unless (part_at last_in_ends ends) behind parent (Some child))
       (relinked-parent links ends child parent prev behind (Some child) (Some child) link there)
       (relinked-after links ends child parent prev behind (Some child) (Some child) link there)
       (relinked-before links ends child parent prev behind (Some child) (Some child) link there)
@@ -317,9 +322,9 @@ module _ (links : List (ℕ × Link)) (ends : List (ℕ × Ends)) (family : IsFa
       family.afters is_prev is_behind)
       (link_next Down down_irreflexive down_transitive down_total f child parent free (part_at before_of links)
       behind prev family.befores is_behind is_prev)
-      (link_first Up up_irreflexive up_transitive up_total f child parent free (part_at first_of ends) prev
+      (link_first Up up_irreflexive up_transitive up_total f child parent free (part_at first_in_ends ends) prev
       family.firsts is_prev)
-      (link_first Down down_irreflexive down_transitive down_total f child parent free (part_at last_of ends)
+      (link_first Down down_irreflexive down_transitive down_total f child parent free (part_at last_in_ends ends)
       behind family.lasts is_behind)
 
   -- a child taken off its parent
@@ -347,8 +352,8 @@ module _ (links : List (ℕ × Link)) (ends : List (ℕ × Ends)) (family : IsFa
       (put f child None)
       (put (put_at (part_at after_of links) prev behind) child None)
       (put (put_at (part_at before_of links) behind prev) child None)
-      (put_unless (part_at first_of ends) prev parent behind)
-      (put_unless (part_at last_of ends) behind parent prev)
+      (put_unless (part_at first_in_ends ends) prev parent behind)
+      (put_unless (part_at last_in_ends ends) behind parent prev)
       (relinked-parent links ends child parent prev behind behind prev link there)
       (relinked-after links ends child parent prev behind behind prev link there)
       (relinked-before links ends child parent prev behind behind prev link there)
@@ -358,27 +363,27 @@ module _ (links : List (ℕ × Link)) (ends : List (ℕ × Ends)) (family : IsFa
       behind family.afters is_prev is_behind)
       (unlink_next Down down_irreflexive down_transitive down_total f child parent under (part_at before_of links)
       behind prev family.befores is_behind is_prev)
-      (unlink_first Up up_irreflexive up_transitive up_total f child parent under (part_at first_of ends) prev
+      (unlink_first Up up_irreflexive up_transitive up_total f child parent under (part_at first_in_ends ends) prev
       behind family.firsts is_prev is_behind)
-      (unlink_first Down down_irreflexive down_transitive down_total f child parent under (part_at last_of ends)
+      (unlink_first Down down_irreflexive down_transitive down_total f child parent under (part_at last_in_ends ends)
       behind prev family.lasts is_behind is_prev)
 
 module _ (links : List (ℕ × Link)) (ends : List (ℕ × Ends)) (family : IsFamily links ends) where
   -- whose parent is p has p's ends
   pub parent_there : (child p : ℕ) → part_at parent_of links child ≡ Some p → IsSome (value_at ends p)
-  parent_there child p under = ends_there (part_at first_of ends p) refl (family.firsts p)
+  parent_there child p under = ends_there (part_at first_in_ends ends p) refl (family.firsts p)
     where
-      ends_there : (o : Option ℕ) → part_at first_of ends p ≡ o
+      ends_there : (o : Option ℕ) → part_at first_in_ends ends p ≡ o
           → IsNearest (λ d. Unit {0}) Up (part_at parent_of links) p o → IsSome (value_at ends p)
       ends_there None e is = absurd (is child tt under)
-      ends_there (Some c) e is = part_there first_of ends p c e
+      ends_there (Some c) e is = part_there first_in_ends ends p c e
 
   -- a new parent without children, a new child without a parent
   pub family-push_ends : (n : ℕ) (e : Ends) → e.first ≡ None → e.last ≡ None → IsFamily links (ends ++ (n, e) ∷ [])
   family-push_ends n e no_first no_last =
       family_of links (ends ++ (n, e) ∷ []) (part_at parent_of links) (part_at after_of links)
-      (part_at before_of links) (part_at first_of ends) (part_at last_of ends)
-      refl refl refl (part-push first_of ends n e no_first) (part-push last_of ends n e no_last) family.afters
+      (part_at before_of links) (part_at first_in_ends ends) (part_at last_in_ends ends)
+      refl refl refl (part-push first_in_ends ends n e no_first) (part-push last_in_ends ends n e no_last) family.afters
       family.befores family.firsts family.lasts
 
   -- a new child without a parent
@@ -386,7 +391,7 @@ module _ (links : List (ℕ × Link)) (ends : List (ℕ × Ends)) (family : IsFa
       → IsFamily (links ++ (n, l) ∷ []) ends
   family-push_links n l no_parent no_before no_after =
       family_of (links ++ (n, l) ∷ []) ends (part_at parent_of links) (part_at after_of links)
-      (part_at before_of links) (part_at first_of ends) (part_at last_of ends)
+      (part_at before_of links) (part_at first_in_ends ends) (part_at last_in_ends ends)
       (part-push parent_of links n l no_parent) (part-push after_of links n l no_after)
       (part-push before_of links n l no_before) refl refl
       family.afters family.befores family.firsts family.lasts
@@ -406,7 +411,7 @@ module _ (links : List (ℕ × Link)) (ends : List (ℕ × Ends)) (family : IsFa
   pub family-without_link : (n : ℕ) → part_at parent_of links n ≡ None → IsFamily (without links n) ends
   family-without_link n free =
       family_of (without links n) ends (part_at parent_of links) (put (part_at after_of links) n None)
-      (put (part_at before_of links) n None) (part_at first_of ends) (part_at last_of ends)
+      (put (part_at before_of links) n None) (part_at first_in_ends ends) (part_at last_in_ends ends)
       (part-without parent_of n links ∙ put_same (part_at parent_of links) n free)
       (part-without after_of n links) (part-without before_of n links) refl refl
       (λ c p under. rw (put-other (part_at after_of links) n None c (apart c p under)) (family.afters c p under))
@@ -422,14 +427,14 @@ module _ (links : List (ℕ × Link)) (ends : List (ℕ × Ends)) (family : IsFa
       → IsFamily links (without ends n)
   family-without_ends n childless =
       family_of links (without ends n) (part_at parent_of links) (part_at after_of links) (part_at before_of links)
-      (put (part_at first_of ends) n None) (put (part_at last_of ends) n None)
-      refl refl refl (part-without first_of n ends) (part-without last_of n ends)
+      (put (part_at first_in_ends ends) n None) (put (part_at last_in_ends ends) n None)
+      refl refl refl (part-without first_in_ends n ends) (part-without last_in_ends n ends)
       family.afters family.befores
       (λ p. elim (cases_eq p n) [
-        | inl same ↦ rw (same, put-here (part_at first_of ends) n None) (λ d _ had. childless d had)
-        | inr other ↦ rw (put-other (part_at first_of ends) n None p other) (family.firsts p)
+        | inl same ↦ rw (same, put-here (part_at first_in_ends ends) n None) (λ d _ had. childless d had)
+        | inr other ↦ rw (put-other (part_at first_in_ends ends) n None p other) (family.firsts p)
       ])
       (λ p. elim (cases_eq p n) [
-        | inl same ↦ rw (same, put-here (part_at last_of ends) n None) (λ d _ had. childless d had)
-        | inr other ↦ rw (put-other (part_at last_of ends) n None p other) (family.lasts p)
+        | inl same ↦ rw (same, put-here (part_at last_in_ends ends) n None) (λ d _ had. childless d had)
+        | inr other ↦ rw (put-other (part_at last_in_ends ends) n None p other) (family.lasts p)
       ])

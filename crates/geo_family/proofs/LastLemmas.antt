@@ -8,7 +8,7 @@ use Rattle.geo_slots.proofs.RowLemmas.{value_at_below}
 use Rattle.geo_family.specs.declared.family.Link.{Link}
 use Rattle.geo_family.specs.Nearest.{IsNearest, Down}
 use Rattle.geo_family.specs.Family.{names, last_child}
-use Rattle.geo_family.specs.Links.{part_at, parent_of, children_of}
+use Rattle.geo_family.specs.Links.{part_at, parent_of, child_rows}
 
 -- another parent, or none, isn't the one that is named
 not_named : (p : ℕ) (o : Option ℕ) → (o ≡ Some p → ⊥) → names o p ≡ false
@@ -31,7 +31,7 @@ module _ (p : ℕ) where
   -- where a parent has no child, the last one is the one before
   last_none : (low high : ℕ) (rows : List (ℕ × Link)) → IsRising low rows high
       → ((d : ℕ) → part_at parent_of rows d ≡ Some p → ⊥)
-      → (before : Option (ℕ × Option ℕ)) → last_or before (filter (λ row. names row.1 p) (children_of rows)) ≡ before
+      → (before : Option (ℕ × Option ℕ)) → last_or before (filter (λ row. names row.1 p) (child_rows rows)) ≡ before
   last_none low high [] rising none before = refl
   last_none low high (row ∷ rows) rising none before =
       rw (not_named p row.1.parent (λ is. none row.0 (rw (eq-eqb row.0 row.0 refl) is)))
@@ -41,8 +41,8 @@ module _ (p : ℕ) where
   either : (row : ℕ × Link) (rows : List (ℕ × Link)) (c : ℕ) (before : Option (ℕ × Option ℕ)) (b : Bool)
       → names row.1.parent p ≡ b
       → ((before : Option (ℕ × Option ℕ))
-      → option_map (λ row. row.0) (last_or before (filter (λ row. names row.1 p) (children_of rows))) ≡ Some c)
-      → option_map (λ row. row.0) (last_or before (filter (λ row. names row.1 p) (children_of (row ∷ rows)))) ≡ Some c
+      → option_map (λ row. row.0) (last_or before (filter (λ row. names row.1 p) (child_rows rows))) ≡ Some c)
+      → option_map (λ row. row.0) (last_or before (filter (λ row. names row.1 p) (child_rows (row ∷ rows)))) ≡ Some c
   either row rows c before true e so = rw e (so (Some (row.0, row.1.parent)))
   either row rows c before false e so = rw e (so before)
 
@@ -50,7 +50,7 @@ module _ (p : ℕ) where
   last_some : (low high : ℕ) (rows : List (ℕ × Link)) (c : ℕ) → IsRising low rows high
       → part_at parent_of rows c ≡ Some p → ((d : ℕ) → c < d → part_at parent_of rows d ≡ Some p → ⊥)
       → (before : Option (ℕ × Option ℕ))
-      → option_map (λ row. row.0) (last_or before (filter (λ row. names row.1 p) (children_of rows))) ≡ Some c
+      → option_map (λ row. row.0) (last_or before (filter (λ row. names row.1 p) (child_rows rows))) ≡ Some c
   last_some low high [] c rising had none before = let never : None ≡ Some p = had in absurd (cc)
   last_some low high (row ∷ rows) c rising had none before =
       elim (cases_eq row.0 c) [
@@ -70,7 +70,7 @@ module _ (p : ℕ) where
   -- the nearest child from above is the last row of the parent
   pub last_child_is : (low high : ℕ) (rows : List (ℕ × Link)) (o : Option ℕ) → IsRising low rows high
       → IsNearest (λ d. Unit {0}) Down (part_at parent_of rows) p o
-      → last_child (children_of rows) p ≡ o
+      → last_child (child_rows rows) p ≡ o
   last_child_is low high rows None rising is =
       ap (option_map (λ row. row.0)) (last_none low high rows rising (λ d had. is d tt had) None)
   last_child_is low high rows (Some c) rising is =

@@ -1,7 +1,7 @@
 -- What becomes of the neighbours of all children, in one order, where a child is added or taken away.
 use Rattle.std.proofs.Common.{◌≡◌, ℕ, Some, None, Option, ◌⊎◌, inl, inr, sym, refl, ◌∙◌}
 use Rattle.std.proofs.lemmas.Bool.{cases_eq}
-use Rattle.geo_family.specs.Nearest.{IsNearest, put, put_at, put_unless, IsNext, IsFirst}
+use Rattle.geo_family.specs.Nearest.{IsNearest, put, put_at, put_unless, NextIsNearest, IsFirst}
 use Rattle.geo_family.proofs.NearestLemmas.{put-here, put-other, add_unseen, add_behind, add_here, had_or_new, left, drop_other, drop_here}
 
 module _
@@ -32,7 +32,8 @@ module _
     same_parent c p q one two = let e : Some p ≡ Some q = sym one ∙ two in cc
 
     -- for all but the one before the new child, what comes next stays
-    link_other : (free : f child ≡ None) (next : ℕ → Option ℕ) (prev : Option ℕ) → IsNext R f next → IsBefore prev
+    link_other : (free : f child ≡ None) (next : ℕ → Option ℕ) (prev : Option ℕ) → NextIsNearest R f next
+        → IsBefore prev
         → (c p : ℕ) → f c ≡ Some p → ((b : ℕ) → prev ≡ Some b → c ≡ b → ⊥)
         → IsNearest (λ d. R c d) R (put f child (Some parent)) p (next c)
     link_other free next None nexts prev c p had apart =
@@ -54,7 +55,7 @@ module _
         ]
 
     -- for each child that was there, what comes next: for the one before the new child it is that one
-    link_prev : (free : f child ≡ None) (next : ℕ → Option ℕ) (prev : Option ℕ) → IsNext R f next → IsBefore prev
+    link_prev : (free : f child ≡ None) (next : ℕ → Option ℕ) (prev : Option ℕ) → NextIsNearest R f next → IsBefore prev
         → (c p : ℕ) → f c ≡ Some p
         → IsNearest (λ d. R c d) R (put f child (Some parent)) p (put_at next prev (Some child) c)
     link_prev free next None nexts prev c p had =
@@ -74,9 +75,9 @@ module _
         ]
 
     -- the neighbours of all, with the new child between its own
-    pub link_next : (free : f child ≡ None) (next : ℕ → Option ℕ) (prev behind : Option ℕ) → IsNext R f next
+    pub link_next : (free : f child ≡ None) (next : ℕ → Option ℕ) (prev behind : Option ℕ) → NextIsNearest R f next
         → IsBefore prev → IsBehind behind
-        → IsNext R (put f child (Some parent)) (put (put_at next prev (Some child)) child behind)
+        → NextIsNearest R (put f child (Some parent)) (put (put_at next prev (Some child)) child behind)
     link_next free next prev behind nexts is_prev is_behind c p has =
         elim (had_or_new f child parent free c p has) [
           | inl had ↦
@@ -111,7 +112,7 @@ module _
         ]
 
     -- what stands behind the new child
-    pub behind_prev : (free : f child ≡ None) (next : ℕ → Option ℕ) (b : ℕ) → IsNext R f next → IsBefore (Some b)
+    pub behind_prev : (free : f child ≡ None) (next : ℕ → Option ℕ) (b : ℕ) → NextIsNearest R f next → IsBefore (Some b)
         → IsBehind (next b)
     behind_prev free next b nexts prev = later free b prev (next b) (nexts b parent prev.1)
       where
@@ -141,7 +142,7 @@ module _
             )
 
     -- the child is its own parent's alone
-    unlink_other : (under : f child ≡ Some parent) (next : ℕ → Option ℕ) (prev : Option ℕ) → IsNext R f next
+    unlink_other : (under : f child ≡ Some parent) (next : ℕ → Option ℕ) (prev : Option ℕ) → NextIsNearest R f next
         → IsBefore prev
         → (c p : ℕ) → f c ≡ Some p → ((b : ℕ) → prev ≡ Some b → c ≡ b → ⊥)
         → IsNearest (λ d. R c d) R (put f child None) p (next c)
@@ -166,7 +167,8 @@ module _
             ]
 
     -- for each child, what comes next once one is taken off: for the one before that, the one behind it
-    unlink_prev : (under : f child ≡ Some parent) (next : ℕ → Option ℕ) (prev behind : Option ℕ) → IsNext R f next
+    unlink_prev : (under : f child ≡ Some parent) (next : ℕ → Option ℕ) (prev behind : Option ℕ)
+        → NextIsNearest R f next
         → IsBefore prev → IsBehind behind
         → (c p : ℕ) → f c ≡ Some p → IsNearest (λ d. R c d) R (put f child None) p (put_at next prev behind c)
     unlink_prev under next None behind nexts prev is_behind c p had =
@@ -188,8 +190,8 @@ module _
 
     -- the neighbours of all, without the child
     pub unlink_next : (under : f child ≡ Some parent) (next : ℕ → Option ℕ) (prev behind : Option ℕ)
-        → IsNext R f next → IsBefore prev → IsBehind behind
-        → IsNext R (put f child None) (put (put_at next prev behind) child None)
+        → NextIsNearest R f next → IsBefore prev → IsBehind behind
+        → NextIsNearest R (put f child None) (put (put_at next prev behind) child None)
     unlink_next under next prev behind nexts is_prev is_behind c p has =
         let was = left f child c p has in
         rw (put-other (put_at next prev behind) child None c was.0)

@@ -8,7 +8,7 @@ use Rattle.geo_slots.proofs.RowLemmas.{value_at_below, IsRising_ends}
 use Rattle.geo_family.specs.declared.family.Link.{Link}
 use Rattle.geo_family.specs.declared.family.Ends.{Ends}
 use Rattle.geo_family.specs.Family.{names, is_parent, has_child}
-use Rattle.geo_family.specs.Links.{change_at, part_at, parent_of, children_of, with_after, with_before, with_first, with_last, with_link}
+use Rattle.geo_family.specs.Links.{change_at, part_at, parent_of, child_rows, with_after, with_before, with_first, with_last_child, with_child_link}
 
 -- the numbers of rows
 abbrev pub numbers_of : {T : Type 0} → List (ℕ × T) → List ℕ
@@ -32,7 +32,7 @@ numbers-with_first (Some c) p to ends = refl
 
 -- another last child leaves the numbers of the parents
 pub numbers-with_last : (o : Option ℕ) (p : ℕ) (to : Option ℕ) (ends : List (ℕ × Ends))
-    → numbers_of (with_last o p to ends) ≡ numbers_of ends
+    → numbers_of (with_last_child o p to ends) ≡ numbers_of ends
 numbers-with_last None p to ends = numbers-change (λ e. record e { last = to }) p ends
 numbers-with_last (Some c) p to ends = refl
 
@@ -64,7 +64,7 @@ parent_stands p (row ∷ rows) stands =
 
 -- a change that keeps the parent leaves each child with its parent
 children-change : (g : Link → Link) → ((l : Link) → parent_of (g l) ≡ parent_of l)
-    → (n : ℕ) (links : List (ℕ × Link)) → children_of (change_at g links n) ≡ children_of links
+    → (n : ℕ) (links : List (ℕ × Link)) → child_rows (change_at g links n) ≡ child_rows links
 children-change g same n [] = refl
 children-change g same n (row ∷ rows) =
     elim (cases_eq row.0 n) [
@@ -75,19 +75,19 @@ children-change g same n (row ∷ rows) =
 
 -- another number after a child leaves each child with its parent
 pub children-with_after : (o to : Option ℕ) (links : List (ℕ × Link))
-    → children_of (with_after o to links) ≡ children_of links
+    → child_rows (with_after o to links) ≡ child_rows links
 children-with_after None to links = refl
 children-with_after (Some c) to links = children-change (λ l. record l { after = to }) (λ l. refl) c links
 
 -- another number before a child leaves each child with its parent
 pub children-with_before : (o to : Option ℕ) (links : List (ℕ × Link))
-    → children_of (with_before o to links) ≡ children_of links
+    → child_rows (with_before o to links) ≡ child_rows links
 children-with_before None to links = refl
 children-with_before (Some c) to links = children-change (λ l. record l { before = to }) (λ l. refl) c links
 
 -- another link of a child gives it the parent of that link
 pub children-with_link : (n : ℕ) (l : Link) (links : List (ℕ × Link))
-    → children_of (with_link n l links) ≡ with_value (children_of links) n l.parent
+    → child_rows (with_child_link n l links) ≡ with_value (child_rows links) n l.parent
 children-with_link n l [] = refl
 children-with_link n l (row ∷ rows) =
     elim (cases_eq row.0 n) [
@@ -97,8 +97,8 @@ children-with_link n l (row ∷ rows) =
 
 -- all the changes at once
 pub children-relinked : (child : ℕ) (link : Link) (prev behind to_after to_before : Option ℕ) (links : List (ℕ × Link))
-    → children_of (with_link child link (with_before behind to_before (with_after prev to_after links)))
-    ≡ with_value (children_of links) child link.parent
+    → child_rows (with_child_link child link (with_before behind to_before (with_after prev to_after links)))
+    ≡ with_value (child_rows links) child link.parent
 children-relinked child link prev behind to_after to_before links =
     children-with_link child link (with_before behind to_before (with_after prev to_after links))
     ∙ ap (λ rows. with_value rows child link.parent)
@@ -106,7 +106,7 @@ children-relinked child link prev behind to_after to_before links =
     ∙ children-with_after prev to_after links)
 
 -- the children once one was taken away
-pub children-without : (n : ℕ) (links : List (ℕ × Link)) → children_of (without links n) ≡ without (children_of links) n
+pub children-without : (n : ℕ) (links : List (ℕ × Link)) → child_rows (without links n) ≡ without (child_rows links) n
 children-without n [] = refl
 children-without n (row ∷ rows) =
     elim (cases_eq row.0 n) [
@@ -116,13 +116,13 @@ children-without n (row ∷ rows) =
 
 -- the children with one more at the end
 pub children-push : (n : ℕ) (l : Link) (links : List (ℕ × Link))
-    → children_of (links ++ (n, l) ∷ []) ≡ children_of links ++ (n, l.parent) ∷ []
+    → child_rows (links ++ (n, l) ∷ []) ≡ child_rows links ++ (n, l.parent) ∷ []
 children-push n l [] = refl
 children-push n l (row ∷ rows) = ap (λ xs. (row.0, row.1.parent) ∷ xs) (children-push n l rows)
 
 -- the parent of a child, by the rows and by what they stand for
 pub value_at-children : (n : ℕ) (links : List (ℕ × Link))
-    → value_at (children_of links) n ≡ option_map parent_of (value_at links n)
+    → value_at (child_rows links) n ≡ option_map parent_of (value_at links n)
 value_at-children n [] = refl
 value_at-children n (row ∷ rows) =
     elim (cases_eq row.0 n) [
@@ -131,7 +131,7 @@ value_at-children n (row ∷ rows) =
     ]
 
 -- a child without a parent
-pub free_child : (n : ℕ) (links : List (ℕ × Link)) → value_at (children_of links) n ≡ Some None
+pub free_child : (n : ℕ) (links : List (ℕ × Link)) → value_at (child_rows links) n ≡ Some None
     → (part_at parent_of links n ≡ None) × IsSome (value_at links n)
 free_child n links free = from (value_at links n) (sym (value_at-children n links) ∙ free)
   where
@@ -141,7 +141,7 @@ free_child n links free = from (value_at links n) (sym (value_at-children n link
 
 -- taking no parent away changes nothing
 pub children-kept : (n low high : ℕ) (links : List (ℕ × Link)) → IsRising low links high
-    → part_at parent_of links n ≡ None → with_value (children_of links) n None ≡ children_of links
+    → part_at parent_of links n ≡ None → with_value (child_rows links) n None ≡ child_rows links
 children-kept n low high [] rising free = refl
 children-kept n low high (row ∷ rows) rising free =
     elim (cases_eq row.0 n) [
@@ -168,7 +168,7 @@ without-with_value n v (row ∷ rows) =
 
 -- after it, the child has no parent
 pub value_at-with_none : (n : ℕ) (rows : List (ℕ × Option ℕ)) (links : List (ℕ × Link))
-    → children_of links ≡ with_value rows n None → part_at parent_of links n ≡ None
+    → child_rows links ≡ with_value rows n None → part_at parent_of links n ≡ None
 value_at-with_none n rows links same =
     from (value_at links n) (λ p is. after rows p (sym (ap (λ xs. value_at xs n) same)
     ∙ value_at-children n links ∙ is))
@@ -191,7 +191,7 @@ value_at-with_none n rows links same =
         ]
 
 -- who has no child is nobody's parent
-pub childless : (p : ℕ) (links : List (ℕ × Link)) → has_child (children_of links) p ≡ false → (d : ℕ)
+pub childless : (p : ℕ) (links : List (ℕ × Link)) → has_child (child_rows links) p ≡ false → (d : ℕ)
     → part_at parent_of links d ≡ Some p → ⊥
 childless p [] none d had = let never : None ≡ Some p = had in cc
 childless p (row ∷ rows) none d had =
@@ -209,7 +209,7 @@ childless p (row ∷ rows) none d had =
 
 -- the numbers of the children rise as those of their rows
 pub children_rise : (low high : ℕ) (links : List (ℕ × Link)) → IsRising low links high
-    → IsRising low (children_of links) high
+    → IsRising low (child_rows links) high
 children_rise low high [] rising = rising
 children_rise low high (row ∷ rows) rising = (rising.0, children_rise (row.0 + 1) high rows rising.1)
 

@@ -8,7 +8,7 @@ use Rattle.geo_slots.proofs.RowLemmas.{value_at_below}
 use Rattle.geo_family.specs.declared.family.Link.{Link}
 use Rattle.geo_family.specs.Nearest.{IsNearest, IsOnWayUp, Up}
 use Rattle.geo_family.specs.Family.{names, first_child}
-use Rattle.geo_family.specs.Links.{part_at, parent_of, children_of}
+use Rattle.geo_family.specs.Links.{part_at, parent_of, child_rows}
 
 module _ (f : ℕ → Option ℕ) (p n : ℕ) where
   -- the child after one that is below the number is on the way up too
@@ -136,8 +136,8 @@ module _ (p n : ℕ) where
   first_step : (low high : ℕ) (row : ℕ × Link) (rows : List (ℕ × Link)) (o : Option ℕ) (b : Bool)
       → (nat_le n row.0 && names row.1.parent p) ≡ b
       → IsRising low (row ∷ rows) high → IsNearest (λ d. n ≤ d) Up (part_at parent_of (row ∷ rows)) p o
-      → (IsNearest (λ d. n ≤ d) Up (part_at parent_of rows) p o → first_child (children_of rows) p n ≡ o)
-      → first_child (children_of (row ∷ rows)) p n ≡ o
+      → (IsNearest (λ d. n ≤ d) Up (part_at parent_of rows) p o → first_child (child_rows rows) p n ≡ o)
+      → first_child (child_rows (row ∷ rows)) p n ≡ o
   first_step low high row rows o true e rising is so =
       let parts = and_parts (nat_le n row.0) (names row.1.parent p) e in
       rw e (found_row low high row rows rising (leb-true n row.0 parts.0) (names_is row.1.parent p parts.1) o is)
@@ -146,7 +146,7 @@ module _ (p n : ℕ) where
   -- the nearest child from a number on is the first row of the parent
   pub first_child_is : (low high : ℕ) (rows : List (ℕ × Link)) (o : Option ℕ) → IsRising low rows high
       → IsNearest (λ d. n ≤ d) Up (part_at parent_of rows) p o
-      → first_child (children_of rows) p n ≡ o
+      → first_child (child_rows rows) p n ≡ o
   first_child_is low high [] None rising is = refl
   first_child_is low high [] (Some c) rising is = let no : None ≡ Some p = is.1 in absurd (cc)
   first_child_is low high (row ∷ rows) o rising is =

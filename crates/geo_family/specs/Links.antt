@@ -4,7 +4,7 @@ use Rattle.std.specs.Option.{option_and_then}
 use Rattle.geo_slots.specs.Slots.{value_at}
 use Rattle.geo_family.specs.declared.family.Link.{Link}
 use Rattle.geo_family.specs.declared.family.Ends.{Ends}
-use Rattle.geo_family.specs.Nearest.{IsNext, IsFirst, Up, Down}
+use Rattle.geo_family.specs.Nearest.{NextIsNearest, IsFirst, Up, Down}
 
 module _ {T : Type 0} where
   -- the rows with the value under a number changed
@@ -28,24 +28,24 @@ abbrev pub after_of : Link → Option ℕ
 after_of l = l.after
 
 -- the first child, of the ends
-abbrev pub first_of : Ends → Option ℕ
-first_of e = e.first
+abbrev pub first_in_ends : Ends → Option ℕ
+first_in_ends e = e.first
 
 -- the last child, of the ends
-abbrev pub last_of : Ends → Option ℕ
-last_of e = e.last
+abbrev pub last_in_ends : Ends → Option ℕ
+last_in_ends e = e.last
 
 -- the rows of children, each with its parent
-abbrev pub children_of : List (ℕ × Link) → List (ℕ × Option ℕ)
-children_of links = map (λ row. (row.0, row.1.parent)) links
+abbrev pub child_rows : List (ℕ × Link) → List (ℕ × Option ℕ)
+child_rows links = map (λ row. (row.0, row.1.parent)) links
 
 -- the neighbours of each child are those of its parent's children, and the ends of each parent are the first and the
 -- last of its children
 pub record IsFamily (links : List (ℕ × Link)) (ends : List (ℕ × Ends)) : Type 0 where
-  pub afters : IsNext Up (part_at parent_of links) (part_at after_of links)
-  pub befores : IsNext Down (part_at parent_of links) (part_at before_of links)
-  pub firsts : IsFirst Up (part_at parent_of links) (part_at first_of ends)
-  pub lasts : IsFirst Down (part_at parent_of links) (part_at last_of ends)
+  pub afters : NextIsNearest Up (part_at parent_of links) (part_at after_of links)
+  pub befores : NextIsNearest Down (part_at parent_of links) (part_at before_of links)
+  pub firsts : IsFirst Up (part_at parent_of links) (part_at first_in_ends ends)
+  pub lasts : IsFirst Down (part_at parent_of links) (part_at last_in_ends ends)
 
 -- with another number after a child
 abbrev pub with_after : Option ℕ → Option ℕ → List (ℕ × Link) → List (ℕ × Link)
@@ -63,20 +63,20 @@ with_first None parent to ends = change_at (λ e. record e { first = to }) ends 
 with_first (Some c) parent to ends = ends
 
 -- with another last child of a parent, where no child stands behind
-abbrev pub with_last : Option ℕ → ℕ → Option ℕ → List (ℕ × Ends) → List (ℕ × Ends)
-with_last None parent to ends = change_at (λ e. record e { last = to }) ends parent
-with_last (Some c) parent to ends = ends
+abbrev pub with_last_child : Option ℕ → ℕ → Option ℕ → List (ℕ × Ends) → List (ℕ × Ends)
+with_last_child None parent to ends = change_at (λ e. record e { last = to }) ends parent
+with_last_child (Some c) parent to ends = ends
 
 -- with a whole link of a child
-abbrev pub with_link : ℕ → Link → List (ℕ × Link) → List (ℕ × Link)
-with_link child link links = change_at (λ _. link) links child
+abbrev pub with_child_link : ℕ → Link → List (ℕ × Link) → List (ℕ × Link)
+with_child_link child link links = change_at (λ _. link) links child
 
 -- the child behind the one that may be there, else the first child of the parent
-abbrev pub next_of : List (ℕ × Link) → List (ℕ × Ends) → Option ℕ → ℕ → Option ℕ
-next_of links ends None parent = part_at first_of ends parent
-next_of links ends (Some c) parent = part_at after_of links c
+abbrev pub child_after : List (ℕ × Link) → List (ℕ × Ends) → Option ℕ → ℕ → Option ℕ
+child_after links ends None parent = part_at first_in_ends ends parent
+child_after links ends (Some c) parent = part_at after_of links c
 
 -- the child in front of the one that may be there, else the last child of the parent
 abbrev pub previous_of : List (ℕ × Link) → List (ℕ × Ends) → Option ℕ → ℕ → Option ℕ
-previous_of links ends None parent = part_at last_of ends parent
+previous_of links ends None parent = part_at last_in_ends ends parent
 previous_of links ends (Some c) parent = part_at before_of links c

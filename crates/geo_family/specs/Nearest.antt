@@ -21,8 +21,8 @@ put_unless f None p o = put f p o
 put_unless f (Some c) p o = f
 
 -- for each child, the next one of its parent in the order R
-abbrev pub IsNext : (ℕ → ℕ → Type 0) → (ℕ → Option ℕ) → (ℕ → Option ℕ) → Type 0
-IsNext R f next = (c p : ℕ) → f c ≡ Some p → IsNearest (λ d. R c d) R f p (next c)
+abbrev pub NextIsNearest : (ℕ → ℕ → Type 0) → (ℕ → Option ℕ) → (ℕ → Option ℕ) → Type 0
+NextIsNearest R f next = (c p : ℕ) → f c ≡ Some p → IsNearest (λ d. R c d) R f p (next c)
 
 -- for each parent, the first one of all its children in the order R
 abbrev pub IsFirst : (ℕ → ℕ → Type 0) → (ℕ → Option ℕ) → (ℕ → Option ℕ) → Type 0

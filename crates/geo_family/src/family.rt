@@ -50,13 +50,13 @@ pub struct Family {
 impl Model for Family {
     ghost use Rattle.std.specs.Prelude.{map};
     ghost use Rattle.geo_family.specs.Family.{FamilyView};
-    ghost use Rattle.geo_family.specs.Links.{IsFamily, children_of};
+    ghost use Rattle.geo_family.specs.Links.{IsFamily, child_rows};
 
     ghost Value = { FamilyView };
 
     ghost view = { λ t. record {
       parents = map (λ row. row.0) t.ends.rows;
-      children = children_of t.links.rows;
+      children = child_rows t.links.rows;
       next_parent = t.ends.next;
       next_child = t.links.next;
       parent_room = t.ends.spare;

@@ -3,7 +3,7 @@ ghost use Rattle.std.specs.Prelude.{◌≡◌, ◌<◌, ◌+◌, IfSome, None, S
 ghost use Rattle.geo_slots.specs.Slots.{IsRising};
 ghost use Rattle.geo_family.specs.Nearest.{IsNearest, Down, IsOnWayUp};
 ghost use Rattle.geo_family.specs.Family.{first_child, last_child};
-ghost use Rattle.geo_family.specs.Links.{part_at, parent_of, before_of, after_of, first_of, last_of, with_after, with_before, with_first, with_last, with_link, next_of, previous_of, IsFamily, children_of};
+ghost use Rattle.geo_family.specs.Links.{part_at, parent_of, before_of, after_of, first_in_ends, last_in_ends, with_after, with_before, with_first, with_last_child, with_child_link, child_after, previous_of, IsFamily, child_rows};
 
 use crate::family::{Ends, Link};
 use geo_slots::Slots;
@@ -32,14 +32,14 @@ pub fn after_at(links: &Slots<Link>, child: u64) -> Option<u64>
 
 /// The first child of a parent.
 pub fn first_at(ends: &Slots<Ends>, parent: u64) -> Option<u64>
-    ensures { result ≡ part_at first_of ends.now.rows parent }
+    ensures { result ≡ part_at first_in_ends ends.now.rows parent }
 {
     ends.get(parent)?.first
 }
 
 /// The last child of a parent.
 pub fn last_at(ends: &Slots<Ends>, parent: u64) -> Option<u64>
-    ensures { result ≡ part_at last_of ends.now.rows parent }
+    ensures { result ≡ part_at last_in_ends ends.now.rows parent }
 {
     ends.get(parent)?.last
 }
@@ -82,7 +82,7 @@ pub fn set_first(ends: &mut Slots<Ends>, before: Option<u64>, parent: u64, to: O
 
 /// Another last child of a parent, where no child stands behind.
 pub fn set_last(ends: &mut Slots<Ends>, behind: Option<u64>, parent: u64, to: Option<u64>)
-    ensures { ends.new ≡ record ends.old { rows = with_last behind parent to ends.old.rows } }
+    ensures { ends.new ≡ record ends.old { rows = with_last_child behind parent to ends.old.rows } }
 {
     if behind.is_some() {
         return;
@@ -94,7 +94,7 @@ pub fn set_last(ends: &mut Slots<Ends>, behind: Option<u64>, parent: u64, to: Op
 
 /// Another link of a child.
 pub fn set_link(links: &mut Slots<Link>, child: u64, to: Link)
-    ensures { links.new ≡ record links.old { rows = with_link child to links.old.rows } }
+    ensures { links.new ≡ record links.old { rows = with_child_link child to links.old.rows } }
 {
     if let Some(link) = links.get_mut(child) {
         *link = to;
@@ -108,7 +108,7 @@ pub fn behind(
     before: Option<u64>,
     parent: u64,
 ) -> Option<u64>
-    ensures { result ≡ next_of links.now.rows ends.now.rows before parent }
+    ensures { result ≡ child_after links.now.rows ends.now.rows before parent }
 {
     match before {
         Some(number) => after_at(links, number),
@@ -176,7 +176,7 @@ fn start(links: &Slots<Link>, ends: &Slots<Ends>, parent: u64, number: u64) -> O
 /// The least child of a parent that isn't below a number.
 pub fn first_from(links: &Slots<Link>, ends: &Slots<Ends>, parent: u64, number: u64) -> Option<u64>
     requires { IsFamily links.now.rows ends.now.rows }
-    ensures { result ≡ first_child (children_of links.now.rows) parent number }
+    ensures { result ≡ first_child (child_rows links.now.rows) parent number }
 {
     let mut at = start(links, ends, parent, number);
     while let Some(child) = at {
@@ -191,7 +191,7 @@ pub fn first_from(links: &Slots<Link>, ends: &Slots<Ends>, parent: u64, number: 
 /// The greatest child of a parent.
 pub fn last(links: &Slots<Link>, ends: &Slots<Ends>, parent: u64) -> Option<u64>
     requires { IsFamily links.now.rows ends.now.rows }
-    ensures { result ≡ last_child (children_of links.now.rows) parent }
+    ensures { result ≡ last_child (child_rows links.now.rows) parent }
 {
     // The numbers of the children rise, which the table says where it is read.
     let _ = links.first_from(0);

@@ -1,6 +1,6 @@
 //! An image file as a disk.
 ghost use Rattle.std.specs.Prelude.{◌≡◌, ◌+◌, ◌^◌, ◌≤◌, ◌<◌, ◌∷◌, [], ◌++◌, length, is_err};
-ghost use Rattle.geo_disk.specs.Calls.{call_of};
+ghost use Rattle.geo_disk.specs.Calls.{disk_call};
 ghost use Rattle.geo_disk.specs.Counts.{counted_if};
 ghost use Rattle.geo_file.specs.Files.{IsReachable, image_view};
 
@@ -86,7 +86,7 @@ impl FileDisk {
         ensures same { result ≡ answer }
         ensures size { (self.new.sector ≡ self.old.sector) × (self.new.sectors ≡ self.old.sectors) }
         ensures faults { self.new.faults ≡ counted_if (is_err answer) self.old.faults }
-        ensures asked { self.new.asked ≡ self.old.asked ++ call_of cmd first count answer ∷ [] }
+        ensures asked { self.new.asked ≡ self.old.asked ++ disk_call cmd first count answer ∷ [] }
     {
         self.asked = self.asked.and(&DiskCall::new(cmd, first, count, &answer));
         if answer.is_err() {

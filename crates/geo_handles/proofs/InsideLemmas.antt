@@ -16,7 +16,7 @@ use Rattle.geo_handles.specs.declared.records.HandleRec.{HandleRec}
 use Rattle.geo_handles.specs.declared.handles.Inside.{Inside}
 use Rattle.geo_handles.specs.Keys.{key_named, same_key, is_key, name_key, consumer_key, number_of_key, number_of_consumer, IsFinder}
 use Rattle.geo_handles.specs.Handles.{handle_at, named_handle, holding_handle, closed, is_at, HoldsAlone}
-use Rattle.geo_handles.specs.Inside.{handle_row, key_at, IsInside}
+use Rattle.geo_handles.specs.Inside.{handle_row, handle_key, IsInside}
 use Rattle.geo_handles.proofs.FinderLemmas.{keys-test, consumers-test, finds, finder-same, finder-add, finder-drop}
 use Rattle.geo_handles.proofs.RowLemmas.{all-rows, all-items, length-without, IsOf, find-one, change-none, change-one}
 
@@ -71,7 +71,7 @@ module _ (n : Inside) (is : IsInside n) where
       (number_of_key n.names (key_named actor name))) 1 n.table.next n.table.rows is.rising
       (λ k v at.
       sym (ap (λ o. is_key (option_and_then name_key o) (key_named actor name)) at)
-      ∙ finds is_key keys-test (key_at name_key n.table.rows) (number_of_key n.names) is.named
+      ∙ finds is_key keys-test (handle_key name_key n.table.rows) (number_of_key n.names) is.named
       (key_named actor name) k)
 
   -- a name's number has a value
@@ -89,7 +89,7 @@ module _ (n : Inside) (is : IsInside n) where
       n.table.rows is.rising
       (λ k v at.
       sym (ap (λ o. names_number (option_and_then consumer_key o) c) at)
-      ∙ finds names_number consumers-test (key_at consumer_key n.table.rows) (number_of_consumer n.consumers)
+      ∙ finds names_number consumers-test (handle_key consumer_key n.table.rows) (number_of_consumer n.consumers)
       is.held c k)
 
   -- a consumer's number has a value
@@ -190,15 +190,15 @@ module _ (n m : Inside) (is : IsInside n) where
     rising = rw table (IsRising-push 1 n.table.rows n.table.next x is.rising);
     named =
         rw table
-        (finder-add is_key keys-test (key_at name_key n.table.rows) (number_of_key n.names) is.named n.table.next
-        (key_at name_key (n.table.rows ++ (n.table.next, x) ∷ [])) (number_of_key m.names)
+        (finder-add is_key keys-test (handle_key name_key n.table.rows) (number_of_key n.names) is.named n.table.next
+        (handle_key name_key (n.table.rows ++ (n.table.next, x) ∷ [])) (number_of_key m.names)
         (λ k other. ap (option_and_then name_key) (later k other)) (key_named x.actor x.name) free
         (ap (option_and_then name_key) fresh)
         (ap (option_and_then name_key) there) names);
     held =
         rw table
-        (finder-add names_number consumers-test (key_at consumer_key n.table.rows) (number_of_consumer n.consumers)
-        is.held n.table.next (key_at consumer_key (n.table.rows ++ (n.table.next, x) ∷ []))
+        (finder-add names_number consumers-test (handle_key consumer_key n.table.rows) (number_of_consumer n.consumers)
+        is.held n.table.next (handle_key consumer_key (n.table.rows ++ (n.table.next, x) ∷ []))
         (number_of_consumer m.consumers)
         (λ k other. ap (option_and_then consumer_key) (later k other)) c nobodys
         (ap (option_and_then consumer_key) fresh)
@@ -240,15 +240,15 @@ module _ (n m : Inside) (is : IsInside n) where
     rising = rw table (IsRising-without k 1 n.table.rows n.table.next is.rising);
     named =
         rw table
-        (finder-drop is_key keys-test (key_at name_key n.table.rows) (number_of_key n.names) is.named k
-        (key_at name_key (without n.table.rows k)) (number_of_key m.names)
+        (finder-drop is_key keys-test (handle_key name_key n.table.rows) (number_of_key n.names) is.named k
+        (handle_key name_key (without n.table.rows k)) (number_of_key m.names)
         (λ j other. ap (option_and_then name_key) (value_at-without k j n.table.rows other))
         (Some (key_named x.actor x.name)) (ap (option_and_then name_key) at)
         (ap (option_and_then name_key) (value_at-gone k n.table.rows)) names);
     held =
         rw table
-        (finder-drop names_number consumers-test (key_at consumer_key n.table.rows) (number_of_consumer n.consumers)
-        is.held k (key_at consumer_key (without n.table.rows k))
+        (finder-drop names_number consumers-test (handle_key consumer_key n.table.rows) (number_of_consumer n.consumers)
+        is.held k (handle_key consumer_key (without n.table.rows k))
         (number_of_consumer m.consumers)
         (λ j other. ap (option_and_then consumer_key) (value_at-without k j n.table.rows other)) x.consumer
         (ap (option_and_then consumer_key) at)
@@ -286,7 +286,7 @@ module _ (n m : Inside) (is : IsInside n) where
     alike_set j = sym (set_left n.table.rows n.ready.children k w (ap is_some at) (λ i. sym (is.alike i)) j)
 
     kept : {K : Type 0} (key : HandleRec → Option K) → key w ≡ key x → (j : ℕ)
-        → key_at key (with_value n.table.rows k w) j ≡ key_at key n.table.rows j
+        → handle_key key (with_value n.table.rows k w) j ≡ handle_key key n.table.rows j
     kept key same j =
         elim (cases_eq j k) [
           | inl this ↦ rw (this, here, at) same
@@ -294,10 +294,10 @@ module _ (n m : Inside) (is : IsInside n) where
         ]
 
     named_kept : m.names ≡ n.names → name_key w ≡ name_key x
-        → IsFinder (key_at name_key (with_value n.table.rows k w)) (number_of_key m.names)
+        → IsFinder (handle_key name_key (with_value n.table.rows k w)) (number_of_key m.names)
     named_kept names same =
-        finder-same is_key keys-test (key_at name_key n.table.rows) (number_of_key n.names) is.named
-        (key_at name_key (with_value n.table.rows k w)) (number_of_key m.names)
+        finder-same is_key keys-test (handle_key name_key n.table.rows) (number_of_key n.names) is.named
+        (handle_key name_key (with_value n.table.rows k w)) (number_of_key m.names)
         (kept name_key same) (λ q. ap (λ f. number_of_key f q) names)
 
     length_set : length (with_value n.table.rows k w) ≡ length n.table.rows
@@ -311,9 +311,9 @@ module _ (n m : Inside) (is : IsInside n) where
       named = rw table (named_kept names same);
       held =
           rw table
-          (finder-same names_number consumers-test (key_at consumer_key n.table.rows)
+          (finder-same names_number consumers-test (handle_key consumer_key n.table.rows)
           (number_of_consumer n.consumers) is.held
-          (key_at consumer_key (with_value n.table.rows k w)) (number_of_consumer m.consumers)
+          (handle_key consumer_key (with_value n.table.rows k w)) (number_of_consumer m.consumers)
           (kept consumer_key holds) (λ q. ap (λ f. number_of_consumer f q) consumers));
       stands = rw ready is.stands;
       alike = λ j. rw (ready, table) (alike_set j);
@@ -331,9 +331,9 @@ module _ (n m : Inside) (is : IsInside n) where
       named = rw table (named_kept names same);
       held =
           rw table
-          (finder-drop names_number consumers-test (key_at consumer_key n.table.rows)
+          (finder-drop names_number consumers-test (handle_key consumer_key n.table.rows)
           (number_of_consumer n.consumers) is.held k
-          (key_at consumer_key (with_value n.table.rows k w)) (number_of_consumer m.consumers)
+          (handle_key consumer_key (with_value n.table.rows k w)) (number_of_consumer m.consumers)
           (λ j other. ap (option_and_then consumer_key) (value_at-kept k j w n.table.rows other)) x.consumer
           (ap (option_and_then consumer_key) at)
           (ap (option_and_then consumer_key) here ∙ gone) consumers);
@@ -354,13 +354,13 @@ module _ (n m : Inside) (is : IsInside n) where
         subst (λ rows. IsRising 1 rows m.table.next) (sym rows)
         (subst (λ k. IsRising 1 n.table.rows k) (sym (ap (λ t. t.next) table)) is.rising);
     named =
-        finder-same is_key keys-test (key_at name_key n.table.rows) (number_of_key n.names) is.named
-        (key_at name_key m.table.rows) (number_of_key m.names)
-        (λ k. ap (λ r. key_at name_key r k) rows) names;
+        finder-same is_key keys-test (handle_key name_key n.table.rows) (number_of_key n.names) is.named
+        (handle_key name_key m.table.rows) (number_of_key m.names)
+        (λ k. ap (λ r. handle_key name_key r k) rows) names;
     held =
-        finder-same names_number consumers-test (key_at consumer_key n.table.rows) (number_of_consumer n.consumers)
-        is.held (key_at consumer_key m.table.rows) (number_of_consumer m.consumers)
-        (λ k. ap (λ r. key_at consumer_key r k) rows) consumers;
+        finder-same names_number consumers-test (handle_key consumer_key n.table.rows) (number_of_consumer n.consumers)
+        is.held (handle_key consumer_key m.table.rows) (number_of_consumer m.consumers)
+        (λ k. ap (λ r. handle_key consumer_key r k) rows) consumers;
     stands = ap (λ p. is_parent p 1) (ap (λ f. f.parents) ready) ∙ is.stands;
     alike =
         λ k. ap (λ ch. is_some (value_at ch k)) (ap (λ f. f.children) ready) ∙ is.alike k

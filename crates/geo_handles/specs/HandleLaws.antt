@@ -10,8 +10,8 @@ use Rattle.geo_slots.specs.Slots.{with_value, without}
 use Rattle.geo_handles.specs.Handles.{HandlesView, named_handle, holding_handle, with_opened, killed, released, closed, first_ready}
 
 -- each handle's number with what a test says of the handle
-abbrev pub noted : (Handle → Bool) → List Handle → List (ℕ × Bool)
-noted test handles = map (λ h. (h.number, test h)) handles
+abbrev pub noted_handles : (Handle → Bool) → List Handle → List (ℕ × Bool)
+noted_handles test handles = map (λ h. (h.number, test h)) handles
 
 -- look-ups and changes of the handles are those of the world; where just those that can be reaped are noted, the
 -- first of them is the one that is reaped next
@@ -26,14 +26,14 @@ pub record HandlesAreOfWorld (w : World) : Type 0 where
   pub kills : (c : ℕ) → record w { handles = killed w.handles c } ≡ kill_handle w c
   pub reaps : (c : ℕ) → released w.handles c ≡ (reap_consumer w c).handles
   pub closes : (h : Handle) → closed w.handles h.number ≡ (without_handle w h).handles
-  pub first : (ready : List (ℕ × Bool)) → ready ≡ noted (is_to_reap w) w.handles
+  pub first : (ready : List (ℕ × Bool)) → ready ≡ noted_handles (is_to_reap w) w.handles
       → first_ready ready ≡ option_map (λ h. h.number) (reap_work w)
 
 -- where the notes are what a test says, they are so after a handle came that doesn't pass it, after one was closed,
 -- and after one was noted otherwise
 pub record NotesFollow (test : Handle → Bool) (handles : List Handle) : Type 0 where
   pub opens : (h : Handle) → test h ≡ false
-      → noted test handles ++ (h.number, false) ∷ [] ≡ noted test (handles ++ h ∷ [])
-  pub closes : (n : ℕ) → without (noted test handles) n ≡ noted test (closed handles n)
+      → noted_handles test handles ++ (h.number, false) ∷ [] ≡ noted_handles test (handles ++ h ∷ [])
+  pub closes : (n : ℕ) → without (noted_handles test handles) n ≡ noted_handles test (closed handles n)
   pub notes : (n : ℕ) (b : Bool)
-      → with_value (noted test handles) n b ≡ noted (λ h. if h.number == n then b else test h) handles
+      → with_value (noted_handles test handles) n b ≡ noted_handles (λ h. if h.number == n then b else test h) handles

@@ -27,12 +27,12 @@ abbrev pub ready_row : ℕ × Option ℕ → ℕ × Bool
 ready_row row = (row.0, names row.1 1)
 
 -- the key of a number
-abbrev pub key_at : {K : Type 0} → (HandleRec → Option K) → List (ℕ × HandleRec) → ℕ → Option K
-key_at key rows n = option_and_then key (value_at rows n)
+abbrev pub handle_key : {K : Type 0} → (HandleRec → Option K) → List (ℕ × HandleRec) → ℕ → Option K
+handle_key key rows n = option_and_then key (value_at rows n)
 
 -- for how many more handles all parts have room
-abbrev pub room_of : Inside → ℕ
-room_of n = min (min (spare n.names) (spare n.consumers)) (min n.table.spare n.ready.child_room)
+abbrev pub handle_room : Inside → ℕ
+handle_room n = min (min (spare n.names) (spare n.consumers)) (min n.table.spare n.ready.child_room)
 
 -- what contracts see
 abbrev pub handles_of : Inside → HandlesView
@@ -41,14 +41,14 @@ handles_of n =
       handles = map handle_row n.table.rows;
       next = n.table.next;
       ready = map ready_row n.ready.children;
-      room = room_of n;
+      room = handle_room n;
     }
 
 -- both maps find what the table has, the children are numbered as the handles are, and the handles are counted
 pub record IsInside (n : Inside) : Type 0 where
   pub rising : IsRising 1 n.table.rows n.table.next
-  pub named : IsFinder (key_at name_key n.table.rows) (number_of_key n.names)
-  pub held : IsFinder (key_at consumer_key n.table.rows) (number_of_consumer n.consumers)
+  pub named : IsFinder (handle_key name_key n.table.rows) (number_of_key n.names)
+  pub held : IsFinder (handle_key consumer_key n.table.rows) (number_of_consumer n.consumers)
   pub stands : is_parent n.ready.parents 1 ≡ true
   pub alike : (k : ℕ) → is_some (value_at n.ready.children k) ≡ is_some (value_at n.table.rows k)
   pub next : n.ready.next_child ≡ n.table.next

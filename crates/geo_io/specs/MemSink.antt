@@ -22,8 +22,8 @@ abbrev pub stored_count : Store → ℕ → ℕ
 stored_count s count = min (min count (s.room - length s.written)) s.piece
 
 -- after a call that took these bytes
-abbrev pub after_write : Store → List ℕ → Store
-after_write s bytes = record s { written = s.written ++ bytes; calls = raised s.calls }
+abbrev pub after_taking : Store → List ℕ → Store
+after_taking s bytes = record s { written = s.written ++ bytes; calls = raised s.calls }
 
 -- after a call that failed
 abbrev pub after_failed_write : Store → Store

@@ -2,7 +2,7 @@
 ghost use Rattle.std.specs.Prelude.{◌≡◌, ◌≤◌, ◌<◌, ◌↔◌, ◌⊎◌, ◌++◌, [], Contains, IsErr, IfOk, OnErr, OnOk, length, take};
 ghost use Rattle.geo_base.specs.Faults.{HasCause};
 ghost use Rattle.geo_io.specs.Counts.{raised};
-ghost use Rattle.geo_io.specs.MemSink.{sink_view, stored_count, after_write, after_failed_write};
+ghost use Rattle.geo_io.specs.MemSink.{sink_view, stored_count, after_taking, after_failed_write};
 ghost use Rattle.geo_io.specs.Sink.{Takes, TakesNothing};
 
 use crate::sink::Sink;
@@ -84,7 +84,7 @@ impl Sink for MemSink {
         ensures fails { IsErr result ↔ (Contains self.old.fails (raised self.old.calls) ⊎ (length self.old.written
             ≡ self.old.room)) }
         ensures stored { IfOk result (λ n. (n ≡ stored_count self.old (length bytes.now)) × (self.new
-            ≡ after_write self.old (take n bytes.now))) }
+            ≡ after_taking self.old (take n bytes.now))) }
         ensures failed { OnErr result (self.new ≡ after_failed_write self.old) }
     {
         self.calls = self.calls.saturating_add(1);

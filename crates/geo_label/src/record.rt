@@ -2,7 +2,7 @@
 ghost use Rattle.std.specs.Prelude.{◌≡◌, ◌≤◌, length, IsTrue};
 ghost use Rattle.geo_base.specs.Name.{is_short_name};
 ghost use Rattle.geo_model.specs.Records.{label_record, label_sector, label_size};
-ghost use Rattle.geo_record.specs.Head.{answer_of};
+ghost use Rattle.geo_record.specs.Head.{decoder_answer};
 ghost use Rattle.geo_label.specs.Record.{EncodedIsDecoded};
 
 use geo_base::Declined;
@@ -36,7 +36,7 @@ fn media_size(sector: &[u8]) -> Option<u64>
 /// The record in a sector, of version 1 or 2. It is declined with the first cause: `Magic`, `Version` or `BadName`.
 pub fn decode(sector: &[u8]) -> Result<LabelRecord, Declined>
     requires { 44 ≤ length sector.now }
-    ensures { answer_of result ≡ label_record sector.now }
+    ensures { decoder_answer result ≡ label_record sector.now }
 {
     let name = decode_head(sector, &MAGIC, SIZED)?;
     Ok(LabelRecord {

@@ -27,8 +27,8 @@ abbrev pub next_pass : LanePassView → LanePassView
 next_pass p = record { lane = p.lane; sender = p.split + 1; split = 0; put = []; taken = []; ended = [] }
 
 -- the view of a queue's pass
-abbrev pub known : Pass Ticket View → View
-known p = p.me.0.client
+abbrev pub queue_view : Pass Ticket View → View
+queue_view p = p.me.0.client
 
 -- what the pass knows
 abbrev pub view_of : LanePassView → View

@@ -22,7 +22,7 @@ pub struct LanePass {
 
 impl Model for LanePass {
     ghost use Rattle.std.specs.Prelude.{◌≡◌, []};
-    ghost use Rattle.geo_lane.specs.LanePass.{LanePassView, known, IsSound};
+    ghost use Rattle.geo_lane.specs.LanePass.{LanePassView, queue_view, IsSound};
 
     ghost Value = { LanePassView };
 
@@ -31,12 +31,12 @@ impl Model for LanePass {
       sender = p.sender;
       split = p.split;
       put =
-          (known p.pass).put;
-      taken = (known p.pass).taken;
-      ended = (known p.pass).ended;
+          (queue_view p.pass).put;
+      taken = (queue_view p.pass).taken;
+      ended = (queue_view p.pass).ended;
     } };
 
-    ghost invariant = { λ p. (p.pass.me.1 ≡ []) × IsSound p.sender p.split p.put_so_far (known p.pass) };
+    ghost invariant = { λ p. (p.pass.me.1 ≡ []) × IsSound p.sender p.split p.put_so_far (queue_view p.pass) };
 }
 
 impl LanePass {

@@ -19,7 +19,7 @@ use Rattle.geo_model.specs.SoundBios.{IsBioInOrder, IsFamilyInOrder, HasItsParen
 use Rattle.geo_model.specs.Steady.{ComesFromItsOwner}
 use Rattle.geo_model.specs.Fitting.{Firm}
 use Rattle.geo_laws_life.proofs.Killed.{grants-same}
-use Rattle.geo_laws_making.specs.TasteLaws.{asking, with_taste, IsAsking}
+use Rattle.geo_laws_making.specs.TasteLaws.{taste_asking, world_with_taste, IsAsking}
 
 -- a taste of which no read is out has no grant
 pub none_granted : (s : Taste) (c : ℕ) → is_read_out s.asked ≡ false → taste_grant (Some s) c ≡ no_counts
@@ -32,14 +32,14 @@ none_granted s c none = by (s.consumer == c) (is_read_out s.asked) none where
 
 module _ (w : World) (s : Taste) (classes : List Kind) (asked : Asked) (reads : ℕ) (chain : Chain) (firm : Firm w)
     (is : w.taste ≡ Some s) (before : is_read_out s.asked ≡ false) (after : is_read_out asked ≡ false)
-    (asks : IsAsking w (asking s classes asked reads chain)) where
+    (asks : IsAsking w (taste_asking s classes asked reads chain)) where
   -- the taste then
   abbrev later : Taste
-  later = asking s classes asked reads chain
+  later = taste_asking s classes asked reads chain
 
   -- and the world
   abbrev v : World
-  v = with_taste w later
+  v = world_with_taste w later
 
   -- the graph
   abbrev t : Topology Config

@@ -36,7 +36,7 @@ use Rattle.geo_laws_graph.proofs.Members.{find-Contains}
 use Rattle.geo_laws_life.proofs.Found.{if-found, at-found}
 use Rattle.geo_laws_making.specs.AcceptLaws.{IsAccepted}
 use Rattle.geo_laws_making.proofs.Accepts.{accepts_stay}
-use Rattle.geo_laws_making.specs.TasteLaws.{asking, with_taste, IsAsking, IsGranted}
+use Rattle.geo_laws_making.specs.TasteLaws.{taste_asking, world_with_taste, IsAsking, IsGranted}
 use Rattle.geo_laws_making.specs.ChainSteps.{GoesOnTo}
 use Rattle.geo_laws_making.specs.JudgeLaws.{JudgesStayFirm}
 use Rattle.geo_laws_making.proofs.Asking.{asking-firm}
@@ -76,7 +76,7 @@ module _ (w : World) (firm : Firm w) (s : Taste) (is : w.taste ≡ Some s)
 
   -- a class that is done with, in a world with this taste
   class_ends : (v : World) → Firm v → v.taste ≡ Some s → (classes : List Kind)
-      → Firm (with_taste v (asking s classes NoClass 0 no_links))
+      → Firm (world_with_taste v (taste_asking s classes NoClass 0 no_links))
   class_ends v firm is classes =
       asking-firm v s classes NoClass 0 no_links firm is idle refl (record {
         reads = refl;
@@ -120,10 +120,10 @@ module _ (w : World) (firm : Firm w) (s : Taste) (is : w.taste ≡ Some s)
         → grant_refusal (with_grant g s.consumer one_read) t s.provider ≡ o
         → Kept
         (if is_some o
-        then end_class g q (asking s classes asked reads chain) Next
+        then end_class g q (taste_asking s classes asked reads chain) Next
         else record {
           queued = q;
-          taste = asking s classes (ReadOut kind) (reads + 1) chain;
+          taste = taste_asking s classes (ReadOut kind) (reads + 1) chain;
           judged = Read sector;
         })
     read_kept classes asked reads chain kind sector can (Some e) refused = class_ends w firm is classes
@@ -144,8 +144,8 @@ module _ (w : World) (firm : Firm w) (s : Taste) (is : w.taste ≡ Some s)
         → s.asked ≡ ReadBack kind (results.Bytes bytes) → is_ended t s ≡ false
         → verdict_on g s kind bytes f ≡ Accept shape → (o : Option (QueuedTopology Config)) → accept q p shape ≡ o
         → Kept
-        (option_map_or (λ made. end_class g made (asking s s.classes s.asked s.reads c) Made) o
-        (end_class g q (asking s s.classes s.asked s.reads c) Next))
+        (option_map_or (λ made. end_class g made (taste_asking s s.classes s.asked s.reads c) Made) o
+        (end_class g q (taste_asking s s.classes s.asked s.reads c) Next))
     made_kept kind bytes c shape asks going verdict None makes = class_ends w firm is s.classes
     made_kept kind bytes c shape asks going verdict (Some made) makes =
         class_ends (with_queued w made)
@@ -157,7 +157,7 @@ module _ (w : World) (firm : Firm w) (s : Taste) (is : w.taste ≡ Some s)
     more_kept : (kind : Kind) (got : BioResult) (c : Chain) (sector : ℕ) → s.asked ≡ ReadBack kind got
         → kind ≡ kinds.Ebr
         → GoesOnTo n s.reads sector c
-        → Firm (with_taste w (asking s s.classes (NextSector kind sector) s.reads c))
+        → Firm (world_with_taste w (taste_asking s s.classes (NextSector kind sector) s.reads c))
     more_kept kind got c sector asks ebr goes =
         let back : IsAskedInOrder t p (ReadBack kind got) = subst (IsAskedInOrder t p) asks was_asked in
         asking-firm w s s.classes (NextSector kind sector) s.reads c firm is idle refl (record {
@@ -171,7 +171,7 @@ module _ (w : World) (firm : Firm w) (s : Taste) (is : w.taste ≡ Some s)
     follow_kept : (kind : Kind) (bytes : List ℕ) (c : Chain) → s.asked ≡ ReadBack kind (results.Bytes bytes)
         → is_ended t s ≡ false → (verdict : Verdict) → verdict_on g s kind bytes f ≡ verdict
         → ((sector : ℕ) → verdict ≡ More sector → (kind ≡ kinds.Ebr) × GoesOnTo n s.reads sector c)
-        → Kept (follow g q (asking s s.classes s.asked s.reads c) p kind verdict)
+        → Kept (follow g q (taste_asking s s.classes s.asked s.reads c) p kind verdict)
     follow_kept kind bytes c asks going (Decline cause) e more = class_ends w firm is s.classes
     follow_kept kind bytes c asks going (More sector) e more =
         more_kept kind (results.Bytes bytes) c sector asks (more sector refl).0 (more sector refl).1
@@ -254,8 +254,8 @@ module _ (w : World) (firm : Firm w) (s : Taste) (is : w.taste ≡ Some s)
     -- by the sector for which it asks first
     where_kept : (kind : Kind) (rest : List Kind) (o : Option ℕ) → taste_where kind f ≡ o
         → Kept
-        (option_map_or (λ sector. read_sector g q (asking s rest NoClass 0 no_links) kind sector) o
-        (end_class g q (asking s rest NoClass 0 no_links) Next))
+        (option_map_or (λ sector. read_sector g q (taste_asking s rest NoClass 0 no_links) kind sector) o
+        (end_class g q (taste_asking s rest NoClass 0 no_links) Next))
     where_kept kind rest None e = class_ends w firm is rest
     where_kept kind rest (Some sector) e =
         read_kept rest NoClass 0 no_links kind sector (first_read kind sector e)
@@ -265,10 +265,10 @@ module _ (w : World) (firm : Firm w) (s : Taste) (is : w.taste ≡ Some s)
     attached_kept : (kind : Kind) (rest : List Kind) (b : Bool)
         → Kept
         (if b
-        then end_class g q (asking s rest NoClass 0 no_links) Next
-        else option_map_or (λ sector. read_sector g q (asking s rest NoClass 0 no_links) kind sector)
+        then end_class g q (taste_asking s rest NoClass 0 no_links) Next
+        else option_map_or (λ sector. read_sector g q (taste_asking s rest NoClass 0 no_links) kind sector)
         (taste_where kind f)
-        (end_class g q (asking s rest NoClass 0 no_links) Next))
+        (end_class g q (taste_asking s rest NoClass 0 no_links) Next))
     attached_kept kind rest true = class_ends w firm is rest
     attached_kept kind rest false = where_kept kind rest (taste_where kind f) refl
 

@@ -34,12 +34,12 @@ use Rattle.geo_laws_bios.specs.BioFrames.{RestHolds}
 use Rattle.geo_laws_bios.proofs.Apart.{rest_of}
 use Rattle.geo_laws_life.proofs.Found.{found-with, some-with, one-found}
 use Rattle.geo_laws_life.proofs.Killed.{grants-same}
-use Rattle.geo_laws_making.specs.TasteLaws.{asking, IsAsking, IsGranted}
+use Rattle.geo_laws_making.specs.TasteLaws.{IsAsking, IsGranted, taste_asking}
 use Rattle.geo_laws_making.proofs.Asking.{none_granted}
 use Rattle.geo_laws_making.proofs.Tasters.{order, tasting, taster, taster_found, taster_grant, none_has}
 
 module _ (w : World) (firm : Firm w) (s : Taste) (p : Provider) (granted : IsGranted w s p) (classes : List Kind)
-    (kind : Kind) (reads : ℕ) (chain : Chain) (asks : IsAsking w (asking s classes (ReadOut kind) reads chain))
+    (kind : Kind) (reads : ℕ) (chain : Chain) (asks : IsAsking w (taste_asking s classes (ReadOut kind) reads chain))
     (bios : List Bio) (next : ℕ) where
   -- the graph
   abbrev t : Topology Config
@@ -47,7 +47,7 @@ module _ (w : World) (firm : Firm w) (s : Taste) (p : Provider) (granted : IsGra
 
   -- the taste then
   abbrev pub later : Taste
-  later = asking s classes (ReadOut kind) reads chain
+  later = taste_asking s classes (ReadOut kind) reads chain
 
   -- the world then, with whatever bios
   abbrev pub v : World

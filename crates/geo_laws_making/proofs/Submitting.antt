@@ -34,7 +34,7 @@ use Rattle.geo_laws_counts.proofs.Openers.{wants_grant}
 use Rattle.geo_laws_bios.specs.BioFrames.{BiosHold}
 use Rattle.geo_laws_bios.proofs.Apart.{bios_of, firm_of}
 use Rattle.geo_laws_life.proofs.Found.{found-with, some-with}
-use Rattle.geo_laws_making.specs.TasteLaws.{asking, with_taste, IsAsking, IsGranted}
+use Rattle.geo_laws_making.specs.TasteLaws.{taste_asking, world_with_taste, IsAsking, IsGranted}
 use Rattle.geo_laws_making.proofs.Tasters.{tasting, taster, taster_found, taster_holds}
 use Rattle.geo_laws_making.proofs.Reading.{more, taster_reads, read-rest}
 
@@ -75,7 +75,7 @@ more_serve b a d le serves = (
 )
 
 module _ (w : World) (firm : Firm w) (s : Taste) (p : Provider) (granted : IsGranted w s p) (classes : List Kind)
-    (kind : Kind) (reads : ℕ) (chain : Chain) (asks : IsAsking w (asking s classes (ReadOut kind) reads chain))
+    (kind : Kind) (reads : ℕ) (chain : Chain) (asks : IsAsking w (taste_asking s classes (ReadOut kind) reads chain))
     (sector : ℕ) (below : sector < p.size / p.sector) where
   -- the graph
   abbrev t : Topology Config
@@ -83,7 +83,7 @@ module _ (w : World) (firm : Firm w) (s : Taste) (p : Provider) (granted : IsGra
 
   -- the taste then
   abbrev later : Taste
-  later = asking s classes (ReadOut kind) reads chain
+  later = taste_asking s classes (ReadOut kind) reads chain
 
   -- the read
   abbrev x : Bio
@@ -257,5 +257,5 @@ module _ (w : World) (firm : Firm w) (s : Taste) (p : Provider) (granted : IsGra
       (read-rest w firm s p granted classes kind reads chain asks v.bios v.next_bio)
 
   -- the sector's size is that of the provider
-  pub submitted-firm : Firm (submit_read (with_taste w later) later sector)
+  pub submitted-firm : Firm (submit_read (world_with_taste w later) later sector)
   submitted-firm = rw granted.found read-firm

@@ -23,9 +23,9 @@ with_geom t kind name config automatic ps =
     fold (λ u p. add_consumer u t.next_geom (Some p.number)) (add_geom t kind name config automatic) ps
 
 -- such a geom, with providers of one sector size, which are offered for taste
-abbrev pub made : QueuedTopology Config → Kind → List ℕ → Config → Bool → List Provider → ℕ → List NewSlice
+abbrev pub geom_made : QueuedTopology Config → Kind → List ℕ → Config → Bool → List Provider → ℕ → List NewSlice
     → QueuedTopology Config
-made q kind name config automatic ps sector slices =
+geom_made q kind name config automatic ps sector slices =
     fold (λ v x. offer v q.topology.next_geom x.name x.size sector)
     (record q { topology = with_geom q.topology kind name config automatic ps })
     slices
@@ -87,4 +87,4 @@ pub record CanMake (w : World) (kind : Kind) (config : Config) (ps : List Provid
 pub record MakesKeepFirm : Type 0 where
   pub made : (w : World) (kind : Kind) (name : List ℕ) (config : Config) (automatic : Bool) (ps : List Provider)
       (sector : ℕ) (slices : List NewSlice) → Firm w → CanMake w kind config ps sector slices
-      → Firm (with_queued w (made (queued_of w) kind name config automatic ps sector slices))
+      → Firm (with_queued w (geom_made (queued_of w) kind name config automatic ps sector slices))

@@ -11,12 +11,12 @@ use Rattle.geo_model.specs.Sound.{AreReadsInOrder, HasItsChain}
 use Rattle.geo_model.specs.Fitting.{IsAskedInOrder, Firm}
 
 -- the taste with other classes left, another one asked, so many reads made for it, and another chain
-abbrev pub asking : Taste → List Kind → Asked → ℕ → Chain → Taste
-asking s classes asked reads chain = record s { classes = classes; asked = asked; reads = reads; chain = chain }
+abbrev pub taste_asking : Taste → List Kind → Asked → ℕ → Chain → Taste
+taste_asking s classes asked reads chain = record s { classes = classes; asked = asked; reads = reads; chain = chain }
 
 -- the world with this taste
-abbrev pub with_taste : World → Taste → World
-with_taste w s = record w { taste = Some s }
+abbrev pub world_with_taste : World → Taste → World
+world_with_taste w s = record w { taste = Some s }
 
 -- how far a class is asked, after so many reads and with this chain, is in order
 pub record IsAsking (w : World) (s : Taste) : Type 0 where
@@ -36,12 +36,12 @@ pub record IsGranted (w : World) (s : Taste) (p : Provider) : Type 0 where
 pub record TastesStayFirm : Type 0 where
   pub goes_on : (w : World) (s : Taste) (classes : List Kind) (asked : Asked) (reads : ℕ) (chain : Chain)
       → w.taste ≡ Some s → is_read_out s.asked ≡ false → is_read_out asked ≡ false
-      → IsAsking w (asking s classes asked reads chain) → Firm w
-      → Firm (with_taste w (asking s classes asked reads chain))
+      → IsAsking w (taste_asking s classes asked reads chain) → Firm w
+      → Firm (world_with_taste w (taste_asking s classes asked reads chain))
   pub reads : (w : World) (s : Taste) (p : Provider) (classes : List Kind) (kind : Kind) (reads : ℕ) (chain : Chain)
       (sector : ℕ) → IsGranted w s p → sector < p.size / p.sector
-      → IsAsking w (asking s classes (ReadOut kind) reads chain) → Firm w
+      → IsAsking w (taste_asking s classes (ReadOut kind) reads chain) → Firm w
       → Firm
-      (submit_read (with_taste w (asking s classes (ReadOut kind) reads chain))
-      (asking s classes (ReadOut kind) reads chain) sector)
+      (submit_read (world_with_taste w (taste_asking s classes (ReadOut kind) reads chain))
+      (taste_asking s classes (ReadOut kind) reads chain) sector)
   pub ends : (w : World) (s : Taste) → w.taste ≡ Some s → is_read_out s.asked ≡ false → Firm w → Firm (abort_taste w s)

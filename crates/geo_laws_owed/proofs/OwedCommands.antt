@@ -24,7 +24,7 @@ use Rattle.geo_model.specs.Commands.{do_command}
 use Rattle.geo_model.specs.Log.{owed}
 use Rattle.geo_laws_graph.proofs.Lists.{found_itself}
 use Rattle.geo_laws_graph.proofs.Members.{find-Contains}
-use Rattle.geo_laws_owed.specs.OwedLaws.{is_open, is_close, is_ok_reply}
+use Rattle.geo_laws_owed.specs.OwedLaws.{is_open, is_close, is_ok_outcome}
 use Rattle.geo_laws_owed.proofs.Counting.{ones, sum_gone}
 use Rattle.geo_laws_owed.proofs.OwedBios.{busy}
 
@@ -114,7 +114,7 @@ module _ (w : World) where
 
   -- an open of a provider that is found, by what refuses it
   opened_at : (line actor : ℕ) (name : List ℕ) (p : ℕ) (grant : Counts) (e : Option Errno)
-      → Owes (if is_ok_reply (open_answered w line actor name (Some p) grant e).1 then 1 else 0) 0
+      → Owes (if is_ok_outcome (open_answered w line actor name (Some p) grant e).1 then 1 else 0) 0
       (open_answered w line actor name (Some p) grant e)
   opened_at line actor name p grant (Some e) = refl
   opened_at line actor name p grant None =
@@ -131,7 +131,7 @@ module _ (w : World) where
   -- by what is found
   opened : (line actor : ℕ) (name : List ℕ) (o : Option ℕ) (grant : Counts)
       → Owes
-      (if is_ok_reply
+      (if is_ok_outcome
       (open_answered w line actor name o grant (open_refusal_at (granted_in w) w.topology o grant)).1
       then 1
       else 0)
@@ -144,7 +144,7 @@ module _ (w : World) where
   -- an open, by whether its name is one of a handle
   opens : (line actor : ℕ) (name prov : List ℕ) (grant : Counts) (b : Bool)
       → is_some (handle_of w actor name) ≡ b
-      → Owes (if is_ok_reply (do_open w line actor name prov grant).1 then 1 else 0) 0
+      → Owes (if is_ok_outcome (do_open w line actor name prov grant).1 then 1 else 0) 0
       (do_open w line actor name prov grant)
   opens line actor name prov grant true e = rw e refl
   opens line actor name prov grant false e =
@@ -154,7 +154,7 @@ module _ (w : World) where
   closed_by : (line : ℕ) (h : Handle) → HandlesInOrder w
       → find (λ (x : Handle). x.number == h.number) w.handles ≡ Some h → (b : Bool)
       → option_map_or (is_active w) h.consumer false ≡ b
-      → Owes 0 (if is_ok_reply (close_handle w line (Some h)).1 then 1 else 0) (close_handle w line (Some h))
+      → Owes 0 (if is_ok_outcome (close_handle w line (Some h)).1 then 1 else 0) (close_handle w line (Some h))
   closed_by line h order found true e = rw e refl
   closed_by line h order found false e =
       let less : sum_by (λ (x : Handle). 1) (filter (λ (x : Handle). not (x.number == h.number)) w.handles) + 1
@@ -166,7 +166,7 @@ module _ (w : World) where
 
   -- a close
   closed : (line actor : ℕ) (name : List ℕ) → HandlesInOrder w → (o : Option Handle) → handle_of w actor name ≡ o
-      → Owes 0 (if is_ok_reply (close_handle w line o).1 then 1 else 0) (close_handle w line o)
+      → Owes 0 (if is_ok_outcome (close_handle w line o).1 then 1 else 0) (close_handle w line o)
   closed line actor name order None found = refl
   closed line actor name order (Some h) found =
       closed_by line h order
@@ -177,8 +177,8 @@ module _ (w : World) where
 -- what a command does
 abbrev pub CommandOwes : World → Command → World × Outcome → Type 0
 CommandOwes w c made =
-    owed made.0 + (if is_close c && is_ok_reply made.1 then 1 else 0)
-    ≡ owed w + (if is_open c && is_ok_reply made.1 then 1 else 0)
+    owed made.0 + (if is_close c && is_ok_outcome made.1 then 1 else 0)
+    ≡ owed w + (if is_open c && is_ok_outcome made.1 then 1 else 0)
 
 -- a command that is no open and no close owes as much as before
 others_owe : (w : World) (line actor : ℕ) (c : Command) → is_open c ≡ false → is_close c ≡ false

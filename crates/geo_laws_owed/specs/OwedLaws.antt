@@ -28,13 +28,13 @@ is_close (commands.Close name) = true
 is_close _ = false
 
 -- whether a line is answered ok
-abbrev pub is_ok_reply : Outcome → Bool
-is_ok_reply (outcomes.Replied line replies.Ok) = true
-is_ok_reply _ = false
+abbrev pub is_ok_outcome : Outcome → Bool
+is_ok_outcome (outcomes.Replied line replies.Ok) = true
+is_ok_outcome _ = false
 
 -- whether the command passes the test and is answered ok
 abbrev pub is_answered_ok : (Command → Bool) → Option LineCommand → Outcome → Bool
-is_answered_ok test c outcome = option_map_or (λ x. test x.command) c false && is_ok_reply outcome
+is_answered_ok test c outcome = option_map_or (λ x. test x.command) c false && is_ok_outcome outcome
 
 -- the places that a step begins to owe: a Take one for the Deliver of its bio, a Go one for the close of the handle
 -- that it opens

@@ -18,7 +18,7 @@ use Rattle.geo_model.specs.Bios.{reply_of_result}
 use Rattle.geo_model.specs.History.{Acceptance, CoversFrom, IsSuccess, RepliesWithResult, is_reply_to}
 use Rattle.geo_laws_graph.proofs.Members.{Contains-cases, nothing_in}
 use Rattle.geo_laws_graph.proofs.Numbered.{any-pushed, filter-pushed, number_found}
-use Rattle.geo_laws_requests.specs.Histories.{names_bio, AreTaken}
+use Rattle.geo_laws_requests.specs.Histories.{names_bio, AnsweredAreTaken}
 use Rattle.geo_laws_requests.proofs.Looks.{entries_of_both}
 use Rattle.geo_laws_requests.proofs.Finished.{finished_stay}
 use Rattle.geo_laws_steps.specs.WayLaws.{SameMap}
@@ -49,7 +49,7 @@ result_is h m b P some = by (result_of h b) refl some
     by (Some r) is some = rw (finished_stay.results h (m ∷ []) b r is) some
 
 -- leaves that cover a bio, from the world of its acceptance, cover it as long as the history goes on
-covers_from : (h : List Moment) (m : Moment) (a : Acceptance) (r : BioResult) → AreTaken h
+covers_from : (h : List Moment) (m : Moment) (a : Acceptance) (r : BioResult) → AnsweredAreTaken h
     → result_of h a.bio ≡ Some r → CoversFrom a h → CoversFrom a (h ++ m ∷ [])
 covers_from h m a r taken found covers = by (bio_at a.world a.bio) refl covers
   where
@@ -94,7 +94,7 @@ only_one x y here =
     ]
 
 -- a bio that is complete stays so, where a step doesn't name it
-pub completed_stays : (h : List Moment) (m : Moment) (a : Acceptance) → AreTaken h
+pub completed_stays : (h : List Moment) (m : Moment) (a : Acceptance) → AnsweredAreTaken h
     → names_bio a.bio m.entry.step ≡ false → IsCompleted h a → IsCompleted (h ++ m ∷ []) a
 completed_stays h m a taken none done = record {
   completes = record {

@@ -16,7 +16,7 @@ use Rattle.geo_model.specs.World.{World}
 use Rattle.geo_model.specs.Bios.{joined_result, result_of_device}
 use Rattle.geo_model.specs.Log.{Moment}
 use Rattle.geo_model.specs.Results.{Leaf, start_moment, request_of, device_answer_of, entries_of, queued_leaf, leaves_by, leaves_within, all_there, cmd_before, children_in, result_by, result_within}
-use Rattle.geo_laws_requests.specs.Histories.{AreTaken, ResultsStay, LeavesStay, HistoriesKeep}
+use Rattle.geo_laws_requests.specs.Histories.{AnsweredAreTaken, ResultsStay, LeavesStay, HistoriesKeep}
 use Rattle.geo_laws_requests.proofs.Looks.{start_stays, request_stays, answer_stays}
 
 -- what is found of each by one way is found by another
@@ -126,7 +126,7 @@ results_stay history later b r e =
 -- Leaves
 
 -- the leaf of a queued bio that was answered stays
-queued_stays : (h k : List Moment) (b : ℕ) → AreTaken h
+queued_stays : (h k : List Moment) (b : ℕ) → AnsweredAreTaken h
     → (got : Option DeviceResult) → device_answer_of (entries_of h) b ≡ got
     → (asked : Option Request) → request_of (entries_of h) b ≡ asked
     → IsSome got
@@ -149,7 +149,7 @@ joined_leaves f l m same (b ∷ bs) found all =
 
 -- by the outcome of the Start
 leaves_by_outcome : (h k : List Moment) (f : ℕ → Option BioResult) (l m : ℕ → List Leaf)
-    → ((b : ℕ) (r : BioResult) → f b ≡ Some r → l b ≡ m b) → AreTaken h
+    → ((b : ℕ) (r : BioResult) → f b ≡ Some r → l b ≡ m b) → AnsweredAreTaken h
     → (b : ℕ) (before : World) (o : Outcome) (r : BioResult)
     → result_by h b before o (map f (children_in o)) ≡ Some r
     → leaves_by l (entries_of (h ++ k)) b o ≡ leaves_by m (entries_of h) b o
@@ -180,7 +180,7 @@ leaves_by_outcome h k f l m same taken b before (outcomes.Gathered parent comple
 leaves_by_outcome h k f l m same taken b before outcomes.TasteBack r e = refl
 
 -- the leaves of a bio with a result over so many levels stay, over more levels too
-pub leaves_within_stay : (n d : ℕ) (h k : List Moment) → AreTaken h
+pub leaves_within_stay : (n d : ℕ) (h k : List Moment) → AnsweredAreTaken h
     → (b : ℕ) (r : BioResult) → result_within n h b ≡ Some r
     → leaves_within (n + d) (h ++ k) b ≡ leaves_within n h b
 leaves_within_stay zero d h k taken b r e = absurd (let bad : ⊥ = cc in bad)

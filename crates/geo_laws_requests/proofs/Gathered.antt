@@ -13,7 +13,7 @@ use Rattle.geo_model.specs.Bios.{first_failure, joined_result}
 use Rattle.geo_model.specs.Log.{Moment}
 use Rattle.geo_model.specs.Results.{all_there, leaves, leaves_within, result_of, result_within, start_moment}
 use Rattle.geo_model.specs.History.{IsSuccess}
-use Rattle.geo_laws_requests.specs.Histories.{AreTaken}
+use Rattle.geo_laws_requests.specs.Histories.{AnsweredAreTaken}
 use Rattle.geo_laws_requests.proofs.Finished.{leaves_within_stay, within_stays}
 use Rattle.geo_laws_requests.proofs.Looks.{start_stays}
 use Rattle.geo_laws_requests.specs.Covering.{CoversThere}
@@ -50,7 +50,7 @@ joined_success cmd rs success = by (first_failure rs) refl
     by None e = refl
     by (Some f) e = absurd (let wrong : IsSuccess (results.Failed f) = rw e at success in wrong)
 
-module _ (h : List Moment) (m : Moment) (w : World) (taken : AreTaken h) where
+module _ (h : List Moment) (m : Moment) (w : World) (taken : AnsweredAreTaken h) where
   -- a result that was found is found in the levels of the history before
   found_before : (b : ℕ) (r : BioResult) → result_of h b ≡ Some r
       → result_within (length h) (h ++ m ∷ []) b ≡ Some r

@@ -13,7 +13,7 @@ use Rattle.geo_model.specs.World.{World, Bio, children_of}
 use Rattle.geo_model.specs.Log.{Moment}
 use Rattle.geo_model.specs.Results.{Leaf, start_moment, request_of, entries_of, leaves, is_start_of, is_take_of, is_deliver_of, is_up_of}
 use Rattle.geo_model.specs.History.{is_reply_to, is_reply}
-use Rattle.geo_laws_requests.specs.Histories.{names_bio, Never, AreTaken}
+use Rattle.geo_laws_requests.specs.Histories.{names_bio, Never, AnsweredAreTaken}
 use Rattle.geo_laws_requests.proofs.Looks.{start_stays, request_stays}
 use Rattle.geo_laws_requests.proofs.Finished.{finished_stay}
 use Rattle.geo_laws_steps.specs.WayLaws.{SameMap}
@@ -61,7 +61,7 @@ pub record GoesOn (h : List Moment) (m : Moment) (w v : World) (x : Bio) : Type 
   pub unnamed_by : names_bio x.number m.entry.step ≡ false
   pub children : map (λ y. y.number) (children_of v x.number) ≡ map (λ y. y.number) (children_of w x.number)
   pub its_map : SameMap w.topology v.topology x.target
-  pub taken : AreTaken h
+  pub taken : AnsweredAreTaken h
 
 -- what a Take asked still covers the bio
 asked_stays : (h : List Moment) (m : Moment) (w v : World) (x : Bio) → GoesOn h m w v x → WasAsked h w x

@@ -17,7 +17,7 @@ use Rattle.geo_model.specs.Graph.{AreNumbers}
 use Rattle.geo_laws_graph.proofs.Living.{all_members}
 use Rattle.geo_laws_graph.proofs.Members.{find-Contains, has}
 use Rattle.geo_laws_graph.proofs.Numbered.{at-new, at-others, filter-pushed, find-pushed}
-use Rattle.geo_laws_requests.specs.Histories.{names_bio, Never, AreTaken}
+use Rattle.geo_laws_requests.specs.Histories.{names_bio, Never, AnsweredAreTaken}
 use Rattle.geo_laws_requests.specs.Arrivals.{BiosStay, BioArrives, AcceptsNone, AcceptsIt, StayOrArrive}
 use Rattle.geo_laws_requests.proofs.Looks.{request_stays, entries_of_both}
 use Rattle.geo_laws_steps.specs.WayLaws.{SameMap}
@@ -55,7 +55,7 @@ asked_before h m b some =
 
 -- where no Deliver is made each bio that was answered was taken before
 pub taken_quietly : (h : List Moment) (m : Moment) → ((b : ℕ) → is_deliver_of b m.entry.step ≡ false)
-    → AreTaken h → AreTaken (h ++ m ∷ [])
+    → AnsweredAreTaken h → AnsweredAreTaken (h ++ m ∷ [])
 taken_quietly h m none taken b some =
     asked_before h m b (taken b (subst (λ o. IsSome o) (answer_before h m b (none b)) some))
 
@@ -79,7 +79,8 @@ itself : (x : Bio) → IsSameRequest x x
 itself x = record { cmd = refl; offset = refl; len = refl; bytes = refl; target = refl }
 
 -- an acceptance whose bio isn't named is accounted for as it was
-pub accounted_quietly : (h : List Moment) (m : Moment) (w v : World) (a : Acceptance) → AreTaken h → SameMaps w v
+pub accounted_quietly : (h : List Moment) (m : Moment) (w v : World) (a : Acceptance) → AnsweredAreTaken h
+    → SameMaps w v
     → names_bio a.bio m.entry.step ≡ false → w.next_bio ≤ v.next_bio → bio_at v a.bio ≡ bio_at w a.bio
     → IsAccounted h w a → IsAccounted (h ++ m ∷ []) v a
 accounted_quietly h m w v a taken maps none more same was = record {

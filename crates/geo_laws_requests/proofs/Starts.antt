@@ -31,7 +31,7 @@ use Rattle.geo_laws_graph.proofs.Living.{all_members}
 use Rattle.geo_laws_graph.proofs.Numbered.{number_found}
 use Rattle.geo_laws_graph.proofs.Lists.{filter-changed}
 use Rattle.geo_laws_bios.proofs.Items.{none_kept}
-use Rattle.geo_laws_requests.specs.Histories.{names_bio, AreTaken}
+use Rattle.geo_laws_requests.specs.Histories.{names_bio, AnsweredAreTaken}
 use Rattle.geo_laws_requests.specs.Covering.{SameMaps}
 use Rattle.geo_laws_requests.specs.Ledger.{Ledger, IsLogged, SoFar}
 use Rattle.geo_laws_requests.proofs.Logged.{never_so}
@@ -150,7 +150,7 @@ module _ (h : List Moment) (w v : World) (seat b : ℕ) (x : Bio) (o : Outcome) 
       started_now h this x.number (was_down logged).0 (rw same (eq-eqb b b refl))
 
   -- it is no Deliver
-  taken_still : AreTaken (h ++ this ∷ [])
+  taken_still : AnsweredAreTaken (h ++ this ∷ [])
   taken_still = taken_quietly h this (λ n. refl) ledger.taken
 
   -- names

@@ -24,7 +24,7 @@ use Rattle.geo_model.specs.History.{is_reply_to}
 use Rattle.geo_laws_graph.proofs.Members.{find-Contains}
 use Rattle.geo_laws_graph.proofs.Numbered.{number_found}
 use Rattle.geo_laws_bios.proofs.Phases.{CanTake, can_take, can_deliver}
-use Rattle.geo_laws_requests.specs.Histories.{AreTaken}
+use Rattle.geo_laws_requests.specs.Histories.{AnsweredAreTaken}
 use Rattle.geo_laws_requests.proofs.Looks.{request_stays, start_stays}
 use Rattle.geo_laws_steps.specs.WayLaws.{SameMap}
 use Rattle.geo_laws_requests.specs.Covering.{CoversThere, SameMaps}
@@ -224,7 +224,7 @@ delivers_keep h w v seat b got o ledger are maps made =
     answer = answered_now h this x.number was.undelivered (rw same (eq-eqb b b refl))
 
     -- the bio that is answered was taken, and the others as before
-    taken : AreTaken (h ++ this ∷ [])
+    taken : AnsweredAreTaken (h ++ this ∷ [])
     taken n some = by (b == n) refl
       where
         asked : IsSomeAnd (request_of (entries_of h) x.number) (λ q. (a : DeviceResult)

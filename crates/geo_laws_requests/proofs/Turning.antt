@@ -18,7 +18,7 @@ use Rattle.geo_laws_graph.proofs.Living.{all_members}
 use Rattle.geo_laws_graph.proofs.Members.{Contains-map, find-Contains}
 use Rattle.geo_laws_graph.proofs.Numbered.{at-here, at-unchanged}
 use Rattle.geo_laws_bios.proofs.Items.{all_changed, none_kept}
-use Rattle.geo_laws_requests.specs.Histories.{names_bio, AreTaken}
+use Rattle.geo_laws_requests.specs.Histories.{names_bio, AnsweredAreTaken}
 use Rattle.geo_laws_requests.specs.Arrivals.{AcceptsNone}
 use Rattle.geo_laws_steps.specs.WayLaws.{SameMap}
 use Rattle.geo_laws_requests.specs.Covering.{SameMaps}
@@ -148,7 +148,7 @@ module _ (h : List Moment) (w v : World) (seat : ℕ) (s : Step) (o : Outcome) (
           ∙ at-unchanged (λ (z : Bio). z.number) change turns.keeps.number x.number a.bio apart w.bios) was
 
   -- the ledger goes on, where what is then answered was taken, and the history tells what the bio then is
-  pub turned_keeps : AreTaken (h ++ this ∷ []) → (IsLogged h w x → IsLogged (h ++ this ∷ []) v (change x))
+  pub turned_keeps : AnsweredAreTaken (h ++ this ∷ []) → (IsLogged h w x → IsLogged (h ++ this ∷ []) v (change x))
       → Ledger (h ++ this ∷ []) v
   turned_keeps taken logged = record {
     fresh = λ b above.

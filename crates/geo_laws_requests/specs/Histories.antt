@@ -14,8 +14,8 @@ abbrev pub Never : (Step → Bool) → List Moment → Type 0
 Never test history = All (λ m. test m.entry.step ≡ false) history
 
 -- each bio that a device answered was taken before
-abbrev pub AreTaken : List Moment → Type 0
-AreTaken history =
+abbrev pub AnsweredAreTaken : List Moment → Type 0
+AnsweredAreTaken history =
     (b : ℕ) → IsSome (device_answer_of (entries_of history) b) → IsSome (request_of (entries_of history) b)
 
 -- a result that was found stays found
@@ -28,7 +28,7 @@ ResultsStay =
 abbrev pub LeavesStay : Type 0
 LeavesStay =
     (history later : List Moment) (b : ℕ) (r : BioResult)
-    → AreTaken history → result_of history b ≡ Some r → leaves (history ++ later) b ≡ leaves history b
+    → AnsweredAreTaken history → result_of history b ≡ Some r → leaves (history ++ later) b ≡ leaves history b
 
 -- what a history keeps of what was found
 pub record HistoriesKeep : Type 0 where

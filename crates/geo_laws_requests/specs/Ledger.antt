@@ -15,7 +15,7 @@ use Rattle.geo_model.specs.Step.{step}
 use Rattle.geo_model.specs.Log.{Moment, after_entry}
 use Rattle.geo_model.specs.Results.{cmd_before, entries_of, is_deliver_of, is_start_of, is_take_of, leaves, request_of, result_of, start_moment}
 use Rattle.geo_model.specs.History.{Acceptance, CompletesOnce, IsSuccess, is_reply_to}
-use Rattle.geo_laws_requests.specs.Histories.{names_bio, Never, AreTaken}
+use Rattle.geo_laws_requests.specs.Histories.{names_bio, Never, AnsweredAreTaken}
 use Rattle.geo_laws_steps.specs.WayLaws.{SameMap}
 use Rattle.geo_laws_requests.specs.Covering.{CoversThere, SameMaps}
 
@@ -109,7 +109,7 @@ AcceptsAreAccounted history w m =
 -- accounted for
 pub record Ledger (history : List Moment) (w : World) : Type 0 where
   pub fresh : (b : ℕ) → w.next_bio ≤ b → Never (names_bio b) history
-  pub taken : AreTaken history
+  pub taken : AnsweredAreTaken history
   pub live : All (IsLogged history w) w.bios
   pub accepted : All (AcceptsAreAccounted history w) history
 

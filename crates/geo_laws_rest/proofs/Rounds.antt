@@ -19,7 +19,7 @@ use Rattle.geo_model.proofs.LogLemmas.{Legal-append, replay-append}
 use Rattle.geo_model.proofs.RestLemmas.{pick-rest}
 use Rattle.geo_laws_steps.proofs.Logs.{firm_after}
 use Rattle.geo_laws_steps.proofs.Stepped.{steps_stay_firm}
-use Rattle.geo_laws_rest.specs.RestLaws.{Adds, LeadsTo, IsRound, IsRoundOf, FixedOrderEnds, OrdersEnd}
+use Rattle.geo_laws_rest.specs.RestLaws.{AddsToLog, LeadsTo, IsRound, IsRoundOf, FixedOrderEnds, OrdersEnd}
 use Rattle.geo_laws_rest.proofs.Picking.{IsGood, pick_good}
 use Rattle.geo_laws_rest.proofs.Quiet.{AreIdle, step_idle, take_idle}
 use Rattle.geo_laws_rest.proofs.Endless.{none_falls_for_ever}
@@ -97,7 +97,8 @@ made_enabled w (Ok made) o is = refl
 made_enabled w (Err found) o is = absurd is
 
 -- where entries of a round lead
-leads_on : (w : World) (s : Step) (added : List Entry) → Adds s added → Legal w added → LeadsTo w s (replay w added)
+leads_on : (w : World) (s : Step) (added : List Entry) → AddsToLog s added → Legal w added
+    → LeadsTo w s (replay w added)
 leads_on w (steps.Take disk b) added (got, taken, given, is) legal =
     let both = subst (Legal w) is legal in (
       got,

@@ -33,21 +33,21 @@ pub record IsRound (w v : World) : Type 0 where
   pub leads : LeadsTo w step v
 
 -- what a round adds to a log: the entry of its step by seat 0, and behind a Take that of the Deliver of an answer
-abbrev pub Adds : Step → List Entry → Type 0
-Adds (steps.Take disk b) added =
+abbrev pub AddsToLog : Step → List Entry → Type 0
+AddsToLog (steps.Take disk b) added =
     (got : DeviceResult) × (taken : Outcome) × (given : Outcome)
     × (added
     ≡ record { seat = 0; step = steps.Take disk b; outcome = taken }
     ∷ record { seat = 0; step = steps.Deliver b got; outcome = given }
     ∷ [])
-Adds s added = (outcome : Outcome) × (added ≡ record { seat = 0; step = s; outcome = outcome } ∷ [])
+AddsToLog s added = (outcome : Outcome) × (added ≡ record { seat = 0; step = s; outcome = outcome } ∷ [])
 
 -- one round of an order, from the one log to the other: the step that is due, and what disks answer
 pub record IsRoundOf (order : StepOrder) (opened : World) (earlier later : List Entry) : Type 0 where
   pub step : Step
   pub due : order (replay opened earlier) earlier ≡ Some step
   pub added : List Entry
-  pub adds : Adds step added
+  pub adds : AddsToLog step added
   pub legal : Legal (replay opened earlier) added
   pub is : later ≡ earlier ++ added
 

@@ -20,7 +20,7 @@ use Rattle.geo_model.specs.Script.{◌>>=◌, Words, any_number, beside, by_word
 use Rattle.geo_laws_texts.proofs.Clean.{IsClean, is_clean_byte, line_of}
 use Rattle.geo_laws_texts.proofs.Numbers.{number_read}
 use Rattle.geo_laws_scripts.specs.PlanTexts.{class_text, command_in_words}
-use Rattle.geo_laws_scripts.specs.ScriptLaws.{HasRoom}
+use Rattle.geo_laws_scripts.specs.ScriptLaws.{LineHasRoom}
 use Rattle.geo_laws_scripts.proofs.WordForms.{IsWordWithin, counts_read, counts_within, name_within, number_within, run_words, short_within}
 
 -- Lengths
@@ -68,7 +68,7 @@ pub record AreCommandWords (c : Command) (words : Words) : Type 0 where
   pub are : words ≡ first ∷ others
   pub clean : AllByRecursion IsClean (first ∷ others)
   pub reads : by_word command_table (first ∷ others) ≡ Ok c
-  pub long : (n : ℕ) → HasRoom c n → n ≤ 17 + length (line_of (first ∷ others)) → IsLength first n
+  pub long : (n : ℕ) → LineHasRoom c n → n ≤ 17 + length (line_of (first ∷ others)) → IsLength first n
 
 -- where there are few words, they leave room
 few : (ns : List ℕ) (words : Words) (first : List ℕ) → AreWithin ns words → room ns ≤ 238 → (n : ℕ)

@@ -20,8 +20,8 @@ use Rattle.geo_model.specs.Words.{first_error, same_name}
 use Rattle.geo_model.specs.World.{Plan}
 use Rattle.geo_model.specs.Script.{Words, add_actor, add_disk, beside, header_table, header_words, is_long, is_skipped, later_word, line_tests, next_line, sector_count, sector_size, words_line, words_of}
 use Rattle.geo_laws_texts.proofs.Clean.{IsClean, line_in_range, line_no_feed, line_of, none_empty, words_back}
-use Rattle.geo_laws_scripts.specs.PlanTexts.{actor_line, command_in_words, disk_in_words, disk_line, later_in_words, spaced}
-use Rattle.geo_laws_scripts.specs.ScriptLaws.{HasRoom}
+use Rattle.geo_laws_scripts.specs.PlanTexts.{actor_in_words, command_in_words, disk_in_words, disk_line, later_in_words, spaced}
+use Rattle.geo_laws_scripts.specs.ScriptLaws.{LineHasRoom}
 use Rattle.geo_laws_scripts.proofs.WordForms.{IsWordWithin, number_within, short_within}
 use Rattle.geo_laws_scripts.proofs.CommandWords.{AreCommandWords, AreWithin, IsLength, command_words, line_within, literal, ranged_read, room, words_clean}
 
@@ -227,7 +227,7 @@ disk_read d is plan next n few none adds = by d.kind refl is.sectors
 
 -- the line of an actor adds it
 pub actor_read : (name : List ℕ) → is_short_name name ≡ true
-    → AddsHeader (actor_line name) (λ plan next. add_actor plan name ≡ Ok next)
+    → AddsHeader (actor_in_words name) (λ plan next. add_actor plan name ≡ Ok next)
 actor_read name short plan next n few none adds =
     let within = actor_within name short in
     line_read plan next n (codes "actor") name [] few (words_clean actor_lengths (actor_line_words name) within)
@@ -280,12 +280,12 @@ with_command plan n actor c =
 -- the line of a command adds it
 pub command_read : (plan : Plan) (n actor : ℕ) (name : List ℕ) (c : Command) → n ≤ MAX_SCRIPT_LINES → IsActor name
     → position (same_name name) plan.actors ≡ Some actor → IsCommand c
-    → HasRoom c (length (spaced (name ∷ command_in_words c)))
+    → LineHasRoom c (length (spaced (name ∷ command_in_words c)))
     → next_line (Ok plan) (n, spaced (name ∷ command_in_words c)) ≡ Ok (with_command plan n actor c)
 command_read plan n actor name c few is place command fits =
     by (command_in_words c) (command_words c command) fits
   where
-    by : (words : Words) → AreCommandWords c words → HasRoom c (length (line_of (name ∷ words)))
+    by : (words : Words) → AreCommandWords c words → LineHasRoom c (length (line_of (name ∷ words)))
         → next_line (Ok plan) (n, line_of (name ∷ words)) ≡ Ok (with_command plan n actor c)
     by words are fits =
         let within = short_within name is.short in
@@ -295,8 +295,8 @@ command_read plan n actor name c few is place command fits =
         let long : length (line_of (name ∷ are.first ∷ are.others))
         ≡ length name + length (32 ∷ line_of (are.first ∷ are.others)) =
         length-append name (32 ∷ line_of (are.first ∷ are.others)) in
-        let room_for : HasRoom c (length (line_of (name ∷ are.first ∷ are.others))) =
-        subst (λ (l : List ℕ). HasRoom c (length l)) same fits in
+        let room_for : LineHasRoom c (length (line_of (name ∷ are.first ∷ are.others))) =
+        subst (λ (l : List ℕ). LineHasRoom c (length l)) same fits in
         let none : beside (header_table plan) name ≡ None =
         no_header plan name (not-true (list_any (same_name name) header_words) is.no_header_word) in
         ap (λ l. next_line (Ok plan) (n, l)) same
@@ -327,7 +327,7 @@ disk_unended d is = by d.kind is.sectors
         unended (shelf_lengths d.later) (shelf_line_words d.name d.sector d.later)
         (shelf_within d.name d.sector d.later is.name is.sector)
 
-pub actor_unended : (name : List ℕ) → is_short_name name ≡ true → IsUnended (actor_line name)
+pub actor_unended : (name : List ℕ) → is_short_name name ≡ true → IsUnended (actor_in_words name)
 actor_unended name short = unended actor_lengths (actor_line_words name) (actor_within name short)
 
 pub command_unended : (name : List ℕ) (c : Command) → is_short_name name ≡ true → IsCommand c

@@ -20,7 +20,7 @@ use Rattle.geo_model.specs.World.{Plan}
 use Rattle.geo_model.specs.Script.{◌>>=◌, Fault, Words, actor_line, add_command, at_line, beside, by_word, command_table, header_table, is_long, is_skipped, line_by, line_tests, next_line, plan_with_line, words_line, words_of}
 use Rattle.geo_laws_texts.proofs.Clean.{line_of, words_back}
 use Rattle.geo_laws_scripts.specs.PlanTexts.{command_in_words, command_line, command_lines, spaced}
-use Rattle.geo_laws_scripts.specs.ScriptLaws.{HasRoom, HeaderFits, ReadPlansHaveRoom, StandsBehind}
+use Rattle.geo_laws_scripts.specs.ScriptLaws.{HeaderFits, LineHasRoom, ReadPlansHaveRoom, StandsBehind}
 use Rattle.geo_laws_scripts.proofs.WordForms.{short_within}
 use Rattle.geo_laws_scripts.proofs.CommandWords.{AreCommandWords, IsLength, command_words}
 use Rattle.geo_laws_scripts.proofs.LinesRead.{name_shown, with_command}
@@ -84,7 +84,7 @@ not_write word other same =
     let is : same_name word (codes "write") ≡ true = (bytes_eq-Decides word (codes "write")).1 same in cc
 
 -- and so room for its command
-has_room : (c : Command) (n : ℕ) → IsLength (first_of_words (command_in_words c)) n → HasRoom c n
+has_room : (c : Command) (n : ℕ) → IsLength (first_of_words (command_in_words c)) n → LineHasRoom c n
 has_room (commands.Write h off bytes) n (inl short) = omega (arith, short)
 has_room (commands.Write h off bytes) n (inr both) = both.0
 has_room (commands.Concat name provs) n (inl short) = short
@@ -97,7 +97,7 @@ has_room _ n fits = tt
 command_fits : (plan next : Plan) (n : ℕ) (name : List ℕ) (c : Command) → IsActor name
     → AreCommandWords c (command_in_words c)
     → next_line (Ok plan) (n, spaced (name ∷ command_in_words c)) ≡ Ok next
-    → HasRoom c (length (spaced (name ∷ command_in_words c)))
+    → LineHasRoom c (length (spaced (name ∷ command_in_words c)))
 command_fits plan next n name c is are read =
     has_room c (length (spaced (name ∷ command_in_words c)))
     (subst (λ (ws : Words). IsLength (first_of_words ws) (length (line_of (name ∷ ws)))) (sym are.are)
@@ -137,7 +137,7 @@ lines_fit : (disks : List DiskDecl) (actors : List (List ℕ)) (done rest : List
     → All IsActor actors → AllPairs Differ actors → AllByRecursion (IsCommandLine (length actors)) rest → Rising n rest
     → fold next_line (Ok (record { disks = disks; actors = actors; commands = done }))
     (enumerate_from n (command_lines actors n rest)) ≡ Ok found
-    → AllByRecursion (λ c. HasRoom c.command (length (command_line actors c))) rest
+    → AllByRecursion (λ c. LineHasRoom c.command (length (command_line actors c))) rest
 lines_fit disks actors done [] n found are apart all up e = tt
 lines_fit disks actors done (c ∷ cs) n found are apart all up e =
     let plan : Plan = record { disks = disks; actors = actors; commands = done } in
@@ -282,7 +282,7 @@ read_plans_have_room plan is e =
     let whole = sym (header_read plan is) ∙ e in
     let header : HeaderFits plan = header_fits plan is plan.commands refl whole in (
       header,
-      All-from_recursion (λ c. HasRoom c.command (length (command_line plan.actors c))) plan.commands
+      All-from_recursion (λ c. LineHasRoom c.command (length (command_line plan.actors c))) plan.commands
           (lines_fit plan.disks plan.actors [] plan.commands (first_line plan) plan is.actors is.actor_names
           (recursion_from_All (IsCommandLine (length plan.actors)) plan.commands is.commands)
           (behind (length plan.disks + length plan.actors) plan.commands header is.lines) whole),

@@ -21,8 +21,8 @@ use Rattle.geo_model.specs.Plans.{Differ, IsActor, IsCommandLine, IsDiskDecl, Is
 use Rattle.geo_model.specs.Words.{same_name}
 use Rattle.geo_model.specs.World.{Plan}
 use Rattle.geo_model.specs.Script.{add_actor, add_disk, drop_empty_end, empty_plan, header_words, lines_of, next_line, script}
-use Rattle.geo_laws_scripts.specs.PlanTexts.{actor_line, command_line, command_lines, disk_line, plan_lines, plan_text}
-use Rattle.geo_laws_scripts.specs.ScriptLaws.{HasRoom, LinesFit, PlansAreRead, StandsBehind}
+use Rattle.geo_laws_scripts.specs.PlanTexts.{actor_in_words, command_line, command_lines, disk_line, plan_lines, plan_text}
+use Rattle.geo_laws_scripts.specs.ScriptLaws.{LineHasRoom, LinesFit, PlansAreRead, StandsBehind}
 use Rattle.geo_laws_scripts.proofs.LinesRead.{IsUnended, actor_read, actor_unended, command_read, command_unended, disk_read, disk_unended, turned, with_command}
 
 -- Lists
@@ -122,7 +122,7 @@ no_actor (x ∷ xs) name all =
 actors_read : (disks : List DiskDecl) (done rest : List (List ℕ)) (n : ℕ) (more : List (List ℕ))
     → length done + length rest ≤ MAX_ACTORS → n + length rest ≤ MAX_SCRIPT_LINES + 1 → AllByRecursion IsActor rest
     → AllPairs Differ (done ++ rest)
-    → fold next_line (Ok (of_header disks done)) (enumerate_from n (map actor_line rest ++ more))
+    → fold next_line (Ok (of_header disks done)) (enumerate_from n (map actor_in_words rest ++ more))
     ≡ fold next_line (Ok (of_header disks (done ++ rest))) (enumerate_from (n + length rest) more)
 actors_read disks done [] n more few lines all names =
     let same : n ≡ n + 0 = omega arith in
@@ -136,13 +136,14 @@ actors_read disks done (name ∷ rest) n more few lines all names =
     not_many MAX_ACTORS (length done) (length rest) (omega (arith, few)) in
     let added : add_actor (of_header disks done) name ≡ Ok (of_header disks (done ++ name ∷ [])) =
     rw (other, none, place) refl in
-    let step : next_line (Ok (of_header disks done)) (n, actor_line name) ≡ Ok (of_header disks (done ++ name ∷ [])) =
+    let step : next_line (Ok (of_header disks done)) (n, actor_in_words name)
+    ≡ Ok (of_header disks (done ++ name ∷ [])) =
     actor_read name all.0.short (of_header disks done) (of_header disks (done ++ name ∷ [])) n (omega (arith, lines))
     refl added in
     let grown = length-append done (name ∷ []) in
     let whole : (done ++ name ∷ []) ++ rest ≡ done ++ name ∷ rest = append_assoc done (name ∷ []) rest in
     let next : (n + 1) + length rest ≡ n + length (name ∷ rest) = omega arith in
-    ap (λ r. fold next_line r (enumerate_from (n + 1) (map actor_line rest ++ more))) step
+    ap (λ r. fold next_line r (enumerate_from (n + 1) (map actor_in_words rest ++ more))) step
     ∙ actors_read disks (done ++ name ∷ []) rest (n + 1) more (omega (arith, few, grown)) (omega (arith, lines)) all.1
     (subst (AllPairs Differ) (sym whole) names)
     ∙ ap (λ xs. fold next_line (Ok (of_header disks xs)) (enumerate_from ((n + 1) + length rest) more)) whole
@@ -178,7 +179,7 @@ blank plan (suc k) n more =
 -- a command that can be written for the actors
 pub record IsWritable (actors : List (List ℕ)) (c : LineCommand) : Type 0 where
   pub is : IsCommandLine (length actors) c
-  pub fits : HasRoom c.command (length (command_line actors c))
+  pub fits : LineHasRoom c.command (length (command_line actors c))
 
 -- lines that rise from a number on
 abbrev pub Rising : ℕ → List LineCommand → Type 0
@@ -251,7 +252,7 @@ disks_unended [] all = tt
 disks_unended (d ∷ ds) all = (disk_unended d all.0, disks_unended ds all.1)
 
 actors_unended : (actors : List (List ℕ)) → AllByRecursion IsActor actors
-    → AllByRecursion IsUnended (map actor_line actors)
+    → AllByRecursion IsUnended (map actor_in_words actors)
 actors_unended [] all = tt
 actors_unended (name ∷ names) all = (actor_unended name all.0.short, actors_unended names all.1)
 
@@ -308,13 +309,14 @@ header_read plan is =
     let last : List (List ℕ) = command_lines plan.actors (first_line plan) plan.commands in
     let reached : (1 + length plan.disks) + length plan.actors ≡ first_line plan = omega arith in
     let unended : AllByRecursion IsUnended (plan_lines plan) =
-    all_appended IsUnended (map disk_line plan.disks ++ map actor_line plan.actors) last
-    (all_appended IsUnended (map disk_line plan.disks) (map actor_line plan.actors) (disks_unended plan.disks disks)
+    all_appended IsUnended (map disk_line plan.disks ++ map actor_in_words plan.actors) last
+    (all_appended IsUnended (map disk_line plan.disks) (map actor_in_words plan.actors) (disks_unended plan.disks disks)
     (actors_unended plan.actors actors))
     (commands_unended plan.actors (first_line plan) plan.commands is.actors commands) in
     ap (λ ls. fold next_line (Ok empty_plan) (enumerate_from 1 ls))
-    (lines_back (plan_lines plan) unended ∙ append_assoc (map disk_line plan.disks) (map actor_line plan.actors) last)
-    ∙ disks_read [] plan.disks 1 (map actor_line plan.actors ++ last) (omega (arith, few_disks))
+    (lines_back (plan_lines plan) unended
+    ∙ append_assoc (map disk_line plan.disks) (map actor_in_words plan.actors) last)
+    ∙ disks_read [] plan.disks 1 (map actor_in_words plan.actors ++ last) (omega (arith, few_disks))
     (omega (arith, few_disks))
     disks is.disk_names
     ∙ actors_read plan.disks [] plan.actors (1 + length plan.disks) last (omega (arith, few_actors))

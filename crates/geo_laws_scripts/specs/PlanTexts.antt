@@ -36,8 +36,8 @@ abbrev pub disk_line : DiskDecl → List ℕ
 disk_line d = spaced (disk_in_words d.kind d)
 
 -- `actor NAME`
-abbrev pub actor_line : List ℕ → List ℕ
-actor_line name = spaced (codes "actor" ∷ name ∷ [])
+abbrev pub actor_in_words : List ℕ → List ℕ
+actor_in_words name = spaced (codes "actor" ∷ name ∷ [])
 
 -- Commands
 
@@ -158,7 +158,7 @@ command_lines actors from (c ∷ cs) =
 
 -- the lines of the header
 abbrev pub header_lines : Plan → List (List ℕ)
-header_lines plan = map disk_line plan.disks ++ map actor_line plan.actors
+header_lines plan = map disk_line plan.disks ++ map actor_in_words plan.actors
 
 abbrev pub plan_lines : Plan → List (List ℕ)
 plan_lines plan =

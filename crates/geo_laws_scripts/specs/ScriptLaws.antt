@@ -19,15 +19,15 @@ abbrev pub HeaderFits : Plan → Type 0
 HeaderFits plan = StandsBehind (length plan.disks + length plan.actors) plan.commands
 
 -- a line of so many bytes has room for the command: only a `write`, a `concat` and a `stripe` can be too long
-abbrev pub HasRoom : Command → ℕ → Type 0
-HasRoom (commands.Write h off bytes) len = len ≤ MAX_WRITE_LINE_BYTES
-HasRoom (commands.Concat name provs) len = len ≤ MAX_LINE_BYTES
-HasRoom (commands.Stripe name stripe provs) len = len ≤ MAX_LINE_BYTES
-HasRoom _ len = ⊤
+abbrev pub LineHasRoom : Command → ℕ → Type 0
+LineHasRoom (commands.Write h off bytes) len = len ≤ MAX_WRITE_LINE_BYTES
+LineHasRoom (commands.Concat name provs) len = len ≤ MAX_LINE_BYTES
+LineHasRoom (commands.Stripe name stripe provs) len = len ≤ MAX_LINE_BYTES
+LineHasRoom _ len = ⊤
 
 -- no command's line is longer than a script's may be
 abbrev pub LinesFit : Plan → Type 0
-LinesFit plan = All (λ c. HasRoom c.command (length (command_line plan.actors c))) plan.commands
+LinesFit plan = All (λ c. LineHasRoom c.command (length (command_line plan.actors c))) plan.commands
 
 -- a plan whose text has room for its header and its commands is read from that text
 abbrev pub PlansAreRead : Type 0

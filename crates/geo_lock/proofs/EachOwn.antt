@@ -1,7 +1,7 @@
 -- The whole log, by the numbers of the passes.
 use Rattle.std.proofs.Common.{◌≡◌, ℕ, zero, suc, List, [], ◌∷◌, filter, eqb, Bool, true, false, All, Any, Contains, slice_index_or, sym, refl, ap, ◌∙◌, subst, arith, eq-eqb}
 use Rattle.std.proofs.lemmas.List.Elements.{All-contains, Contains-get_or}
-use Rattle.geo_lock.specs.Logged.{entries_of}
+use Rattle.geo_lock.specs.Logged.{entries_with_seat}
 use Rattle.geo_lock.specs.Pass.{PassView, IsGoodIn}
 use Rattle.geo_lock.specs.Whole.{EachIsOwn}
 
@@ -29,7 +29,7 @@ each_is_own {B} {E} of ps log good numbers k d lt =
     All-contains (λ (q : PassView B E). IsGoodIn of q log) ps p good (some.0, some.2, some.3) in
     let mine : Contains p.own e =
     subst (λ l. Contains l e) its.own
-    (subst (λ n. Contains (entries_of of n log) e) (sym some.4)
+    (subst (λ n. Contains (entries_with_seat of n log) e) (sym some.4)
     (contains_filter (λ (x : E). eqb (of x) (of e)) log e (eq-eqb (of e) (of e) refl) here)) in
     (some.0, some.1, some.2, some.3, (some.4, mine))
 

@@ -12,7 +12,7 @@ use Rattle.atomic_table.specs.Table.{State, Me, step, keeps, takes, gives, stepp
 use Rattle.atomic_table.proofs.Lists.{at_set, set_here, set_else, set_again, at_longer}
 use Rattle.geo_lock.specs.declared.view.View.{View}
 use Rattle.geo_lock.specs.declared.claim.Claim.{Claim}
-use Rattle.geo_lock.specs.Logged.{entries_of, Grows}
+use Rattle.geo_lock.specs.Logged.{entries_with_seat, Grows}
 use Rattle.geo_lock.specs.View.{first_number, nobody, opening_view, one_more, newcomer, together, in_turn, out_of_turn}
 use Rattle.geo_lock.specs.Turns.{IsClaimOf, Knows, Placed, IsKept, TakesTurn, GivesTurn, Ends}
 use Rattle.geo_lock.proofs.Prefixes.{prefix_self, prefix_trans, at_bound, at_end, at_either, at_only, prefix_none}
@@ -112,9 +112,9 @@ module _ {L B E : Type 0} (start : L → B) (log : L → List E) (lawful : B →
               law = subst (λ (t : B × List E). lawful t.0 t.1) (λ i. (sym p.1.2 i, sym now i)) r.law;
               small = subst (λ (z : List E). length z ≤ 2 ^ 62) (sym now) r.small;
               word = word ∙ ap (λ (z : List E). 2 * length z) (sym now);
-              own = λ d e. ap (λ (z : List E). entries_of seat_of d.number z) now ∙ (k.claims 0 d e).entries;
+              own = λ d e. ap (λ (z : List E). entries_with_seat seat_of d.number z) now ∙ (k.claims 0 d e).entries;
               none_more = λ d e z n above. let count : v.made ≡ r.made = (k.claims 0 d e).count z in
-                  ap (λ (z : List E). entries_of seat_of n z) now ∙ r.unmade n (omega arith);
+                  ap (λ (z : List E). entries_with_seat seat_of n z) now ∙ r.unmade n (omega arith);
               below = λ d e z. let count : v.made ≡ r.made = (k.claims 0 d e).count z in
                   let under : d.number < r.made = (k.claims 0 d e).below in omega arith;
             },
@@ -206,7 +206,7 @@ module _ {L B E : Type 0} (start : L → B) (log : L → List E) (lawful : B →
               turn = λ t. absurd (ne ((o.turn t).1 ∙ sym (k.turn on).1));
               claims = λ i q f. let l : IsClaimOf seat_of r.h r.made r.owner j d.made q = o.claims i q f in record {
                 entries = grows.others q.number (λ same. ne (sym l.owned ∙ (ap r.owner same ∙ mine.owned)))
-                    ∙ (ap (λ (z : List E). entries_of seat_of q.number z) whole ∙ l.entries);
+                    ∙ (ap (λ (z : List E). entries_with_seat seat_of q.number z) whole ∙ l.entries);
                 among = l.among;
                 prefix = prefix_trans q.seen r.h (log x) l.prefix longer;
                 owned = l.owned;
@@ -215,7 +215,7 @@ module _ {L B E : Type 0} (start : L → B) (log : L → List E) (lawful : B →
               };
             });
         unmade = λ n above. grows.others n (λ same. let under : c.number < r.made = mine.below in
-            absurd (omega arith)) ∙ (ap (λ (z : List E). entries_of seat_of n z) whole ∙ r.unmade n above);
+            absurd (omega arith)) ∙ (ap (λ (z : List E). entries_with_seat seat_of n z) whole ∙ r.unmade n above);
       }
 
   pub leaves : (slots id : ℕ) (v : V) (x : L) (c : Claim E) (new : ℕ) → v.turn ≡ true → v.claims ≡ c ∷ [] → (b : B)
@@ -501,11 +501,11 @@ module _ {L B E : Type 0} (start : L → B) (log : L → List E) (lawful : B →
         law = subst (λ (z : List E). lawful from z) (sym p.1.3) r.law;
         seen = subst (λ (z : List E). IsPrefix v.seen z) (sym p.1.3) k.seen;
         claims = λ i d e. (
-          ap (λ (z : List E). entries_of seat_of d.number z) p.1.3 ∙ (k.claims i d e).entries,
+          ap (λ (z : List E). entries_with_seat seat_of d.number z) p.1.3 ∙ (k.claims i d e).entries,
           subst (λ (z : List E). IsPrefix d.seen z) (sym p.1.3) (k.claims i d e).prefix,
           (k.claims i d e).among,
         );
-        unmade = λ n above. ap (λ (z : List E). entries_of seat_of n z) p.1.3 ∙ r.unmade n (omega arith);
+        unmade = λ n above. ap (λ (z : List E). entries_with_seat seat_of n z) p.1.3 ∙ r.unmade n (omega arith);
       }
 
   pub closes : (id : ℕ) (v : V) → v.turn ≡ false

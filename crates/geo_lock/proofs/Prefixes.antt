@@ -6,7 +6,7 @@ use lib.ListN.{get_elem?}
 use Rattle.std.proofs.lemmas.List.{append-nil, append_assoc}
 use Rattle.std.proofs.lemmas.List.Elements.{filter-append}
 use Rattle.std.proofs.lemmas.Option.{same_Some}
-use Rattle.geo_lock.specs.Logged.{entries_of, Grows}
+use Rattle.geo_lock.specs.Logged.{entries_with_seat, Grows}
 
 module _ {A : Type 0} where
   pub prefix_self : (xs : List A) → IsPrefix xs xs
@@ -53,13 +53,13 @@ rest_none true a xs e = absurd (not_nothing a xs e)
 rest_none false a xs e = e
 
 module _ {E : Type 0} (seat_of : E → ℕ) where
-  other_entry : (n : ℕ) (e : E) → n ≢ seat_of e → entries_of seat_of n (e ∷ []) ≡ []
+  other_entry : (n : ℕ) (e : E) → n ≢ seat_of e → entries_with_seat seat_of n (e ∷ []) ≡ []
   other_entry n e ne = rw (ne_eqb (seat_of e) n (λ h. ne (sym h))) refl
 
   pub own_entry : (n : ℕ) (e : E) → seat_of e ≡ n → (h : List E)
-      → entries_of seat_of n (h ++ e ∷ []) ≡ entries_of seat_of n h ++ e ∷ []
+      → entries_with_seat seat_of n (h ++ e ∷ []) ≡ entries_with_seat seat_of n h ++ e ∷ []
   own_entry n e is h = filter-append (λ (x : E). eqb (seat_of x) n) h (e ∷ [])
-      ∙ ap (λ (z : List E). entries_of seat_of n h ++ z) (rw (eq-eqb (seat_of e) n is) refl)
+      ∙ ap (λ (z : List E). entries_with_seat seat_of n h ++ z) (rw (eq-eqb (seat_of e) n is) refl)
 
   pub grows_none : (n : ℕ) (h : List E) → Grows seat_of n h h
   grows_none n h = record { longer = prefix_self h; others = λ m ne. refl }
@@ -68,26 +68,26 @@ module _ {E : Type 0} (seat_of : E → ℕ) where
   grows_one n h e is = record {
     longer = prefix_more h (e ∷ []);
     others = λ m ne. filter-append (λ (x : E). eqb (seat_of x) m) h (e ∷ [])
-        ∙ (ap (λ (z : List E). entries_of seat_of m h ++ z) (other_entry m e (λ s. ne (s ∙ is)))
-        ∙ append-nil (entries_of seat_of m h));
+        ∙ (ap (λ (z : List E). entries_with_seat seat_of m h ++ z) (other_entry m e (λ s. ne (s ∙ is)))
+        ∙ append-nil (entries_with_seat seat_of m h));
   }
 
   nothing_first : (xs ys : List E) → xs ++ ys ≡ [] → xs ≡ []
   nothing_first [] ys e = refl
   nothing_first (x ∷ xs) ys e = absurd (cc e)
 
-  pub prefix_none : (n : ℕ) (xs ys : List E) → IsPrefix xs ys → entries_of seat_of n ys ≡ []
-      → entries_of seat_of n xs ≡ []
-  prefix_none n xs ys p none_there = nothing_first (entries_of seat_of n xs) (entries_of seat_of n p.0)
+  pub prefix_none : (n : ℕ) (xs ys : List E) → IsPrefix xs ys → entries_with_seat seat_of n ys ≡ []
+      → entries_with_seat seat_of n xs ≡ []
+  prefix_none n xs ys p none_there = nothing_first (entries_with_seat seat_of n xs) (entries_with_seat seat_of n p.0)
       (sym (filter-append (λ (x : E). eqb (seat_of x) n) xs p.0)
-      ∙ (ap (λ (z : List E). entries_of seat_of n z) p.1 ∙ none_there))
+      ∙ (ap (λ (z : List E). entries_with_seat seat_of n z) p.1 ∙ none_there))
 
   -- where a number has no entry, none of the entries has it
-  pub none_has : (n : ℕ) (h : List E) (k : ℕ) (e : E) → entries_of seat_of n h ≡ [] → slice_get h k ≡ Some e
+  pub none_has : (n : ℕ) (h : List E) (k : ℕ) (e : E) → entries_with_seat seat_of n h ≡ [] → slice_get h k ≡ Some e
       → seat_of e ≢ n
   none_has n [] k e none_there at same = absurd (cc at)
   none_has n (x ∷ h) zero e none_there at same = let is : seat_of x ≡ n = ap seat_of (same_Some x e at) ∙ same in
-      absurd (not_nothing x (entries_of seat_of n h)
-      (sym (ap (λ (b : Bool). keep_if b x (entries_of seat_of n h)) (eq-eqb (seat_of x) n is)) ∙ none_there))
+      absurd (not_nothing x (entries_with_seat seat_of n h)
+      (sym (ap (λ (b : Bool). keep_if b x (entries_with_seat seat_of n h)) (eq-eqb (seat_of x) n is)) ∙ none_there))
   none_has n (x ∷ h) (suc k) e none_there at same =
-      none_has n h k e (rest_none (eqb (seat_of x) n) x (entries_of seat_of n h) none_there) at same
+      none_has n h k e (rest_none (eqb (seat_of x) n) x (entries_with_seat seat_of n h) none_there) at same

@@ -6,7 +6,7 @@ use lib.ListN.{get_elem?}
 use Rattle.atomic_table.specs.Table.{Me}
 use Rattle.geo_lock.specs.declared.view.View.{View}
 use Rattle.geo_lock.specs.declared.claim.Claim.{Claim}
-use Rattle.geo_lock.specs.Logged.{entries_of, Grows}
+use Rattle.geo_lock.specs.Logged.{entries_with_seat, Grows}
 use Rattle.geo_lock.specs.View.{a_claim, first_number, a_view, one_more, newcomer, in_turn, out_of_turn}
 use Rattle.geo_lock.specs.Turns.{Found}
 use Rattle.geo_lock.specs.Logged.{lacks_memory}
@@ -65,11 +65,11 @@ module _ {S B E : Type 0} (lawful : B → List E → Type 0) (seat_of : E
         subst (λ (m : Me S (View B E)). Sound number made m) (sym is) record {
           me_is = λ i. (
             a_view (start_is i) after
-                (a_claim (same i) (entries_of seat_of (first_number me.0.claims) after) after ∷ [])
+                (a_claim (same i) (entries_with_seat seat_of (first_number me.0.claims) after) after ∷ [])
                 (made_is i) false,
             [],
           );
-          own = ap (λ (n : ℕ). entries_of seat_of n after) (sym same);
+          own = ap (λ (n : ℕ). entries_with_seat seat_of n after) (sym same);
           law = law;
           none_more = λ z. let under : number < me.0.made = f.below claim at z in let count = made_is in (
             omega arith,
@@ -92,8 +92,8 @@ module _ {L E O R : Type 0} (log : L → List E) (seat_of : E → ℕ) (number :
 module _ {L B E O R : Type 0} (log : L → List E) (seat_of : E → ℕ) (is_no_memory : R
     → Bool) (number : ℕ) (entry : O → E) (x y : L) where
   pub makes : ((o : O) → seat_of (entry o) ≡ number) → (answer : List E → Result O R) (p q : PassView B E)
-      → IsPrefix p.seen (log x) → entries_of seat_of number (log x) ≡ p.own → q.seen ≡ log y
-      → q.own ≡ entries_of seat_of number (log y)
+      → IsPrefix p.seen (log x) → entries_with_seat seat_of number (log x) ≡ p.own → q.seen ≡ log y
+      → q.own ≡ entries_with_seat seat_of number (log y)
       → (res : Result O R) → IfOk res (λ o. log y ≡ log x ++ entry o ∷ [])
       → (lacks_memory is_no_memory res ≡ false → res ≡ answer (log x))
       → IfOk res (λ o. Makes p q (entry o) (λ before. Ok o ≡ answer before))
@@ -102,7 +102,7 @@ module _ {L B E O R : Type 0} (log : L → List E) (seat_of : E → ℕ) (is_no_
     ends = saw ∙ grew;
     longer = longer;
     one_more = has
-        ∙ (ap (λ (z : List E). entries_of seat_of number z) grew
+        ∙ (ap (λ (z : List E). entries_with_seat seat_of number z) grew
         ∙ (own_entry seat_of number (entry o) (seats o) (log x) ∙ ap (λ (z : List E). z ++ entry o ∷ []) own));
     answers = answers refl;
   }
@@ -112,11 +112,11 @@ module _ {L B E O R : Type 0} (log : L → List E) (seat_of : E → ℕ) (is_no_
 -- the state's test says so
 module _ {L B E O R : Type 0} (log : L → List E) (seat_of : E → ℕ) (is_no_memory : R
     → Bool) (number : ℕ) (x y : L) where
-  pub unmade : (p q : PassView B E) → entries_of seat_of number (log x) ≡ p.own
-      → q.own ≡ entries_of seat_of number (log y) → (res : Result O R) → IfErr res (λ _. y ≡ x)
+  pub unmade : (p q : PassView B E) → entries_with_seat seat_of number (log x) ≡ p.own
+      → q.own ≡ entries_with_seat seat_of number (log y) → (res : Result O R) → IfErr res (λ _. y ≡ x)
       → IfErr res (λ _. q.own ≡ p.own)
   unmade p q own has (Ok o) same = tt
-  unmade p q own has (Err e) same = has ∙ (ap (λ (z : L). entries_of seat_of number (log z)) same ∙ own)
+  unmade p q own has (Err e) same = has ∙ (ap (λ (z : L). entries_with_seat seat_of number (log z)) same ∙ own)
 
   pub refused : (answer : List E → Result O R) (q : PassView B E) → q.seen ≡ log y → (res : Result O R)
       → IfErr res (λ _. y ≡ x) → (lacks_memory is_no_memory res ≡ false → res ≡ answer (log x))

@@ -3,8 +3,8 @@ use Rattle.std.specs.Prelude.{◌≡◌, ℕ, List, filter, eqb, Bool, false, Re
 use mathlib.Core.List.{IsPrefix}
 
 -- the entries of a seat, in order
-abbrev pub entries_of : {E : Type 0} → (E → ℕ) → ℕ → List E → List E
-entries_of seat_of n log = filter (λ e. eqb (seat_of e) n) log
+abbrev pub entries_with_seat : {E : Type 0} → (E → ℕ) → ℕ → List E → List E
+entries_with_seat seat_of n log = filter (λ e. eqb (seat_of e) n) log
 
 -- is it a refusal for want of memory
 abbrev pub lacks_memory : {O R : Type 0} → (R → Bool) → Result O R → Bool
@@ -14,4 +14,4 @@ lacks_memory is_no_memory (Err r) = is_no_memory r
 -- the log grew, if at all, by entries of one seat
 pub record Grows {E : Type 0} (seat_of : E → ℕ) (number : ℕ) (before after : List E) : Type 0 where
   pub longer : IsPrefix before after
-  pub others : (n : ℕ) → (n ≡ number → ⊥) → entries_of seat_of n after ≡ entries_of seat_of n before
+  pub others : (n : ℕ) → (n ≡ number → ⊥) → entries_with_seat seat_of n after ≡ entries_with_seat seat_of n before

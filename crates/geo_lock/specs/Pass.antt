@@ -6,7 +6,7 @@ use Rattle.atomic_table.specs.Seated.{TableId}
 use Rattle.atomic_table.specs.Table.{Me}
 use Rattle.geo_lock.specs.declared.claim.Claim.{Claim}
 use Rattle.geo_lock.specs.declared.view.View.{View}
-use Rattle.geo_lock.specs.Logged.{entries_of}
+use Rattle.geo_lock.specs.Logged.{entries_with_seat}
 use Rattle.geo_lock.specs.View.{a_claim, resting}
 
 -- the yard, the start of its state, the pass's number, what it has seen of the log, its own entries, and for the pass
@@ -32,8 +32,8 @@ module _ {B E : Type 0} where
   -- them among what it has seen
   pub record IsGoodIn (seat_of : E → ℕ) (p : PassView B E) (log : List E) : Type 0 where
     pub seen : IsPrefix p.seen log
-    pub own : entries_of seat_of p.number log ≡ p.own
-    pub own_seen : entries_of seat_of p.number p.seen ≡ p.own
+    pub own : entries_with_seat seat_of p.number log ≡ p.own
+    pub own_seen : entries_with_seat seat_of p.number p.seen ≡ p.own
 
   -- the pass is good in what it has seen, and that is lawful from its start
   pub record IsGood (lawful : B → List E → Type 0) (seat_of : E → ℕ) (p : PassView B E) : Type 0 where
@@ -51,6 +51,6 @@ module _ {B E : Type 0} where
 pub record IsSound {S B E : Type 0} (lawful : B → List E → Type 0) (seat_of : E
     → ℕ) (b : B) (number made : ℕ) (me : Me S (View B E)) : Type 0 where
   pub me_is : me ≡ (resting b number (own_of me.0.claims) me.0.seen made, [])
-  pub own : entries_of seat_of number me.0.seen ≡ own_of me.0.claims
+  pub own : entries_with_seat seat_of number me.0.seen ≡ own_of me.0.claims
   pub law : lawful b me.0.seen
-  pub none_more : number ≡ 0 → (0 < made) × ((n : ℕ) → made ≤ n → entries_of seat_of n me.0.seen ≡ [])
+  pub none_more : number ≡ 0 → (0 < made) × ((n : ℕ) → made ≤ n → entries_with_seat seat_of n me.0.seen ≡ [])

@@ -21,9 +21,9 @@ fits log n = ltb (total log + n) (2 ^ 64) && ltb (length log) (2 ^ 32)
 abbrev pub tally_answer : List Added → ℕ → Result ℕ TallyRefusal
 tally_answer log n = if fits log n then Ok (total log + n) else Err Full
 
-abbrev pub is_want : TallyRefusal → Bool
-is_want Full = false
-is_want NoMemory = true
+abbrev pub wants_memory : TallyRefusal → Bool
+wants_memory Full = false
+wants_memory NoMemory = true
 
 -- is a number refused, with no memory taken, since it doesn't fit
 abbrev pub is_refused : List Added → ℕ → Bool

@@ -7,7 +7,7 @@ use lib.ListN.{get_elem?}
 use Rattle.atomic_table.specs.Table.{State, Me, Step}
 use Rattle.geo_lock.specs.declared.claim.Claim.{Claim}
 use Rattle.geo_lock.specs.declared.view.View.{View}
-use Rattle.geo_lock.specs.Logged.{entries_of}
+use Rattle.geo_lock.specs.Logged.{entries_with_seat}
 use Rattle.geo_lock.specs.View.{in_turn, out_of_turn}
 
 module _ {E : Type 0} where
@@ -15,9 +15,9 @@ module _ {E : Type 0} where
   -- made, and `owner` says which view has the claim of each number
   pub record IsClaimOf (seat_of : E → ℕ) (h : List E) (made : ℕ) (owner : ℕ
       → ℕ) (j counted : ℕ) (c : Claim E) : Type 0 where
-    pub entries : entries_of seat_of c.number h ≡ c.own
+    pub entries : entries_with_seat seat_of c.number h ≡ c.own
     pub prefix : IsPrefix c.seen h
-    pub among : entries_of seat_of c.number c.seen ≡ c.own
+    pub among : entries_with_seat seat_of c.number c.seen ≡ c.own
     pub owned : owner c.number ≡ j
     pub below : c.number < made
     pub count : c.number ≡ 0 → counted ≡ made
@@ -54,7 +54,7 @@ module _ {L B E : Type 0} (start : L → B) (log : L → List E) (lawful : B →
     pub placed : Placed from h holder s busy
     pub each_view : (j : ℕ) (v : View B E) → get_elem? s.views j ≡ some v
         → Knows lawful seat_of from h made owner busy holder j v
-    pub unmade : (n : ℕ) → made ≤ n → entries_of seat_of n h ≡ []
+    pub unmade : (n : ℕ) → made ≤ n → entries_with_seat seat_of n h ≡ []
 
   -- what a pass with this view finds in the slot, where the word was `found`
   pub record Found (v : View B E) (found : ℕ) (x : L) : Type 0 where
@@ -63,9 +63,9 @@ module _ {L B E : Type 0} (start : L → B) (log : L → List E) (lawful : B →
     pub law : lawful (start x) (log x)
     pub small : length (log x) ≤ 2 ^ 62
     pub word : found ≡ 2 * length (log x)
-    pub own : (c : Claim E) → get_elem? v.claims 0 ≡ some c → entries_of seat_of c.number (log x) ≡ c.own
+    pub own : (c : Claim E) → get_elem? v.claims 0 ≡ some c → entries_with_seat seat_of c.number (log x) ≡ c.own
     pub none_more : (c : Claim E) → get_elem? v.claims 0 ≡ some c → c.number ≡ 0 → (n : ℕ) → v.made ≤ n
-        → entries_of seat_of n (log x) ≡ []
+        → entries_with_seat seat_of n (log x) ≡ []
     pub below : (c : Claim E) → get_elem? v.claims 0 ≡ some c → c.number ≡ 0 → c.number < v.made
 
   abbrev pub Seat : Type 0
@@ -84,9 +84,9 @@ module _ {L B E : Type 0} (start : L → B) (log : L → List E) (lawful : B →
     pub law : lawful from (log state)
     pub seen : IsPrefix v.seen (log state)
     pub claims : (i : ℕ) (c : Claim E) → get_elem? v.claims i ≡ some c
-        → (entries_of seat_of c.number (log state) ≡ c.own) × IsPrefix c.seen (log state)
-        × (entries_of seat_of c.number c.seen ≡ c.own)
-    pub unmade : (n : ℕ) → v.made ≤ n → entries_of seat_of n (log state) ≡ []
+        → (entries_with_seat seat_of c.number (log state) ≡ c.own) × IsPrefix c.seen (log state)
+        × (entries_with_seat seat_of c.number c.seen ≡ c.own)
+    pub unmade : (n : ℕ) → v.made ≤ n → entries_with_seat seat_of n (log state) ≡ []
 
 module _ {L B E : Type 0} (log : L → List E) (seat_of : E → ℕ) where
   -- the pass is out of turn, and has seen the log of the state that it put back

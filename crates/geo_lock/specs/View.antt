@@ -2,7 +2,7 @@
 use Rattle.std.specs.Prelude.{ℕ, ◌+◌, List, [], ◌∷◌, ◌++◌, Bool, true, false, Option, Some, None}
 use Rattle.geo_lock.specs.declared.claim.Claim.{Claim}
 use Rattle.geo_lock.specs.declared.view.View.{View}
-use Rattle.geo_lock.specs.Logged.{entries_of}
+use Rattle.geo_lock.specs.Logged.{entries_with_seat}
 
 module _ {E : Type 0} where
   abbrev pub a_claim : ℕ → List E → List E → Claim E
@@ -51,4 +51,4 @@ module _ {B E : Type 0} where
   -- out of turn, with the log seen and its own entries in it
   abbrev pub out_of_turn : (E → ℕ) → View B E → List E → View B E
   out_of_turn seat_of v h = let n = first_number v.claims in
-      a_view v.start h (a_claim n (entries_of seat_of n h) h ∷ []) v.made false
+      a_view v.start h (a_claim n (entries_with_seat seat_of n h) h ∷ []) v.made false

@@ -76,7 +76,7 @@ impl Logged for Tally {
     type Refusal = TallyRefusal;
 
     ghost use Rattle.std.specs.Prelude.{◌≡◌, ◌≤◌, ◌^◌, length, refl};
-    ghost use Rattle.geo_lock.specs.Tally.{IsSummedFrom, tally_answer, is_want, is_refused};
+    ghost use Rattle.geo_lock.specs.Tally.{IsSummedFrom, tally_answer, wants_memory, is_refused};
 
     ghost start = { λ _. tt };
 
@@ -90,7 +90,7 @@ impl Logged for Tally {
 
     ghost answer = { λ _ log _ step. tally_answer log step };
 
-    ghost is_no_memory = { is_want };
+    ghost is_no_memory = { wants_memory };
 
     ghost takes_no_memory = { λ _ log _ step. is_refused log step };
 

@@ -3,8 +3,8 @@ use Rattle.std.specs.Prelude.{◌≡◌, ℕ, zero, suc, ◌<◌, List, [], ◌�
 use Rattle.std.specs.Option.{option_and_then}
 use Rattle.std.proofs.Common.{refl, ap, ◌∙◌, arith}
 use Rattle.geo_model.specs.declared.step.BioResult.TheVariants as results
-use Rattle.geo_log.specs.Places.{delivered, bytes_of_step}
-use Rattle.geo_log.specs.PlaceLaws.{PlacesStay, DeliveredHasPlace, DeliveredIsResult}
+use Rattle.geo_log.specs.Places.{bytes_delivered, bytes_of_step}
+use Rattle.geo_log.specs.PlaceLaws.{BytesStay, DeliveredHasPlace, DeliveredIsResult}
 
 module _ {T : Type 0} where
   -- what stands at a place stays there where more comes behind
@@ -19,12 +19,12 @@ module _ {T : Type 0} where
   slice_get-seam (x ∷ xs) ys y = slice_get-seam xs ys y
 
 -- the bytes of a place stay
-pub places_stay : PlacesStay
-places_stay log more place within = ap (option_and_then delivered) (slice_get-more log more place within)
+pub places_stay : BytesStay
+places_stay log more place within = ap (option_and_then bytes_delivered) (slice_get-more log more place within)
 
 -- an entry's bytes stand at its place
 pub delivered_has_place : DeliveredHasPlace
-delivered_has_place log more e = ap (option_and_then delivered) (slice_get-seam log more e)
+delivered_has_place log more e = ap (option_and_then bytes_delivered) (slice_get-seam log more e)
 
 -- what was delivered is the result
 pub delivered_is_result : DeliveredIsResult

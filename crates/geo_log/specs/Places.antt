@@ -18,9 +18,9 @@ bytes_of_step (steps.Deliver bio got) = bytes_of_answer got
 bytes_of_step _ = None
 
 -- the bytes that an entry delivered
-abbrev pub delivered : Entry → Option (List ℕ)
-delivered e = bytes_of_step e.step
+abbrev pub bytes_delivered : Entry → Option (List ℕ)
+bytes_delivered e = bytes_of_step e.step
 
 -- the bytes that the entry of a place delivered
 abbrev pub delivered_at : List Entry → ℕ → Option (List ℕ)
-delivered_at log place = option_and_then delivered (slice_get log place)
+delivered_at log place = option_and_then bytes_delivered (slice_get log place)

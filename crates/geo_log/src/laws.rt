@@ -1,10 +1,10 @@
 //! What the places of a log keep while it grows.
-ghost use Rattle.geo_log.specs.PlaceLaws.{PlacesStay, DeliveredHasPlace, DeliveredIsResult};
+ghost use Rattle.geo_log.specs.PlaceLaws.{BytesStay, DeliveredHasPlace, DeliveredIsResult};
 
 /// The bytes of a place stay while the log grows.
 #[tactic(auto, using(crate::proofs::PlaceLemmas::places_stay))]
 pub fn places_stay()
-    ensures { PlacesStay }
+    ensures { BytesStay }
 {}
 
 /// What an entry delivers stands at its place, and no other entry stands there.

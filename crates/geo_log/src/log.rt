@@ -1,6 +1,6 @@
 //! The entries of the log, and the bytes that were delivered.
 ghost use Rattle.std.specs.Prelude.{◌≡◌, ◌+◌, ◌-◌, ◌≤◌, [], ◌∷◌, ◌++◌, length, IsOk, OnOk, OnErr, option_copied};
-ghost use Rattle.geo_log.specs.Places.{delivered};
+ghost use Rattle.geo_log.specs.Places.{bytes_delivered};
 
 use geo_base::{NoMemory, SharedBytes};
 use geo_bio::LogBytes;
@@ -71,7 +71,7 @@ impl Log {
 
 // The bytes that an entry delivered; None where it is no Deliver, or one without bytes.
 fn delivered(entry: &Entry) -> Option<&SharedBytes>
-    ensures { option_copied result ≡ delivered entry.now }
+    ensures { option_copied result ≡ bytes_delivered entry.now }
 {
     match &entry.step {
         Step::Deliver { got, .. } => match got {

@@ -2,7 +2,7 @@
 ghost use Rattle.std.specs.Prelude.{◌≡◌, ◌≤◌, ◌<◌, ◌==◌, length, map, is_some};
 ghost use Rattle.std.specs.List.{list_any, range_with_len};
 ghost use Rattle.geo_model.specs.Records.{entry_type, kept_entries, kept_entry, mbr_table};
-ghost use Rattle.geo_record.specs.Head.{answer_of};
+ghost use Rattle.geo_record.specs.Head.{decoder_answer};
 
 use geo_base::{DeclineCause, Declined};
 use geo_model::{MbrTable, Slice};
@@ -71,7 +71,7 @@ fn is_any_kept(slices: &[Option<Slice>]) -> bool
 /// without 0x55, 0xAA at its end, `Protective` with an entry of type 0xEE, `Nothing` where no entry is kept.
 pub fn decode(sector: &[u8], sectors: u64) -> Result<MbrTable, Declined>
     requires { 512 ≤ length sector.now }
-    ensures { answer_of result ≡ mbr_table sector.now sectors }
+    ensures { decoder_answer result ≡ mbr_table sector.now sectors }
 {
     if !has_signature(sector) {
         return Err(Declined {

@@ -11,7 +11,7 @@ use Rattle.geo_mesh.specs.declared.records.GeomCell.{GeomCell}
 use Rattle.geo_mesh.specs.declared.tables.Tables.{Tables}
 use Rattle.geo_mesh.specs.Rows.{passes}
 use Rattle.geo_mesh.specs.Notes.{withering_of}
-use Rattle.geo_mesh.specs.Cells.{view_of}
+use Rattle.geo_mesh.specs.Cells.{topo_view}
 use Rattle.geo_mesh.specs.Going.{is_free, is_free_in}
 use Rattle.geo_mesh.specs.Whole.{IsWhole, IsWholeBut}
 use Rattle.geo_mesh.proofs.NoteLemmas.{set_mark}
@@ -48,7 +48,7 @@ module _ {C : Type 0} (t : Tables C) (n : ℕ) (but : IsWholeBut n t)
 
   -- the mark of a withering geom is right once it is set by what is free
   pub marked : passes (withering_of {C = C}) (value_at t.geoms.rows n) ≡ true → (free : Bool)
-      → free ≡ is_free (view_of t) n
+      → free ≡ is_free (topo_view t) n
       → IsWhole (record t { notes = record t.notes { going = set_mark t.notes.going n free } })
   marked withers free is =
       let kin = kin-of t.geoms t.edges but.graph but.tables.indexed in

@@ -19,8 +19,8 @@ use Rattle.geo_mesh.specs.Rows.{passes, rows_with}
 use Rattle.geo_mesh.specs.Marks.{first_marked}
 use Rattle.geo_mesh.specs.Notes.{withering_of}
 use Rattle.geo_mesh.specs.Topo.{first_geom}
-use Rattle.geo_mesh.specs.Cells.{geom_row, provider_row, consumer_row, want_of, active_of, graph, view_of}
-use Rattle.geo_mesh.specs.Ranks.{bare, rest_of}
+use Rattle.geo_mesh.specs.Cells.{geom_row, provider_row, consumer_row, want_of, active_of, graph, topo_view}
+use Rattle.geo_mesh.specs.Ranks.{bare, without_rank}
 use Rattle.geo_mesh.specs.Going.{is_unattached, is_unused, is_bare, is_free, has_consumer, is_idle_cell, is_free_by, is_free_in, going_rows}
 use Rattle.geo_mesh.proofs.RowLemmas.{OnlyValue, map-with_value_same, map-without, value_at-rows_with}
 use Rattle.geo_mesh.proofs.GoingLemmas.{any-same, any-filter, any-map, none-kept, each-found}
@@ -75,7 +75,7 @@ module _ {C : Type 0} where
   going_rest : (free : ℕ → Bool) (rows : List (ℕ × GeomCell C))
       → going_rows free rows
       ≡ map (λ (row : ℕ × (GeomRec C × Scratch)). (row.0, row.1.0.withering && free row.0))
-      (rows_with (rest_of {C = C}) rows)
+      (rows_with (without_rank {C = C}) rows)
   going_rest free [] = refl
   going_rest free (row ∷ rows) = ap (λ xs. (row.0, row.1.geom.withering && free row.0) ∷ xs) (going_rest free rows)
 
@@ -172,16 +172,16 @@ unused-cell cs n =
 
 module _ {C : Type 0} (t : Tables C) (rising : IsRising 1 t.edges.consumers.rows t.edges.consumers.next) (g : ℕ) where
   -- providers without a consumer
-  unattached-rows : list_any (λ (p : Provider). is_unattached (view_of t) p.number) (providers_of (graph t) g)
+  unattached-rows : list_any (λ (p : Provider). is_unattached (topo_view t) p.number) (providers_of (graph t) g)
       ≡ list_any (λ row. (row.1.provider.geom == g) && not (has_consumer t.edges.consumers.rows row.0))
       t.edges.providers.rows
   unattached-rows =
-      any-filter (λ (p : Provider). p.geom == g) (λ p. is_unattached (view_of t) p.number) (graph t).providers
-      ∙ any-map provider_row (λ (p : Provider). (p.geom == g) && is_unattached (view_of t) p.number)
+      any-filter (λ (p : Provider). p.geom == g) (λ p. is_unattached (topo_view t) p.number) (graph t).providers
+      ∙ any-map provider_row (λ (p : Provider). (p.geom == g) && is_unattached (topo_view t) p.number)
       t.edges.providers.rows
       ∙ (λ i. list_any (λ (row : ℕ × ProvCell). (row.1.provider.geom == g) && none row.0 i) t.edges.providers.rows)
     where
-      none : (p : ℕ) → is_unattached (view_of t) p ≡ not (has_consumer t.edges.consumers.rows p)
+      none : (p : ℕ) → is_unattached (topo_view t) p ≡ not (has_consumer t.edges.consumers.rows p)
       none p =
           none-kept (λ (x : Consumer). names_number x.provider p) (graph t).consumers
           ∙ ap not (any-map consumer_row (λ (x : Consumer). names_number x.provider p) t.edges.consumers.rows)
@@ -189,7 +189,7 @@ module _ {C : Type 0} (t : Tables C) (rising : IsRising 1 t.edges.consumers.rows
   -- each consumer by its row
   unused_each : (rows : List (ℕ × ConsCell))
       → AllByRecursion (λ row. value_at t.edges.consumers.rows row.0 ≡ Some row.1) rows
-      → AllByRecursion (λ (row : ℕ × ConsCell). ((row.1.consumer.geom == g) && is_unused (view_of t) row.0)
+      → AllByRecursion (λ (row : ℕ × ConsCell). ((row.1.consumer.geom == g) && is_unused (topo_view t) row.0)
       ≡ ((row.1.consumer.geom == g) && is_idle_cell row.1)) rows
   unused_each [] there = tt
   unused_each (row ∷ rows) there = (
@@ -199,18 +199,18 @@ module _ {C : Type 0} (t : Tables C) (rising : IsRising 1 t.edges.consumers.rows
   )
 
   -- consumers that are idle
-  unused-rows : list_any (λ (c : Consumer). is_unused (view_of t) c.number) (consumers_of (graph t) g)
+  unused-rows : list_any (λ (c : Consumer). is_unused (topo_view t) c.number) (consumers_of (graph t) g)
       ≡ list_any (λ row. (row.1.consumer.geom == g) && is_idle_cell row.1) t.edges.consumers.rows
   unused-rows =
-      any-filter (λ (c : Consumer). c.geom == g) (λ c. is_unused (view_of t) c.number) (graph t).consumers
-      ∙ any-map consumer_row (λ (c : Consumer). (c.geom == g) && is_unused (view_of t) c.number)
+      any-filter (λ (c : Consumer). c.geom == g) (λ c. is_unused (topo_view t) c.number) (graph t).consumers
+      ∙ any-map consumer_row (λ (c : Consumer). (c.geom == g) && is_unused (topo_view t) c.number)
       t.edges.consumers.rows
-      ∙ any-same (λ (row : ℕ × ConsCell). (row.1.consumer.geom == g) && is_unused (view_of t) row.0)
+      ∙ any-same (λ (row : ℕ × ConsCell). (row.1.consumer.geom == g) && is_unused (topo_view t) row.0)
       (λ row. (row.1.consumer.geom == g) && is_idle_cell row.1) t.edges.consumers.rows
       (unused_each t.edges.consumers.rows (each-found 1 t.edges.consumers.next t.edges.consumers.rows rising))
 
   -- a geom without parts
-  bare-rows : is_bare (view_of t) g
+  bare-rows : is_bare (topo_view t) g
       ≡ (not (list_any (λ (row : ℕ × ProvCell). row.1.provider.geom == g) t.edges.providers.rows)
       && not (list_any (λ (row : ℕ × ConsCell). row.1.consumer.geom == g) t.edges.consumers.rows))
   bare-rows =
@@ -221,6 +221,6 @@ module _ {C : Type 0} (t : Tables C) (rising : IsRising 1 t.edges.consumers.rows
       λ i. none_offered i && none_owned i
 
   -- so the rows tell what is free
-  pub free-rows : is_free (view_of t) g ≡ is_free_in t g
+  pub free-rows : is_free (topo_view t) g ≡ is_free_in t g
   unfolding is_free_by
   free-rows = λ i. unattached-rows i || (unused-rows i || bare-rows i)

@@ -11,7 +11,7 @@ use Rattle.geo_mesh.specs.declared.records.GeomCell.{GeomCell}
 use Rattle.geo_mesh.specs.Rows.{rows_with, first_row}
 use Rattle.geo_mesh.specs.Cells.{geom_row}
 use Rattle.geo_mesh.specs.Topo.{first_geom}
-use Rattle.geo_mesh.specs.Notes.{name_of}
+use Rattle.geo_mesh.specs.Notes.{geom_name}
 use Rattle.geo_mesh.specs.Named.{is_of_class, is_of}
 
 -- the number of the first geom of the class and of the name, from a number on
@@ -75,8 +75,8 @@ module _ {C : Type 0} (kind : Kind) (name : List ℕ) where
   named_step : (at n low high : ℕ) (row : ℕ × GeomCell C) (rows : List (ℕ × GeomCell C)) (a b d : Bool)
       → nat_le at row.0 ≡ a → same_name row.1.geom.name name ≡ b → is_kind row.1.geom.kind kind ≡ d
       → IsRising low (row ∷ rows) high
-      → first_named (rows_with (name_of {C = C}) (row ∷ rows)) name at ≡ Some n
-      → (first_named (rows_with (name_of {C = C}) rows) name at ≡ Some n
+      → first_named (rows_with (geom_name {C = C}) (row ∷ rows)) name at ≡ Some n
+      → (first_named (rows_with (geom_name {C = C}) rows) name at ≡ Some n
       → IsNamed kind name rows (row.0 + 1) high at n)
       → IsNamed kind name (row ∷ rows) low high at n
   named_step at n low high row rows true true d e f k rising first so =
@@ -102,7 +102,7 @@ module _ {C : Type 0} (kind : Kind) (name : List ℕ) where
 
   -- the first geom of the name
   pub named-first : (at n low high : ℕ) (rows : List (ℕ × GeomCell C)) → IsRising low rows high
-      → first_named (rows_with (name_of {C = C}) rows) name at ≡ Some n → IsNamed kind name rows low high at n
+      → first_named (rows_with (geom_name {C = C}) rows) name at ≡ Some n → IsNamed kind name rows low high at n
   named-first at n low high [] rising first = absurd cc
   named-first at n low high (row ∷ rows) rising first =
       named_step at n low high row rows (nat_le at row.0) (same_name row.1.geom.name name)
@@ -111,7 +111,7 @@ module _ {C : Type 0} (kind : Kind) (name : List ℕ) where
 
   -- so by the names of all
   pub named-by : (at n next : ℕ) (names : List (ℕ × List ℕ)) (rows : List (ℕ × GeomCell C))
-      → names ≡ rows_with (name_of {C = C}) rows → IsRising 1 rows next → Some n ≡ first_named names name at
+      → names ≡ rows_with (geom_name {C = C}) rows → IsRising 1 rows next → Some n ≡ first_named names name at
       → IsNamed kind name rows 1 next at n
   named-by at n next names rows same rising first =
       named-first at n 1 next rows rising (ap (λ ns. first_named ns name at) (sym same) ∙ sym first)
@@ -119,8 +119,8 @@ module _ {C : Type 0} (kind : Kind) (name : List ℕ) where
   -- one geom more in front, which isn't of the name or comes before
   none_step : (at : ℕ) (row : ℕ × GeomCell C) (rows : List (ℕ × GeomCell C)) (a b : Bool)
       → nat_le at row.0 ≡ a → same_name row.1.geom.name name ≡ b
-      → first_named (rows_with (name_of {C = C}) (row ∷ rows)) name at ≡ None
-      → (first_named (rows_with (name_of {C = C}) rows) name at ≡ None → first_number kind name rows at ≡ None)
+      → first_named (rows_with (geom_name {C = C}) (row ∷ rows)) name at ≡ None
+      → (first_named (rows_with (geom_name {C = C}) rows) name at ≡ None → first_number kind name rows at ≡ None)
       → first_number kind name (row ∷ rows) at ≡ None
   none_step at row rows true true e f none so = let never : Some row.0 ≡ None = rw (e, f) at none in absurd cc
   none_step at row rows true false e f none so =
@@ -129,7 +129,7 @@ module _ {C : Type 0} (kind : Kind) (name : List ℕ) where
 
   -- where none is of the name, none is of the class and of the name
   pub named-none : (at : ℕ) (rows : List (ℕ × GeomCell C))
-      → first_named (rows_with (name_of {C = C}) rows) name at ≡ None → first_number kind name rows at ≡ None
+      → first_named (rows_with (geom_name {C = C}) rows) name at ≡ None → first_number kind name rows at ≡ None
   named-none at [] none = refl
   named-none at (row ∷ rows) none =
       none_step at row rows (nat_le at row.0) (same_name row.1.geom.name name) refl refl none (named-none at rows)

@@ -12,8 +12,8 @@ use Rattle.geo_mesh.specs.Rows.{row_with, rows_with}
 use Rattle.geo_mesh.specs.Marks.{MarksView}
 use Rattle.geo_mesh.specs.Cells.{risen_of, fallen_of}
 use Rattle.geo_names.specs.Names.{NamesView, with_name}
-use Rattle.geo_mesh.specs.Notes.{name_of, HaveNoteRoom, IsSameNotes, AreNotes}
-use Rattle.geo_mesh.specs.Ranks.{bare, rest_of}
+use Rattle.geo_mesh.specs.Notes.{geom_name, HaveNoteRoom, IsSameNotes, AreNotes}
+use Rattle.geo_mesh.specs.Ranks.{bare, without_rank}
 use Rattle.geo_mesh.proofs.RowLemmas.{OnlyValue, only_value, map-with_value_same, rows_with-with_value, map-without}
 
 -- with one number more, without a mark
@@ -65,7 +65,8 @@ module _ {C : Type 0} (n : Notes) (gs : SlotsView (GeomCell C)) (ps : SlotsView 
     fallen_next = are.fallen_next;
     going_next = ap (λ k. k + 1) are.going_next;
     named = ap (λ k. k.rows) added
-        ∙ (rw (are.named, are.named_next) (sym (map-append (row_with (name_of {C = C})) gs.rows ((gs.next, v) ∷ []))));
+        ∙
+        (rw (are.named, are.named_next) (sym (map-append (row_with (geom_name {C = C})) gs.rows ((gs.next, v) ∷ []))));
     named_next = ap (λ k. k.next) added ∙ ap (λ k. k + 1) are.named_next;
     room = record {
       risen = are.room.risen;
@@ -88,7 +89,7 @@ module _ {C : Type 0} (n : Notes) (gs : SlotsView (GeomCell C)) (ps : SlotsView 
     going_next = are.going_next;
     named = ap (λ k. k.rows) removed
         ∙ (rw are.named
-        (sym (map-without (row_with (name_of {C = C})) k (λ (row : ℕ × List ℕ). row.0 == k) (λ row. refl) gs.rows)));
+        (sym (map-without (row_with (geom_name {C = C})) k (λ (row : ℕ × List ℕ). row.0 == k) (λ row. refl) gs.rows)));
     named_next = ap (λ k. k.next) removed ∙ are.named_next;
     room = record {
       risen = are.room.risen;
@@ -166,10 +167,10 @@ module _ {C : Type 0} (n : Notes) (gs : SlotsView (GeomCell C)) (ps : SlotsView 
   -- a geom's cell of the same name keeps the names
   named_kept : (k : ℕ) (v w : GeomCell C) → IsRising 1 gs.rows gs.next → value_at gs.rows k ≡ Some v
       → w.geom.name ≡ v.geom.name → AreNotes n gs ps
-      → n.named.rows ≡ rows_with (name_of {C = C}) (with_value gs.rows k w)
+      → n.named.rows ≡ rows_with (geom_name {C = C}) (with_value gs.rows k w)
   named_kept k v w rising at same are =
       are.named
-      ∙ sym (map-with_value_same (row_with (name_of {C = C})) k v w (ap (λ (b : List ℕ). (k, b)) same) gs.rows
+      ∙ sym (map-with_value_same (row_with (geom_name {C = C})) k v w (ap (λ (b : List ℕ). (k, b)) same) gs.rows
       (only_value k 1 gs.next v gs.rows rising at))
 
   -- with another cell of a geom of the same name
@@ -189,8 +190,8 @@ module _ {C : Type 0} (n : Notes) (gs : SlotsView (GeomCell C)) (ps : SlotsView 
 
 -- the names of geoms are seen without the ranks
 names_rest : {C : Type 0} (rows : List (ℕ × GeomCell C))
-    → rows_with (name_of {C = C}) rows
-    ≡ rows_with (λ (x : GeomRec C × Scratch). x.0.name) (rows_with (rest_of {C = C}) rows)
+    → rows_with (geom_name {C = C}) rows
+    ≡ rows_with (λ (x : GeomRec C × Scratch). x.0.name) (rows_with (without_rank {C = C}) rows)
 names_rest [] = refl
 names_rest {C} (row ∷ rows) = ap (λ xs. (row.0, row.1.geom.name) ∷ xs) (names_rest {C = C} rows)
 
@@ -198,7 +199,7 @@ names_rest {C} (row ∷ rows) = ap (λ xs. (row.0, row.1.geom.name) ∷ xs) (nam
 pub notes-bare : {C : Type 0} (n : Notes) (gs ns : SlotsView (GeomCell C)) (ps : SlotsView ProvCell)
     → bare ns ≡ bare gs → AreNotes n gs ps → AreNotes n ns ps
 notes-bare {C} n gs ns ps same are =
-    let names : rows_with (name_of {C = C}) ns.rows ≡ rows_with (name_of {C = C}) gs.rows =
+    let names : rows_with (geom_name {C = C}) ns.rows ≡ rows_with (geom_name {C = C}) gs.rows =
     names_rest ns.rows
     ∙ ap (λ (s : SlotsView (GeomRec C × Scratch)). rows_with (λ (x : GeomRec C × Scratch). x.0.name) s.rows) same
     ∙ sym (names_rest gs.rows) in

@@ -9,12 +9,12 @@ use Rattle.std.proofs.Math.Bool.{or-false}
 use Rattle.geo_model.specs.Words.{largest}
 use Rattle.geo_model.specs.Topology.{Topology}
 use Rattle.geo_model.specs.Rank.{rank_within, geoms_under, geoms_reached_within}
-use Rattle.geo_mesh.specs.Mending.{IsAmong, above, height, Climbs, StandsAbove}
+use Rattle.geo_mesh.specs.Mending.{IsAmong, above, height, ExceedsThoseBelow, StandsAbove}
 use Rattle.geo_mesh.proofs.RankMend.{largest-among, largest-most, largest-same, largest-is}
 
 module _ (below : ℕ → List ℕ) (f : ℕ → ℕ) where
   -- a function that is one more than its largest value below climbs
-  pub local-climbs : ((g : ℕ) → f g ≡ above below f g) → Climbs below f
+  pub local-climbs : ((g : ℕ) → f g ≡ above below f g) → ExceedsThoseBelow below f
   local-climbs local x h under =
       let low : f h ≤ largest (map f (below x)) = largest-among f (below x) h under in
       omega (arith, local x)
@@ -29,7 +29,7 @@ module _ (below : ℕ → List ℕ) (f : ℕ → ℕ) where
       in omega (arith, local g)
 
   -- where a function climbs, one level more changes nothing from the level on that covers what is below
-  pub climbs-more : Climbs below f → ((g : ℕ) → 1 ≤ f g) → (k g : ℕ) → f g ≤ k + 1
+  pub climbs-more : ExceedsThoseBelow below f → ((g : ℕ) → 1 ≤ f g) → (k g : ℕ) → f g ≤ k + 1
       → height below k g ≡ height below (suc k) g
   climbs-more climbs positive zero g low =
       let none : largest (map (height below 0) (below g)) ≤ 0 =
@@ -42,8 +42,8 @@ module _ (below : ℕ → List ℕ) (f : ℕ → ℕ) where
       in omega arith
 
   -- so the heights over enough levels climb
-  pub height-climbs : Climbs below f → ((g : ℕ) → 1 ≤ f g) → (k : ℕ) → ((g : ℕ) → f g ≤ k + 1)
-      → Climbs below (height below k)
+  pub height-climbs : ExceedsThoseBelow below f → ((g : ℕ) → 1 ≤ f g) → (k : ℕ) → ((g : ℕ) → f g ≤ k + 1)
+      → ExceedsThoseBelow below (height below k)
   height-climbs climbs positive k few x h under =
       let low : height below k h ≤ largest (map (height below k) (below x)) =
       largest-among (height below k) (below x) h under in
@@ -215,7 +215,7 @@ module _ {C : Type 0} (t : Topology C) where
             flat_any (λ h. h == g) (geoms_reached_within k t) (geoms_under t y) later in
             λ has at so. so y found.0 found.1 (deeper found.0 found.2 has at so)
 
-  module _ (f : ℕ → ℕ) (climbs : Climbs (geoms_under t) f) where
+  module _ (f : ℕ → ℕ) (climbs : ExceedsThoseBelow (geoms_under t) f) where
     -- what is reached is reached over as many levels as can be below
     reached_less : (k j y g : ℕ) → f y ≤ j → reached_in t k y g ≡ true → reached_in t j y g ≡ true
     reached_less zero j y g low there = reached_self j g y (eqb-true y g (sym (or-false (y == g)) ∙ there))

@@ -4,7 +4,7 @@ use Rattle.std.specs.Prelude.{◌≡◌, ◌⊎◌, ℕ, ◌+◌, ◌-◌, ◌<�
 use Rattle.std.proofs.Common.{refl, sym, ap, inl, inr, arith}
 use Rattle.std.proofs.lemmas.Bool.{cases_eq, le-leb, leb-true}
 use Rattle.geo_model.specs.Words.{largest}
-use Rattle.geo_mesh.specs.Mending.{IsAmong, above, Climbs, StandsAbove, Lifted, Lowered, Joined}
+use Rattle.geo_mesh.specs.Mending.{IsAmong, above, ExceedsThoseBelow, StandsAbove, Lifted, Lowered, Joined}
 
 -- a number is in a list or isn't
 pub among_or_not : (ms : List ℕ) (n : ℕ) → IsAmong ms n ⊎ (IsAmong ms n → ⊥)
@@ -218,13 +218,13 @@ module _ (below : ℕ → List ℕ) where
 
 module _ (below : ℕ → List ℕ) (f : ℕ → ℕ) where
   -- where each value is enough, what is below has less
-  pub enough-climbs : ((x : ℕ) → above below f x ≤ f x) → Climbs below f
+  pub enough-climbs : ((x : ℕ) → above below f x ≤ f x) → ExceedsThoseBelow below f
   enough-climbs enough x h under =
       let low : f h ≤ largest (map f (below x)) = largest-among f (below x) h under in
       omega (arith, enough x)
 
   -- no geom is directly below itself
-  pub climbs-apart : Climbs below f → (g : ℕ) → IsAmong (below g) g → ⊥
+  pub climbs-apart : ExceedsThoseBelow below f → (g : ℕ) → IsAmong (below g) g → ⊥
   climbs-apart climbs g under = omega (arith, climbs g g under)
 
   module _ (g least : ℕ) (r : ℕ → ℕ) (one : Lifted below g least f r) where

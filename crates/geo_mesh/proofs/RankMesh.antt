@@ -20,10 +20,10 @@ use Rattle.geo_mesh.specs.declared.records.ConsCell.{ConsCell}
 use Rattle.geo_mesh.specs.declared.tables.Edges.{Edges}
 use Rattle.geo_mesh.specs.declared.tables.Tables.{Tables}
 use Rattle.geo_mesh.specs.Rows.{row_with, rows_with, passes}
-use Rattle.geo_mesh.specs.Cells.{graph_of, view_of, put_consumer, put_provider, geom_seen, geom_scratch_of, geom_row, provider_row, consumer_row}
-use Rattle.geo_mesh.specs.Mending.{IsAmong, StandsAbove, Climbs, Joined, above, height}
+use Rattle.geo_mesh.specs.Cells.{graph_of, topo_view, put_consumer, put_provider, geom_seen, geom_scratch_of, geom_row, provider_row, consumer_row}
+use Rattle.geo_mesh.specs.Mending.{IsAmong, StandsAbove, ExceedsThoseBelow, Joined, above, height}
 use Rattle.geo_mesh.specs.Index.{no_index}
-use Rattle.geo_mesh.specs.Ranks.{IsKin, kind_of, rank_of, rest_of, owner, owner_of, ranked_link_of, links_of, kinds, ranks, stored, offers, ranked_links, rank_at, under, ranked_below, below, rank_from, footing, is_high, IsWalkable, HaveRanks, HaveDevAndTaste, bare}
+use Rattle.geo_mesh.specs.Ranks.{IsKin, kind_of, rank_of, without_rank, owner, owner_of, ranked_link_of, links_of, kinds, ranks, stored, offers, ranked_links, rank_at, under, ranked_below, below, rank_from, footing, is_high, IsWalkable, HaveRanks, HaveDevAndTaste, bare}
 use Rattle.geo_mesh.proofs.RowLemmas.{OnlyValue, only_value, map-with_value_same, map-without, rows_with-with_value, value_at-rows_with}
 use Rattle.geo_mesh.proofs.ViewLemmas.{row_there, geom_at-view, provider_at-view, consumer_at-view, count_falls, count_stays}
 use Rattle.geo_mesh.proofs.RankHeights.{local-climbs, local-height, local-few, height-climbs, rank-height, reached-stands, stands-reached}
@@ -112,7 +112,7 @@ module _ {C : Type 0} (gs : SlotsView (GeomCell C)) (edges : Edges) where
   module _ (f : ℕ → ℕ) (local : (x : ℕ) → f x ≡ above (below edges) f x) (few : (x : ℕ)
       → f x ≤ length gs.rows + 1) where
     -- the values, each less by one, still climb
-    lowered_climbs : Climbs (geoms_under (graph_of gs edges)) (λ x. f x - 1)
+    lowered_climbs : ExceedsThoseBelow (geoms_under (graph_of gs edges)) (λ x. f x - 1)
     lowered_climbs x h there =
         let near : IsAmong (below edges x) h = subst (λ ms. IsAmong ms h) (under-graph x) there in
         omega (arith, local-climbs (below edges) f local x h near, local h)
@@ -514,20 +514,20 @@ same-cells edges n v rising at =
 -- the geoms are seen without the ranks
 geoms_rest : {C : Type 0} (rows : List (ℕ × GeomCell C))
     → map geom_row rows
-    ≡ map (λ (row : ℕ × (GeomRec C × Scratch)). geom_seen row.0 row.1.0) (rows_with (rest_of {C = C}) rows)
+    ≡ map (λ (row : ℕ × (GeomRec C × Scratch)). geom_seen row.0 row.1.0) (rows_with (without_rank {C = C}) rows)
 geoms_rest [] = refl
 geoms_rest (row ∷ rows) = ap (λ xs. geom_row row ∷ xs) (geoms_rest rows)
 
 -- and so is their scratch
 scratch_rest : {C : Type 0} (rows : List (ℕ × GeomCell C))
     → rows_with (geom_scratch_of {C = C}) rows
-    ≡ rows_with (λ (x : GeomRec C × Scratch). x.1) (rows_with (rest_of {C = C}) rows)
+    ≡ rows_with (λ (x : GeomRec C × Scratch). x.1) (rows_with (without_rank {C = C}) rows)
 scratch_rest [] = refl
 scratch_rest {C} (row ∷ rows) = ap (λ xs. (row.0, row.1.scratch) ∷ xs) (scratch_rest {C = C} rows)
 
 -- the mesh is seen without the ranks
 pub view-bare : {C : Type 0} (t : Tables C) (ns : SlotsView (GeomCell C)) → bare ns ≡ bare t.geoms
-    → view_of (record t { geoms = ns }) ≡ view_of t
+    → topo_view (record t { geoms = ns }) ≡ topo_view t
 view-bare {C} t ns same =
     let geoms : map geom_row ns.rows ≡ map geom_row t.geoms.rows =
     geoms_rest ns.rows

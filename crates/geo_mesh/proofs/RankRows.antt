@@ -16,7 +16,7 @@ use Rattle.geo_mesh.specs.declared.records.GeomCell.{GeomCell}
 use Rattle.geo_mesh.proofs.RankMend.{largest-among, largest-most}
 use Rattle.geo_mesh.proofs.MarkLemmas.{value_at-set}
 use Rattle.geo_mesh.proofs.RowLemmas.{OnlyValue, only_value, map-with_value_same, value_at-rows_with}
-use Rattle.geo_mesh.specs.Ranks.{kind_of, rank_of, rest_of, kinds, bare, stored, number_or, under, rank_through, rank_under, belongs, is_high, IsFirst, FirstIs}
+use Rattle.geo_mesh.specs.Ranks.{kind_of, rank_of, without_rank, kinds, bare, stored, number_or, under, rank_through, rank_under, belongs, is_high, IsFirst, FirstIs}
 
 module _ {T : Type 0} where
   -- a value that passes stands under a number between the bounds
@@ -358,7 +358,7 @@ module _ {C : Type 0} (gs : SlotsView (GeomCell C)) (n r : ℕ) (v : GeomCell C)
   store-same =
       let w : GeomCell C = record v { rank = r } in
       let is : OnlyValue n v gs.rows = only_value n 1 gs.next v gs.rows rising (sym at) in
-      rw (map-with_value_same (row_with (rest_of {C = C})) n v w refl gs.rows is) refl
+      rw (map-with_value_same (row_with (without_rank {C = C})) n v w refl gs.rows is) refl
 
   -- and the rank stands there
   pub store-here : stored (record gs { rows = with_value gs.rows n (record v { rank = r }) }) n ≡ r
@@ -450,7 +450,7 @@ module _ {C : Type 0} where
   -- the classes are those of the rows without the ranks
   kinds-rest : (rows : List (ℕ × GeomCell C))
       → rows_with (kind_of {C = C}) rows
-      ≡ rows_with (λ (x : GeomRec C × Scratch). x.0.kind) (rows_with (rest_of {C = C}) rows)
+      ≡ rows_with (λ (x : GeomRec C × Scratch). x.0.kind) (rows_with (without_rank {C = C}) rows)
   kinds-rest [] = refl
   kinds-rest (row ∷ rows) = rw (kinds-rest rows) refl
 

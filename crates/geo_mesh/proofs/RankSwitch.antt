@@ -10,7 +10,7 @@ use Rattle.geo_model.specs.Rank.{reaches, is_too_deep, would_loop, attach_refusa
 use Rattle.geo_slots.specs.Slots.{SlotsView, IsRising, value_at, with_value}
 use Rattle.geo_mesh.specs.declared.records.AttachRefusal.{AttachRefusal}
 use Rattle.geo_mesh.specs.declared.records.AttachRefusal.TheVariants.{Enxio, Eloop, Edeep}
-use Rattle.geo_mesh.specs.Refusals.{errno_of}
+use Rattle.geo_mesh.specs.Refusals.{attach_errno}
 use Rattle.geo_mesh.specs.declared.records.GeomCell.{GeomCell}
 use Rattle.geo_mesh.specs.declared.records.ProvCell.{ProvCell}
 use Rattle.geo_mesh.specs.declared.records.ConsCell.{ConsCell}
@@ -278,7 +278,7 @@ module _ {C : Type 0} (gs : SlotsView (GeomCell C)) (edges : Edges) (live : ℕ)
     -- why an attach is refused
     pub on-refused : (e : AttachRefusal) → is_errored (graph_of gs edges) p ≡ false
         → IsRefusedFor e gs (ranked_below edges) v.consumer.geom (owner edges p)
-        → attach_refusal (graph_of gs edges) n p ≡ Some (errno_of e)
+        → attach_refusal (graph_of gs edges) n p ≡ Some (attach_errno e)
     on-refused Enxio sound never = absurd never
     on-refused Eloop sound stands = on-loops sound stands
     on-refused Edeep sound high = on-high high.0 sound high.1 high.2 high.3

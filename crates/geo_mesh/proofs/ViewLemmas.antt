@@ -5,7 +5,7 @@ use Rattle.std.specs.Option.{option_or}
 use Rattle.std.proofs.Common.{arith, ap, ◌∙◌, subst, refl, sym}
 use Rattle.std.proofs.lemmas.Bool.{eqb-true, ne_eqb}
 use Rattle.std.proofs.Math.Bool.{or-false}
-use Rattle.geo_mesh.specs.Cells.{IsCount, geom_row, provider_row, consumer_row, have_of, risen_of, fallen_of, want_of, active_of, geom_scratch_of, provider_scratch_of, consumer_scratch_of, graph_of, graph, view_of, put_consumer, with_geom_cell, with_provider_cell, with_consumer_cell}
+use Rattle.geo_mesh.specs.Cells.{IsCount, geom_row, provider_row, consumer_row, have_of, risen_of, fallen_of, want_of, active_of, geom_scratch_of, provider_scratch_of, consumer_scratch_of, graph_of, graph, topo_view, put_consumer, with_geom_cell, with_provider_cell, with_consumer_cell}
 use Rattle.geo_mesh.specs.declared.names.Names.{Names}
 use Rattle.geo_names.specs.Names.{last_named}
 use Rattle.geo_mesh.specs.Names.{AreNames, sound_of, is_sound_named}
@@ -78,8 +78,8 @@ module _ {C : Type 0} (t : Tables C) (n : ℕ) where
   -- the mesh after a provider gets an error
   pub set_error-view : (v : ProvCell) → IsRising 1 t.edges.providers.rows t.edges.providers.next
       → value_at t.edges.providers.rows n ≡ Some v
-      → view_of (with_provider_cell t n (record v { provider = record v.provider { errored = true } }))
-      ≡ with_topology (view_of t) (set_error (graph t) n)
+      → topo_view (with_provider_cell t n (record v { provider = record v.provider { errored = true } }))
+      ≡ with_topology (topo_view t) (set_error (graph t) n)
   set_error-view v rising at =
       let w : ProvCell = record v { provider = record v.provider { errored = true } } in
       let is : OnlyValue n v t.edges.providers.rows =
@@ -96,8 +96,8 @@ module _ {C : Type 0} (t : Tables C) (n : ℕ) where
   -- the mesh after a provider gets another media size
   pub set_size-view : (size : ℕ) (v : ProvCell) → IsRising 1 t.edges.providers.rows t.edges.providers.next
       → value_at t.edges.providers.rows n ≡ Some v
-      → view_of (with_provider_cell t n (record v { provider = record v.provider { size = size } }))
-      ≡ with_topology (view_of t) (set_size (graph t) n size)
+      → topo_view (with_provider_cell t n (record v { provider = record v.provider { size = size } }))
+      ≡ with_topology (topo_view t) (set_size (graph t) n size)
   set_size-view size v rising at =
       let w : ProvCell = record v { provider = record v.provider { size = size } } in
       let is : OnlyValue n v t.edges.providers.rows =
@@ -113,8 +113,8 @@ module _ {C : Type 0} (t : Tables C) (n : ℕ) where
 
   -- the mesh after a geom begins to wither
   pub set_withering-view : (v : GeomCell C) → IsRising 1 t.geoms.rows t.geoms.next → value_at t.geoms.rows n ≡ Some v
-      → view_of (with_geom_cell t n (record v { geom = record v.geom { withering = true } }))
-      ≡ with_topology (view_of t) (set_withering (graph t) n)
+      → topo_view (with_geom_cell t n (record v { geom = record v.geom { withering = true } }))
+      ≡ with_topology (topo_view t) (set_withering (graph t) n)
   set_withering-view v rising at =
       let w : GeomCell C = record v { geom = record v.geom { withering = true } } in
       let is : OnlyValue n v t.geoms.rows = only_value n 1 t.geoms.next v t.geoms.rows rising at in
@@ -127,8 +127,8 @@ module _ {C : Type 0} (t : Tables C) (n : ℕ) where
   -- the mesh after a consumer is marked as spoiled, or unmarked
   pub set_spoiled-view : (marked : Bool) (v : ConsCell) → IsRising 1 t.edges.consumers.rows t.edges.consumers.next
       → value_at t.edges.consumers.rows n ≡ Some v
-      → view_of (with_consumer_cell t n (record v { consumer = record v.consumer { spoiled = marked } }))
-      ≡ with_topology (view_of t) (set_marks (graph t) (λ x. x.number == n) marked)
+      → topo_view (with_consumer_cell t n (record v { consumer = record v.consumer { spoiled = marked } }))
+      ≡ with_topology (topo_view t) (set_marks (graph t) (λ x. x.number == n) marked)
   set_spoiled-view marked v rising at =
       let w : ConsCell = record v { consumer = record v.consumer { spoiled = marked } } in
       let is : OnlyValue n v t.edges.consumers.rows =
@@ -144,9 +144,9 @@ module _ {C : Type 0} (t : Tables C) (n : ℕ) where
   -- the mesh after one more request is out through a consumer
   pub note_active-view : (v : ConsCell) → IsRising 1 t.edges.consumers.rows t.edges.consumers.next
       → value_at t.edges.consumers.rows n ≡ Some v
-      → view_of (with_consumer_cell t n
+      → topo_view (with_consumer_cell t n
       (record v { consumer = record v.consumer { active = v.consumer.active + 1 } }))
-      ≡ with_active (view_of t) n (λ m. m + 1)
+      ≡ with_active (topo_view t) n (λ m. m + 1)
   note_active-view v rising at =
       let w : ConsCell = record v { consumer = record v.consumer { active = v.consumer.active + 1 } } in
       let is : OnlyValue n v t.edges.consumers.rows =
@@ -161,9 +161,9 @@ module _ {C : Type 0} (t : Tables C) (n : ℕ) where
   -- the mesh after one request less is out through a consumer
   pub note_back-view : (v : ConsCell) → IsRising 1 t.edges.consumers.rows t.edges.consumers.next
       → value_at t.edges.consumers.rows n ≡ Some v
-      → view_of (with_consumer_cell t n
+      → topo_view (with_consumer_cell t n
       (record v { consumer = record v.consumer { active = v.consumer.active - 1 } }))
-      ≡ with_active (view_of t) n (λ m. m - 1)
+      ≡ with_active (topo_view t) n (λ m. m - 1)
   note_back-view v rising at =
       let w : ConsCell = record v { consumer = record v.consumer { active = v.consumer.active - 1 } } in
       let is : OnlyValue n v t.edges.consumers.rows =
@@ -178,8 +178,8 @@ module _ {C : Type 0} (t : Tables C) (n : ℕ) where
   -- the mesh after a consumer gets other counts
   pub set_want-view : (want : Counts) (v : ConsCell) → IsRising 1 t.edges.consumers.rows t.edges.consumers.next
       → value_at t.edges.consumers.rows n ≡ Some v
-      → view_of (with_consumer_cell t n (record v { consumer = record v.consumer { want = want } }))
-      ≡ with_want (view_of t) n want
+      → topo_view (with_consumer_cell t n (record v { consumer = record v.consumer { want = want } }))
+      ≡ with_want (topo_view t) n want
   set_want-view want v rising at =
       let w : ConsCell = record v { consumer = record v.consumer { want = want } } in
       let is : OnlyValue n v t.edges.consumers.rows =
@@ -194,8 +194,8 @@ module _ {C : Type 0} (t : Tables C) (n : ℕ) where
   -- the mesh after a provider gets other counts
   pub set_have-view : (have : Counts) (v : ProvCell) → IsRising 1 t.edges.providers.rows t.edges.providers.next
       → value_at t.edges.providers.rows n ≡ Some v
-      → view_of (with_provider_cell t n (record v { provider = record v.provider { have = have } }))
-      ≡ with_have (view_of t) n have
+      → topo_view (with_provider_cell t n (record v { provider = record v.provider { have = have } }))
+      ≡ with_have (topo_view t) n have
   set_have-view have v rising at =
       let w : ProvCell = record v { provider = record v.provider { have = have } } in
       let is : OnlyValue n v t.edges.providers.rows =
@@ -211,9 +211,9 @@ module _ {C : Type 0} (t : Tables C) (n : ℕ) where
   -- the mesh after a provider gets other notes
   pub set_noted-view : (risen : Bool) (fallen : Bool) (v : ProvCell)
       → IsRising 1 t.edges.providers.rows t.edges.providers.next → value_at t.edges.providers.rows n ≡ Some v
-      → view_of (with_provider_cell t n
+      → topo_view (with_provider_cell t n
       (record v { provider = record v.provider { risen = risen; fallen = fallen } }))
-      ≡ with_notes (view_of t) n risen fallen
+      ≡ with_notes (topo_view t) n risen fallen
   set_noted-view risen fallen v rising at =
       let w : ProvCell = record v { provider = record v.provider { risen = risen; fallen = fallen } } in
       let is : OnlyValue n v t.edges.providers.rows =
@@ -229,7 +229,7 @@ module _ {C : Type 0} (t : Tables C) (n : ℕ) where
   -- the mesh after a geom gets other scratch
   pub set_geom_scratch-view : (scratch : Scratch) (v : GeomCell C) → IsRising 1 t.geoms.rows t.geoms.next
       → value_at t.geoms.rows n ≡ Some v
-      → view_of (with_geom_cell t n (record v { scratch = scratch })) ≡ with_geom_scratch (view_of t) n scratch
+      → topo_view (with_geom_cell t n (record v { scratch = scratch })) ≡ with_geom_scratch (topo_view t) n scratch
   set_geom_scratch-view scratch v rising at =
       let w : GeomCell C = record v { scratch = scratch } in
       let is : OnlyValue n v t.geoms.rows = only_value n 1 t.geoms.next v t.geoms.rows rising at in
@@ -241,7 +241,8 @@ module _ {C : Type 0} (t : Tables C) (n : ℕ) where
   -- the mesh after a provider gets other scratch
   pub set_provider_scratch-view : (scratch : Scratch) (v : ProvCell)
       → IsRising 1 t.edges.providers.rows t.edges.providers.next → value_at t.edges.providers.rows n ≡ Some v
-      → view_of (with_provider_cell t n (record v { scratch = scratch })) ≡ with_provider_scratch (view_of t) n scratch
+      → topo_view (with_provider_cell t n (record v { scratch = scratch }))
+      ≡ with_provider_scratch (topo_view t) n scratch
   set_provider_scratch-view scratch v rising at =
       let w : ProvCell = record v { scratch = scratch } in
       let is : OnlyValue n v t.edges.providers.rows =
@@ -257,7 +258,8 @@ module _ {C : Type 0} (t : Tables C) (n : ℕ) where
   -- the mesh after a consumer gets other scratch
   pub set_consumer_scratch-view : (scratch : Scratch) (v : ConsCell)
       → IsRising 1 t.edges.consumers.rows t.edges.consumers.next → value_at t.edges.consumers.rows n ≡ Some v
-      → view_of (with_consumer_cell t n (record v { scratch = scratch })) ≡ with_consumer_scratch (view_of t) n scratch
+      → topo_view (with_consumer_cell t n (record v { scratch = scratch }))
+      ≡ with_consumer_scratch (topo_view t) n scratch
   set_consumer_scratch-view scratch v rising at =
       let w : ConsCell = record v { scratch = scratch } in
       let is : OnlyValue n v t.edges.consumers.rows =
@@ -271,8 +273,8 @@ module _ {C : Type 0} (t : Tables C) (n : ℕ) where
 
   -- the mesh with one more started request at a geom
   pub note_started-view : (v : GeomCell C) → IsRising 1 t.geoms.rows t.geoms.next → value_at t.geoms.rows n ≡ Some v
-      → view_of (with_geom_cell t n (record v { geom = record v.geom { started = v.geom.started + 1 } }))
-      ≡ with_topology (view_of t) (note_started (graph t) n)
+      → topo_view (with_geom_cell t n (record v { geom = record v.geom { started = v.geom.started + 1 } }))
+      ≡ with_topology (topo_view t) (note_started (graph t) n)
   note_started-view v rising at =
       let w : GeomCell C = record v { geom = record v.geom { started = v.geom.started + 1 } } in
       let is : OnlyValue n v t.geoms.rows = only_value n 1 t.geoms.next v t.geoms.rows rising at in
@@ -285,8 +287,8 @@ module _ {C : Type 0} (t : Tables C) (n : ℕ) where
   -- the mesh after a consumer is detached
   pub detach-view : (v : ConsCell) → IsRising 1 t.edges.consumers.rows t.edges.consumers.next
       → value_at t.edges.consumers.rows n ≡ Some v
-      → view_of (with_consumer_cell t n (record v { consumer = record v.consumer { prov = None } }))
-      ≡ with_topology (view_of t) (detach (graph t) n)
+      → topo_view (with_consumer_cell t n (record v { consumer = record v.consumer { prov = None } }))
+      ≡ with_topology (topo_view t) (detach (graph t) n)
   detach-view v rising at =
       let w : ConsCell = record v { consumer = record v.consumer { prov = None } } in
       let is : OnlyValue n v t.edges.consumers.rows =
@@ -302,8 +304,8 @@ module _ {C : Type 0} (t : Tables C) (n : ℕ) where
   -- the mesh after a consumer is attached
   pub attach-view : (p : ℕ) (v : ConsCell) → IsRising 1 t.edges.consumers.rows t.edges.consumers.next
       → value_at t.edges.consumers.rows n ≡ Some v
-      → view_of (with_consumer_cell t n (record v { consumer = record v.consumer { prov = Some p } }))
-      ≡ with_topology (view_of t) (attach (graph t) n p)
+      → topo_view (with_consumer_cell t n (record v { consumer = record v.consumer { prov = Some p } }))
+      ≡ with_topology (topo_view t) (attach (graph t) n p)
   attach-view p v rising at =
       let w : ConsCell = record v { consumer = record v.consumer { prov = Some p } } in
       let is : OnlyValue n v t.edges.consumers.rows =
@@ -319,8 +321,8 @@ module _ {C : Type 0} (t : Tables C) (n : ℕ) where
   -- the mesh after a geom gets another configuration
   pub swap_config-view : (config : C) (v : GeomCell C) → IsRising 1 t.geoms.rows t.geoms.next
       → value_at t.geoms.rows n ≡ Some v
-      → view_of (with_geom_cell t n (record v { geom = record v.geom { config = config } }))
-      ≡ with_topology (view_of t) (set_config (graph t) n config)
+      → topo_view (with_geom_cell t n (record v { geom = record v.geom { config = config } }))
+      ≡ with_topology (topo_view t) (set_config (graph t) n config)
   swap_config-view config v rising at =
       let w : GeomCell C = record v { geom = record v.geom { config = config } } in
       let is : OnlyValue n v t.geoms.rows = only_value n 1 t.geoms.next v t.geoms.rows rising at in
@@ -332,8 +334,8 @@ module _ {C : Type 0} (t : Tables C) (n : ℕ) where
 
   -- the mesh without a geom
   pub without_geom-view : (less : ℕ)
-      → IsButForRoom (view_of (record t { geoms = record t.geoms { rows = without t.geoms.rows n }; live = less }))
-      (without_geom (view_of t) n)
+      → IsButForRoom (topo_view (record t { geoms = record t.geoms { rows = without t.geoms.rows n }; live = less }))
+      (without_geom (topo_view t) n)
   without_geom-view less =
       rw (
         map-without geom_row n (λ (x : Geom C). x.number == n) (λ row. refl) t.geoms.rows,
@@ -341,12 +343,12 @@ module _ {C : Type 0} (t : Tables C) (n : ℕ) where
       ) refl
 
   -- the mesh without a provider
-  pub without_provider-view : view_of
+  pub without_provider-view : topo_view
       (record t {
         edges =
             record t.edges { providers = record t.edges.providers { rows = without t.edges.providers.rows n } };
       })
-      ≡ without_provider (view_of t) n
+      ≡ without_provider (topo_view t) n
   without_provider-view =
       rw (
         map-without provider_row n (λ (x : Provider). x.number == n) (λ row. refl) t.edges.providers.rows,
@@ -357,12 +359,12 @@ module _ {C : Type 0} (t : Tables C) (n : ℕ) where
       ) refl
 
   -- the mesh without a consumer
-  pub without_consumer-view : view_of
+  pub without_consumer-view : topo_view
       (record t {
         edges =
             record t.edges { consumers = record t.edges.consumers { rows = without t.edges.consumers.rows n } };
       })
-      ≡ without_consumer (view_of t) n
+      ≡ without_consumer (topo_view t) n
   without_consumer-view =
       rw (
         map-without consumer_row n (λ (x : Consumer). x.number == n) (λ row. refl) t.edges.consumers.rows,
@@ -411,7 +413,7 @@ module _ {C : Type 0} (t : Tables C) where
 
   -- a new consumer, in room that was kept
   pub with_consumer-view : (geom room : ℕ) →
-      view_of (record t {
+      topo_view (record t {
         edges =
             record t.edges {
               consumers =
@@ -423,7 +425,7 @@ module _ {C : Type 0} (t : Tables C) where
                   });
             };
       })
-      ≡ record (with_consumer (view_of t) geom) { room = record (view_of t).room { consumers = room - 1 } }
+      ≡ record (with_consumer (topo_view t) geom) { room = record (topo_view t).room { consumers = room - 1 } }
   with_consumer-view geom room =
       let cell : ConsCell =
       record {
@@ -440,7 +442,7 @@ module _ {C : Type 0} (t : Tables C) where
 
   -- a new provider, in room that was kept
   pub with_provider-view : (geom : ℕ) (name : List ℕ) (size sector room : ℕ) →
-      view_of (record t {
+      topo_view (record t {
         edges =
             record t.edges {
               providers =
@@ -461,8 +463,8 @@ module _ {C : Type 0} (t : Tables C) where
                   });
             };
       })
-      ≡ record (with_provider (view_of t) geom name size sector) {
-        room = record (view_of t).room { providers = room - 1 };
+      ≡ record (with_provider (topo_view t) geom name size sector) {
+        room = record (topo_view t).room { providers = room - 1 };
       }
   with_provider-view geom name size sector room =
       let cell : ProvCell =
@@ -636,5 +638,5 @@ count-with_value {C} n v rows live counted =
     (sym (length-map rows (λ (row : ℕ × GeomCell C). if row.0 == n then (n, v) else row))) counted
 
 -- more room shows in the room alone
-pub roomier-view : {C : Type 0} (t u : Tables C) → IsRoomier t u → IsButForRoom (view_of u) (view_of t)
+pub roomier-view : {C : Type 0} (t u : Tables C) → IsRoomier t u → IsButForRoom (topo_view u) (topo_view t)
 roomier-view t u is = rw (is.geoms, is.providers, is.consumers) refl

@@ -111,8 +111,8 @@ abbrev pub graph : {C : Type 0} → Tables C → Topology C
 graph t = graph_of t.geoms t.edges
 
 -- the mesh; there is room for no more geoms than may be
-abbrev pub view_of : {C : Type 0} → Tables C → TopoView C
-view_of t = record {
+abbrev pub topo_view : {C : Type 0} → Tables C → TopoView C
+topo_view t = record {
   topology = graph t;
   haves = rows_with have_of t.edges.providers.rows;
   risen = rows_with risen_of t.edges.providers.rows;

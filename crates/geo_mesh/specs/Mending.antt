@@ -30,8 +30,8 @@ height below zero g = 1
 height below (suc levels) g = 1 + largest (map (height below levels) (below g))
 
 -- each value is greater than those below
-abbrev pub Climbs : (ℕ → List ℕ) → (ℕ → ℕ) → Type 0
-Climbs below f = (x h : ℕ) → IsAmong (below x) h → f h < f x
+abbrev pub ExceedsThoseBelow : (ℕ → List ℕ) → (ℕ → ℕ) → Type 0
+ExceedsThoseBelow below f = (x h : ℕ) → IsAmong (below x) h → f h < f x
 
 -- whether one is the other or stands above it: it has each property that the other has, and that goes upwards
 abbrev pub StandsAbove : (ℕ → List ℕ) → ℕ → ℕ → Type 0

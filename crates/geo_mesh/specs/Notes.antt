@@ -13,8 +13,8 @@ abbrev pub withering_of : {C : Type 0} → GeomCell C → Bool
 withering_of x = x.geom.withering
 
 -- the geom's name
-abbrev pub name_of : {C : Type 0} → GeomCell C → List ℕ
-name_of x = x.geom.name
+abbrev pub geom_name : {C : Type 0} → GeomCell C → List ℕ
+geom_name x = x.geom.name
 
 -- room for so many geoms and providers
 pub record HaveNoteRoom (geoms providers : ℕ) (n : Notes) : Type 0 where
@@ -35,7 +35,7 @@ pub record IsSameNotes (old new : Notes) : Type 0 where
 pub record AreNotes {C : Type 0} (n : Notes) (gs : SlotsView (GeomCell C)) (ps : SlotsView ProvCell) : Type 0 where
   pub risen : n.risen.rows ≡ rows_with risen_of ps.rows
   pub fallen : n.fallen.rows ≡ rows_with fallen_of ps.rows
-  pub named : n.named.rows ≡ rows_with (name_of {C = C}) gs.rows
+  pub named : n.named.rows ≡ rows_with (geom_name {C = C}) gs.rows
   pub risen_next : n.risen.next ≡ ps.next
   pub fallen_next : n.fallen.next ≡ ps.next
   pub going_next : n.going.next ≡ gs.next

@@ -16,7 +16,7 @@ use Rattle.geo_mesh.specs.Cells.{IsCount, provider_row, consumer_row}
 use Rattle.geo_mesh.specs.Index.{provider_geoms, consumer_geoms, consumers_above}
 use Rattle.geo_mesh.specs.declared.records.AttachRefusal.{AttachRefusal}
 use Rattle.geo_mesh.specs.declared.records.AttachRefusal.TheVariants.{Enxio, Eloop, Edeep}
-use Rattle.geo_mesh.specs.Mending.{IsAmong, Climbs, StandsAbove, IsJoinable, AreLocal, above, height}
+use Rattle.geo_mesh.specs.Mending.{IsAmong, ExceedsThoseBelow, StandsAbove, IsJoinable, AreLocal, above, height}
 
 -- the number, and another where there is none
 abbrev pub number_or : ℕ → Option ℕ → ℕ
@@ -32,8 +32,8 @@ abbrev pub rank_of : {C : Type 0} → GeomCell C → ℕ
 rank_of x = x.rank
 
 -- all but the rank
-abbrev pub rest_of : {C : Type 0} → GeomCell C → GeomRec C × Scratch
-rest_of x = (x.geom, x.scratch)
+abbrev pub without_rank : {C : Type 0} → GeomCell C → GeomRec C × Scratch
+without_rank x = (x.geom, x.scratch)
 
 -- the geom that offers the provider
 abbrev pub owner_of : ProvCell → ℕ
@@ -66,7 +66,7 @@ ranks {C} gs = rows_with (rank_of {C = C}) gs.rows
 
 -- all but the ranks
 abbrev pub bare : {C : Type 0} → SlotsView (GeomCell C) → SlotsView (GeomRec C × Scratch)
-bare {C} gs = record { rows = rows_with (rest_of {C = C}) gs.rows; next = gs.next; spare = gs.spare }
+bare {C} gs = record { rows = rows_with (without_rank {C = C}) gs.rows; next = gs.next; spare = gs.spare }
 
 -- the geom that offers each provider
 abbrev pub offers : Edges → SlotsView ℕ
@@ -196,7 +196,7 @@ pub record IsKin (edges : Edges) : Type 0 where
 -- the graph has no loop, each consumer's geom is there, the index tells what is in it, and there aren't too many geoms
 pub record IsWalkable (classes : List (ℕ × Kind)) (edges : Edges) : Type 0 where
   pub kin : IsKin edges
-  pub climbs : Climbs (ranked_below edges) (height (ranked_below edges) (length classes))
+  pub climbs : ExceedsThoseBelow (ranked_below edges) (height (ranked_below edges) (length classes))
   pub owned : AllByRecursion (λ row. IsSome (value_at classes row.1.0)) (ranked_links edges).rows
   pub few : length classes ≤ 4294967294
 

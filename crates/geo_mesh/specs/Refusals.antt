@@ -6,12 +6,12 @@ use Rattle.geo_mesh.specs.declared.records.AttachRefusal.{AttachRefusal}
 use Rattle.geo_mesh.specs.declared.records.AttachRefusal.TheVariants.{Enxio, Eloop, Edeep}
 
 -- the error of a refused attach (g_attach(9))
-abbrev pub errno_of : AttachRefusal → Errno
-errno_of Enxio = ENXIO
-errno_of Eloop = ELOOP
-errno_of Edeep = EDEEP
+abbrev pub attach_errno : AttachRefusal → Errno
+attach_errno Enxio = ENXIO
+attach_errno Eloop = ELOOP
+attach_errno Edeep = EDEEP
 
 -- the answer to a call that this refuses, if anything does
 abbrev pub IsAnswer : Result (Unit {0}) AttachRefusal → Option Errno → Type 0
 IsAnswer (Ok _) refusal = refusal ≡ None
-IsAnswer (Err e) refusal = refusal ≡ Some (errno_of e)
+IsAnswer (Err e) refusal = refusal ≡ Some (attach_errno e)

@@ -9,7 +9,7 @@ ghost use Rattle.geo_mesh.specs.Rows.{passes};
 ghost use Rattle.geo_mesh.specs.Graph.{IsNumber, IsOrderly};
 ghost use Rattle.geo_mesh.specs.Index.{IsIndexed};
 ghost use Rattle.geo_mesh.specs.Notes.{withering_of};
-ghost use Rattle.geo_mesh.specs.Cells.{graph, view_of};
+ghost use Rattle.geo_mesh.specs.Cells.{graph, topo_view};
 ghost use Rattle.geo_mesh.specs.Going.{is_unattached, is_unused, is_bare, is_free};
 ghost use Rattle.geo_mesh.specs.Whole.{IsWhole, IsWholeBut};
 
@@ -22,7 +22,7 @@ use geo_slots::Slots;
 pub fn look_again<C>(tables: &mut Tables<C>, geom: u64)
     requires { IsWholeBut geom tables.old }
     ensures whole { IsWhole tables.new }
-    ensures same { view_of tables.new ≡ view_of tables.old }
+    ensures same { topo_view tables.new ≡ topo_view tables.old }
 {
     if withers(&tables.geoms, geom) {
         let free = is_free(tables, geom);
@@ -42,7 +42,7 @@ fn withers<C>(geoms: &Slots<GeomCell<C>>, geom: u64) -> bool
 fn is_free<C>(tables: &Tables<C>, geom: u64) -> bool
     requires indexed { IsIndexed (graph tables.now) tables.now.edges.index }
     requires orderly { IsOrderly (graph tables.now) }
-    ensures { result ≡ is_free (view_of tables.now) geom }
+    ensures { result ≡ is_free (topo_view tables.now) geom }
 {
     has_unattached(tables, geom) || (has_unused(tables, geom) || is_bare(tables, geom))
 }
@@ -52,7 +52,7 @@ fn has_unattached<C>(tables: &Tables<C>, geom: u64) -> bool
     requires indexed { IsIndexed (graph tables.now) tables.now.edges.index }
     requires orderly { IsOrderly (graph tables.now) }
     ensures { result
-        ≡ list_any (λ p. is_unattached (view_of tables.now) p.number) (providers_of (graph tables.now) geom) }
+        ≡ list_any (λ p. is_unattached (topo_view tables.now) p.number) (providers_of (graph tables.now) geom) }
 {
     let mut from = 0;
     while let Some(prov) = offered(tables, geom, from) {
@@ -78,7 +78,7 @@ fn offered<C>(tables: &Tables<C>, geom: u64, from: u64) -> Option<u64>
 // Whether nothing is attached to the provider.
 fn is_unattached<C>(tables: &Tables<C>, prov: u64) -> bool
     requires { IsIndexed (graph tables.now) tables.now.edges.index }
-    ensures { result ≡ is_unattached (view_of tables.now) prov }
+    ensures { result ≡ is_unattached (topo_view tables.now) prov }
 {
     tables.edges.index.attached.first_from(prov, 0).is_none()
 }
@@ -87,7 +87,8 @@ fn is_unattached<C>(tables: &Tables<C>, prov: u64) -> bool
 fn has_unused<C>(tables: &Tables<C>, geom: u64) -> bool
     requires indexed { IsIndexed (graph tables.now) tables.now.edges.index }
     requires orderly { IsOrderly (graph tables.now) }
-    ensures { result ≡ list_any (λ c. is_unused (view_of tables.now) c.number) (consumers_of (graph tables.now) geom) }
+    ensures { result
+        ≡ list_any (λ c. is_unused (topo_view tables.now) c.number) (consumers_of (graph tables.now) geom) }
 {
     let mut from = 0;
     while let Some(cons) = owned(tables, geom, from) {
@@ -112,7 +113,7 @@ fn owned<C>(tables: &Tables<C>, geom: u64, from: u64) -> Option<u64>
 
 // Whether the consumer holds no count, and no request is out through it.
 fn is_unused<C>(tables: &Tables<C>, cons: u64) -> bool
-    ensures { result ≡ is_unused (view_of tables.now) cons }
+    ensures { result ≡ is_unused (topo_view tables.now) cons }
 {
     tables
         .edges
@@ -131,7 +132,7 @@ fn is_idle(cons: &ConsRec) -> bool
 // Whether the geom has neither provider nor consumer.
 fn is_bare<C>(tables: &Tables<C>, geom: u64) -> bool
     requires { IsIndexed (graph tables.now) tables.now.edges.index }
-    ensures { result ≡ is_bare (view_of tables.now) geom }
+    ensures { result ≡ is_bare (topo_view tables.now) geom }
 {
     tables.edges.index.offered.first_from(geom, 0).is_none()
         && tables.edges.index.owned.first_from(geom, 0).is_none()

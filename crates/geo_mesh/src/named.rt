@@ -2,7 +2,7 @@
 ghost use Rattle.std.specs.Prelude.{◌≡◌, ◌<◌, ◌^◌, option_map};
 ghost use Rattle.geo_slots.specs.Slots.{IsRising, value_at};
 ghost use Rattle.geo_mesh.specs.Rows.{rows_with, first_row, passes};
-ghost use Rattle.geo_mesh.specs.Notes.{name_of};
+ghost use Rattle.geo_mesh.specs.Notes.{geom_name};
 ghost use Rattle.geo_mesh.specs.Named.{is_of, is_of_class};
 
 use crate::records::GeomCell;
@@ -27,7 +27,7 @@ pub fn first_of<C>(
     name: &Name,
     from: u64,
 ) -> Option<u64>
-    requires { names.now.rows ≡ rows_with name_of geoms.now.rows }
+    requires { names.now.rows ≡ rows_with geom_name geoms.now.rows }
     ensures { result ≡ option_map (λ row. row.0) (first_row (is_of kind name.now) geoms.now.rows from) }
 {
     let mut at = from;

@@ -35,10 +35,10 @@ impl<C> Model for Topo<C> {
 
     ghost Value = { TopoView C };
 
-    ghost use Rattle.geo_mesh.specs.Cells.{view_of};
+    ghost use Rattle.geo_mesh.specs.Cells.{topo_view};
     ghost use Rattle.geo_mesh.specs.Whole.{IsWhole};
 
-    ghost view = { λ t. view_of t.tables };
+    ghost view = { λ t. topo_view t.tables };
 
     ghost invariant = { λ t. IsWhole t.tables };
 }

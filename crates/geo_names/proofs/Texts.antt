@@ -12,13 +12,13 @@ use Rattle.geo_base.proofs.Options.{some_of, is_some-map}
 use Rattle.geo_model.specs.Words.{same_name}
 use Rattle.geo_names.specs.declared.names.Inside.{Inside}
 use Rattle.geo_names.specs.Names.{first_named, last_named}
-use Rattle.geo_names.specs.Inside.{id_of, text_or, text_of, rows_of, rows_inside, IsUnder, IsInside}
+use Rattle.geo_names.specs.Inside.{id_of, text_or, text_of_number, rows_of, rows_inside, IsUnder, IsInside}
 use Rattle.geo_names.proofs.Rows.{same_is, is_same, numbers-without}
 
 module _ (n : Inside) (is : IsInside n) (name : List ℕ) where
   -- the name of a number's id, if it is this one, is this name
   test_at : (id : ℕ) → id_of n name ≡ Some id → (o : Option ℕ) → IsUnder n.texts.rows (0, o)
-      → names o id ≡ same_name (text_of n.texts.rows o) name
+      → names o id ≡ same_name (text_of_number n.texts.rows o) name
   test_at id has None never = absurd never
   test_at id has (Some j) there =
       let m = some_of (value_at n.texts.rows j) there in
@@ -40,7 +40,7 @@ module _ (n : Inside) (is : IsInside n) (name : List ℕ) where
 
   -- no number's name is one that has no id
   test_none : id_of n name ≡ None → (o : Option ℕ) → IsUnder n.texts.rows (0, o)
-      → same_name (text_of n.texts.rows o) name ≡ false
+      → same_name (text_of_number n.texts.rows o) name ≡ false
   test_none none None never = absurd never
   test_none none (Some j) there =
       let m = some_of (value_at n.texts.rows j) there in
@@ -56,15 +56,15 @@ module _ (n : Inside) (is : IsInside n) (name : List ℕ) where
     -- one number more in front: it is the first, or a later one is
     first_step : (row : ℕ × Option ℕ) (rows : List (ℕ × Option ℕ)) (b : Bool)
         → (nat_le from_number row.0 && names row.1 id) ≡ b
-        → names row.1 id ≡ same_name (text_of n.texts.rows row.1) name
+        → names row.1 id ≡ same_name (text_of_number n.texts.rows row.1) name
         → first_child rows id from_number ≡ first_named (rows_of n.texts.rows rows) name from_number
         → first_child (row ∷ rows) id from_number ≡ first_named (rows_of n.texts.rows (row ∷ rows)) name from_number
     first_step row rows true e same rest =
-        let f : (nat_le from_number row.0 && same_name (text_of n.texts.rows row.1) name) ≡ true =
+        let f : (nat_le from_number row.0 && same_name (text_of_number n.texts.rows row.1) name) ≡ true =
         sym (ap (λ b. nat_le from_number row.0 && b) same) ∙ e in
         rw (e, f) refl
     first_step row rows false e same rest =
-        let f : (nat_le from_number row.0 && same_name (text_of n.texts.rows row.1) name) ≡ false =
+        let f : (nat_le from_number row.0 && same_name (text_of_number n.texts.rows row.1) name) ≡ false =
         sym (ap (λ b. nat_le from_number row.0 && b) same) ∙ e in
         rw (e, f) rest
 
@@ -83,7 +83,7 @@ module _ (n : Inside) (is : IsInside n) (name : List ℕ) where
   -- one number more in front, of another name
   none_step : (from_number : ℕ) (row : ℕ × Option ℕ) (rows : List (ℕ × Option ℕ)) (a : Bool)
       → nat_le from_number row.0 ≡ a
-      → same_name (text_of n.texts.rows row.1) name ≡ false
+      → same_name (text_of_number n.texts.rows row.1) name ≡ false
       → first_named (rows_of n.texts.rows rows) name from_number ≡ None
       → first_named (rows_of n.texts.rows (row ∷ rows)) name from_number ≡ None
   none_step from_number row rows true e other rest = rw (e, other) rest
@@ -112,13 +112,13 @@ module _ (n : Inside) (is : IsInside n) (name : List ℕ) where
   last_is id has [] under o p so = so
   last_is id has (row ∷ rows) under o p so =
       step (names row.1 id) refl (test_at id has row.1 under.0)
-      (last_is id has rows under.1 (Some row) (Some (row.0, text_of n.texts.rows row.1)) refl)
+      (last_is id has rows under.1 (Some row) (Some (row.0, text_of_number n.texts.rows row.1)) refl)
       (last_is id has rows under.1 o p so)
     where
-      step : (b : Bool) → names row.1 id ≡ b → names row.1 id ≡ same_name (text_of n.texts.rows row.1) name
+      step : (b : Bool) → names row.1 id ≡ b → names row.1 id ≡ same_name (text_of_number n.texts.rows row.1) name
           → option_map (λ (r : ℕ × Option ℕ). r.0) (last_or (Some row) (filter (λ r. names r.1 id) rows))
           ≡ option_map (λ (r : ℕ × List ℕ). r.0)
-          (last_or (Some (row.0, text_of n.texts.rows row.1))
+          (last_or (Some (row.0, text_of_number n.texts.rows row.1))
           (filter (λ r. same_name r.1 name) (rows_of n.texts.rows rows)))
           → option_map (λ (r : ℕ × Option ℕ). r.0) (last_or o (filter (λ r. names r.1 id) rows))
           ≡ option_map (λ (r : ℕ × List ℕ). r.0)
@@ -127,9 +127,9 @@ module _ (n : Inside) (is : IsInside n) (name : List ℕ) where
           ≡ option_map (λ (r : ℕ × List ℕ). r.0)
           (last_or p (filter (λ r. same_name r.1 name) (rows_of n.texts.rows (row ∷ rows))))
       step true e same here later =
-          let f : same_name (text_of n.texts.rows row.1) name ≡ true = sym same ∙ e in rw (e, f) here
+          let f : same_name (text_of_number n.texts.rows row.1) name ≡ true = sym same ∙ e in rw (e, f) here
       step false e same here later =
-          let f : same_name (text_of n.texts.rows row.1) name ≡ false = sym same ∙ e in rw (e, f) later
+          let f : same_name (text_of_number n.texts.rows row.1) name ≡ false = sym same ∙ e in rw (e, f) later
 
   -- so for all numbers
   pub last-found : (id : ℕ) → id_of n name ≡ Some id → last_child n.alike.children id ≡ last_named (rows_inside n) name
@@ -140,7 +140,7 @@ module _ (n : Inside) (is : IsInside n) (name : List ℕ) where
       → filter (λ (r : ℕ × List ℕ). same_name r.1 name) (rows_of n.texts.rows rows) ≡ []
   last_none none [] under = refl
   last_none none (row ∷ rows) under =
-      let other : same_name (text_of n.texts.rows row.1) name ≡ false = test_none none row.1 under.0 in
+      let other : same_name (text_of_number n.texts.rows row.1) name ≡ false = test_none none row.1 under.0 in
       rw other (last_none none rows under.1)
 
   -- so none of all
@@ -174,14 +174,14 @@ rows-without texts k (row ∷ rows) = at (row.0 == k) refl (rows-without texts k
   at : (b : Bool) → (row.0 == k) ≡ b → rows_of texts (without rows k) ≡ without (rows_of texts rows) k
       → rows_of texts (without (row ∷ rows) k) ≡ without (rows_of texts (row ∷ rows)) k
   at true e rest = rw e rest
-  at false e rest = rw e (ap (λ rs. (row.0, text_of texts row.1) ∷ rs) rest)
+  at false e rest = rw e (ap (λ rs. (row.0, text_of_number texts row.1) ∷ rs) rest)
 
 -- Names that stay where the ids change
 
 -- where each number's id keeps its name, all stays
 pub record Keeps (texts others : List (ℕ × List ℕ)) (row : ℕ × Option ℕ) : Type 0 where
   pub under : IsUnder others row
-  pub text : text_of others row.1 ≡ text_of texts row.1
+  pub text : text_of_number others row.1 ≡ text_of_number texts row.1
 
 -- so for all numbers
 pub kept-under : (texts others : List (ℕ × List ℕ)) (rows : List (ℕ × Option ℕ))

@@ -22,13 +22,13 @@ text_or None = []
 text_or (Some name) = name
 
 -- the name under which a number stands
-abbrev pub text_of : List (ℕ × List ℕ) → Option ℕ → List ℕ
-text_of texts None = []
-text_of texts (Some id) = text_or (value_at texts id)
+abbrev pub text_of_number : List (ℕ × List ℕ) → Option ℕ → List ℕ
+text_of_number texts None = []
+text_of_number texts (Some id) = text_or (value_at texts id)
 
 -- each number with its name
 abbrev pub rows_of : List (ℕ × List ℕ) → List (ℕ × Option ℕ) → List (ℕ × List ℕ)
-rows_of texts children = map (λ row. (row.0, text_of texts row.1)) children
+rows_of texts children = map (λ row. (row.0, text_of_number texts row.1)) children
 
 -- each number with its name, of all that is kept
 abbrev pub rows_inside : Inside → List (ℕ × List ℕ)
@@ -39,8 +39,8 @@ abbrev pub room_of : Inside → ℕ
 room_of n = min (min (spare n.ids) n.texts.spare) (min n.alike.parent_room n.alike.child_room)
 
 -- what contracts see
-abbrev pub names_of : Inside → NamesView
-names_of n = record { rows = rows_inside n; next = n.alike.next_child; room = room_of n }
+abbrev pub names_view : Inside → NamesView
+names_view n = record { rows = rows_inside n; next = n.alike.next_child; room = room_of n }
 
 -- room for all but one of so many ids, and for all of so many numbers
 pub record HaveRooms (count : ℕ) (n : Inside) : Type 0 where

@@ -35,9 +35,9 @@ impl Model for Names {
 
     ghost Value = { NamesView };
 
-    ghost use Rattle.geo_names.specs.Inside.{names_of, IsInside};
+    ghost use Rattle.geo_names.specs.Inside.{names_view, IsInside};
 
-    ghost view = { λ n. names_of n.inside };
+    ghost view = { λ n. names_view n.inside };
 
     ghost invariant = { λ n. IsInside n.inside };
 }

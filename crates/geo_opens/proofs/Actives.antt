@@ -20,14 +20,14 @@ use Rattle.geo_model.specs.Step.{Answer, reap_next}
 use Rattle.geo_model.proofs.DemandLemmas.{find_passes}
 use Rattle.geo_bio.specs.declared.bio.Held.{Held}
 use Rattle.geo_log.specs.Places.{delivered_at}
-use Rattle.geo_state.specs.Shown.{shown, shown_bio}
+use Rattle.geo_state.specs.Shown.{shown_bio, shown_bios}
 use Rattle.geo_slots.specs.Slots.{value_at}
 use Rattle.geo_mesh.specs.Topo.{TopoView}
 use Rattle.geo_laws_graph.proofs.Lists.{found_itself}
 use Rattle.geo_laws_graph.proofs.Members.{find-Contains}
 use Rattle.geo_laws_counts.proofs.Members.{in_head, in_tail}
 use Rattle.geo_handles.specs.Handles.{handle_at, first_ready}
-use Rattle.geo_handles.specs.HandleLaws.{noted}
+use Rattle.geo_handles.specs.HandleLaws.{noted_handles}
 use Rattle.geo_handles.proofs.HandleLawLemmas.{handles_are_of_world}
 use Rattle.geo_life.specs.Life.{is_out}
 use Rattle.geo_access.proofs.Decided.{item_at}
@@ -40,7 +40,7 @@ use Rattle.geo_state.specs.Steps.{against}
 
 -- whether a request is out through a consumer in the world
 pub active-is : (log : List Entry) (bios : List (BioOf Held)) (c : ℕ)
-    → list_any (λ (x : Bio). (x.source == c) && not (is_done x.phase)) (shown (delivered_at log) bios)
+    → list_any (λ (x : Bio). (x.source == c) && not (is_done x.phase)) (shown_bios (delivered_at log) bios)
     ≡ not (out_through (trips bios) c == 0)
 active-is log bios c =
     any-map (λ (x : Bio). (x.source == c) && not (is_done x.phase)) (shown_bio (delivered_at log)) bios
@@ -50,13 +50,13 @@ active-is log bios c =
 
 -- a fact of each bio of the world is one of each request on its way
 pub trips-all : (log : List Entry) (P : Trip → Type 0) (bios : List (BioOf Held))
-    → ((z : Bio) → Contains (shown (delivered_at log) bios) z → P (trip_of z)) → AllByRecursion P (trips bios)
+    → ((z : Bio) → Contains (shown_bios (delivered_at log) bios) z → P (trip_of z)) → AllByRecursion P (trips bios)
 trips-all log P [] so = tt
 trips-all log P (x ∷ xs) so = (
   so (shown_bio (delivered_at log) x)
-      (in_head (shown_bio (delivered_at log) x) (shown (delivered_at log) xs)),
+      (in_head (shown_bio (delivered_at log) x) (shown_bios (delivered_at log) xs)),
   trips-all log P xs
-      (λ z there. so z (in_tail (shown_bio (delivered_at log) x) (shown (delivered_at log) xs) z there)),
+      (λ z there. so z (in_tail (shown_bio (delivered_at log) x) (shown_bios (delivered_at log) xs) z there)),
 )
 
 module _ (s : State) (kept : Holds s) where
@@ -116,7 +116,7 @@ module _ (s : State) (kept : Holds s) where
     first-to-reap =
         (handles_are_of_world w).first s.handles.ready
         (kept.ready
-        ∙ ap (λ (test : Handle → Bool). noted test s.handles.handles) (λ i h. sym (to_reap h) i))
+        ∙ ap (λ (test : Handle → Bool). noted_handles test s.handles.handles) (λ i h. sym (to_reap h) i))
 
     -- what is found against a reap
     abbrev found_of : Option Handle → Option Found

@@ -34,7 +34,7 @@ use Rattle.geo_state.specs.World.{world}
 use Rattle.geo_state.specs.Steps.{IsFirm, IsAgainst}
 use Rattle.geo_state.specs.Changes.{KeptWithHandles}
 use Rattle.geo_opens.specs.Holders.{HasGone}
-use Rattle.geo_opens.specs.Handles.{IsIdle, steps_of}
+use Rattle.geo_opens.specs.Handles.{IsIdle, counts_computed}
 use Rattle.geo_opens.proofs.Actives.{IsNext, out-told, idle-stored, next-to-reap}
 use Rattle.geo_opens.proofs.Going.{placed-all, held, held-holder, held-lives, closed-world, forgotten-world, reaped-world}
 use Rattle.geo_opens.proofs.Settling.{goer-of, gone-settled}
@@ -358,7 +358,7 @@ module _ (s : State) (kept : Holds s) (firm : IsFirm s) where
 
     -- the steps that it takes
     pub reap-steps : (c : ℕ) → IsIdle s n c → (actors : List (List LineCommand)) (log : List Entry)
-        → steps_of s (reap_work (world actors log s)) ≡ consumers_below t (place_of t c)
+        → counts_computed s (reap_work (world actors log s)) ≡ consumers_below t (place_of t c)
     reap-steps c idle actors log =
         let x : IsNext s kept actors log n = next_at actors log in
         let k = some_and_of (λ (h : Handle). (h.consumer ≡ Some c) × (value_at s.topo.active c ≡ Some 0))
@@ -366,7 +366,7 @@ module _ (s : State) (kept : Holds s) (firm : IsFirm s) where
         idle in
         let two : Some x.handle ≡ Some k.0 = sym x.there ∙ k.1 in
         let one : x.handle ≡ k.0 = cc in
-        ap (steps_of s) (x.work ∙ ap (λ h. Some h) one)
+        ap (counts_computed s) (x.work ∙ ap (λ h. Some h) one)
         ∙ ap (λ o. option_map_or (λ m. consumers_below t (place_of t m)) o 0) k.2.0
 
   -- A handle that is forgotten, with its consumer or without
@@ -374,10 +374,10 @@ module _ (s : State) (kept : Holds s) (firm : IsFirm s) where
   module _ (id : ℕ) where
     -- the steps that it takes
     pub forget-steps : (o : Option ℕ) → IsSomeAnd (handle_at hs id) (λ h. h.consumer ≡ o)
-        → steps_of s (handle_at hs id) ≡ option_map_or (λ c. consumers_below t (place_of t c)) o 0
+        → counts_computed s (handle_at hs id) ≡ option_map_or (λ c. consumers_below t (place_of t c)) o 0
     forget-steps o there =
         let k = some_and_of (λ (h : Handle). h.consumer ≡ o) (handle_at hs id) there in
-        ap (steps_of s) k.1 ∙ ap (λ r. option_map_or (λ c. consumers_below t (place_of t c)) r 0) k.2
+        ap (counts_computed s) k.1 ∙ ap (λ r. option_map_or (λ c. consumers_below t (place_of t c)) r 0) k.2
 
     -- one with a consumer is idle
     pub forget-idle : (c : ℕ) → IsSomeAnd (handle_at hs id) (λ h. h.consumer ≡ Some c)

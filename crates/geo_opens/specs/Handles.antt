@@ -60,8 +60,8 @@ IsIdle s handle consumer =
     (λ h. (h.consumer ≡ Some consumer) × (value_at s.topo.active consumer ≡ Some 0))
 
 -- how many counts are computed anew at most where the consumer of a handle goes
-abbrev pub steps_of : State → Option Handle → ℕ
-steps_of s handle =
+abbrev pub counts_computed : State → Option Handle → ℕ
+counts_computed s handle =
     option_map_or
     (λ h. option_map_or (λ c. consumers_below s.topo.topology (place_of s.topo.topology c)) h.consumer 0)
     handle 0

@@ -12,7 +12,7 @@ ghost use Rattle.geo_access.specs.Access.{consumers_below, place_of};
 ghost use Rattle.geo_state.specs.World.{world};
 ghost use Rattle.geo_state.specs.Holds.{Holds};
 ghost use Rattle.geo_state.specs.Steps.{IsFirm, Does};
-ghost use Rattle.geo_opens.specs.Handles.{IsIdle, steps_of};
+ghost use Rattle.geo_opens.specs.Handles.{IsIdle, counts_computed};
 
 use crate::handle::{consumer_of, is_out, look};
 use crate::holders::give_back;
@@ -40,7 +40,7 @@ pub fn close<L: Ledger>(
     ensures kept { Holds state.new }
     ensures traffic { state.new.traffic ≡ state.old.traffic }
     ensures bound { steps.new ≤ steps.old
-        + steps_of state.old (named_handle state.old.handles.handles actor name.now) }
+        + counts_computed state.old (named_handle state.old.handles.handles actor name.now) }
 {
     let Some(id) = state.handles.by_name(actor, name) else {
         return refused(line, Errno::EBADF);
@@ -69,7 +69,7 @@ fn forget<L: Ledger>(
         ≡ after_close (world actors log state.old) (without_handle (world actors log state.old) h)) }
     ensures kept { Holds state.new }
     ensures traffic { state.new.traffic ≡ state.old.traffic }
-    ensures bound { steps.new ≤ steps.old + steps_of state.old (handle_at state.old.handles.handles id) }
+    ensures bound { steps.new ≤ steps.old + counts_computed state.old (handle_at state.old.handles.handles id) }
 {
     match consumer {
         Some(cons) => forget_held(state, id, cons, steps),

@@ -10,7 +10,7 @@ ghost use Rattle.geo_access.specs.Access.{consumers_below, place_of};
 ghost use Rattle.geo_state.specs.World.{world};
 ghost use Rattle.geo_state.specs.Holds.{Holds};
 ghost use Rattle.geo_state.specs.Steps.{IsFirm, IsAgainst, Makes};
-ghost use Rattle.geo_opens.specs.Handles.{IsIdle, steps_of};
+ghost use Rattle.geo_opens.specs.Handles.{IsIdle, counts_computed};
 
 use crate::handle::{consumer_of, look};
 use crate::holders::give_back;
@@ -42,7 +42,7 @@ pub fn reap<L: Ledger>(state: &mut State, steps: &mut Steps<L>)
     ensures kept { Holds state.new }
     ensures traffic { state.new.traffic ≡ state.old.traffic }
     ensures bound { (actors : List (List LineCommand)) (log : List Entry)
-        → steps.new ≤ steps.old + steps_of state.old (reap_work (world actors log state.old)) }
+        → steps.new ≤ steps.old + counts_computed state.old (reap_work (world actors log state.old)) }
 {
     let id = next_dead(state);
     let cons = consumer_of_dead(state, id);

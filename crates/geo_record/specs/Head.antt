@@ -8,9 +8,9 @@ use Rattle.geo_model.specs.Words.{first_error, unless}
 use Rattle.geo_model.specs.Records.{head_tests, padded, record_name}
 
 -- what a decoder answers: the value, or the cause alone
-abbrev pub answer_of : {A : Type 0} → Result A Declined → Result A DeclineCause
-answer_of (Ok value) = Ok value
-answer_of (Err declined) = Err declined.cause
+abbrev pub decoder_answer : {A : Type 0} → Result A Declined → Result A DeclineCause
+decoder_answer (Ok value) = Ok value
+decoder_answer (Err declined) = Err declined.cause
 
 -- the name in a sector whose head has this magic and a version up to the newest, or the first cause to decline it
 abbrev pub head_name : List ℕ → ℕ → List ℕ → Result (List ℕ) DeclineCause

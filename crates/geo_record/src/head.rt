@@ -3,7 +3,7 @@ ghost use Rattle.std.specs.Prelude.{◌≡◌, ◌≤◌, ◌==◌, not, length,
 ghost use Rattle.std.specs.List.{list_all, prefix_len};
 ghost use Rattle.geo_base.specs.Name.{is_short_name};
 ghost use Rattle.geo_model.specs.Records.{padded, record_head};
-ghost use Rattle.geo_record.specs.Head.{answer_of, head_name, padded_name};
+ghost use Rattle.geo_record.specs.Head.{decoder_answer, head_name, padded_name};
 
 use crate::field::{put_bytes, put_u32, u32_at};
 use geo_base::{DeclineCause, Declined, Name};
@@ -42,7 +42,7 @@ fn padded_name(field: &[u8]) -> Option<Name>
 /// `Version`, or `BadName` where the name isn't 1 to 16 letters, digits, `_` and `-` with zeros alone behind them.
 pub fn decode_head(sector: &[u8], magic: &[u8; 16], newest: u32) -> Result<Name, Declined>
     requires { 36 ≤ length sector.now }
-    ensures { answer_of result ≡ head_name magic.now newest sector.now }
+    ensures { decoder_answer result ≡ head_name magic.now newest sector.now }
 {
     if sector[..16] != magic[..] {
         return Err(Declined {

@@ -13,7 +13,7 @@ use Rattle.geo_model.specs.declared.step.Outcome.{Outcome}
 use Rattle.geo_model.specs.declared.step.Outcome.TheVariants as outcomes
 use Rattle.geo_model.specs.declared.step.Reply.{Reply}
 use Rattle.geo_model.specs.Report.{reply_in, reply_from}
-use Rattle.geo_report.specs.Places.{ArePlaces, line_of, line_replied, noted, noted_at, places, slot, reply_at}
+use Rattle.geo_report.specs.Places.{ArePlaces, line_of, line_replied, slots_after, noted_at, places, slot, reply_at}
 
 -- Slots
 
@@ -84,7 +84,7 @@ noted_length slots place (Some own) = elim (cases_Bool (is_some (slot slots own)
 -- each slot has what it had, else the place of the first reply
 slot_places : (log : List Entry) (place line : ℕ) (slots : List (Option ℕ)) → line < length slots
     → slot (places log place slots) line ≡ or_else (slot slots line) (first_place log place line)
-unfolding noted
+unfolding slots_after
 slot_places [] place line slots within = or_none (slot slots line)
 slot_places (e ∷ log) place line slots within =
     let long : length (noted_at slots place (line_of e)) ≡ length slots = noted_length slots place (line_of e) in
@@ -150,7 +150,7 @@ front log i e h is = rw (add-one, drop-cons log i e, ← is) refl
 
 pub places_next : (log : List Entry) (i : ℕ) (e : Entry) (slots all : List (Option ℕ)) → i < length log
     → e ≡ get_or log i e → places (drop i log) i slots ≡ all
-    → places (drop (i + 1) log) (i + 1) (noted slots i e) ≡ all
+    → places (drop (i + 1) log) (i + 1) (slots_after slots i e) ≡ all
 places_next log i e slots all within is so_far = ap (λ l. places l i slots) (sym (front log i e within is)) ∙ so_far
 
 -- the slots at the end, of which there are enough

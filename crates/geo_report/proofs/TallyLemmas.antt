@@ -17,7 +17,7 @@ use Rattle.geo_model.specs.declared.step.Reply.{Reply}
 use Rattle.geo_model.specs.declared.step.Reply.TheVariants as replies
 use Rattle.geo_model.specs.Report.{errno_number, is_ok_reply, is_refusal, reply_len, reply_from, count_line, all_errnos}
 use Rattle.geo_report.specs.declared.tally.Tally.{Tally}
-use Rattle.geo_report.specs.Tallies.{IsTally, IsBelow, noted, noted_answer, replies_of, error_line, tally_text}
+use Rattle.geo_report.specs.Tallies.{IsTally, IsBelow, with_reply, noted_answer, replies_of, error_line, tally_text}
 use Rattle.geo_report.proofs.MeshLemmas.{flat_map_same}
 
 -- Sums of a list with one more at its end
@@ -82,7 +82,7 @@ no_replies = record {
   bytes = refl;
 }
 
-tally_noted : (rs : List Reply) (t : Tally) (r : Reply) → IsTally rs t → IsTally (rs ++ r ∷ []) (noted t r)
+tally_noted : (rs : List Reply) (t : Tally) (r : Reply) → IsTally rs t → IsTally (rs ++ r ∷ []) (with_reply t r)
 tally_noted rs t replies.Ok is = record {
   ok = omega (arith, count_more is_ok_reply rs replies.Ok, is.ok);
   kinds = is.kinds;
@@ -137,7 +137,7 @@ next_tally log commands i c o t more within is answer noted so_far =
     subst P (sym own) (subst Q (sym noted) (tally_answer rs t o so_far))
 
 bytes_noted : (i : ℕ) (t : Tally) (r : Reply) → reply_len r < 2 ^ 64 → t.bytes ≤ i * 2 ^ 64
-    → (noted t r).bytes ≤ (i + 1) * 2 ^ 64
+    → (with_reply t r).bytes ≤ (i + 1) * 2 ^ 64
 bytes_noted i t replies.Ok short so_far = omega (arith, so_far)
 bytes_noted i t (replies.Bytes bytes) short so_far = omega (arith, so_far, short)
 bytes_noted i t (replies.Refused x) short so_far = omega (arith, so_far)

@@ -26,13 +26,13 @@ noted_at slots place None = slots
 noted_at slots place (Some line) = if is_some (slot slots line) then slots else slice_set slots line (Some place)
 
 -- the slots once the entry at this place was read
-unfoldable pub noted : List (Option ℕ) → ℕ → Entry → List (Option ℕ)
-noted slots place e = noted_at slots place (line_of e)
+unfoldable pub slots_after : List (Option ℕ) → ℕ → Entry → List (Option ℕ)
+slots_after slots place e = noted_at slots place (line_of e)
 
 -- the slots once the entries from this place on were read
 abbrev pub places : List Entry → ℕ → List (Option ℕ) → List (Option ℕ)
 places [] place slots = slots
-places (e ∷ log) place slots = places log (place + 1) (noted slots place e)
+places (e ∷ log) place slots = places log (place + 1) (slots_after slots place e)
 
 -- the reply that stands at a place
 abbrev pub reply_at : List Entry → Option ℕ → ℕ → Option Reply

@@ -27,20 +27,20 @@ pub record IsBelow (n : ℕ) (t : Tally) : Type 0 where
   pub bytes : t.bytes ≤ n * 2 ^ 64
 
 -- one more at a place
-abbrev pub one_more : List ℕ → ℕ → List ℕ
-one_more numbers k = slice_set numbers k (slice_index numbers k + 1)
+abbrev pub one_more_at : List ℕ → ℕ → List ℕ
+one_more_at numbers k = slice_set numbers k (slice_index numbers k + 1)
 
 -- the numbers with one reply more
-abbrev pub noted : Tally → Reply → Tally
-noted t replies.Ok = record t { ok = t.ok + 1 }
-noted t (replies.Bytes bytes) = record t { ok = t.ok + 1; bytes = t.bytes + length bytes }
-noted t (replies.Refused e) = record t { errors = one_more t.errors (errno_number e) }
-noted t (replies.Listing lines) = record t { ok = t.ok + 1 }
+abbrev pub with_reply : Tally → Reply → Tally
+with_reply t replies.Ok = record t { ok = t.ok + 1 }
+with_reply t (replies.Bytes bytes) = record t { ok = t.ok + 1; bytes = t.bytes + length bytes }
+with_reply t (replies.Refused e) = record t { errors = one_more_at t.errors (errno_number e) }
+with_reply t (replies.Listing lines) = record t { ok = t.ok + 1 }
 
 -- the numbers with the reply to one line more
 abbrev pub noted_answer : Tally → Option Reply → Tally
 noted_answer t None = t
-noted_answer t (Some reply) = noted t reply
+noted_answer t (Some reply) = with_reply t reply
 
 -- the line of an error
 abbrev pub error_line : Tally → Errno → List ℕ

@@ -11,8 +11,8 @@ use Rattle.geo_model.specs.Report.{end_line, line_text, mesh_text, reply_text, r
 use Rattle.geo_base.specs.Errno.{errno_text}
 
 -- what stands behind the number of a line
-abbrev pub answer_text : Option Reply → List ℕ
-answer_text reply = option_map_or reply_text reply end_line
+abbrev pub reply_or_end : Option Reply → List ℕ
+reply_or_end reply = option_map_or reply_text reply end_line
 
 -- the reply of each line in order, then the mesh as it is listed
 unfoldable pub report_text : Plan → List Entry → List GeomLine → List ℕ

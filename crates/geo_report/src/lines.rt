@@ -3,7 +3,7 @@ ghost use Rattle.std.specs.Prelude.{◌≡◌, ◌≤◌, ◌++◌, OnOk, All, f
 ghost use Rattle.std.specs.Option.{option_copied};
 ghost use Rattle.geo_model.specs.Report.{line_text, reply_text};
 ghost use Rattle.geo_report.specs.Places.{ArePlaces};
-ghost use Rattle.geo_report.specs.Texts.{answer_text};
+ghost use Rattle.geo_report.specs.Texts.{reply_or_end};
 
 use crate::mesh::add_mesh;
 use crate::places::find_reply;
@@ -37,7 +37,7 @@ fn add_reply(text: &mut Text, reply: &Reply) -> Result<(), NoMemory>
 
 /// The reply to a line; without one the line ends.
 fn add_answer(text: &mut Text, reply: Option<&Reply>) -> Result<(), NoMemory>
-    ensures { OnOk result (text.new ≡ text.old ++ answer_text (option_copied reply.entry)) }
+    ensures { OnOk result (text.new ≡ text.old ++ reply_or_end (option_copied reply.entry)) }
 {
     match reply {
         Some(reply) => add_reply(text, reply),

@@ -2,7 +2,7 @@
 ghost use Rattle.std.specs.Prelude.{◌≡◌, ◌<◌, ◌≤◌, IfOk};
 ghost use Rattle.std.specs.Option.{option_copied};
 ghost use Rattle.geo_model.specs.Report.{reply_in, reply_from};
-ghost use Rattle.geo_report.specs.Places.{ArePlaces, line_of, noted, slot, reply_at};
+ghost use Rattle.geo_report.specs.Places.{ArePlaces, line_of, slots_after, slot, reply_at};
 
 use geo_base::{MAX_SCRIPT_LINES, NoMemory};
 use geo_model::{Entry, Outcome, Reply};
@@ -40,9 +40,9 @@ fn slot(places: &[Option<usize>], line: u32) -> Option<usize>
 }
 
 /// Keeps the place of an entry where it gives the first reply to its line.
-#[tactic(auto, unfolding(crate::specs::Places::noted))]
+#[tactic(auto, unfolding(crate::specs::Places::slots_after))]
 fn note(places: &mut Vec<Option<usize>>, place: usize, entry: &Entry)
-    ensures { places.new.items ≡ noted places.old.items place entry.now }
+    ensures { places.new.items ≡ slots_after places.old.items place entry.now }
 {
     if let Some(line) = line_of(entry) {
         let line = line as usize;

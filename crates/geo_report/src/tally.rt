@@ -3,7 +3,7 @@ ghost use Rattle.std.specs.Prelude.{◌≡◌, ◌<◌, ◌≤◌, ◌^◌, [], 
 ghost use Rattle.std.specs.Option.{option_copied};
 ghost use Rattle.geo_model.specs.Report.{errno_number, reply_len};
 ghost use Rattle.geo_report.specs.Places.{ArePlaces};
-ghost use Rattle.geo_report.specs.Tallies.{IsTally, IsBelow, noted, noted_answer, replies_of};
+ghost use Rattle.geo_report.specs.Tallies.{IsTally, IsBelow, with_reply, noted_answer, replies_of};
 
 use crate::places::find_reply;
 use geo_base::{Errno, MAX_SCRIPT_LINES};
@@ -54,7 +54,7 @@ impl Tally {
     /// One more reply.
     fn note(&mut self, reply: &Reply)
         requires room { IsBelow 18446744073709551614 self.old }
-        ensures noted { self.new ≡ noted self.old reply.now }
+        ensures noted { self.new ≡ with_reply self.old reply.now }
         ensures length { reply_len reply.now < 2 ^ 64 }
     {
         match reply {

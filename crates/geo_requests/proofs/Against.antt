@@ -25,14 +25,14 @@ use Rattle.geo_laws_graph.proofs.Members.{find-Contains}
 use Rattle.geo_bio.specs.declared.bio.Held.{Held}
 use Rattle.geo_bio.specs.BioTable.{bio_among}
 use Rattle.geo_log.specs.Places.{delivered_at}
-use Rattle.geo_state.specs.Shown.{shown, shown_bio}
+use Rattle.geo_state.specs.Shown.{shown_bio, shown_bios}
 use Rattle.geo_state.proofs.ShownLemmas.{shown_are_found}
 use Rattle.geo_state.proofs.StepLemmas.{world_shows_bios}
 use Rattle.geo_state.specs.declared.state.State.{State}
 use Rattle.geo_state.specs.declared.state.DiskSeat.{DiskSeat}
 use Rattle.geo_state.specs.Trips.{Trip, trip_of, trips, is_at_disk, busy_at}
 use Rattle.geo_state.specs.Holds.{Holds, IsSeat}
-use Rattle.geo_state.specs.World.{world, header_disk}
+use Rattle.geo_state.specs.World.{world, disk_of_seat}
 use Rattle.geo_state.specs.Steps.{IsFirm, against, IsAgainst}
 use Rattle.geo_requests.specs.Founds.{phase_found, seat_found, way_found, sent_found, take_against, busy_found, deliver_against}
 
@@ -80,10 +80,10 @@ pub has_seat : (s : State) → IsFirm s → (prov disk : ℕ) → disk_at s.topo
     → IsSome (slice_get s.disks.items disk)
 has_seat s firm prov disk is =
     by (slice_get s.disks.items disk)
-    (subst (λ o. IsSome o) (slice_get-map header_disk s.disks.items disk)
+    (subst (λ o. IsSome o) (slice_get-map disk_of_seat s.disks.items disk)
     (disk_stands (world firm.1.0 firm.0 s) firm.1.1 prov disk is))
   where
-    by : (o : Option DiskSeat) → IsSome (option_map header_disk o) → IsSome o
+    by : (o : Option DiskSeat) → IsSome (option_map disk_of_seat o) → IsSome o
     by None some = absurd cc
     by (Some seat) some = refl
 

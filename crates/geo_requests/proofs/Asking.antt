@@ -22,7 +22,7 @@ use Rattle.geo_model.specs.Requests.{Asking, request_refusal, request_refusal_at
 use Rattle.geo_bio.specs.declared.bio.Held.{Held}
 use Rattle.geo_handles.specs.Handles.{named_handle, handle_at}
 use Rattle.geo_log.specs.Places.{delivered_at}
-use Rattle.geo_state.specs.Shown.{shown, AreLogged}
+use Rattle.geo_state.specs.Shown.{shown_bios, AreLogged}
 use Rattle.geo_state.proofs.StepLemmas.{world_shows_bios}
 use Rattle.geo_state.proofs.LoggedLemmas.{places_stay_logged}
 use Rattle.geo_state.specs.declared.state.State.{State}
@@ -31,7 +31,7 @@ use Rattle.geo_state.specs.World.{world}
 use Rattle.geo_state.specs.Holds.{Holds}
 use Rattle.geo_state.specs.Steps.{Does, SameWorld}
 use Rattle.geo_requests.specs.declared.gate.Gate.{Gate}
-use Rattle.geo_requests.specs.Asked.{LetsThrough, mark_bytes, mark_sector, media_of, provider_below, refusal_by}
+use Rattle.geo_requests.specs.Asked.{LetsThrough, mark_bytes, mark_sector, media_sizes, provider_attached, refusal_by}
 use Rattle.geo_requests.proofs.Serving.{world_moved}
 use Rattle.geo_requests.proofs.Parting.{same_moved}
 use Rattle.geo_model.specs.Words.{same_name}
@@ -77,13 +77,13 @@ module _ (s : State) (line actor : ℕ) (name : List ℕ) (cmd : BioCmd) (offset
       accepted =
           let source : unwrap_or h.consumer 0 ≡ gate.source = ap (λ o. unwrap_or o 0) lets.consumer in
           let target : option_map_or (λ (p : Provider). p.number) (provider_of_handle w h) 0 ≡ gate.target =
-          number_of (provider_below s.topo.topology h.consumer) lets.provider in
+          number_of (provider_attached s.topo.topology h.consumer) lets.provider in
           let after : submit w cmd offset len bytes gate.source gate.target (owners.Line gate.handle line)
           ≡ world actors log new =
           (world_shows_bios (delivered_at log) s.traffic.bios w refl).submits cmd offset len bytes gate.source
           gate.target (owners.Line gate.handle line)
           ∙ (λ i. let u : World = record w {
-            bios = shown (delivered_at log) (sym bios i);
+            bios = shown_bios (delivered_at log) (sym bios i);
             next_bio = sym next i;
           } in u)
           ∙ sym (world_moved s new only actors log) in
@@ -189,18 +189,18 @@ module _ (w : World) (h : Option Handle) (mark : Mark) where
         len = p.sector;
         bytes = mark_bytes mark p.size p.sector;
       } in a) o (record { cmd = cmds.Write; offset = 0; len = 0; bytes = [] })
-      ≡ of_media (media_of o)
+      ≡ of_media (media_sizes o)
   media_by None = refl
   media_by (Some p) = refl
 
   pub record_is : (m : Option (ℕ × ℕ))
-      → m ≡ media_of (option_and_then (λ (x : Handle). provider_below w.topology x.consumer) h)
+      → m ≡ media_sizes (option_and_then (λ (x : Handle). provider_attached w.topology x.consumer) h)
       → record_request w h (mark_sector mark) ≡ of_media m
   record_is m is =
-      media_by (option_and_then (λ (x : Handle). provider_below w.topology x.consumer) h) ∙ ap of_media (sym is)
+      media_by (option_and_then (λ (x : Handle). provider_attached w.topology x.consumer) h) ∙ ap of_media (sym is)
 
 module _ (s new : State) (line actor : ℕ) (name : List ℕ) (mark : Mark) (m : Option (ℕ × ℕ))
-    (is : m ≡ media_of (option_and_then (λ (x : Handle). provider_below s.topo.topology x.consumer)
+    (is : m ≡ media_sizes (option_and_then (λ (x : Handle). provider_attached s.topo.topology x.consumer)
     (named_handle s.handles.handles actor name))) where
   -- a record is written by its request
   pub record_does : (a : Asking) → of_media (world [] [] s) (named_handle s.handles.handles actor name) mark m ≡ a

@@ -16,7 +16,7 @@ use Rattle.geo_bio.specs.declared.bio.Held.{Held}
 use Rattle.geo_bio.specs.BioTable.{bio_among, has_phase}
 use Rattle.geo_bio.specs.PieceLaws.{target_in}
 use Rattle.geo_log.specs.Places.{delivered_at}
-use Rattle.geo_state.specs.Shown.{shown, AreLogged}
+use Rattle.geo_state.specs.Shown.{shown_bios, AreLogged}
 use Rattle.geo_state.specs.declared.state.State.{State}
 use Rattle.geo_state.specs.Bios.{OnlyBios, IsNoHandles}
 use Rattle.geo_state.specs.World.{world}

@@ -21,7 +21,7 @@ use Rattle.geo_bio.specs.BioTable.{bio_among, with_phase}
 use Rattle.geo_bio.specs.PieceLaws.{target_in}
 use Rattle.geo_bio.specs.Split.{split_into}
 use Rattle.geo_log.specs.Places.{delivered_at}
-use Rattle.geo_state.specs.Shown.{shown}
+use Rattle.geo_state.specs.Shown.{shown_bios}
 use Rattle.geo_state.specs.declared.state.State.{State}
 use Rattle.geo_state.specs.Bios.{OnlyBios}
 use Rattle.geo_state.specs.World.{world}
@@ -41,10 +41,10 @@ module _ (s new : State) (ys : List (BioOf Held)) (is : new ≡ with_bios s ys) 
   bios_are = ap (λ (z : State). z.traffic.bios) is
 
   pub seen_bios : (actors : List (List LineCommand)) (log : List Entry)
-      → world actors log new ≡ record (world actors log s) { bios = shown (delivered_at log) new.traffic.bios }
+      → world actors log new ≡ record (world actors log s) { bios = shown_bios (delivered_at log) new.traffic.bios }
   seen_bios actors log =
       ap (world actors log) is
-      ∙ ap (λ zs. let v : World = record (world actors log s) { bios = shown (delivered_at log) zs } in v)
+      ∙ ap (λ zs. let v : World = record (world actors log s) { bios = shown_bios (delivered_at log) zs } in v)
       (sym bios_are)
 
 -- back with an error
@@ -87,7 +87,7 @@ failed_started s mid new b x g noted is = record {
   outcome = refl;
   seen = λ actors log.
       seen_bios mid new (change_number b (up_with (held.Failed EIO)) mid.traffic.bios) is actors log
-      ∙ ap (λ (w : World). let v : World = record w { bios = shown (delivered_at log) new.traffic.bios } in v)
+      ∙ ap (λ (w : World). let v : World = record w { bios = shown_bios (delivered_at log) new.traffic.bios } in v)
       (noted_seen s mid g noted actors log);
 }
 
@@ -110,7 +110,7 @@ split_started s new b x cut zs first count is only bios next begins many =
       seen = λ actors log.
           world_moved s new only actors log
           ∙ ap (λ n. let v : World = record (world actors log s) {
-            bios = shown (delivered_at log) new.traffic.bios;
+            bios = shown_bios (delivered_at log) new.traffic.bios;
             next_bio = n;
           } in v) (next ∙ ap (λ n. s.traffic.next + n) len);
     }
@@ -145,7 +145,7 @@ passed_started s mid new b x g zs o started graph is = record {
       ∙ (λ i. let v : World = record (started.seen actors log i) { topology = note_started (graph i) g } in v)
       ∙ ap (λ ys. let v : World = record (world actors log s) {
         topology = note_started s.topo.topology g;
-        bios = shown (delivered_at log) ys;
+        bios = shown_bios (delivered_at log) ys;
         next_bio = s.traffic.next + length zs;
       } in v) (sym (ap (λ (z : State). z.traffic.bios) is));
 }
@@ -167,6 +167,6 @@ pub same_moved : (s new : State) → OnlyBios s new → new.traffic.bios ≡ s.t
 same_moved s new only bios next actors log =
     world_moved s new only actors log
     ∙ (λ i. let v : World = record (world actors log s) {
-      bios = shown (delivered_at log) (bios i);
+      bios = shown_bios (delivered_at log) (bios i);
       next_bio = next i;
     } in v)

@@ -32,9 +32,9 @@ use Rattle.geo_access.specs.Access.{consumers_below, granted_by, released_view}
 use Rattle.geo_access.proofs.Decided.{item_at}
 use Rattle.geo_handles.specs.Handles.{holding_handle}
 use Rattle.geo_log.specs.Places.{delivered_at}
-use Rattle.geo_state.specs.Shown.{shown, shown_bio, AreLogged}
+use Rattle.geo_state.specs.Shown.{shown_bios, shown_bio, AreLogged}
 use Rattle.geo_state.proofs.StepLemmas.{world_shows_bios}
-use Rattle.geo_taste.specs.Taster.{IsSettled, IsTasteOf, held_by, with_granted}
+use Rattle.geo_taste.specs.Taster.{IsSettled, IsTasteOf, held_by_taste, with_granted}
 use Rattle.geo_state.specs.declared.state.State.{State}
 use Rattle.geo_state.specs.Bios.{OnlyBios, CameThrough, IsOfItsOwner}
 use Rattle.geo_state.specs.Holds.{Holds, granted_of, owed_events}
@@ -58,11 +58,11 @@ taste_owner (owners.Child parent index) is = absurd cc
 
 -- as many trips are the taste's as requests
 reads_counted : (log : ℕ → Option (List ℕ)) (bios : List (BioOf Held))
-    → count_by (λ (z : Bio). is_taste_root z.owner) (shown log bios)
+    → count_by (λ (z : Bio). is_taste_root z.owner) (shown_bios log bios)
     ≡ count_by (λ (z : Trip). is_taste_root z.owner) (trips bios)
 reads_counted log [] = refl
 reads_counted log (x ∷ bios) =
-    count-step (λ (z : Bio). is_taste_root z.owner) (shown_bio log x) (shown log bios)
+    count-step (λ (z : Bio). is_taste_root z.owner) (shown_bio log x) (shown_bios log bios)
     ∙ ap (λ n. counts (λ (z : Trip). is_taste_root z.owner) (trip_of x) + n) (reads_counted log bios)
     ∙ sym (count-step (λ (z : Trip). is_taste_root z.owner) (trip_of x) (trips bios))
 
@@ -160,7 +160,7 @@ module _ (s : State) (firm : IsFirm s) (b : ℕ) (x : BioOf Held) (found : bio_a
       firm.1.1.steady.attached
 
   -- what it is granted: one read
-  granted_it : granted_of s.handles.handles s.taste a.consumer ≡ held_by a
+  granted_it : granted_of s.handles.handles s.taste a.consumer ≡ held_by_taste a
   granted_it =
       ap (λ o. option_map_or (λ (h : Handle). h.grant) o (taste_grant s.taste a.consumer)) nobodys_is
       ∙ ap (λ o. taste_grant o a.consumer) read_of.is
@@ -200,7 +200,7 @@ module _ (s : State) (firm : IsFirm s) (b : ℕ) (x : BioOf Held) (found : bio_a
     kind_mid = rw found_mid kind_c
 
     -- its stored counts are its grant
-    stored : value_at mid.topo.wants a.consumer ≡ Some (held_by a)
+    stored : value_at mid.topo.wants a.consumer ≡ Some (held_by_taste a)
     stored =
         ap (λ rows. value_at rows a.consumer) holds.counted.wants
         ∙ item_at (λ (v : Consumer). v.number) (want (granted_by mid.topo) mid.topo.topology) a.consumer
@@ -336,10 +336,10 @@ module _ (s mid new : State) (log : List Entry) (b : ℕ) (x : BioOf Held) (foun
   taste_then =
       back ∙ (λ i. taste_with (result_is i) (ap (λ (z : State). z.taste) only.rest i))
 
-  rises_back : (w : World) → w.bios ≡ shown l s.traffic.bios
+  rises_back : (w : World) → w.bios ≡ shown_bios l s.traffic.bios
       → up_to w (shown_bio l x) x.owner ≡ (
         record w {
-          bios = shown l (after_up l s.traffic.bios x x.owner);
+          bios = shown_bios l (after_up l s.traffic.bios x x.owner);
           taste = taste_with (resolved l x.result) w.taste;
         },
         outcomes.TasteBack,
@@ -348,7 +348,7 @@ module _ (s mid new : State) (log : List Entry) (b : ℕ) (x : BioOf Held) (foun
       subst
       (λ (o : Owner). up_to w (shown_bio l x) o ≡ (
         record w {
-          bios = shown l (after_up l s.traffic.bios x o);
+          bios = shown_bios l (after_up l s.traffic.bios x o);
           taste = taste_with (resolved l x.result) w.taste;
         },
         outcomes.TasteBack,
@@ -364,7 +364,7 @@ module _ (s mid new : State) (log : List Entry) (b : ℕ) (x : BioOf Held) (foun
       ≡ record (world actors log mid) { topology = new.topo.topology; taste = new.taste } =
       ap (world actors log) rest in
       let after : (record w {
-        bios = shown l (after_up l s.traffic.bios x x.owner);
+        bios = shown_bios l (after_up l s.traffic.bios x x.owner);
         taste = taste_with (resolved l x.result) s.taste;
       }) ≡ world actors log new =
       sym (seen
@@ -373,7 +373,7 @@ module _ (s mid new : State) (log : List Entry) (b : ℕ) (x : BioOf Held) (foun
         taste = taste_then i;
       } in u)
       ∙ (λ i. let u : World = record w {
-        bios = shown l (bios i);
+        bios = shown_bios l (bios i);
         next_bio = next i;
         taste = taste_with (resolved l x.result) s.taste;
       } in u)) in

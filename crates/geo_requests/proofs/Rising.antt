@@ -31,14 +31,14 @@ use Rattle.geo_bio.specs.declared.bio.Risen.{Risen}
 use Rattle.geo_bio.specs.BioTable.{bio_among, has_phase}
 use Rattle.geo_bio.specs.Up.{after_up, told_of_up}
 use Rattle.geo_log.specs.Places.{delivered_at}
-use Rattle.geo_state.specs.Shown.{shown, shown_bio, AreLogged}
+use Rattle.geo_state.specs.Shown.{shown_bios, shown_bio, AreLogged}
 use Rattle.geo_state.proofs.StepLemmas.{world_shows_bios}
 use Rattle.geo_state.proofs.LoggedLemmas.{places_stay_logged}
 use Rattle.geo_state.specs.declared.state.State.{State}
 use Rattle.geo_state.specs.Bios.{OnlyBios, CameThrough, IsOfItsOwner}
 use Rattle.geo_state.specs.World.{world}
 use Rattle.geo_state.specs.Steps.{IsFirm, Makes}
-use Rattle.geo_requests.specs.Risen.{line_of, outcome_of_rise}
+use Rattle.geo_requests.specs.Risen.{outcome_of_rise, owner_line}
 use Rattle.geo_requests.proofs.Descent.{all_through, nobodys}
 use Rattle.geo_requests.proofs.Against.{there}
 use Rattle.geo_requests.proofs.Serving.{world_moved}
@@ -158,11 +158,11 @@ module _ (s new : State) (log : List Entry) (b : ℕ) (x : BioOf Held) (found : 
     (bios : new.traffic.bios ≡ after_up (delivered_at log) s.traffic.bios x x.owner)
     (next : new.traffic.next ≡ s.traffic.next) where
   -- in the world
-  rises_in : (w : World) → w.bios ≡ shown (delivered_at log) s.traffic.bios → (o : Owner) → is_taste_root o ≡ false
+  rises_in : (w : World) → w.bios ≡ shown_bios (delivered_at log) s.traffic.bios → (o : Owner) → is_taste_root o ≡ false
       → up_to w (shown_bio (delivered_at log) x) o
       ≡ (
-        record w { bios = shown (delivered_at log) (after_up (delivered_at log) s.traffic.bios x o) },
-        outcome_of_rise (line_of o) (told_of_up (delivered_at log) s.traffic.bios x o),
+        record w { bios = shown_bios (delivered_at log) (after_up (delivered_at log) s.traffic.bios x o) },
+        outcome_of_rise (owner_line o) (told_of_up (delivered_at log) s.traffic.bios x o),
       )
   rises_in w is (owners.Line handle line) other =
       (world_shows_bios (delivered_at log) s.traffic.bios w is).rises_to_line x handle line
@@ -171,7 +171,7 @@ module _ (s new : State) (log : List Entry) (b : ℕ) (x : BioOf Held) (found : 
       (world_shows_bios (delivered_at log) s.traffic.bios w is).rises_to_parent x parent index
 
   pub makes_risen : is_taste_root x.owner ≡ false → (outcome : Outcome)
-      → outcome ≡ outcome_of_rise (line_of x.owner) (told_of_up (delivered_at log) s.traffic.bios x x.owner)
+      → outcome ≡ outcome_of_rise (owner_line x.owner) (told_of_up (delivered_at log) s.traffic.bios x x.owner)
       → Makes (λ w. up_of w (bio_at w b)) log s new outcome
   unfolding up
   makes_risen other outcome told actors =
@@ -179,9 +179,9 @@ module _ (s new : State) (log : List Entry) (b : ℕ) (x : BioOf Held) (found : 
       let l = delivered_at log in
       let at_bio : bio_at w b ≡ Some (shown_bio l x) = there actors log s b ∙ ap (option_map (shown_bio l)) found in
       let made : up_of w (Some (shown_bio l x)) ≡ Ok (up_to w (shown_bio l x) x.owner) = rw up_it refl in
-      let after : (record w { bios = shown l (after_up l s.traffic.bios x x.owner) }) ≡ world actors log new =
+      let after : (record w { bios = shown_bios l (after_up l s.traffic.bios x x.owner) }) ≡ world actors log new =
       (λ i. let u : World = record w {
-        bios = shown l (sym bios i);
+        bios = shown_bios l (sym bios i);
         next_bio = sym next i;
       } in u) ∙ sym (world_moved s new only actors log) in
       ap (up_of w) at_bio ∙ made ∙ ap Ok (rises_in w refl x.owner other)
@@ -209,7 +209,7 @@ module _ (s : State) (b : ℕ) (up_it : IsTrue (has_phase is_up s.traffic.bios b
       new.traffic.bios ≡ after_up (delivered_at log) s.traffic.bios x x.owner))
       (next : new.traffic.next ≡ s.traffic.next) where
     pub rise_made : (line : ℕ) (r : Risen) (outcome : Outcome)
-        → IfSome (bio_among s.traffic.bios b) (λ x. line ≡ line_of x.owner)
+        → IfSome (bio_among s.traffic.bios b) (λ x. line ≡ owner_line x.owner)
         → IfSome (bio_among s.traffic.bios b) (λ x. r ≡ told_of_up (delivered_at log) s.traffic.bios x x.owner)
         → outcome ≡ outcome_of_rise line r
         → Makes (λ w. up_of w (bio_at w b)) log s new outcome
@@ -220,7 +220,7 @@ module _ (s : State) (b : ℕ) (up_it : IsTrue (has_phase is_up s.traffic.bios b
             → IsTrue (option_map_or (λ (x : BioOf Held). is_up x.phase) o false)
             → IfSome o (λ x. is_taste_root x.owner ≡ false)
             → IfSome o (λ x. new.traffic.bios ≡ after_up (delivered_at log) s.traffic.bios x x.owner)
-            → IfSome o (λ x. line ≡ line_of x.owner)
+            → IfSome o (λ x. line ≡ owner_line x.owner)
             → IfSome o (λ x. r ≡ told_of_up (delivered_at log) s.traffic.bios x x.owner)
             → Makes (λ w. up_of w (bio_at w b)) log s new outcome
         by None e never other ys ns rs = absurd cc

@@ -34,7 +34,7 @@ use Rattle.geo_bio.specs.declared.bio.Held.{Held}
 use Rattle.geo_bio.specs.BioTable.{BioTableView, bio_among, has_phase, with_phase, delivered, delivered_result}
 use Rattle.geo_bio.specs.Up.{resolved}
 use Rattle.geo_log.specs.Places.{delivered_at}
-use Rattle.geo_state.specs.Shown.{shown, shown_bio, errno_of, AreLogged}
+use Rattle.geo_state.specs.Shown.{shown_bios, shown_bio, errno_of, AreLogged}
 use Rattle.geo_state.proofs.StepLemmas.{world_shows_bios, deliveries_are_shown, place_is_answer}
 use Rattle.geo_state.proofs.LoggedLemmas.{grown_log_shows_the_same, places_stay_logged}
 use Rattle.geo_state.specs.declared.state.State.{State}
@@ -42,7 +42,7 @@ use Rattle.geo_state.specs.declared.state.DiskSeat.{DiskSeat}
 use Rattle.geo_state.specs.Bios.{OnlyBios, GoesTo, IsFree, IsAloneAt}
 use Rattle.geo_state.specs.Trips.{Trip, trip_of, trips, is_at_disk}
 use Rattle.geo_state.specs.Holds.{Holds, IsSeat}
-use Rattle.geo_state.specs.World.{world, header_disk, HasBytes}
+use Rattle.geo_state.specs.World.{world, disk_of_seat, HasBytes}
 use Rattle.geo_state.specs.Steps.{IsFirm, against, IsAgainst, Makes}
 use Rattle.geo_requests.proofs.Against.{against_unless, has_seat, there, seat_same}
 use Rattle.geo_requests.proofs.Started.{here}
@@ -50,13 +50,13 @@ use Rattle.geo_requests.proofs.Started.{here}
 -- only the bios of the world are others
 pub world_moved : (s new : State) → OnlyBios s new → (actors : List (List LineCommand)) (log : List Entry)
     → world actors log new ≡ record (world actors log s) {
-      bios = shown (delivered_at log) new.traffic.bios;
+      bios = shown_bios (delivered_at log) new.traffic.bios;
       next_bio = new.traffic.next;
     }
 world_moved s new only actors log =
     ap (world actors log) only.rest
     ∙ ap (λ ds. let v : World = record (world actors log s) {
-      bios = shown (delivered_at log) new.traffic.bios;
+      bios = shown_bios (delivered_at log) new.traffic.bios;
       next_bio = new.traffic.next;
       disks = ds;
     } in v) only.disks
@@ -170,7 +170,7 @@ module _ (s : State) (firm : IsFirm s) (b : ℕ) where
 
     -- of what is seen of bios
     seen_alone : (x : BioOf Held) (number : x.number ≡ b) (bios : List (BioOf Held))
-        → AllByRecursion (λ y. at y ≡ true → y ≡ shown_bio l x) (shown l bios)
+        → AllByRecursion (λ y. at y ≡ true → y ≡ shown_bio l x) (shown_bios l bios)
         → AllByRecursion (λ (z : Trip). is_at_disk s.topo.topology disk z ≡ true → (z.number == b) ≡ true) (trips bios)
     seen_alone x number [] all = tt
     seen_alone x number (y ∷ bios) all = (
@@ -183,8 +183,8 @@ module _ (s : State) (firm : IsFirm s) (b : ℕ) where
     is_alone x is busy goes =
         let one : at (shown_bio l x) ≡ true = rw (busy, goes, eq-eqb disk disk refl) refl in
         seen_alone x (number_found (λ (y : BioOf Held). y.number) s.traffic.bios b x is) s.traffic.bios
-        (alone_by (shown_bio l x) one (shown l s.traffic.bios)
-        (recursion-from_pairs (NotBothBusy w) (shown l s.traffic.bios) firm.1.1.sound.disks.one_busy)
+        (alone_by (shown_bio l x) one (shown_bios l s.traffic.bios)
+        (recursion-from_pairs (NotBothBusy w) (shown_bios l s.traffic.bios) firm.1.1.sound.disks.one_busy)
         (here s firm b x is))
 
 -- A Take
@@ -206,16 +206,16 @@ module _ (s new : State) (b seat disk : ℕ) (x : BioOf Held) (is : bio_among s.
       let number : x.number ≡ b = number_found (λ (z : BioOf Held). z.number) s.traffic.bios b x is in
       let made : take_bio v seat disk y ≡ (
         record v {
-          bios = shown (delivered_at log) (change_number x.number (with_phase (phases.Busy seat)) s.traffic.bios);
+          bios = shown_bios (delivered_at log) (change_number x.number (with_phase (phases.Busy seat)) s.traffic.bios);
         },
         outcomes.Asked (request_of_bio v disk y),
       ) =
       (world_shows_bios (delivered_at log) s.traffic.bios v refl).takes x seat disk in
       let after : (record v {
-        bios = shown (delivered_at log) (change_number x.number (with_phase (phases.Busy seat)) s.traffic.bios);
+        bios = shown_bios (delivered_at log) (change_number x.number (with_phase (phases.Busy seat)) s.traffic.bios);
       }) ≡ world actors log new =
       (λ i. let u : World = record v {
-        bios = shown (delivered_at log)
+        bios = shown_bios (delivered_at log)
             ((ap (λ n. change_number n (with_phase (phases.Busy seat)) s.traffic.bios) number ∙ sym bios) i);
         next_bio = sym next i;
       } in u) ∙ sym (world_moved s new only actors log) in
@@ -243,7 +243,7 @@ module _ (s new : State) (b seat : ℕ) (x : BioOf Held) (is : bio_among s.traff
       let v : World = world actors log s in
       let more : ℕ → Option (List ℕ) = delivered_at (log ++ e ∷ []) in
       let y : Bio = shown_bio more x in
-      let same : v.bios ≡ shown more s.traffic.bios =
+      let same : v.bios ≡ shown_bios more s.traffic.bios =
       sym (grown_log_shows_the_same log (e ∷ []) s.traffic.bios logged) in
       let at_bio : bio_at v b ≡ Some y =
       (world_shows_bios more s.traffic.bios v same).finds b ∙ ap (option_map (shown_bio more)) is in
@@ -261,16 +261,16 @@ module _ (s new : State) (b seat : ℕ) (x : BioOf Held) (is : bio_among s.traff
       place_is_answer log [] e b (sector_at s.topo.topology x.target) x got step fits in
       let made : deliver v y got ≡ (
         record v {
-          bios = shown more (change_number x.number (delivered (length log) (errno_of got)) s.traffic.bios);
+          bios = shown_bios more (change_number x.number (delivered (length log) (errno_of got)) s.traffic.bios);
         },
         outcomes.Delivered,
       ) =
       deliveries_are_shown more s.traffic.bios v x (length log) got s.traffic.next same numbers itself answer in
       let after : (record v {
-        bios = shown more (change_number x.number (delivered (length log) (errno_of got)) s.traffic.bios);
+        bios = shown_bios more (change_number x.number (delivered (length log) (errno_of got)) s.traffic.bios);
       }) ≡ world actors (log ++ e ∷ []) new =
       (λ i. let u : World = record v {
-        bios = shown more
+        bios = shown_bios more
             ((ap (λ n. change_number n (delivered (length log) (errno_of got)) s.traffic.bios) number ∙ sym bios) i);
         next_bio = sym next i;
       } in u) ∙ sym (world_moved s new only actors (log ++ e ∷ [])) in

@@ -26,12 +26,12 @@ use Rattle.geo_bio.specs.BioTable.{bio_among, has_phase, with_phase}
 use Rattle.geo_bio.specs.PieceLaws.{target_in}
 use Rattle.geo_log.specs.Places.{delivered_at}
 use Rattle.geo_handles.specs.Handles.{holding_handle}
-use Rattle.geo_state.specs.Shown.{shown, shown_bio, AreLogged}
+use Rattle.geo_state.specs.Shown.{shown_bios, shown_bio, AreLogged}
 use Rattle.geo_state.proofs.StepLemmas.{world_shows_bios}
 use Rattle.geo_state.proofs.LoggedLemmas.{places_stay_logged}
 use Rattle.geo_state.specs.declared.state.State.{State}
 use Rattle.geo_state.specs.Bios.{OnlyBios, IsNoHandles}
-use Rattle.geo_state.specs.World.{world, header_disk, HasBytes}
+use Rattle.geo_state.specs.World.{world, disk_of_seat, HasBytes}
 use Rattle.geo_state.specs.Steps.{IsFirm, Makes}
 use Rattle.geo_requests.specs.Ways.{CanGoDown, IsCut, through}
 use Rattle.geo_requests.specs.Started.{HasStarted, bios_after, next_after, graph_after, outcome_of}
@@ -45,13 +45,13 @@ abbrev world_by : World → (ℕ → Option (List ℕ)) → ℕ → BioOf Held �
 world_by w log b x bios way = (
   record w {
     topology = graph_after w.topology way;
-    bios = shown log (bios_after w.topology w.next_bio b x bios way);
+    bios = shown_bios log (bios_after w.topology w.next_bio b x bios way);
     next_bio = next_after w.next_bio way;
   },
   outcome_of w.next_bio way,
 )
 
-module _ (log : ℕ → Option (List ℕ)) (bios : List (BioOf Held)) (w : World) (is : w.bios ≡ shown log bios)
+module _ (log : ℕ → Option (List ℕ)) (bios : List (BioOf Held)) (w : World) (is : w.bios ≡ shown_bios log bios)
     (x : BioOf Held) where
   by_way : (way : Way) → start_by w (shown_bio log x) way ≡ world_by w log x.number x bios way
   by_way (Bounces e) = (world_shows_bios log bios w is).bounces x e
@@ -90,12 +90,12 @@ module _ (s new : State) (b : ℕ) (x : BioOf Held) (way : Way) (o : Outcome)
       ∙ ap (λ n. Ok (world_by w l n x s.traffic.bios way)) number in
       let after : (record w {
         topology = graph_after s.topo.topology way;
-        bios = shown l (bios_after s.topo.topology s.traffic.next b x s.traffic.bios way);
+        bios = shown_bios l (bios_after s.topo.topology s.traffic.next b x s.traffic.bios way);
         next_bio = next_after s.traffic.next way;
       }) ≡ world actors log new =
       ap (λ ys. let v : World = record w {
         topology = graph_after s.topo.topology way;
-        bios = shown l ys;
+        bios = shown_bios l ys;
         next_bio = next_after s.traffic.next way;
       } in v) (sym started.bios) ∙ sym (started.seen actors log) in
       ap (start_of w) there ∙ made ∙ (λ i. Ok (after i, sym started.outcome i))
@@ -126,7 +126,7 @@ pub record SplitsWell (s : State) (zs : List PieceTarget) : Type 0 where
 module _ (s : State) (firm : IsFirm s) (b : ℕ) (x : BioOf Held) (found : bio_among s.traffic.bios b ≡ Some x) where
   -- the bio is one of the world
   pub here : Contains (world firm.1.0 firm.0 s).bios (shown_bio (delivered_at firm.0) x)
-  here = find-Contains (λ (y : Bio). y.number == b) (shown (delivered_at firm.0) s.traffic.bios)
+  here = find-Contains (λ (y : Bio). y.number == b) (shown_bios (delivered_at firm.0) s.traffic.bios)
       (shown_bio (delivered_at firm.0) x)
       ((world_shows_bios (delivered_at firm.0) s.traffic.bios (world firm.1.0 firm.0 s) refl).finds b
       ∙ ap (option_map (shown_bio (delivered_at firm.0))) found)

@@ -26,8 +26,8 @@ range_refusal size sector offset len =
     first_error ((not_whole sector offset len, EINVAL) ∷ (nat_lt size (offset + len), EIO) ∷ [])
 
 -- what refuses a request to a provider by what was granted
-abbrev pub refusal_in : Counts → Provider → Asking → Option Errno
-refusal_in grant p a =
+abbrev pub refusal_by_grant : Counts → Provider → Asking → Option Errno
+refusal_by_grant grant p a =
     first_error
     ((not (is_allowed grant a.cmd), EPERM)
     ∷ (p.errored, ENXIO)
@@ -45,8 +45,8 @@ attached t None = None
 attached t (Some source) = attached_at source (provider_of_consumer t source)
 
 -- the provider to which a consumer is attached, if it is there
-abbrev pub provider_below : Topology Config → Option ℕ → Option Provider
-provider_below t c = option_and_then (provider_at t) (option_and_then (provider_of_consumer t) c)
+abbrev pub provider_attached : Topology Config → Option ℕ → Option Provider
+provider_attached t c = option_and_then (provider_at t) (option_and_then (provider_of_consumer t) c)
 
 -- what refuses a request through a handle, by its provider
 abbrev pub refusal_below : Handle → Option Provider → Asking → Option Errno
@@ -54,7 +54,7 @@ refusal_below h p a = option_map_or (λ q. request_refusal_at h q a) p (Some ENX
 
 -- what refuses a request through a handle
 abbrev pub refusal_of : Topology Config → Handle → Asking → Option Errno
-refusal_of t h a = if h.dead then Some ENXIO else refusal_below h (provider_below t h.consumer) a
+refusal_of t h a = if h.dead then Some ENXIO else refusal_below h (provider_attached t h.consumer) a
 
 -- what refuses it, where there may be no handle
 abbrev pub refusal_by : Topology Config → Option Handle → Asking → Option Errno
@@ -67,7 +67,7 @@ pub record LetsThrough (t : Topology Config) (h : Handle) (gate : Gate) (a : Ask
   pub alive : h.dead ≡ false
   pub consumer : h.consumer ≡ Some gate.source
   pub lives : IsSome (consumer_at t gate.source)
-  pub provider : IsSomeAnd (provider_below t h.consumer) (λ p. p.number ≡ gate.target)
+  pub provider : IsSomeAnd (provider_attached t h.consumer) (λ p. p.number ≡ gate.target)
   pub allowed : refusal_of t h a ≡ None
 
 -- the answer of a handle to a request
@@ -94,8 +94,8 @@ abbrev pub mark_sector : Mark → Provider → List ℕ
 mark_sector mark p = mark_bytes mark p.size p.sector
 
 -- the size of a provider, and that of its sectors
-abbrev pub media_of : Option Provider → Option (ℕ × ℕ)
-media_of p = option_map (λ q. (q.size, q.sector)) p
+abbrev pub media_sizes : Option Provider → Option (ℕ × ℕ)
+media_sizes p = option_map (λ q. (q.size, q.sector)) p
 
 -- the name in a record is short
 abbrev pub IsShortMark : Mark → Type 0

@@ -9,9 +9,9 @@ use Rattle.geo_bio.specs.declared.bio.Risen.{Risen}
 use Rattle.geo_bio.specs.declared.bio.Risen.TheVariants as risen
 
 -- the line of an owner, 0 where there is none
-abbrev pub line_of : Owner → ℕ
-line_of (owners.Line handle line) = line
-line_of _ = 0
+abbrev pub owner_line : Owner → ℕ
+owner_line (owners.Line handle line) = line
+owner_line _ = 0
 
 -- a root is the reply to its line, a child comes in
 abbrev pub outcome_of_rise : ℕ → Risen → Outcome

@@ -15,7 +15,7 @@ use Rattle.geo_bio.specs.BioTable.{with_phase}
 use Rattle.geo_bio.specs.PieceLaws.{target_in}
 use Rattle.geo_bio.specs.Split.{split_into}
 use Rattle.geo_log.specs.Places.{delivered_at}
-use Rattle.geo_state.specs.Shown.{shown}
+use Rattle.geo_state.specs.Shown.{shown_bios}
 use Rattle.geo_state.specs.declared.state.State.{State}
 use Rattle.geo_state.specs.World.{world}
 
@@ -60,6 +60,6 @@ pub record HasStarted (old new : State) (b : ℕ) (x : BioOf Held) (way : Way) (
   pub seen : (actors : List (List LineCommand)) (log : List Entry)
       → world actors log new ≡ record (world actors log old) {
         topology = graph_after old.topo.topology way;
-        bios = shown (delivered_at log) new.traffic.bios;
+        bios = shown_bios (delivered_at log) new.traffic.bios;
         next_bio = next_after old.traffic.next way;
       }

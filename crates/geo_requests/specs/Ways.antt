@@ -50,12 +50,12 @@ abbrev pub CanCount : Topology Config → ℕ → Type 0
 CanCount t g = IsSomeAnd (geom_at t g) (λ x. x.started < 2 ^ 63)
 
 -- the way that the model names
-abbrev pub IsWay : Topology Config → OwnWay → Way → Type 0
-IsWay t (ways.Bounces e) way = way ≡ Bounces e
-IsWay t (ways.Fails g) way = (way ≡ Fails g) × CanCount t g
-IsWay t (ways.Sends disk) way = way ≡ Sends disk
-IsWay t (ways.Splits cut) way = GoesBy t cut Splits way
-IsWay t (ways.Passes g cut) way = GoesBy t cut (Passes g) way × CanCount t g
+abbrev pub IsModelWay : Topology Config → OwnWay → Way → Type 0
+IsModelWay t (ways.Bounces e) way = way ≡ Bounces e
+IsModelWay t (ways.Fails g) way = (way ≡ Fails g) × CanCount t g
+IsModelWay t (ways.Sends disk) way = way ≡ Sends disk
+IsModelWay t (ways.Splits cut) way = GoesBy t cut Splits way
+IsModelWay t (ways.Passes g cut) way = GoesBy t cut (Passes g) way × CanCount t g
 
 -- the way at a NOP geom
 abbrev pub at_nop : {R : Type 0} → BioOf R → Provider → Geom Config → ℕ → Way

@@ -3,7 +3,7 @@ ghost use Rattle.std.specs.Prelude.{◌≡◌, true, false, IfOk, map, unwrap_or
 ghost use Rattle.geo_model.specs.Topology.{provider_of_consumer};
 ghost use Rattle.geo_model.specs.Bios.{piece_targets};
 ghost use Rattle.geo_model.specs.Words.{is_flush};
-ghost use Rattle.geo_bio.specs.Rows.{seen};
+ghost use Rattle.geo_bio.specs.Rows.{as_bio};
 ghost use Rattle.geo_mesh.specs.Cells.{provider_seen};
 ghost use Rattle.geo_requests.specs.Ways.{CanBeCut, IsCut, through};
 
@@ -30,9 +30,9 @@ pub fn cut_bio(
     prov: &ProvRec,
     bio: &Bio,
 ) -> Result<Cut, NoMemory>
-    requires { CanBeCut config.now (provider_seen bio.now.to prov.now) (seen 0 bio.now) }
+    requires { CanBeCut config.now (provider_seen bio.now.to prov.now) (as_bio 0 bio.now) }
     ensures { IfOk result (λ cut. IsCut topo.now.topology cut
-        (piece_targets config.now (provider_seen bio.now.to prov.now) (seen 0 bio.now))) }
+        (piece_targets config.now (provider_seen bio.now.to prov.now) (as_bio 0 bio.now))) }
 {
     match bio.cmd {
         BioCmd::Flush => cut_flush(alloc, topo, config, prov, bio),
@@ -50,7 +50,7 @@ fn cut_flush(
 ) -> Result<Cut, NoMemory>
     requires { is_flush bio.now.cmd ≡ true }
     ensures { IfOk result (λ cut. IsCut topo.now.topology cut
-        (piece_targets config.now (provider_seen bio.now.to prov.now) (seen 0 bio.now))) }
+        (piece_targets config.now (provider_seen bio.now.to prov.now) (as_bio 0 bio.now))) }
 {
     let pieces = config.flush(alloc)?;
     let consumers = config.components(alloc)?;
@@ -67,9 +67,9 @@ fn cut_range(
     bio: &Bio,
 ) -> Result<Cut, NoMemory>
     requires moves { is_flush bio.now.cmd ≡ false }
-    requires cut { CanBeCut config.now (provider_seen bio.now.to prov.now) (seen 0 bio.now) }
+    requires cut { CanBeCut config.now (provider_seen bio.now.to prov.now) (as_bio 0 bio.now) }
     ensures { IfOk result (λ cut. IsCut topo.now.topology cut
-        (piece_targets config.now (provider_seen bio.now.to prov.now) (seen 0 bio.now))) }
+        (piece_targets config.now (provider_seen bio.now.to prov.now) (as_bio 0 bio.now))) }
 {
     let media = Media {
         name: prov.name,

@@ -2,7 +2,7 @@
 ghost use Rattle.std.specs.Prelude.{◌≡◌, ◌<◌, IfOk, IfSome, option_and_then};
 ghost use Rattle.geo_model.specs.Bios.{disk_at, sector_at, fits_bio, device_request};
 ghost use Rattle.geo_bio.specs.BioTable.{bio_among};
-ghost use Rattle.geo_bio.specs.Rows.{seen};
+ghost use Rattle.geo_bio.specs.Rows.{as_bio};
 
 use geo_base::{BioCmd, BioId, NoMemory, ProvId};
 use geo_bio::Bio;
@@ -52,7 +52,7 @@ pub fn sector_at(topo: &Topo<Config>, prov: ProvId) -> u32
 /// Whether a device's answer fits a bio to a provider with sectors of so many bytes.
 pub fn fits(sector: u32, bio: &Bio, got: &DeviceResult) -> bool
     requires { 0 < sector }
-    ensures { result ≡ fits_bio sector (seen 0 bio.now) got.now }
+    ensures { result ≡ fits_bio sector (as_bio 0 bio.now) got.now }
 {
     match got {
         DeviceResult::Bytes(bytes) => {
@@ -66,7 +66,7 @@ pub fn fits(sector: u32, bio: &Bio, got: &DeviceResult) -> bool
 // Whether so many sectors of a bio may have been done before it failed.
 fn fits_failed(sector: u32, bio: &Bio, done: u32) -> bool
     requires { 0 < sector }
-    ensures { result ≡ fits_bio sector (seen 0 bio.now) (DeviceResult.Failed done) }
+    ensures { result ≡ fits_bio sector (as_bio 0 bio.now) (DeviceResult.Failed done) }
 {
     match bio.cmd {
         BioCmd::Read | BioCmd::Flush => done == 0,
@@ -94,7 +94,7 @@ pub fn request_of(
 // A bio as a request to its disk, in sectors of so many bytes.
 fn device_request(alloc: Global, sector: u32, disk: u32, bio: &Bio) -> Result<Request, NoMemory>
     requires { 0 < sector }
-    ensures { IfOk result (λ request. request ≡ device_request disk sector (seen 0 bio.now)) }
+    ensures { IfOk result (λ request. request ≡ device_request disk sector (as_bio 0 bio.now)) }
 {
     let sector = u64::from(sector);
     let count = bio.span.len / sector;

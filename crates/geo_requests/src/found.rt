@@ -4,7 +4,7 @@ ghost use Rattle.geo_model.specs.World.{bio_at, is_down, is_up};
 ghost use Rattle.geo_model.specs.Bios.{disk_at};
 ghost use Rattle.geo_model.specs.Step.{start_of, take_of, deliver_of, up_of};
 ghost use Rattle.geo_bio.specs.BioTable.{bio_among};
-ghost use Rattle.geo_bio.specs.Rows.{seen};
+ghost use Rattle.geo_bio.specs.Rows.{as_bio};
 ghost use Rattle.geo_state.specs.Holds.{Holds};
 ghost use Rattle.geo_state.specs.Steps.{IsFirm, IsAgainst};
 ghost use Rattle.geo_requests.specs.Founds.{phase_found, seat_found, way_found, take_against, sent_found, busy_found, deliver_against};
@@ -148,7 +148,7 @@ fn holder_found(
     bio: &Bio,
     got: &DeviceResult,
 ) -> Option<Found>
-    ensures { result ≡ busy_found topo.now.topology seat (seen 0 bio.now) got.now (Phase.Busy holder) }
+    ensures { result ≡ busy_found topo.now.topology seat (as_bio 0 bio.now) got.now (Phase.Busy holder) }
 {
     if holder != seat {
         return Some(Found::OtherSeat { seat: holder });

@@ -5,7 +5,7 @@ ghost use Rattle.geo_model.specs.Requests.{is_allowed};
 ghost use Rattle.geo_model.specs.Topology.{consumer_at};
 ghost use Rattle.geo_mesh.specs.Cells.{provider_seen};
 ghost use Rattle.geo_handles.specs.Handles.{handle_seen, named_handle};
-ghost use Rattle.geo_requests.specs.Asked.{IsGatesAnswer, IsHandlesAnswer, attached, not_whole, range_refusal, refusal_in};
+ghost use Rattle.geo_requests.specs.Asked.{IsGatesAnswer, IsHandlesAnswer, attached, not_whole, range_refusal, refusal_by_grant};
 
 use geo_base::{BioCmd, ConsId, Counts, Errno, HandleId, MAX_REQUEST_BYTES, Name, ProvId};
 use geo_class::Config;
@@ -85,7 +85,7 @@ fn attached(topo: &Topo<Config>, consumer: Option<ConsId>) -> Option<(ConsId, Pr
 // What refuses a request to a provider: the grant, the provider's error, a range that isn't one, the provider's end.
 fn refusal(grant: Counts, prov: &ProvRec, cmd: BioCmd, span: Span) -> Option<Errno>
     requires { 0 < prov.now.sector }
-    ensures { result ≡ refusal_in grant (provider_seen 0 prov.now) (asking cmd span.offset span.len []) }
+    ensures { result ≡ refusal_by_grant grant (provider_seen 0 prov.now) (asking cmd span.offset span.len []) }
 {
     if !is_allowed(grant, cmd) {
         return Some(Errno::EPERM);

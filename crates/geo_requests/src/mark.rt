@@ -5,7 +5,7 @@ ghost use Rattle.geo_base.specs.Name.{is_short_name};
 ghost use Rattle.geo_model.specs.Records.{label_sector, concat_sector, stripe_sector};
 ghost use Rattle.geo_model.specs.Topology.{provider_at};
 ghost use Rattle.geo_handles.specs.Handles.{named_handle};
-ghost use Rattle.geo_requests.specs.Asked.{IsShortMark, mark_bytes, media_of, provider_below};
+ghost use Rattle.geo_requests.specs.Asked.{IsShortMark, mark_bytes, media_sizes, provider_attached};
 
 use geo_base::{Block, ConsId, Name, NoMemory, ProvId};
 use geo_class::Config;
@@ -25,7 +25,7 @@ pub enum Mark {
 
 /// The size of the provider of a handle, and that of its sectors.
 pub fn media(topo: &Topo<Config>, handles: &Handles, actor: u32, name: &Name) -> Option<(u64, u32)>
-    ensures media { result ≡ media_of (option_and_then (λ h. provider_below topo.now.topology h.consumer)
+    ensures media { result ≡ media_sizes (option_and_then (λ h. provider_attached topo.now.topology h.consumer)
         (named_handle handles.now.handles actor name.now)) }
     ensures room { IfSome result (λ m. 48 ≤ m.1) }
 {
@@ -38,7 +38,7 @@ pub fn media(topo: &Topo<Config>, handles: &Handles, actor: u32, name: &Name) ->
 
 // The size of the provider to which a consumer is attached, and that of its sectors.
 fn media_below(topo: &Topo<Config>, consumer: Option<ConsId>) -> Option<(u64, u32)>
-    ensures media { result ≡ media_of (provider_below topo.now.topology consumer) }
+    ensures media { result ≡ media_sizes (provider_attached topo.now.topology consumer) }
     ensures room { IfSome result (λ m. 48 ≤ m.1) }
 {
     let target = topo.consumer(consumer?)?.prov?;
@@ -47,7 +47,7 @@ fn media_below(topo: &Topo<Config>, consumer: Option<ConsId>) -> Option<(u64, u3
 
 // The size of a provider, and that of its sectors.
 fn media_at(topo: &Topo<Config>, prov: ProvId) -> Option<(u64, u32)>
-    ensures media { result ≡ media_of (provider_at topo.now.topology prov) }
+    ensures media { result ≡ media_sizes (provider_at topo.now.topology prov) }
     ensures room { IfSome result (λ m. 48 ≤ m.1) }
 {
     match topo.provider(prov) {

@@ -11,7 +11,7 @@ ghost use Rattle.geo_state.specs.Holds.{Holds};
 ghost use Rattle.geo_state.specs.World.{HasBytes};
 ghost use Rattle.geo_state.specs.Steps.{Does, SameWorld};
 ghost use Rattle.geo_handles.specs.Handles.{named_handle};
-ghost use Rattle.geo_requests.specs.Asked.{IsShortMark, mark_sector, media_of, provider_below};
+ghost use Rattle.geo_requests.specs.Asked.{IsShortMark, mark_sector, media_sizes, provider_attached};
 
 use crate::gate::{Gate, look};
 use crate::mark::{Mark, media, sector_of};
@@ -121,8 +121,8 @@ fn write_at(
     requires kept { Holds state.old }
     requires short { IsShortMark mark.now }
     requires room { 48 ≤ sector }
-    requires media { Some (size, sector) ≡ media_of (option_and_then
-        (λ h. provider_below state.old.topo.topology h.consumer)
+    requires media { Some (size, sector) ≡ media_sizes (option_and_then
+        (λ h. provider_attached state.old.topo.topology h.consumer)
         (named_handle state.old.handles.handles actor name.now)) }
     ensures does { (log : List Entry) → IfOk result (λ o.
         Does (λ w. write_record w line actor name.now (mark_sector mark.now)) log state.old state.new o) }
@@ -157,8 +157,8 @@ fn write_nowhere(
     mark: &Mark,
 ) -> Result<Outcome, NoMemory>
     requires kept { Holds state.old }
-    requires media { None ≡ media_of (option_and_then
-        (λ h. provider_below state.old.topo.topology h.consumer)
+    requires media { None ≡ media_sizes (option_and_then
+        (λ h. provider_attached state.old.topo.topology h.consumer)
         (named_handle state.old.handles.handles actor name.now)) }
     ensures does { (log : List Entry) → IfOk result (λ o.
         Does (λ w. write_record w line actor name.now (mark_sector mark.now)) log state.old state.new o) }

@@ -8,7 +8,7 @@ ghost use Rattle.geo_bio.specs.BioTable.{bio_among, has_phase};
 ghost use Rattle.geo_state.specs.Holds.{Holds};
 ghost use Rattle.geo_state.specs.World.{HasBytes};
 ghost use Rattle.geo_state.specs.Steps.{IsFirm, Makes, SameWorld};
-ghost use Rattle.geo_requests.specs.Risen.{line_of, outcome_of_rise};
+ghost use Rattle.geo_requests.specs.Risen.{outcome_of_rise, owner_line};
 
 use geo_base::{BioId, NoMemory};
 use geo_log::Log;
@@ -36,7 +36,7 @@ pub fn rise(alloc: Global, state: &mut State, log: &Log, bio: BioId) -> Result<O
 
 // The line that a root answers.
 fn line_of(bios: &Traffic, bio: BioId) -> u32
-    ensures { IfSome (bio_among bios.now.bios bio) (λ x. result ≡ line_of x.owner) }
+    ensures { IfSome (bio_among bios.now.bios bio) (λ x. result ≡ owner_line x.owner) }
 {
     match bios.get(bio) {
         Some(found) => match found.owner {

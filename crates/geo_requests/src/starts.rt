@@ -13,7 +13,7 @@ ghost use Rattle.geo_state.specs.Steps.{IsFirm, Makes, SameWorld};
 ghost use Rattle.geo_mesh.specs.Topo.{with_topology};
 ghost use Rattle.geo_model.specs.Topology.{note_started};
 ghost use Rattle.geo_requests.specs.Started.{HasStarted};
-ghost use Rattle.geo_requests.specs.Ways.{CanCount, CanGoDown, IsCut, IsWay};
+ghost use Rattle.geo_requests.specs.Ways.{CanCount, CanGoDown, IsCut, IsModelWay};
 
 use crate::cut::Cut;
 use crate::way::{Way, way_of};
@@ -49,7 +49,7 @@ fn way_of_bio(
 ) -> Result<Way, NoMemory>
     requires { IfSome (bio_among bios.now.bios bio) (λ x. CanGoDown topo.now.topology x) }
     ensures { IfSome (bio_among bios.now.bios bio) (λ x. IfOk result (λ way.
-        IsWay topo.now.topology way (way_of topo.now.topology x))) }
+        IsModelWay topo.now.topology way (way_of topo.now.topology x))) }
 {
     match bios.get(bio) {
         Some(found) => way_of(alloc, topo, found),
@@ -63,7 +63,7 @@ fn go(alloc: Global, state: &mut State, bio: BioId, way: Way) -> Result<Outcome,
     requires firm { IsFirm state.old }
     requires down { IsTrue (has_phase is_down state.old.traffic.bios bio) }
     requires way { IfSome (bio_among state.old.traffic.bios bio) (λ x.
-        IsWay state.old.topo.topology way (way_of state.old.topo.topology x)) }
+        IsModelWay state.old.topo.topology way (way_of state.old.topo.topology x)) }
     ensures started { IfSome (bio_among state.old.traffic.bios bio) (λ x. IfOk result (λ o.
         HasStarted state.old state.new bio x (way_of state.old.topo.topology x) o)) }
     ensures kept { Holds state.new }

@@ -3,9 +3,9 @@ ghost use Rattle.std.specs.Prelude.{◌≡◌, None, Some, IfOk};
 ghost use Rattle.geo_model.specs.Bios.{way_of, way_at, is_hit};
 ghost use Rattle.geo_model.specs.Place.{disk_of};
 ghost use Rattle.geo_model.specs.Topology.{geom_at};
-ghost use Rattle.geo_bio.specs.Rows.{seen};
+ghost use Rattle.geo_bio.specs.Rows.{as_bio};
 ghost use Rattle.geo_mesh.specs.Cells.{geom_seen, provider_seen};
-ghost use Rattle.geo_requests.specs.Ways.{CanBeCut, CanGoDown, IsWay, at_nop};
+ghost use Rattle.geo_requests.specs.Ways.{CanBeCut, CanGoDown, IsModelWay, at_nop};
 
 use crate::cut::{Cut, cut_bio};
 use geo_base::{Errno, GeomId, NoMemory};
@@ -30,8 +30,8 @@ pub enum Way {
 
 /// The way of a request by the graph.
 pub fn way_of(alloc: Global, topo: &Topo<Config>, bio: &Bio) -> Result<Way, NoMemory>
-    requires { CanGoDown topo.now.topology (seen 0 bio.now) }
-    ensures { IfOk result (λ way. IsWay topo.now.topology way (way_of topo.now.topology (seen 0 bio.now))) }
+    requires { CanGoDown topo.now.topology (as_bio 0 bio.now) }
+    ensures { IfOk result (λ way. IsModelWay topo.now.topology way (way_of topo.now.topology (as_bio 0 bio.now))) }
 {
     let Some(prov) = topo.provider(bio.to) else {
         return Ok(Way::Bounces(Errno::EIO));
@@ -54,9 +54,9 @@ fn way_at(
     bio: &Bio,
 ) -> Result<Way, NoMemory>
     requires cut { disk_of geom.now.config ≡ None
-        → CanBeCut geom.now.config (provider_seen bio.now.to prov.now) (seen 0 bio.now) }
+        → CanBeCut geom.now.config (provider_seen bio.now.to prov.now) (as_bio 0 bio.now) }
     requires found { geom_at topo.now.topology prov.now.geom ≡ Some (geom_seen prov.now.geom geom.now) }
-    ensures { IfOk result (λ way. IsWay topo.now.topology way (way_at (seen 0 bio.now)
+    ensures { IfOk result (λ way. IsModelWay topo.now.topology way (way_at (as_bio 0 bio.now)
         (provider_seen bio.now.to prov.now) (geom_seen prov.now.geom geom.now) geom.now.config)) }
 {
     if let Some(disk) = geom.config.disk_of() {
@@ -77,9 +77,9 @@ fn way_at_nop(
     bio: &Bio,
     fail: u64,
 ) -> Result<Way, NoMemory>
-    requires cut { CanBeCut geom.now.config (provider_seen bio.now.to prov.now) (seen 0 bio.now) }
+    requires cut { CanBeCut geom.now.config (provider_seen bio.now.to prov.now) (as_bio 0 bio.now) }
     requires found { geom_at topo.now.topology prov.now.geom ≡ Some (geom_seen prov.now.geom geom.now) }
-    ensures { IfOk result (λ way. IsWay topo.now.topology way (at_nop (seen 0 bio.now)
+    ensures { IfOk result (λ way. IsModelWay topo.now.topology way (at_nop (as_bio 0 bio.now)
         (provider_seen bio.now.to prov.now) (geom_seen prov.now.geom geom.now) fail)) }
 {
     if geom.started >= MOST_STARTED {

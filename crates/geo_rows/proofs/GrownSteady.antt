@@ -5,7 +5,7 @@ use Rattle.geo_rows.specs.GrownRows.{growing_plan, growing_facts, appearing_plan
 use Rattle.geo_rows.specs.WorkedSteady.{is_steady, run_is_steady, steady_along}
 use Rattle.geo_model.specs.declared.step.Step.TheVariants as steps
 use Rattle.geo_rows.specs.GrownSteps.{append_after_up, append_before_up, held_world, new_world}
-use Rattle.geo_rows.specs.StepLists.{go as next_of, log_of}
+use Rattle.geo_rows.specs.StepLists.{go_step as next_of, log_of_steps}
 use Rattle.geo_model.specs.Bios.{start, take_bio, deliver, up}
 use Rattle.geo_model.specs.WorldEvents.{do_event}
 use Rattle.geo_model.specs.Tasting.{judge_step}
@@ -57,18 +57,18 @@ unfolding start take_bio deliver up do_event judge_step reap wash_work wash do_c
     reap_next wash_next step opening pick run_fixed is_steady digits
 relabelling-steady = refl
 
-pub append_before_up-steady : steady_along held_world (log_of held_world (append_before_up held_world)) ≡ true
+pub append_before_up-steady : steady_along held_world (log_of_steps held_world (append_before_up held_world)) ≡ true
 unfolding start take_bio deliver up do_event judge_step reap wash_work wash do_command listing go event judge_next
     reap_next wash_next step opening pick run_fixed is_steady digits
 append_before_up-steady = refl
 
-pub append_after_up-steady : steady_along held_world (log_of held_world (append_after_up held_world)) ≡ true
+pub append_after_up-steady : steady_along held_world (log_of_steps held_world (append_after_up held_world)) ≡ true
 unfolding start take_bio deliver up do_event judge_step reap wash_work wash do_command listing go event judge_next
     reap_next wash_next step opening pick run_fixed is_steady digits
 append_after_up-steady = refl
 
 pub append_in_read-steady : steady_along new_world
-    (log_of new_world (next_of 0 ∷ steps.Event ∷ steps.Judge ∷ next_of 1 ∷ [])) ≡ true
+    (log_of_steps new_world (next_of 0 ∷ steps.Event ∷ steps.Judge ∷ next_of 1 ∷ [])) ≡ true
 unfolding start take_bio deliver up do_event judge_step reap wash_work wash do_command listing go event judge_next
     reap_next wash_next step opening pick run_fixed is_steady digits
 append_in_read-steady = refl

@@ -5,7 +5,7 @@ use Rattle.geo_base.specs.declared.errno.Errno.TheVariants.{EBUSY, EDEEP, EINVAL
 use Rattle.geo_model.specs.declared.step.Reply.TheVariants as replies
 use Rattle.geo_model.specs.declared.step.Step.TheVariants as steps
 use Rattle.geo_rows.specs.GrownSteps.{append_after_up, append_before_up, around_world, counted_world, held_mesh, held_world, mesh_after, new_world, pulled_world, refusal_over, size_after, two_disks}
-use Rattle.geo_rows.specs.StepLists.{fill_of, go as next_of, reply_after}
+use Rattle.geo_rows.specs.StepLists.{fill_of, go_step as next_of, reply_after}
 use Rattle.geo_rows.specs.WorkedParts.{chain}
 use Rattle.geo_model.specs.Bios.{start, take_bio, deliver, up}
 use Rattle.geo_model.specs.WorldEvents.{do_event}

@@ -6,7 +6,7 @@ use Rattle.geo_rows.specs.WorkedFitting.{fitting_along, is_fitting_world, run_is
 use Rattle.geo_rows.specs.Rows.{first_plan, first_facts, exclusion_plan, exclusion_facts, boundaries_plan, boundaries_facts, slice_plan, slice_facts, hostile_table_plan, hostile_table_facts, spoiling_plan, spoiling_facts, pulling_plan, pulling_facts, joining_plan, joining_facts, striping_plan, striping_facts, diamond_plan, diamond_facts, failing_nop_plan, failing_nop_facts, assembling_plan, assembling_facts, labelling_plan, labelling_facts, two_users_plan, two_users_facts}
 use Rattle.geo_rows.specs.GrownRows.{growing_plan, growing_facts, appearing_plan, appearing_facts, sized_label_plan, sized_label_facts, plain_label_plan, plain_label_facts, logical_plan, logical_facts, looping_plan, looping_facts, refusing_plan, refusing_facts, relabelling_plan, relabelling_facts, written_through_plan, written_through_facts, used_slice_plan, used_slice_facts, kept_above_plan, kept_above_facts, long_chain_plan, long_chain_facts, too_long_chain_plan, too_long_chain_facts}
 use Rattle.geo_rows.specs.GrownSteps.{append_after_up, append_before_up, held_world, new_world}
-use Rattle.geo_rows.specs.StepLists.{go as next_of, log_of, pulled_early, pulled_late, read_in_reverse, sliced_world, striped_world}
+use Rattle.geo_rows.specs.StepLists.{go_step as next_of, log_of_steps, pulled_early, pulled_late, read_in_reverse, sliced_world, striped_world}
 use Rattle.geo_model.specs.Bios.{start, take_bio, deliver, up}
 use Rattle.geo_model.specs.WorldEvents.{do_event}
 use Rattle.geo_model.specs.Tasting.{judge_step}
@@ -128,33 +128,34 @@ unfolding start take_bio deliver up do_event judge_step reap wash_work wash do_c
     reap_next wash_next step opening pick run_fixed is_fitting_world digits
 relabelling-fitting = refl
 
-pub pulled_early-fitting : fitting_along sliced_world (log_of sliced_world (pulled_early sliced_world)) ≡ true
+pub pulled_early-fitting : fitting_along sliced_world (log_of_steps sliced_world (pulled_early sliced_world)) ≡ true
 unfolding start take_bio deliver up do_event judge_step reap wash_work wash do_command listing go event judge_next
     reap_next wash_next step opening pick run_fixed is_fitting_world digits
 pulled_early-fitting = refl
 
-pub pulled_late-fitting : fitting_along sliced_world (log_of sliced_world (pulled_late sliced_world)) ≡ true
+pub pulled_late-fitting : fitting_along sliced_world (log_of_steps sliced_world (pulled_late sliced_world)) ≡ true
 unfolding start take_bio deliver up do_event judge_step reap wash_work wash do_command listing go event judge_next
     reap_next wash_next step opening pick run_fixed is_fitting_world digits
 pulled_late-fitting = refl
 
-pub read_in_reverse-fitting : fitting_along striped_world (log_of striped_world (read_in_reverse striped_world)) ≡ true
+pub read_in_reverse-fitting : fitting_along striped_world (log_of_steps striped_world (read_in_reverse striped_world))
+    ≡ true
 unfolding start take_bio deliver up do_event judge_step reap wash_work wash do_command listing go event judge_next
     reap_next wash_next step opening pick run_fixed is_fitting_world digits
 read_in_reverse-fitting = refl
 
-pub append_before_up-fitting : fitting_along held_world (log_of held_world (append_before_up held_world)) ≡ true
+pub append_before_up-fitting : fitting_along held_world (log_of_steps held_world (append_before_up held_world)) ≡ true
 unfolding start take_bio deliver up do_event judge_step reap wash_work wash do_command listing go event judge_next
     reap_next wash_next step opening pick run_fixed is_fitting_world digits
 append_before_up-fitting = refl
 
-pub append_after_up-fitting : fitting_along held_world (log_of held_world (append_after_up held_world)) ≡ true
+pub append_after_up-fitting : fitting_along held_world (log_of_steps held_world (append_after_up held_world)) ≡ true
 unfolding start take_bio deliver up do_event judge_step reap wash_work wash do_command listing go event judge_next
     reap_next wash_next step opening pick run_fixed is_fitting_world digits
 append_after_up-fitting = refl
 
 pub append_in_read-fitting : fitting_along new_world
-    (log_of new_world (next_of 0 ∷ steps.Event ∷ steps.Judge ∷ next_of 1 ∷ [])) ≡ true
+    (log_of_steps new_world (next_of 0 ∷ steps.Event ∷ steps.Judge ∷ next_of 1 ∷ [])) ≡ true
 unfolding start take_bio deliver up do_event judge_step reap wash_work wash do_command listing go event judge_next
     reap_next wash_next step opening pick run_fixed is_fitting_world digits
 append_in_read-fitting = refl

@@ -15,7 +15,7 @@ use Rattle.geo_model.specs.Topology.{Topology, Geom, geom_at, provider_at, consu
 use Rattle.geo_model.specs.World.{World, Config, Bio, is_up, is_done}
 use Rattle.geo_model.specs.Place.{components}
 use Rattle.geo_model.specs.Steady.{AreMade, PartsHaveGeoms, AreAttached, has_free_place, has_open_provider, HasItsComponents, WaitsForPlaces, ComesFromItsOwner, FitsBio, HasItsResult, Steady}
-use Rattle.geo_rows.specs.WorkedSteady.{are_made, parts_have_geoms, are_attached, has_its_components, waits_for_places, comes_from_its_owner, fits_bio, has_its_result, is_steady}
+use Rattle.geo_rows.specs.WorkedSteady.{are_made, parts_have_geoms, are_attached, has_its_components, waits_for_places, comes_from_its_owner, result_fits, has_its_result, is_steady}
 
 -- a test that is false
 pub untrue : (b : Bool) → Decides (not b) (b ≡ false)
@@ -84,7 +84,7 @@ from_owner w x owners.Taste =
 from_owner w x (owners.Child parent index) = Decides-ltb parent x.number
 
 -- a result is one that the bio can have
-of_bio : (x : Bio) (got : BioResult) → Decides (fits_bio x got) (FitsBio x got)
+of_bio : (x : Bio) (got : BioResult) → Decides (result_fits x got) (FitsBio x got)
 of_bio x (results.Bytes bytes) =
     Decides-and (is_read x.cmd) (length bytes == x.len) (itself (is_read x.cmd)) (Decides-eqb (length bytes) x.len)
 of_bio x results.Done = untrue (is_read x.cmd)

@@ -6,7 +6,7 @@ use Rattle.geo_model.specs.declared.step.Found.TheVariants as found
 use Rattle.geo_model.specs.declared.step.Phase.TheVariants as phases
 use Rattle.geo_model.specs.declared.step.Reply.TheVariants as replies
 use Rattle.geo_model.specs.declared.step.Step.TheVariants as steps
-use Rattle.geo_rows.specs.StepLists.{sliced_world, pulled_early, pulled_late, spoiled_world, striped_world, read_in_reverse, fill_of, failing_world, second_up_first, opened_world, failed_read, log_of, errors_met, reply_after, by_seat_0, go as next_of}
+use Rattle.geo_rows.specs.StepLists.{sliced_world, pulled_early, pulled_late, spoiled_world, striped_world, read_in_reverse, fill_of, failing_world, second_up_first, opened_world, failed_read, log_of_steps, errors_met, reply_after, by_seat_0, go_step as next_of}
 use Rattle.geo_rows.specs.Rows.{bytes_of}
 use Rattle.geo_headline.specs.Outside.{failures_of}
 use Rattle.geo_model.specs.Log.{made, replay}
@@ -81,7 +81,7 @@ unfolding start take_bio deliver up do_event judge_step reap wash_work wash do_c
     reap_next wash_next step opening pick run_fixed digits
 failed_read-reply = refl
 
-pub failed_read-failures : failures_of (log_of opened_world (failed_read opened_world)) 0 ≡ 1
+pub failed_read-failures : failures_of (log_of_steps opened_world (failed_read opened_world)) 0 ≡ 1
 unfolding start take_bio deliver up do_event judge_step reap wash_work wash do_command listing go event judge_next
     reap_next wash_next step opening pick run_fixed digits
 failed_read-failures = refl

@@ -7,7 +7,7 @@ use Rattle.geo_model.specs.declared.step.Step.TheVariants as steps
 use Rattle.geo_model.specs.Chain.{Chain, LinkRead}
 use Rattle.geo_model.specs.Step.{step}
 use Rattle.geo_model.specs.World.{World, Asked, Mbr, NextSector, ReadBack}
-use Rattle.geo_rows.specs.LooseWorlds.{breaks_by, consumer, disk_geom, geom, header_disk, provider, tasting, topology, world}
+use Rattle.geo_rows.specs.LooseWorlds.{breaks_by, consumer, disk_geom, geom, loose_disk, loose_world, provider, tasting, topology}
 use Rattle.geo_rows.specs.WorkedChains.{link, part}
 use Rattle.geo_rows.specs.WorkedFitting.{is_fitting_world}
 use Rattle.geo_rows.specs.WorkedSound.{is_sound}
@@ -25,13 +25,13 @@ abbrev pub chain_world : Asked → ℕ → Chain → World
 chain_world asked reads c =
     let w : World =
     tasting
-    (world (topology
+    (loose_world (topology
     (disk_geom 3 (codes "md0") 0
     ∷ geom 4 kinds.Mbr (codes "md0")
     (Mbr (Some 1) (Some (record { first = 1; count = 63 }) ∷ None ∷ None ∷ None ∷ [])) true ∷ [])
     (provider 1 3 (codes "md0") 32768 512 ∷ provider 2 4 (codes "md0s1") 32256 512 ∷ [])
     (consumer 1 4 1 ∷ []))
-    (header_disk (codes "md0") 512 32768 ∷ []))
+    (loose_disk (codes "md0") 512 32768 ∷ []))
     2 [] asked
     in record w {
       taste = Some (record { provider = 2; consumer = 8; classes = []; asked = asked; reads = reads; chain = c });

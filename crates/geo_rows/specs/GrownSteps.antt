@@ -17,11 +17,11 @@ use Rattle.geo_model.specs.Opening.{opening}
 use Rattle.geo_model.specs.Report.{mesh_text}
 use Rattle.geo_rows.specs.FixedRuns.{run_fixed, zero_devices}
 use Rattle.geo_rows.specs.Rows.{counts, ram, command, idle_plan, text_of}
-use Rattle.geo_rows.specs.StepLists.{world_after_plan, log_of, fill_of, go}
+use Rattle.geo_rows.specs.StepLists.{world_after_plan, log_of_steps, fill_of, go_step}
 
 -- the world after these steps of seat 0, and the size that a provider of a name has there
 abbrev pub world_after_steps : World → List Step → World
-world_after_steps w list = replay w (log_of w list)
+world_after_steps w list = replay w (log_of_steps w list)
 
 abbrev pub size_after : World → List Step → List ℕ → Option ℕ
 size_after w list name = option_map (λ p. p.size) (found_provider (world_after_steps w list) name)
@@ -56,14 +56,14 @@ held_world =
 abbrev pub read_before_up : World → List Step
 read_before_up w =
     let x = w.next_bio in
-    go 0 ∷ steps.Start x ∷ steps.Start (x + 1) ∷ steps.Take 0 (x + 1)
+    go_step 0 ∷ steps.Start x ∷ steps.Start (x + 1) ∷ steps.Take 0 (x + 1)
     ∷ steps.Deliver (x + 1) (devices.Bytes (fill_of 0)) ∷ steps.Up (x + 1) ∷ []
 
 abbrev pub append_before_up : World → List Step
-append_before_up w = read_before_up w ++ go 1 ∷ steps.Up w.next_bio ∷ []
+append_before_up w = read_before_up w ++ go_step 1 ∷ steps.Up w.next_bio ∷ []
 
 abbrev pub append_after_up : World → List Step
-append_after_up w = read_before_up w ++ steps.Up w.next_bio ∷ go 1 ∷ []
+append_after_up w = read_before_up w ++ steps.Up w.next_bio ∷ go_step 1 ∷ []
 
 -- the mesh at rest, where the fixed order goes on after these steps over disks of zeros
 abbrev pub mesh_after : World → List Step → List (ℕ × ℕ) → List ℕ
@@ -126,10 +126,10 @@ with_concat t =
     t.next_geom (codes "concat/c") 2048 512
 
 -- what refuses that this concat gets a provider as one more component, where the provider is changed before
-abbrev pub refusal_in : World → Option Provider → Option Errno
-refusal_in w p = append_refusal_of w (growing_concat w.topology (codes "c")) p
+abbrev pub growth_refusal : World → Option Provider → Option Errno
+growth_refusal w p = append_refusal_of w (growing_concat w.topology (codes "c")) p
 
 abbrev pub refusal_over : Topology Config → ℕ → (Provider → Provider) → Option Errno
 refusal_over t p change =
-    refusal_in (record (opening idle_plan ((512, 4) ∷ [])) { topology = with_concat t })
+    growth_refusal (record (opening idle_plan ((512, 4) ∷ [])) { topology = with_concat t })
     (option_map change (provider_at t p))

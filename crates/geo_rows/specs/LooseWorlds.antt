@@ -72,8 +72,8 @@ topology gs ps cs = record first_topology {
   next_consumer = 9;
 }
 
-abbrev pub world : Topology Config → List HeaderDisk → World
-world t disks = record {
+abbrev pub loose_world : Topology Config → List HeaderDisk → World
+loose_world t disks = record {
   topology = t;
   handles = [];
   bios = [];
@@ -85,16 +85,16 @@ world t disks = record {
   next_bio = 9;
 }
 
-abbrev pub header_disk : List ℕ → ℕ → ℕ → HeaderDisk
-header_disk name sector size = record { name = name; sector = sector; size = size }
+abbrev pub loose_disk : List ℕ → ℕ → ℕ → HeaderDisk
+loose_disk name sector size = record { name = name; sector = sector; size = size }
 
 -- disks of four sectors of 512 bytes
 abbrev pub small_disk : List ℕ → HeaderDisk
-small_disk name = header_disk name 512 2048
+small_disk name = loose_disk name 512 2048
 
 abbrev pub one_disk : World
 one_disk =
-    world (topology (disk_geom 3 (codes "md0") 0 ∷ []) (provider 1 3 (codes "md0") 2048 512 ∷ []) [])
+    loose_world (topology (disk_geom 3 (codes "md0") 0 ∷ []) (provider 1 3 (codes "md0") 2048 512 ∷ []) [])
     (small_disk (codes "md0") ∷ [])
 
 -- a taste of a provider is under way, by consumer 8
@@ -129,7 +129,7 @@ bio number cmd len source target owner phase = record {
 
 -- a nop whose window doesn't begin at a sector: the child of a read doesn't either
 abbrev pub crooked_nop : World
-crooked_nop = record (world (topology
+crooked_nop = record (loose_world (topology
     (disk_geom 3 (codes "md0") 0 ∷ geom 4 kinds.Nop (codes "md0.nop") (Nop (Some 1) 100 0) false ∷ [])
     (provider 1 3 (codes "md0") 2048 512 ∷ provider 2 4 (codes "md0.nop") 512 512 ∷ [])
     (consumer 1 4 1 ∷ consumer 2 1 2 ∷ []))
@@ -141,7 +141,7 @@ crooked_nop = record (world (topology
 -- two disks, and a concat with these consumers and sizes
 abbrev pub two_disks_with : Geom Config → List Provider → List Consumer → World
 two_disks_with g ps cs =
-    world (topology
+    loose_world (topology
     (disk_geom 3 (codes "md0") 0 ∷ disk_geom 4 (codes "md1") 1 ∷ g ∷ [])
     (provider 1 3 (codes "md0") 2048 512 ∷ provider 2 4 (codes "md1") 2048 512 ∷ ps)
     cs)
@@ -161,8 +161,8 @@ large_component =
 abbrev pub large_sectors : World
 large_sectors =
     tasting
-    (world (topology (disk_geom 3 (codes "md0") 0 ∷ []) (provider 1 3 (codes "md0") 16384 4096 ∷ []) [])
-    (header_disk (codes "md0") 4096 16384 ∷ []))
+    (loose_world (topology (disk_geom 3 (codes "md0") 0 ∷ []) (provider 1 3 (codes "md0") 16384 4096 ∷ []) [])
+    (loose_disk (codes "md0") 4096 16384 ∷ []))
     1 []
     (ReadBack kinds.Mbr
     (results.Bytes (replicate 450 0 ++ 165 ∷ 0 ∷ 0 ∷ 0 ∷ 1 ∷ 0 ∷ 0 ∷ 0 ∷ 1 ∷ replicate 51 0 ++ 85 ∷ 170 ∷ [])))
@@ -174,7 +174,7 @@ far_sector = tasting one_disk 1 [] (NextSector kinds.Label 1000)
 -- a disk of the header that doesn't stand has no byte
 abbrev pub empty_disk : World
 empty_disk =
-    commanded (world (topology [] [] []) (header_disk (codes "md0") 512 0 ∷ [])) (commands.Insert (codes "md0"))
+    commanded (loose_world (topology [] [] []) (loose_disk (codes "md0") 512 0 ∷ [])) (commands.Insert (codes "md0"))
 
 -- a command that no plan has
 abbrev pub strange_command : World
@@ -194,8 +194,8 @@ abbrev pub huge_sector : World
 huge_sector =
     let w : World =
     tasting
-    (world (topology (disk_geom 3 (codes "md0") 0 ∷ []) (provider 1 3 (codes "md0") 131072 65536 ∷ []) [])
-    (header_disk (codes "md0") 65536 131072 ∷ []))
+    (loose_world (topology (disk_geom 3 (codes "md0") 0 ∷ []) (provider 1 3 (codes "md0") 131072 65536 ∷ []) [])
+    (loose_disk (codes "md0") 65536 131072 ∷ []))
     1 (kinds.Label ∷ []) NoClass
     in record w {
       taste = Some (record {
@@ -262,17 +262,18 @@ tasted_twin =
     (consumer 1 5 1 ∷ map nop_consumer tower)
     in commanded
     (tasting
-    (world (record t { next_geom = 12; next_provider = 11 }) (small_disk (codes "md0") ∷ small_disk (codes "md1") ∷ []))
+    (loose_world (record t { next_geom = 12; next_provider = 11 })
+    (small_disk (codes "md0") ∷ small_disk (codes "md1") ∷ []))
     4 [] (ReadBack kinds.Label results.Done))
     (commands.Append (codes "v") (codes "n6"))
 
 -- a disk of four sectors of 4,096 bytes
 abbrev pub large_disk : HeaderDisk
-large_disk = header_disk (codes "md0") 4096 16384
+large_disk = loose_disk (codes "md0") 4096 16384
 
 -- a partition that doesn't begin at a sector of the disk below: the child of a read doesn't either
 abbrev pub crooked_part : World
-crooked_part = record (world (topology
+crooked_part = record (loose_world (topology
     (disk_geom 3 (codes "md0") 0
     ∷ geom 4 kinds.Ebr (codes "md0") (Ebr (Some 1) (Some (record { first = 1; count = 8 }) ∷ [])) true ∷ [])
     (provider 1 3 (codes "md0") 16384 4096 ∷ provider 2 4 (codes "md0l1") 4096 4096 ∷ [])
@@ -286,13 +287,13 @@ crooked_part = record (world (topology
 abbrev pub large_link : World
 large_link =
     tasting
-    (world (topology (disk_geom 3 (codes "md0") 0 ∷ []) (provider 1 3 (codes "md0") 16384 4096 ∷ []) [])
+    (loose_world (topology (disk_geom 3 (codes "md0") 0 ∷ []) (provider 1 3 (codes "md0") 16384 4096 ∷ []) [])
     (large_disk ∷ []))
     1 [] (ReadBack kinds.Ebr (results.Bytes (link 165 1 1 0 0)))
 
 -- a writer labels by a name that is longer than a sector has room for
 abbrev pub long_label : World
-long_label = record (commanded (world (topology
+long_label = record (commanded (loose_world (topology
     (disk_geom 3 (codes "md0") 0 ∷ [])
     (provider 1 3 (codes "md0") 2048 512 ∷ [])
     (consumer 2 1 1 ∷ []))

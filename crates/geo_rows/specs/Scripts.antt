@@ -14,14 +14,14 @@ abbrev pub fault : ℕ → Cause → Result Plan Fault
 fault line cause = Err (record { line = line; cause = cause })
 
 -- the plan of a text, and none where it is no script
-abbrev pub plan_of : Result Plan Fault → Plan
-plan_of (Ok plan) = plan
-plan_of (Err found) = empty_plan
+abbrev pub plan_read : Result Plan Fault → Plan
+plan_read (Ok plan) = plan
+plan_read (Err found) = empty_plan
 
 -- the summary of the script that is made from a number
 abbrev pub generated_summary : ℕ → ℕ → ℕ → List ℕ
 generated_summary steps start count =
-    let plan : Plan = plan_of (script (generated start count)) in
+    let plan : Plan = plan_read (script (generated start count)) in
     let facts : List (ℕ × ℕ) = (512, 1024) ∷ (512, 1024) ∷ (512, 1024) ∷ (512, 1024) ∷ [] in
     summary plan (opening plan facts) (run_fixed steps (opening plan facts) (zero_devices facts)).log
 

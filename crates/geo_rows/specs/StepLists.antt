@@ -29,8 +29,8 @@ by_seat_0 list = map (λ s. (0, s)) list
 abbrev pub reply_after : World → List Step → ℕ → Option Reply
 reply_after w list line = reply_from (made w (by_seat_0 list)) line
 
-abbrev pub go : ℕ → Step
-go actor = steps.Go actor
+abbrev pub go_step : ℕ → Step
+go_step actor = steps.Go actor
 
 -- a slice is open, and its disk is to be pulled
 
@@ -62,13 +62,13 @@ sliced_world =
 abbrev pub pulled_early : World → List Step
 pulled_early w =
     let x = w.next_bio in
-    go 0 ∷ go 1 ∷ steps.Start x ∷ steps.Start (x + 1) ∷ steps.Up (x + 1) ∷ steps.Up x ∷ []
+    go_step 0 ∷ go_step 1 ∷ steps.Start x ∷ steps.Start (x + 1) ∷ steps.Up (x + 1) ∷ steps.Up x ∷ []
 
 -- the disk is pulled while the request is on its way to it
 abbrev pub pulled_late : World → List Step
 pulled_late w =
     let x = w.next_bio in
-    go 0 ∷ steps.Start x ∷ steps.Start (x + 1) ∷ go 1 ∷ steps.Take 0 (x + 1)
+    go_step 0 ∷ steps.Start x ∷ steps.Start (x + 1) ∷ go_step 1 ∷ steps.Take 0 (x + 1)
     ∷ steps.Deliver (x + 1) (devices.Bytes (replicate 512 0)) ∷ steps.Up (x + 1) ∷ steps.Up x ∷ []
 
 -- a writer opens a disk, and a reader of its slice comes before the spoil is done
@@ -116,7 +116,7 @@ served disk b byte = steps.Take disk b ∷ steps.Deliver b (devices.Bytes (fill_
 abbrev pub read_in_reverse : World → List Step
 read_in_reverse w =
     let x = w.next_bio in
-    (go 0 ∷ steps.Start x ∷ steps.Start (x + 1) ∷ steps.Start (x + 2) ∷ steps.Start (x + 3) ∷ steps.Start (x + 4)
+    (go_step 0 ∷ steps.Start x ∷ steps.Start (x + 1) ∷ steps.Start (x + 2) ∷ steps.Start (x + 3) ∷ steps.Start (x + 4)
     ∷ steps.Start (x + 5) ∷ steps.Start (x + 6) ∷ steps.Start (x + 7) ∷ [])
     ++ (served 0 (x + 7) 6 ++ (served 2 (x + 6) 5 ++ (served 1 (x + 5) 4 ++ (served 0 (x + 4) 3
     ++ (served 2 (x + 3) 2 ++ (served 1 (x + 2) 1 ++ (served 0 (x + 1) 0 ++ (steps.Up x ∷ []))))))))
@@ -144,7 +144,7 @@ failing_world first second =
 abbrev pub second_up_first : World → List Step
 second_up_first w =
     let x = w.next_bio in
-    go 0 ∷ steps.Start x ∷ go 1 ∷ steps.Start (x + 1) ∷ steps.Start (x + 2)
+    go_step 0 ∷ steps.Start x ∷ go_step 1 ∷ steps.Start (x + 1) ∷ steps.Start (x + 2)
     ∷ steps.Up (x + 2) ∷ steps.Up (x + 1) ∷ steps.Up x ∷ []
 
 -- a disk is open, and fails the read that comes next
@@ -159,11 +159,11 @@ opened_world =
 abbrev pub failed_read : World → List Step
 failed_read w =
     let x = w.next_bio in
-    go 0 ∷ steps.Start x ∷ steps.Take 0 x ∷ steps.Deliver x (devices.Failed 0) ∷ steps.Up x ∷ []
+    go_step 0 ∷ steps.Start x ∷ steps.Take 0 x ∷ steps.Deliver x (devices.Failed 0) ∷ steps.Up x ∷ []
 
 -- the log of some steps, and the errors that a bio met in it
-abbrev pub log_of : World → List Step → List Entry
-log_of w list = made w (by_seat_0 list)
+abbrev pub log_of_steps : World → List Step → List Entry
+log_of_steps w list = made w (by_seat_0 list)
 
 abbrev pub errors_met : World → List Step → ℕ → List Errno
-errors_met w list b = errors_of (moments w (log_of w list)) b
+errors_met w list b = errors_of (moments w (log_of_steps w list)) b

@@ -34,11 +34,11 @@ measure_falls n plan facts =
     falls_from n (record { world = w; devices = zero_devices facts; log = [] }) (pick w)
 
 -- the run of a plan
-abbrev pub run_of : Plan → List (ℕ × ℕ) → Run
-run_of plan facts = run_fixed 400 (opening plan facts) (zero_devices facts)
+abbrev pub run_of_plan : Plan → List (ℕ × ℕ) → Run
+run_of_plan plan facts = run_fixed 400 (opening plan facts) (zero_devices facts)
 
 abbrev pub history_of : Plan → List (ℕ × ℕ) → List Moment
-history_of plan facts = moments (opening plan facts) (run_of plan facts).log
+history_of plan facts = moments (opening plan facts) (run_of_plan plan facts).log
 
 -- the bio and the reply of an entry in which a line's request ends
 abbrev pub ended_by : Step → Outcome → Option (ℕ × Reply)
@@ -50,12 +50,12 @@ ended_in e = ended_by e.step e.outcome
 
 -- the replies to requests, and the results that the log gives for their bios
 abbrev pub replies_given : Plan → List (ℕ × ℕ) → List (Option Reply)
-replies_given plan facts = map (λ x. Some x.1) (filter_map ended_in (run_of plan facts).log)
+replies_given plan facts = map (λ x. Some x.1) (filter_map ended_in (run_of_plan plan facts).log)
 
 abbrev pub replies_by_log : Plan → List (ℕ × ℕ) → List (Option Reply)
 replies_by_log plan facts =
     map (λ x. option_map reply_of_result (result_of (history_of plan facts) x.0))
-    (filter_map ended_in (run_of plan facts).log)
+    (filter_map ended_in (run_of_plan plan facts).log)
 
 -- the sectors to which a bio went, and those of its flat map in the world of its acceptance
 abbrev pub sectors_gone : Plan → List (ℕ × ℕ) → ℕ → List (Option DiskSector)
@@ -87,7 +87,7 @@ all_due plan facts = map sectors_of_range (acceptances plan facts)
 -- what a disk holds by the log, and what the disk of the run holds
 abbrev pub held_by_log : Plan → List (ℕ × ℕ) → ℕ → List (List ℕ)
 held_by_log plan facts disk =
-    option_map_or (λ f. contents f.0 (zero_sectors f.1 f.0) (run_of plan facts).log disk) (slice_get facts disk) []
+    option_map_or (λ f. contents f.0 (zero_sectors f.1 f.0) (run_of_plan plan facts).log disk) (slice_get facts disk) []
 
 -- whether two disks hold the same sectors
 abbrev pub same_sectors : List (List ℕ) → List (List ℕ) → Bool
@@ -96,4 +96,4 @@ same_sectors (x ∷ xs) (y ∷ ys) = bytes_eq x y && same_sectors xs ys
 same_sectors _ _ = false
 
 abbrev pub held_by_run : Plan → List (ℕ × ℕ) → ℕ → List (List ℕ)
-held_by_run plan facts disk = unwrap_or (slice_get (run_of plan facts).devices disk) []
+held_by_run plan facts disk = unwrap_or (slice_get (run_of_plan plan facts).devices disk) []

@@ -43,13 +43,13 @@ comes_from_its_owner w x (owners.Line handle line) =
 comes_from_its_owner w x owners.Taste = some_and w.taste (λ s. (s.consumer == x.source) && (s.provider == x.target))
 comes_from_its_owner w x (owners.Child parent index) = nat_lt parent x.number
 
-abbrev pub fits_bio : Bio → BioResult → Bool
-fits_bio x (results.Bytes bytes) = is_read x.cmd && (length bytes == x.len)
-fits_bio x results.Done = not (is_read x.cmd)
-fits_bio x (results.Failed e) = true
+abbrev pub result_fits : Bio → BioResult → Bool
+result_fits x (results.Bytes bytes) = is_read x.cmd && (length bytes == x.len)
+result_fits x results.Done = not (is_read x.cmd)
+result_fits x (results.Failed e) = true
 
 abbrev pub has_its_result : Bio → Bool
-has_its_result x = not (is_up x.phase || is_done x.phase) || some_and x.result (fits_bio x)
+has_its_result x = not (is_up x.phase || is_done x.phase) || some_and x.result (result_fits x)
 
 -- whether the world is steady
 unfoldable pub is_steady : World → Bool

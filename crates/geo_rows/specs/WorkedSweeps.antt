@@ -20,12 +20,12 @@ abbrev pub swept_report : ℕ → Plan → List (ℕ × ℕ) → List ℕ
 swept_report n plan facts = report plan (opening plan facts) (swept_log n plan facts)
 
 -- what a disk was asked that isn't a read: the command and the first sector
-abbrev pub asked_in : Outcome → List (BioCmd × ℕ)
-asked_in (outcomes.Asked q) = if is_read q.cmd then [] else (q.cmd, q.first) ∷ []
-asked_in _ = []
+abbrev pub change_asked : Outcome → List (BioCmd × ℕ)
+change_asked (outcomes.Asked q) = if is_read q.cmd then [] else (q.cmd, q.first) ∷ []
+change_asked _ = []
 
 abbrev pub changes_asked : List Entry → List (BioCmd × ℕ)
-changes_asked log = flat_map (λ e. asked_in e.outcome) log
+changes_asked log = flat_map (λ e. change_asked e.outcome) log
 
 -- two writes before a FLUSH and one behind it
 abbrev pub sweeping_script : List ℕ

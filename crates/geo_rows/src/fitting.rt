@@ -3,7 +3,7 @@ ghost use Rattle.geo_model.specs.declared.step.Step.TheVariants as steps;
 ghost use Rattle.geo_rows.specs.Rows.{first_plan, first_facts, exclusion_plan, exclusion_facts, boundaries_plan, boundaries_facts, slice_plan, slice_facts, hostile_table_plan, hostile_table_facts, spoiling_plan, spoiling_facts, pulling_plan, pulling_facts, joining_plan, joining_facts, striping_plan, striping_facts, diamond_plan, diamond_facts, failing_nop_plan, failing_nop_facts, assembling_plan, assembling_facts, labelling_plan, labelling_facts, two_users_plan, two_users_facts};
 ghost use Rattle.geo_rows.specs.GrownRows.{growing_plan, growing_facts, appearing_plan, appearing_facts, sized_label_plan, sized_label_facts, plain_label_plan, plain_label_facts, logical_plan, logical_facts, looping_plan, looping_facts, refusing_plan, refusing_facts, relabelling_plan, relabelling_facts, written_through_plan, written_through_facts, used_slice_plan, used_slice_facts, kept_above_plan, kept_above_facts, long_chain_plan, long_chain_facts, too_long_chain_plan, too_long_chain_facts};
 ghost use Rattle.geo_rows.specs.GrownSteps.{append_after_up, append_before_up, held_world, new_world};
-ghost use Rattle.geo_rows.specs.StepLists.{go as next_of, log_of, pulled_early, pulled_late, read_in_reverse, sliced_world, striped_world};
+ghost use Rattle.geo_rows.specs.StepLists.{go_step as next_of, log_of_steps, pulled_early, pulled_late, read_in_reverse, sliced_world, striped_world};
 ghost use Rattle.geo_rows.specs.LooseWorlds.{crooked_nop, empty_disk, far_sector, huge_sector, is_loose, is_unfit, large_component, large_concat, large_sectors, short_stripe, strange_command, two_providers, two_roots, tasted_twin, crooked_part, large_link, long_label};
 ghost use Rattle.geo_rows.specs.WorkedFitting.{TestsFitting, fitting_along, run_is_fitting};
 ghost use Rattle.geo_rows.specs.WorkedSound.{TestsSound};
@@ -58,15 +58,18 @@ pub fn worked_fitting()
     ensures kept_above_fitting { run_is_fitting kept_above_plan kept_above_facts ≡ true }
     ensures used_slice_fitting { run_is_fitting used_slice_plan used_slice_facts ≡ true }
     ensures written_through_fitting { run_is_fitting written_through_plan written_through_facts ≡ true }
-    ensures pulled_early_fitting { fitting_along sliced_world (log_of sliced_world (pulled_early sliced_world)) ≡ true }
-    ensures pulled_late_fitting { fitting_along sliced_world (log_of sliced_world (pulled_late sliced_world)) ≡ true }
-    ensures read_in_reverse_fitting { fitting_along striped_world
-        (log_of striped_world (read_in_reverse striped_world)) ≡ true }
-    ensures append_before_up_fitting { fitting_along held_world (log_of held_world (append_before_up held_world))
+    ensures pulled_early_fitting { fitting_along sliced_world (log_of_steps sliced_world (pulled_early sliced_world))
         ≡ true }
-    ensures append_after_up_fitting { fitting_along held_world (log_of held_world (append_after_up held_world)) ≡ true }
+    ensures pulled_late_fitting { fitting_along sliced_world (log_of_steps sliced_world (pulled_late sliced_world))
+        ≡ true }
+    ensures read_in_reverse_fitting { fitting_along striped_world
+        (log_of_steps striped_world (read_in_reverse striped_world)) ≡ true }
+    ensures append_before_up_fitting { fitting_along held_world (log_of_steps held_world (append_before_up held_world))
+        ≡ true }
+    ensures append_after_up_fitting { fitting_along held_world (log_of_steps held_world (append_after_up held_world))
+        ≡ true }
     ensures append_in_read_fitting { fitting_along new_world
-        (log_of new_world (next_of 0 ∷ steps.Event ∷ steps.Judge ∷ next_of 1 ∷ [])) ≡ true }
+        (log_of_steps new_world (next_of 0 ∷ steps.Event ∷ steps.Judge ∷ next_of 1 ∷ [])) ≡ true }
 {}
 
 /// Worlds that are sound and steady, aren't fitting, and aren't sound any more after the step; and a stripe whose

@@ -7,7 +7,7 @@ ghost use Rattle.geo_rows.specs.Rows.{report_of};
 ghost use Rattle.geo_rows.specs.GrownRows.{growing_plan, growing_facts, growing_text, appearing_plan, appearing_facts, appearing_text, sized_label_plan, sized_label_facts, sized_label_text, plain_label_plan, plain_label_facts, plain_label_text, logical_plan, logical_facts, logical_text, looping_plan, looping_facts, looping_text, refusing_plan, refusing_facts, refusing_text, relabelling_plan, relabelling_facts, relabelling_text, written_through_plan, written_through_facts, written_through_text, used_slice_plan, used_slice_facts, used_slice_text, kept_above_plan, kept_above_facts, kept_above_text, long_chain_plan, long_chain_facts, long_chain_text, too_long_chain_plan, too_long_chain_facts, too_long_chain_text};
 ghost use Rattle.geo_rows.specs.GrownScripts.{growing_script, appearing_script, sized_label_script, plain_label_script, logical_script, looping_script, refusing_script, relabelling_script, written_through_script, used_slice_script, kept_above_script};
 ghost use Rattle.geo_rows.specs.GrownSteps.{append_after_up, append_before_up, around_world, counted_world, held_mesh, held_world, mesh_after, new_world, pulled_world, refusal_over, size_after, two_disks};
-ghost use Rattle.geo_rows.specs.StepLists.{fill_of, go as next_of, log_of, reply_after};
+ghost use Rattle.geo_rows.specs.StepLists.{fill_of, go_step as next_of, log_of_steps, reply_after};
 ghost use Rattle.geo_rows.specs.WorkedIdle.{run_answers_once, run_frees_idle};
 ghost use Rattle.geo_rows.specs.WorkedLaws.{all_due, all_gone, held_by_log, held_by_run, measure_falls, replies_by_log, replies_given, same_sectors};
 ghost use Rattle.geo_rows.specs.WorkedParts.{chain};
@@ -99,10 +99,12 @@ pub fn grown_moments()
     ensures kept_above_sound { run_is_sound kept_above_plan kept_above_facts ≡ true }
     ensures used_slice_sound { run_is_sound used_slice_plan used_slice_facts ≡ true }
     ensures written_through_sound { run_is_sound written_through_plan written_through_facts ≡ true }
-    ensures append_before_up_sound { sound_along held_world (log_of held_world (append_before_up held_world)) ≡ true }
-    ensures append_after_up_sound { sound_along held_world (log_of held_world (append_after_up held_world)) ≡ true }
+    ensures append_before_up_sound { sound_along held_world (log_of_steps held_world (append_before_up held_world))
+        ≡ true }
+    ensures append_after_up_sound { sound_along held_world (log_of_steps held_world (append_after_up held_world))
+        ≡ true }
     ensures append_in_read_sound { sound_along new_world
-        (log_of new_world (next_of 0 ∷ steps.Event ∷ steps.Judge ∷ next_of 1 ∷ [])) ≡ true }
+        (log_of_steps new_world (next_of 0 ∷ steps.Event ∷ steps.Judge ∷ next_of 1 ∷ [])) ≡ true }
     ensures growing_idle { run_frees_idle growing_plan growing_facts ≡ true }
     ensures appearing_idle { run_frees_idle appearing_plan appearing_facts ≡ true }
     ensures sized_label_idle { run_frees_idle sized_label_plan sized_label_facts ≡ true }
@@ -147,10 +149,12 @@ pub fn grown_steadiness()
     ensures kept_above_steady { run_is_steady kept_above_plan kept_above_facts ≡ true }
     ensures used_slice_steady { run_is_steady used_slice_plan used_slice_facts ≡ true }
     ensures written_through_steady { run_is_steady written_through_plan written_through_facts ≡ true }
-    ensures append_before_up_steady { steady_along held_world (log_of held_world (append_before_up held_world)) ≡ true }
-    ensures append_after_up_steady { steady_along held_world (log_of held_world (append_after_up held_world)) ≡ true }
+    ensures append_before_up_steady { steady_along held_world (log_of_steps held_world (append_before_up held_world))
+        ≡ true }
+    ensures append_after_up_steady { steady_along held_world (log_of_steps held_world (append_after_up held_world))
+        ≡ true }
     ensures append_in_read_steady { steady_along new_world
-        (log_of new_world (next_of 0 ∷ steps.Event ∷ steps.Judge ∷ next_of 1 ∷ [])) ≡ true }
+        (log_of_steps new_world (next_of 0 ∷ steps.Event ∷ steps.Judge ∷ next_of 1 ∷ [])) ≡ true }
 {}
 
 /// The measure falls along each of these runs; results, sectors and contents are those of the log.

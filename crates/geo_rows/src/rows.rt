@@ -13,7 +13,7 @@ ghost use Rattle.geo_headline.specs.Outside.{failures_of};
 ghost use Rattle.geo_model.specs.Script.{empty_plan, script};
 ghost use Rattle.geo_rows.specs.Scripts.{assembling_script, boundaries_script, diamond_script, equal_neighbours_script, exclusion_script, failing_nop_script, fault, first_script, generated_summary, hostile_table_script, joining_script, labelling_script, late_header_script, left_over_script, missing_script, no_counts_script, no_lines_summary, odd_sector_script, pulling_script, same_disk_script, slice_script, spoiling_script, stranger_script, striping_script, three_lines_summary, two_spaces_script, two_users_script, unknown_script, zero_in_front_script};
 ghost use Rattle.geo_model.specs.Step.{step};
-ghost use Rattle.geo_rows.specs.StepLists.{by_seat_0, errors_met, failed_read, failing_world, log_of, opened_world, fill_of, go as next_of, pulled_early, pulled_late, read_in_reverse, reply_after, second_up_first, sliced_world, spoiled_world, striped_world};
+ghost use Rattle.geo_rows.specs.StepLists.{by_seat_0, errors_met, failed_read, failing_world, log_of_steps, opened_world, fill_of, go_step as next_of, pulled_early, pulled_late, read_in_reverse, reply_after, second_up_first, sliced_world, spoiled_world, striped_world};
 ghost use Rattle.geo_model.specs.Topology.{provider_at, set_error};
 ghost use Rattle.geo_rows.specs.Towers.{disk_counts, floor_name, top_refusal, tower_world};
 ghost use Rattle.geo_rows.specs.WorkedIdle.{run_answers_once, run_frees_idle};
@@ -106,7 +106,7 @@ pub fn worked_step_lists()
     ensures pulled_first_reply { let w = failing_world (codes "md1") (codes "md0.nop") in
         reply_after w (second_up_first w) 8 ≡ Some (replies.Refused ENXIO) }
     ensures failed_read_reply { reply_after opened_world (failed_read opened_world) 4 ≡ Some (replies.Refused EIO) }
-    ensures failed_read_failures { failures_of (log_of opened_world (failed_read opened_world)) 0 ≡ 1 }
+    ensures failed_read_failures { failures_of (log_of_steps opened_world (failed_read opened_world)) 0 ≡ 1 }
     ensures nop_first_errors { let w = failing_world (codes "md0.nop") (codes "md1") in
         errors_met w (second_up_first w) w.next_bio ≡ EIO ∷ ENXIO ∷ [] }
     ensures pulled_first_errors { let w = failing_world (codes "md1") (codes "md0.nop") in

@@ -23,7 +23,7 @@ use Rattle.geo_run.specs.Drives.{DriveView, size_of}
 use Rattle.geo_run.specs.declared.stop.Stop.{Stop}
 use Rattle.geo_run.specs.declared.stop.Stop.TheVariants as stops
 use Rattle.geo_run.specs.Stops.{ending_of}
-use Rattle.geo_run.specs.Lending.{AreApart, AreOther, GivesBack, GivesDrive, GivesUp, OpensDrive, OpensDrives, OpensNoDrive, TakeCause, TakesBack, is_blamed, names_of}
+use Rattle.geo_run.specs.Lending.{AreApart, AreOther, GivesBack, GivesDrive, GivesUp, OpensDrive, OpensDrives, OpensNoDrive, TakeCause, TakesBack, is_shelf_fault, names_of}
 use Rattle.geo_run.specs.Ends.{LentCause, PlanCause, RunsDrives, RunsPlan, Served}
 use Rattle.geo_run.proofs.Tests.{other_names, same_itself, same_or_other}
 use Rattle.geo_run.proofs.Told.{OfName, IsSame, chain, of_name, same, same_twice}
@@ -431,7 +431,7 @@ stopped_takes a m n b d stop disk_kinds.Shelf h before after = by stop h.cause h
         and_false true = refl
         and_false false = refl
 
-    by : (s : Stop) → TakeCause m d s n → CountsCall (is_blamed s) d.name m.take_faults n.take_faults
+    by : (s : Stop) → TakeCause m d s n → CountsCall (is_shelf_fault s) d.name m.take_faults n.take_faults
         → TakesAreToldAt (ending_of s) a b
     by (stops.ShelfFault name) c takes = λ z.
         subst (λ (k : List ℕ). b.take_faults z ≡ counted_if (bytes_eq k z) (a.take_faults z)) (sym c.0)
@@ -565,7 +565,7 @@ stopped_cause mode plan facts a m n b front d back stop disk_kinds.Shelf k e the
     shelf : IsShelf d.kind
     shelf = ap is_shelf k
 
-    by : (s : Stop) → TakeCause m d s n → CountsCall (is_blamed s) d.name m.take_faults n.take_faults
+    by : (s : Stop) → TakeCause m d s n → CountsCall (is_shelf_fault s) d.name m.take_faults n.take_faults
         → PlanCause mode plan (opening plan facts) None a b (ending_of s)
     by (stops.ShelfFault name) c takes = (
       stops_for plan a front d back name (λ z images. ⊤) e shelf c.0 there (any_fact a.told),

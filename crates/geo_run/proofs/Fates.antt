@@ -9,7 +9,7 @@ use Rattle.geo_base.specs.Faults.{Rose, RoseBy}
 use Rattle.geo_base.specs.Sectors.{joined_sectors}
 use Rattle.geo_disk.proofs.CountLemmas.{counted_many_rose}
 use Rattle.geo_disk.specs.Counts.{counted_on}
-use Rattle.geo_disk.specs.Names.{without}
+use Rattle.geo_disk.specs.Names.{names_without}
 use Rattle.geo_model.specs.declared.command.DiskDecl.{DiskDecl}
 use Rattle.geo_model.specs.declared.command.DiskKind.{DiskKind}
 use Rattle.geo_model.specs.declared.command.DiskKind.TheVariants as disk_kinds
@@ -274,8 +274,8 @@ gives_lend base a b (d ∷ ds) (x ∷ xs) kept lent none apart h =
         go (ap (λ (v : ShelfView). v.lent) g.1 ∙ l) ∙ ap (λ ks. base ++ ks) (sym (h.3 ∙ ap (λ ks. ks ++ h.2) g.0))
     by disk_kinds.Shelf l other g go more = elim g [
       | inl given ↦ go
-          (given.1.lent ∙ ap (λ ns. without n ns) l ∙ without_both n base (n ∷ sn)
-          ∙ ap (λ ns. ns ++ without n (n ∷ sn)) (without_none n base (other refl))
+          (given.1.lent ∙ ap (λ ns. names_without n ns) l ∙ without_both n base (n ∷ sn)
+          ∙ ap (λ ns. ns ++ names_without n (n ∷ sn)) (without_none n base (other refl))
           ∙ ap (λ ns. base ++ ns) (without_first n sn ∙ without_none n sn (other_shelf n ds apart.0)))
           ∙ ap (λ ks. base ++ ks) (sym (h.3 ∙ ap (λ ks. ks ++ h.2) given.0))
       | inr held ↦ more (held.1.lent ∙ l ∙ sym (append_assoc base (n ∷ []) sn))

@@ -3,12 +3,12 @@ use Rattle.std.proofs.Common.{◌≡◌, ◌≢◌, ◌⊎◌, ℕ, ◌≤◌, B
 use Rattle.std.specs.Prelude.{⊤}
 use Rattle.geo_disk.specs.Shelf.{IsAsBefore, IsGivenTo}
 use Rattle.std.proofs.lemmas.List.{append-nil}
-use Rattle.geo_disk.specs.Names.{without}
+use Rattle.geo_disk.specs.Names.{names_without}
 use Rattle.geo_model.specs.declared.command.DiskDecl.{DiskDecl}
 use Rattle.geo_model.specs.declared.command.DiskKind.{DiskKind}
 use Rattle.geo_model.specs.declared.command.DiskKind.TheVariants as disk_kinds
 use Rattle.geo_headline.specs.Outside.{ShelfView, IsShelf}
-use Rattle.geo_run.specs.Drives.{DriveView, kind_of}
+use Rattle.geo_run.specs.Drives.{DriveView, drive_kind}
 use Rattle.geo_run.specs.Lending.{AreOther, AreOut, GivesBack, GivesDrive, IsOut, names_of}
 use Rattle.geo_run.proofs.Tests.{contains_first, contains_more, contains_none, contains_cases, same_names, other-append}
 use Rattle.geo_run.proofs.Told.{of_name}
@@ -17,14 +17,14 @@ use Rattle.geo_run.proofs.Taking.{IsForeign, NameStays, stays_along, stays_twice
 -- One drive more
 
 pub gives_more : (a b c : ShelfView) (ns : List (List ℕ)) (n : List ℕ) (xs : List DriveView) (x : DriveView)
-    (kept k : List (List ℕ)) → GivesBack a ns xs kept b → GivesDrive b n x k c (kind_of x)
+    (kept k : List (List ℕ)) → GivesBack a ns xs kept b → GivesDrive b n x k c (drive_kind x)
     → GivesBack a (ns ++ n ∷ []) (xs ++ x ∷ []) (kept ++ k) c
 gives_more a b c [] n [] x kept k h g = (
   c,
   k,
   [],
   ap (λ ks. ks ++ k) h.0 ∙ sym (append-nil k),
-  subst (λ (v : ShelfView). GivesDrive v n x k c (kind_of x)) h.1 g,
+  subst (λ (v : ShelfView). GivesDrive v n x k c (drive_kind x)) h.1 g,
   (refl, refl),
 )
 gives_more a b c [] n (y ∷ ys) x kept k h g = absurd h
@@ -42,19 +42,20 @@ gives_more a b c (m ∷ ms) n (y ∷ ys) x kept k h g = (
 
 -- a name that isn't taken away stays
 without_contains : (gone name : List ℕ) (names : List (List ℕ)) → name ≢ gone → Contains names name
-    → Contains (without gone names) name
+    → Contains (names_without gone names) name
 without_contains gone name [] other c = absurd (contains_none name c)
 without_contains gone name (x ∷ names) other c =
     by (bytes_eq gone x) refl (contains_cases x name names c) (λ more. without_contains gone name names other more)
   where
     by : (t : Bool) → bytes_eq gone x ≡ t → (x ≡ name) ⊎ Contains names name
-        → (Contains names name → Contains (without gone names) name)
-        → Contains (if not t then x ∷ without gone names else without gone names) name
+        → (Contains names name → Contains (names_without gone names) name)
+        → Contains (if not t then x ∷ names_without gone names else names_without gone names) name
     by true e (inl same) rest = absurd (other (sym same ∙ sym (same_names gone x e)))
     by true e (inr more) rest = rest more
     by false e (inl same) rest =
-        subst (λ (n : List ℕ). Contains (x ∷ without gone names) n) same (contains_first x (without gone names))
-    by false e (inr more) rest = contains_more x name (without gone names) (rest more)
+        subst (λ (n : List ℕ). Contains (x ∷ names_without gone names) n) same
+        (contains_first x (names_without gone names))
+    by false e (inr more) rest = contains_more x name (names_without gone names) (rest more)
 
 -- one drive is given back, and another is out as before
 still_out : (a b : ShelfView) (n m : List ℕ) (x y : DriveView) (k : List (List ℕ)) (kind : DiskKind)
@@ -87,15 +88,15 @@ all_still_out a b n x k kind (m ∷ ms) (y ∷ ys) h others out = (
 -- the others are still out after one was given back
 pub out_next : (a b : ShelfView) (n : List ℕ) (x : DriveView) (k : List (List ℕ))
     (ms : List (List ℕ)) (ys : List DriveView)
-    → AreOut a (n ∷ ms) (x ∷ ys) → GivesDrive a n x k b (kind_of x) → AreOut b ms ys
-out_next a b n x k ms ys out h = all_still_out a b n x k (kind_of x) ms ys h out.1 out.2
+    → AreOut a (n ∷ ms) (x ∷ ys) → GivesDrive a n x k b (drive_kind x) → AreOut b ms ys
+out_next a b n x k ms ys out h = all_still_out a b n x k (drive_kind x) ms ys h out.1 out.2
 
 -- By declarations
 
 -- each drive is of the kind of its disk
 abbrev pub SameKinds : List DiskDecl → List DriveView → Type 0
 SameKinds [] [] = ⊤
-SameKinds (d ∷ ds) (x ∷ xs) = (kind_of x ≡ d.kind) × SameKinds ds xs
+SameKinds (d ∷ ds) (x ∷ xs) = (drive_kind x ≡ d.kind) × SameKinds ds xs
 SameKinds _ _ = ⊥
 
 -- the drives of disks are given back

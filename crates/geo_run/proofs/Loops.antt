@@ -6,7 +6,7 @@ use Rattle.geo_model.specs.declared.step.Entry.{Entry}
 use Rattle.geo_disk.proofs.CountLemmas.{counted_many_later}
 use Rattle.geo_headline.specs.Outside.{ShelfView, failures_of}
 use Rattle.geo_serve.specs.Served.{IsServed}
-use Rattle.geo_run.specs.Drives.{DriveView, kind_by, ServeAll, kind_of}
+use Rattle.geo_run.specs.Drives.{DriveView, kind_by, ServeAll, drive_kind}
 use Rattle.geo_run.specs.declared.stop.Stop.{Stop}
 use Rattle.geo_run.specs.Lending.{AreOut, GivesBack, GivesDrive, OpensDrive, OpensDrives, OpensNoDrive, StopsOpening, first_kept, kept_name, names_of}
 use Rattle.geo_run.proofs.Taking.{opens_more}
@@ -80,7 +80,7 @@ next_out s names n name x xs lt at out =
 -- one more was given back
 pub gives_next : (a b c : ShelfView) (names : List (List ℕ)) (n : ℕ) (name : List ℕ) (xs : List DriveView)
     (x : DriveView) (kept k : List (List ℕ)) → n < length names → name ≡ get_or names n name
-    → GivesBack a (take n names) xs kept b → GivesDrive b name x k c (kind_of x)
+    → GivesBack a (take n names) xs kept b → GivesDrive b name x k c (drive_kind x)
     → GivesBack a (take (n + 1) names) (xs ++ x ∷ []) (kept ++ k) c
 gives_next a b c names n name xs x kept k lt at given one =
     subst (λ (ns : List (List ℕ)). GivesBack a ns (xs ++ x ∷ []) (kept ++ k) c)
@@ -114,7 +114,7 @@ pub gave_next : (a b c : ShelfView) (names : List (List ℕ)) (n : ℕ) (name : 
     (x : DriveView) (first next : Option (List ℕ)) (given : Bool) → n < length names → name ≡ get_or names n name
     → next ≡ first_kept first given name
     → (kept : List (List ℕ)) × (first ≡ slice_get kept 0) × GivesBack a (take n names) xs kept b
-    → GivesDrive b name x (kept_name given name) c (kind_of x)
+    → GivesDrive b name x (kept_name given name) c (drive_kind x)
     → (kept : List (List ℕ)) × (next ≡ slice_get kept 0) × GivesBack a (take (n + 1) names) (xs ++ x ∷ []) kept c
 gave_next a b c names n name xs x first next given lt at is so_far one = (
   so_far.0 ++ kept_name given name,
@@ -169,7 +169,7 @@ pub gave_item : {X : Type 0} (f : X → DriveView) (a b c : ShelfView) (names : 
     (name : List ℕ) (first next : Option (List ℕ)) (given : Bool) → length items < length names
     → name ≡ get_or names (length items) name → next ≡ first_kept first given name
     → (kept : List (List ℕ)) × (first ≡ slice_get kept 0) × GivesBack a (take (length items) names) (map f items) kept b
-    → GivesDrive b name (f x) (kept_name given name) c (kind_of (f x))
+    → GivesDrive b name (f x) (kept_name given name) c (drive_kind (f x))
     → (kept : List (List ℕ)) × (next ≡ slice_get kept 0)
     × GivesBack a (take (length (items ++ x ∷ [])) names) (map f (items ++ x ∷ [])) kept c
 gave_item f a b c names items x name first next given lt at is so_far one =
@@ -185,7 +185,7 @@ gave_item f a b c names items x name first next given lt at is so_far one =
 pub rest_out : {X : Type 0} (f : X → DriveView) (b c : ShelfView) (names : List (List ℕ)) (items : List X) (x : X)
     (rest : List X) (name : List ℕ) (k : List (List ℕ)) → length items < length names
     → name ≡ get_or names (length items) name → AreOut b (drop (length items) names) (f x ∷ map f rest)
-    → GivesDrive b name (f x) k c (kind_of (f x)) → AreOut c (drop (length (items ++ x ∷ [])) names) (map f rest)
+    → GivesDrive b name (f x) k c (drive_kind (f x)) → AreOut c (drop (length (items ++ x ∷ [])) names) (map f rest)
 rest_out f b c names items x rest name k lt at out one =
     subst (λ (n : ℕ). AreOut c (drop n names) (map f rest)) (sym (length_push items x))
     (out_next b c name (f x) k (drop (length items + 1) names) (map f rest)

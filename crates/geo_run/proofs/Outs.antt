@@ -6,7 +6,7 @@ use Rattle.geo_model.specs.declared.command.DiskDecl.{DiskDecl}
 use Rattle.geo_model.specs.declared.command.DiskKind.{DiskKind}
 use Rattle.geo_model.specs.declared.command.DiskKind.TheVariants as disk_kinds
 use Rattle.geo_headline.specs.Outside.{ShelfView}
-use Rattle.geo_run.specs.Drives.{DriveView, kind_of}
+use Rattle.geo_run.specs.Drives.{DriveView, drive_kind}
 use Rattle.geo_run.specs.declared.stop.Stop.{Stop}
 use Rattle.geo_run.specs.Lending.{AreApart, AreOther, AreOut, IsOut, OpensDrives, OpensNoDrive, SameCounts, StopsOpening, names_of}
 use Rattle.geo_run.proofs.Tests.{contains_first, contains_more}
@@ -41,7 +41,7 @@ all_out a b (d ∷ ds) (x ∷ xs) counts apart lent h = (
 
     one : (kind : DiskKind)
         → ((name : List ℕ) → Contains (with_shelf kind d.name (shelf_names ds)) name → Contains b.lent name)
-        → IsHad a b d x kind → kind_of x ≡ disk_kinds.Shelf → IsOut b d.name x
+        → IsHad a b d x kind → drive_kind x ≡ disk_kinds.Shelf → IsOut b d.name x
     one disk_kinds.Ram l had s = absurd (let bad : disk_kinds.Ram ≡ disk_kinds.Shelf = sym had.kind ∙ s in cc)
     one disk_kinds.Shelf l had s = record {
       lent = l d.name (contains_first d.name (shelf_names ds));

@@ -14,7 +14,7 @@ use Rattle.geo_model.specs.Contents.{contents, AreTrue}
 use Rattle.geo_model.specs.Plans.{Differ, HasPlanSectors, HasSectors as HasHeaderSectors, IsDiskDecl, IsFact}
 use Rattle.geo_headline.specs.Outside.{ShelfView, IsShelf, IsThere, HasImage, HasToldSize, CanBeTaken, PlannedDisk, planned_disk, failures_of, calls_logged, image_after, HoldsWhatIsLogged, IsMemory, IsDiskKept, kept_back}
 use Rattle.geo_serve.specs.Served.{IsServed}
-use Rattle.geo_run.specs.Drives.{DriveView, kind_by, ServeAll, size_of, kind_of}
+use Rattle.geo_run.specs.Drives.{DriveView, kind_by, ServeAll, size_of, drive_kind}
 use Rattle.geo_run.specs.Lending.{AreApart, AreOther, IsMade}
 use Rattle.geo_run.proofs.Tests.{same_itself}
 use Rattle.geo_run.proofs.Told.{OfName, chain}
@@ -45,7 +45,7 @@ apart_from (x ∷ names) h = (
 
 -- Kinds and sizes
 
-kind_had : (a b : ShelfView) (d : DiskDecl) (x : DriveView) (kind : DiskKind) → IsHad a b d x kind → kind_of x ≡ kind
+kind_had : (a b : ShelfView) (d : DiskDecl) (x : DriveView) (kind : DiskKind) → IsHad a b d x kind → drive_kind x ≡ kind
 kind_had a b d x disk_kinds.Ram h = h.kind
 kind_had a b d x disk_kinds.Shelf h = h.kind
 

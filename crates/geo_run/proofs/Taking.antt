@@ -11,7 +11,7 @@ use Rattle.geo_model.specs.declared.command.DiskDecl.{DiskDecl}
 use Rattle.geo_model.specs.declared.command.DiskKind.{DiskKind}
 use Rattle.geo_model.specs.declared.command.DiskKind.TheVariants as disk_kinds
 use Rattle.geo_headline.specs.Outside.{ShelfView, IsShelf}
-use Rattle.geo_run.specs.Drives.{DriveView, kind_of}
+use Rattle.geo_run.specs.Drives.{DriveView, drive_kind}
 use Rattle.geo_run.specs.Lending.{AreApart, AreOther, IsMade, OpensDrive, OpensDrives, SameCounts, names_of}
 use Rattle.geo_run.proofs.Told.{OfName, IsSame, of_name, chain, same, same_twice}
 
@@ -180,7 +180,7 @@ WentInto d x had has =
 
 -- a drive is the disk of the shelf that a declaration names, by the shelf before and after all were taken
 pub record IsTaken (before after : ShelfView) (d : DiskDecl) (x : DriveView) : Type 0 where
-  pub kind : kind_of x ≡ disk_kinds.Shelf
+  pub kind : drive_kind x ≡ disk_kinds.Shelf
   pub not_lent : Contains before.lent d.name → ⊥
   pub size : IsOfSize d.sector x.sector x.count
   pub brought : x.faults ≡ before.faults_of d.name

@@ -5,7 +5,7 @@ use Rattle.std.proofs.lemmas.Bool.{or_right}
 use Rattle.std.proofs.lemmas.Slice.Eq.{bytes_eq-Decides}
 use Rattle.std.proofs.lemmas.Bool.Decides.{nat_tests}
 use Rattle.std.proofs.lemmas.List.Elements.{Contains-append_right}
-use Rattle.geo_disk.specs.Names.{without}
+use Rattle.geo_disk.specs.Names.{names_without}
 use Rattle.geo_run.specs.Lending.{AreOther}
 
 -- a name is the same as itself
@@ -120,25 +120,27 @@ other-among name (x ∷ names) others =
     ∙ other-among name names others.1
 
 -- where no name is this one, taking it away changes nothing
-pub without_none : (name : List ℕ) (names : List (List ℕ)) → AreOther name names → without name names ≡ names
+pub without_none : (name : List ℕ) (names : List (List ℕ)) → AreOther name names → names_without name names ≡ names
 without_none name [] others = refl
 without_none name (x ∷ names) others =
-    ap (λ t. if not t then x ∷ without name names else without name names) (other_names name x (λ e. others.0 (sym e)))
+    ap (λ t. if not t then x ∷ names_without name names else names_without name names)
+    (other_names name x (λ e. others.0 (sym e)))
     ∙ ap (λ ns. x ∷ ns) (without_none name names others.1)
 
 -- the name that stands first goes
-pub without_first : (name : List ℕ) (names : List (List ℕ)) → without name (name ∷ names) ≡ without name names
+pub without_first : (name : List ℕ) (names : List (List ℕ)) → names_without name (name ∷ names)
+    ≡ names_without name names
 without_first name names =
-    ap (λ t. if not t then name ∷ without name names else without name names) (same_itself name)
+    ap (λ t. if not t then name ∷ names_without name names else names_without name names) (same_itself name)
 
 -- names in two parts without one
 pub without_both : (name : List ℕ) (xs ys : List (List ℕ))
-    → without name (xs ++ ys) ≡ without name xs ++ without name ys
+    → names_without name (xs ++ ys) ≡ names_without name xs ++ names_without name ys
 without_both name [] ys = refl
 without_both name (x ∷ xs) ys = by (bytes_eq name x) (without_both name xs ys)
   where
-    by : (t : Bool) → without name (xs ++ ys) ≡ without name xs ++ without name ys
-        → (if not t then x ∷ without name (xs ++ ys) else without name (xs ++ ys))
-        ≡ (if not t then x ∷ without name xs else without name xs) ++ without name ys
+    by : (t : Bool) → names_without name (xs ++ ys) ≡ names_without name xs ++ names_without name ys
+        → (if not t then x ∷ names_without name (xs ++ ys) else names_without name (xs ++ ys))
+        ≡ (if not t then x ∷ names_without name xs else names_without name xs) ++ names_without name ys
     by true more = more
     by false more = ap (λ ns. x ∷ ns) more

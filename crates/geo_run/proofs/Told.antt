@@ -1,7 +1,7 @@
 -- What a shelf tells of a name before and after.
 use Rattle.std.proofs.Common.{◌≡◌, ℕ, List, Option, Some, None, refl, ◌∙◌, IfSome, IsSomeAnd}
 use Rattle.geo_base.specs.Images.{Images}
-use Rattle.geo_disk.specs.Shelf.{WhereTold}
+use Rattle.geo_disk.specs.Shelf.{WhereBothTell}
 
 -- a fact on what a name had and has, where it is told
 pub record OfName (old new : Option Images) (name : List ℕ)
@@ -15,7 +15,7 @@ IsSame had has = has ≡ had
 -- a fact on all names tells one of each
 pub of_name : (old new : Option Images) (name : List ℕ) (P : Images → Images → Type 0)
     {F : Option (List ℕ) → Option (List ℕ) → Type 0}
-    → ((o n : Images) → P o n → F (o name) (n name)) → WhereTold P old new → OfName old new name F
+    → ((o n : Images) → P o n → F (o name) (n name)) → WhereBothTell P old new → OfName old new name F
 of_name None None name P f h = record { is = tt }
 of_name None (Some n) name P f h = record { is = tt }
 of_name (Some o) None name P f h = absurd h

@@ -12,8 +12,8 @@ kind_by (Some fails) = disk_kinds.Ram
 kind_by None = disk_kinds.Shelf
 
 -- whether a drive is in memory or of a shelf
-abbrev pub kind_of : DriveView → DiskKind
-kind_of x = kind_by (fails_of x)
+abbrev pub drive_kind : DriveView → DiskKind
+drive_kind x = kind_by (fails_of x)
 
 -- the size of a drive: the bytes of a sector, and the sectors
 abbrev pub size_of : DriveView → ℕ × ℕ

@@ -7,13 +7,13 @@ use Rattle.geo_disk.specs.Disk.{DiskView}
 use Rattle.geo_disk.specs.Memory.{Memory}
 use Rattle.geo_disk.specs.declared.drive.Drive.TheVariants.{Shelved}
 use Rattle.geo_disk.specs.declared.shelf.ShelfCall.TheVariants as shelf_calls
-use Rattle.geo_disk.specs.Names.{without}
-use Rattle.geo_disk.specs.Shelf.{WhereTold, IsTakenFrom, IsGivenTo, IsAsBefore, IsOfSize, CountsCall}
+use Rattle.geo_disk.specs.Names.{names_without}
+use Rattle.geo_disk.specs.Shelf.{WhereBothTell, IsTakenFrom, IsGivenTo, IsAsBefore, IsOfSize, CountsCall}
 use Rattle.geo_model.specs.declared.command.DiskDecl.{DiskDecl}
 use Rattle.geo_model.specs.declared.command.DiskKind.{DiskKind}
 use Rattle.geo_model.specs.declared.command.DiskKind.TheVariants as disk_kinds
 use Rattle.geo_headline.specs.Outside.{ShelfView}
-use Rattle.geo_run.specs.Drives.{DriveView, drive_view, fails_of, kind_of}
+use Rattle.geo_run.specs.Drives.{DriveView, drive_kind, drive_view, fails_of}
 use Rattle.geo_run.specs.declared.stop.Stop.{Stop}
 use Rattle.geo_run.specs.declared.stop.Stop.TheVariants as stops
 
@@ -29,8 +29,8 @@ pub record SameCounts (before after : ShelfView) : Type 0 where
 
 -- the disk of a declaration was taken from the shelf, and is this drive
 pub record TakesDisk (before : ShelfView) (d : DiskDecl) (x : DriveView) (after : ShelfView) : Type 0 where
-  pub kind : kind_of x ≡ disk_kinds.Shelf
-  pub told : WhereTold (IsTakenFrom d.name d.sector x.held) before.told after.told
+  pub kind : drive_kind x ≡ disk_kinds.Shelf
+  pub told : WhereBothTell (IsTakenFrom d.name d.sector x.held) before.told after.told
   pub counted : IfSome x.held (λ sectors. length sectors ≡ x.count)
   pub not_lent : Contains before.lent d.name → ⊥
   pub size : IsOfSize d.sector x.sector x.count
@@ -43,7 +43,7 @@ pub record TakesDisk (before : ShelfView) (d : DiskDecl) (x : DriveView) (after 
 
 -- a disk in memory, of zeros, none of whose calls is to fail
 pub record IsMade (d : DiskDecl) (x : DriveView) : Type 0 where
-  pub kind : kind_of x ≡ disk_kinds.Ram
+  pub kind : drive_kind x ≡ disk_kinds.Ram
   pub sector : x.sector ≡ d.sector
   pub count : x.count ≡ d.sectors
   pub held : x.held ≡ Some (zero_sectors d.sectors d.sector)
@@ -63,9 +63,9 @@ OpensDrive before d x after disk_kinds.Ram = IsMade d x × (after ≡ before)
 OpensDrive before d x after disk_kinds.Shelf = TakesDisk before d x after
 
 -- whether a take failed where it stops so
-abbrev pub is_blamed : Stop → Bool
-is_blamed (stops.ShelfFault name) = true
-is_blamed _ = false
+abbrev pub is_shelf_fault : Stop → Bool
+is_shelf_fault (stops.ShelfFault name) = true
+is_shelf_fault _ = false
 
 -- why a take stops: the shelf failed, the disk is missing or of a bad size, or memory ran out; nothing else is a fault
 abbrev pub TakeCause : ShelfView → DiskDecl → Stop → ShelfView → Type 0
@@ -82,12 +82,12 @@ TakeCause before d _ after = ⊥
 -- nothing was taken of a name: all is as before, but that it was asked for, and what is counted of it
 pub record TakesNothing (before : ShelfView) (d : DiskDecl) (stop : Stop) (after : ShelfView) : Type 0 where
   pub cause : TakeCause before d stop after
-  pub told : WhereTold IsAsBefore before.told after.told
+  pub told : WhereBothTell IsAsBefore before.told after.told
   pub lent : after.lent ≡ before.lent
   pub disks : (name : List ℕ) → after.faults_of name ≡ before.faults_of name
   pub asked : (name : List ℕ) → after.asked_of name ≡ before.asked_of name
   pub sectors : (name : List ℕ) → after.sectors_of name ≡ before.sectors_of name
-  pub takes : CountsCall (is_blamed stop) d.name before.take_faults after.take_faults
+  pub takes : CountsCall (is_shelf_fault stop) d.name before.take_faults after.take_faults
   pub gives : (name : List ℕ) → after.give_faults name ≡ before.give_faults name
   pub later : before.faults ≤ after.faults
   pub called : after.calls ≡ before.calls ++ shelf_calls.Take d.name ∷ []
@@ -131,9 +131,9 @@ pub record IsBrought {X : Type 0} (name : List ℕ) (known : X) (old new : List 
 
 -- the disk of a name was given back
 pub record GivesDisk (before : ShelfView) (name : List ℕ) (x : DriveView) (after : ShelfView) : Type 0 where
-  pub told : WhereTold (IsGivenTo name x.held) before.told after.told
+  pub told : WhereBothTell (IsGivenTo name x.held) before.told after.told
   pub counted : IfSome x.held (λ sectors. length sectors ≡ x.count)
-  pub lent : after.lent ≡ without name before.lent
+  pub lent : after.lent ≡ names_without name before.lent
   pub disks : IsBrought name x.faults before.faults_of after.faults_of
   pub asked : IsBrought name x.asked before.asked_of after.asked_of
   pub sectors : IsBrought name x.count before.sectors_of after.sectors_of
@@ -144,7 +144,7 @@ pub record GivesDisk (before : ShelfView) (name : List ℕ) (x : DriveView) (aft
 
 -- the disk of a name couldn't be given back: it stays lent
 pub record KeepsDisk (before : ShelfView) (name : List ℕ) (after : ShelfView) : Type 0 where
-  pub told : WhereTold IsAsBefore before.told after.told
+  pub told : WhereBothTell IsAsBefore before.told after.told
   pub lent : after.lent ≡ before.lent
   pub disks : (other : List ℕ) → after.faults_of other ≡ before.faults_of other
   pub asked : (other : List ℕ) → after.asked_of other ≡ before.asked_of other
@@ -165,7 +165,7 @@ abbrev pub GivesBack : ShelfView → List (List ℕ) → List DriveView → List
 GivesBack before [] [] kept after = (kept ≡ []) × (after ≡ before)
 GivesBack before (name ∷ names) (x ∷ xs) kept after =
     (between : ShelfView) × (first : List (List ℕ)) × (rest : List (List ℕ)) × (kept ≡ first ++ rest)
-    × GivesDrive before name x first between (kind_of x) × GivesBack between names xs rest after
+    × GivesDrive before name x first between (drive_kind x) × GivesBack between names xs rest after
 GivesBack before _ _ kept after = ⊥
 
 -- a drive of the shelf is out under its name, which has no more faults than the drive
@@ -193,7 +193,7 @@ AreOther name (other ∷ names) = (other ≢ name) × AreOther name names
 abbrev pub AreOut : ShelfView → List (List ℕ) → List DriveView → Type 0
 AreOut shelf [] [] = ⊤
 AreOut shelf (name ∷ names) (x ∷ xs) =
-    (kind_of x ≡ disk_kinds.Shelf → IsOut shelf name x) × AreOther name names × AreOut shelf names xs
+    (drive_kind x ≡ disk_kinds.Shelf → IsOut shelf name x) × AreOther name names × AreOut shelf names xs
 AreOut shelf _ _ = ⊥
 
 -- each name is another

@@ -2,7 +2,7 @@
 ghost use Rattle.std.specs.Prelude.{◌≡◌, ◌≢◌, ◌⊎◌, ◌<◌, ◌≤◌, ◌+◌, [], ◌∷◌, ◌++◌, ℕ, List, All, Some, None, length, map, vec_len, vec_capacity, slice_get, IfOk, IfErr, OnOk, IsTrue};
 ghost use Rattle.geo_model.specs.declared.command.DiskKind.TheVariants as disk_kinds;
 ghost use Rattle.geo_model.specs.Plans.{IsDiskDecl};
-ghost use Rattle.geo_run.specs.Drives.{drive_view, kind_of};
+ghost use Rattle.geo_run.specs.Drives.{drive_kind, drive_view};
 ghost use Rattle.geo_run.specs.Lending.{AreApart, AreOut, GivesBack, GivesDrive, IsOut, IsZeroDisk, OpensDrive, OpensDrives, OpensNoDrive, StopsOpening, TakesBack, TakesDisk, TakesNothing, first_kept, kept_name, names_of, shelved_view};
 
 use crate::stop::Stop;
@@ -133,14 +133,14 @@ fn take_into<H: Shelf>(
 fn give_drive<H: Shelf>(shelf: &mut H, name: &Name, drive: Drive<H::D>) -> bool
 where
     H::D: Drop,
-    requires out { kind_of (drive_view H.D.view drive) ≡ disk_kinds.Shelf
+    requires out { drive_kind (drive_view H.D.view drive) ≡ disk_kinds.Shelf
         → IsOut (H.view shelf.old) name.now
         (drive_view H.D.view drive) }
     ensures { GivesDrive
         (H.view shelf.old) name.now
         (drive_view H.D.view drive) (kept_name result name.now)
         (H.view shelf.new)
-        (kind_of (drive_view H.D.view drive)) }
+        (drive_kind (drive_view H.D.view drive)) }
 {
     match drive {
         Drive::Ram(_) => true,

@@ -5,7 +5,7 @@ use Rattle.std.proofs.Math.ListN.{drop_of_length-le}
 use Rattle.std.proofs.lemmas.List.{take_all}
 use Rattle.geo_model.specs.Script.{Fault, lines_of, drop_empty_end, next_line, empty_plan, script}
 use Rattle.geo_model.specs.World.{Plan}
-use Rattle.geo_script.specs.Draft.{Goes, Parses}
+use Rattle.geo_script.specs.Draft.{LinesLeave, Parses}
 use Rattle.geo_script.specs.declared.refusal.ParseRefusal.{ParseRefusal}
 use Rattle.geo_script.specs.declared.refusal.ParseRefusal.TheVariants as refusals
 use Rattle.geo_script.proofs.WordsLemmas.{split_at, split_none, behind, parts-some}
@@ -82,7 +82,7 @@ read_end plan n (b ∷ bs) all e whole = absurd (omega arith)
 -- a line isn't read
 pub read_refused : (plan new : Plan) (refusal : ParseRefusal) (n : ℕ) (rest line behind : List ℕ)
     (all : Result Plan Fault) →
-    lines_of rest ≡ line ∷ lines_of behind → Goes (Err refusal) new (next_line (Ok plan) (n + 1, line))
+    lines_of rest ≡ line ∷ lines_of behind → LinesLeave (Err refusal) new (next_line (Ok plan) (n + 1, line))
     → rest_read plan n rest ≡ all → Parses (Err refusal) all
 read_refused plan new (refusals.Fault m cause) n rest line behind all lines next whole =
     read_fault plan (record { line = m; cause = cause }) n rest line behind all lines next whole

@@ -9,16 +9,16 @@ use Rattle.geo_script.specs.declared.refusal.ParseRefusal.{ParseRefusal}
 use Rattle.geo_script.specs.declared.refusal.ParseRefusal.TheVariants as text
 
 -- the plan that a line leaves, unless memory ran out
-abbrev pub Adds : Result (Unit {0}) LineRefusal → Plan → Result Plan Cause → Type 0
-Adds (Ok _) plan added = added ≡ Ok plan
-Adds (Err (line.Fault cause)) plan added = added ≡ Err cause
-Adds (Err line.NoMemory) plan added = Unit {0}
+abbrev pub LineLeaves : Result (Unit {0}) LineRefusal → Plan → Result Plan Cause → Type 0
+LineLeaves (Ok _) plan added = added ≡ Ok plan
+LineLeaves (Err (line.Fault cause)) plan added = added ≡ Err cause
+LineLeaves (Err line.NoMemory) plan added = Unit {0}
 
 -- the same, with the line of the fault
-abbrev pub Goes : Result (Unit {0}) ParseRefusal → Plan → Result Plan Fault → Type 0
-Goes (Ok _) plan read = read ≡ Ok plan
-Goes (Err (text.Fault n cause)) plan read = read ≡ Err (record { line = n; cause = cause })
-Goes (Err text.NoMemory) plan read = Unit {0}
+abbrev pub LinesLeave : Result (Unit {0}) ParseRefusal → Plan → Result Plan Fault → Type 0
+LinesLeave (Ok _) plan read = read ≡ Ok plan
+LinesLeave (Err (text.Fault n cause)) plan read = read ≡ Err (record { line = n; cause = cause })
+LinesLeave (Err text.NoMemory) plan read = Unit {0}
 
 -- the plan of a text or its first fault, unless memory ran out
 abbrev pub Parses : Result Plan ParseRefusal → Result Plan Fault → Type 0

@@ -7,8 +7,8 @@ use Rattle.geo_model.specs.Script.{◌>>=◌, Words, words_of, before_commands, 
 use Rattle.geo_model.specs.World.{Plan}
 
 -- whether the second word of a line is `write`
-abbrev pub is_write : List ℕ → Bool
-is_write line = option_map_or (same_name (codes "write")) (slice_get (words_of line) 1) false
+abbrev pub is_write_line : List ℕ → Bool
+is_write_line line = option_map_or (same_name (codes "write")) (slice_get (words_of line) 1) false
 
 -- the plan with the disk in memory, the disk of the shelf or the actor of a header line
 abbrev pub plan_with_ram : Plan → Words → Result Plan Cause

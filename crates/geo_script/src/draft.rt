@@ -3,7 +3,7 @@ ghost use Rattle.std.specs.Prelude.{◌≡◌, ◌==◌, ◌≤◌, ◌<◌, len
 ghost use Rattle.std.specs.List.{list_any};
 ghost use Rattle.geo_model.specs.Words.{same_name};
 ghost use Rattle.geo_model.specs.Script.{empty_plan, add_disk, add_actor, add_command, header_words};
-ghost use Rattle.geo_script.specs.Draft.{Adds};
+ghost use Rattle.geo_script.specs.Draft.{LineLeaves};
 
 use crate::refusal::LineRefusal;
 use geo_base::{MAX_ACTORS, MAX_DISKS, Name};
@@ -103,7 +103,7 @@ impl Draft {
 
     /// A disk more.
     pub fn add_disk(&mut self, disk: DiskDecl) -> Result<(), LineRefusal>
-        ensures { Adds result self.new (add_disk self.old disk) }
+        ensures { LineLeaves result self.new (add_disk self.old disk) }
     {
         if has_disk(self.disks.as_slice(), &disk.name) {
             return Err(LineRefusal::Fault(Cause::Twice));
@@ -117,7 +117,7 @@ impl Draft {
 
     /// An actor more.
     pub fn add_actor(&mut self, name: Name) -> Result<(), LineRefusal>
-        ensures { Adds result self.new (add_actor self.old name) }
+        ensures { LineLeaves result self.new (add_actor self.old name) }
     {
         if has_name(self.actors.as_slice(), &name) || is_header_word(name.bytes()) {
             return Err(LineRefusal::Fault(Cause::Twice));
@@ -136,7 +136,7 @@ impl Draft {
         actor: u32,
         command: Command,
     ) -> Result<(), LineRefusal>
-        ensures { Adds result self.new (add_command self.old line actor command) }
+        ensures { LineLeaves result self.new (add_command self.old line actor command) }
     {
         let command = pooled(&mut self.written, command);
         self.commands.push(LineCommand {

@@ -3,8 +3,8 @@ ghost use Rattle.std.specs.Prelude.{◌≡◌, ◌==◌, ◌<◌, ◌^◌, ◌�
 ghost use Rattle.std.specs.List.{list_all, list_any};
 ghost use Rattle.geo_model.specs.Words.{first_error, same_name};
 ghost use Rattle.geo_model.specs.Script.{words_of, is_long, is_skipped, line_tests, before_commands, actor_line, words_line, plan_with_line, next_line};
-ghost use Rattle.geo_script.specs.Draft.{Adds, Goes};
-ghost use Rattle.geo_script.specs.Line.{is_write, plan_with_ram, plan_with_disk, plan_with_actor};
+ghost use Rattle.geo_script.specs.Draft.{LineLeaves, LinesLeave};
+ghost use Rattle.geo_script.specs.Line.{is_write_line, plan_with_ram, plan_with_disk, plan_with_actor};
 
 use crate::command::command;
 use crate::draft::Draft;
@@ -18,7 +18,7 @@ use std::alloc::Global;
 /// Whether the second word of a line is `write`.
 fn is_write(line: &[u8]) -> bool
     requires { length line.now < 2 ^ 32 }
-    ensures { result ≡ is_write line.now }
+    ensures { result ≡ is_write_line line.now }
 {
     let Ok((_, words)) = next_word(Words::of(line)) else {
         return false;
@@ -82,7 +82,7 @@ fn before_commands(draft: &Draft) -> Result<(), Cause>
 
 /// A line `ram ..`, from the words behind its first.
 fn add_ram(draft: &mut Draft, words: Words<'_>) -> Result<(), LineRefusal>
-    ensures { Adds result draft.new (plan_with_ram draft.old words.entry) }
+    ensures { LineLeaves result draft.new (plan_with_ram draft.old words.entry) }
 {
     before_commands(draft)?;
     let disk = header::ram(words)?;
@@ -91,7 +91,7 @@ fn add_ram(draft: &mut Draft, words: Words<'_>) -> Result<(), LineRefusal>
 
 /// A line `disk ..`, from the words behind its first.
 fn add_shelf_disk(draft: &mut Draft, words: Words<'_>) -> Result<(), LineRefusal>
-    ensures { Adds result draft.new (plan_with_disk draft.old words.entry) }
+    ensures { LineLeaves result draft.new (plan_with_disk draft.old words.entry) }
 {
     before_commands(draft)?;
     let disk = header::disk(words)?;
@@ -100,7 +100,7 @@ fn add_shelf_disk(draft: &mut Draft, words: Words<'_>) -> Result<(), LineRefusal
 
 /// A line `actor ..`, from the words behind its first.
 fn add_actor(draft: &mut Draft, words: Words<'_>) -> Result<(), LineRefusal>
-    ensures { Adds result draft.new (plan_with_actor draft.old words.entry) }
+    ensures { LineLeaves result draft.new (plan_with_actor draft.old words.entry) }
 {
     before_commands(draft)?;
     let name = header::actor(words)?;
@@ -115,7 +115,7 @@ fn add_command(
     name: &[u8],
     words: Words<'_>,
 ) -> Result<(), LineRefusal>
-    ensures { Adds result draft.new (actor_line draft.old number (position (same_name name.now) draft.old.actors)
+    ensures { LineLeaves result draft.new (actor_line draft.old number (position (same_name name.now) draft.old.actors)
         words.entry) }
 {
     let Some(actor) = draft.actor_number(name) else {
@@ -133,7 +133,7 @@ fn add_by(
     word: &[u8],
     words: Words<'_>,
 ) -> Result<(), LineRefusal>
-    ensures { Adds result draft.new (words_line draft.old number (word.now ∷ words.entry)) }
+    ensures { LineLeaves result draft.new (words_line draft.old number (word.now ∷ words.entry)) }
 {
     if b"ram".as_slice() == word {
         add_ram(draft, words)
@@ -154,7 +154,7 @@ fn add_plan_line(
     line: &[u8],
 ) -> Result<(), LineRefusal>
     requires { length line.now < 2 ^ 32 }
-    ensures { Adds result draft.new (plan_with_line draft.old number line.now) }
+    ensures { LineLeaves result draft.new (plan_with_line draft.old number line.now) }
 {
     if let Some(cause) = line_fault(number, line) {
         return Err(LineRefusal::Fault(cause));
@@ -181,7 +181,7 @@ pub fn add_line(
     line: &[u8],
 ) -> Result<(), ParseRefusal>
     requires { length line.now < 2 ^ 32 }
-    ensures { Goes result draft.new (next_line (Ok draft.old) (number, line.now)) }
+    ensures { LinesLeave result draft.new (next_line (Ok draft.old) (number, line.now)) }
 {
     if is_skipped(line) {
         return Ok(());

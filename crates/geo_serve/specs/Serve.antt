@@ -66,6 +66,6 @@ pub record Serves (q : Request) (old new : DriveView) (got : DeviceResult) : Typ
   pub fails : IfSome old.ram (FailsAsTold got)
 
 -- the answer by how a call ended that reads nothing
-abbrev pub answer_of : Result (Unit {0}) DiskFailed → DeviceResult
-answer_of (Ok done) = devices.Done
-answer_of (Err failed) = devices.Failed failed.done
+abbrev pub answer_without_bytes : Result (Unit {0}) DiskFailed → DeviceResult
+answer_without_bytes (Ok done) = devices.Done
+answer_without_bytes (Err failed) = devices.Failed failed.done

@@ -2,7 +2,7 @@
 ghost use Rattle.std.specs.Prelude.{◌≡◌, ◌<◌, ◌^◌, IfErr};
 ghost use Rattle.geo_base.specs.declared.request.BioCmd.TheVariants as cmds;
 ghost use Rattle.geo_serve.specs.Drives.{drive_view};
-ghost use Rattle.geo_serve.specs.Serve.{CanServe, HasRoom, Serves, answer_of};
+ghost use Rattle.geo_serve.specs.Serve.{CanServe, HasRoom, Serves, answer_without_bytes};
 
 use geo_base::{BioCmd, Block, SharedBytes};
 use geo_disk::{Disk, DiskFailed, Drive};
@@ -80,7 +80,7 @@ fn flush<D: Disk>(disk: &mut Drive<D>, request: &Request) -> DeviceResult
 // The answer by how a call ended that reads nothing.
 fn answer(done: Result<(), DiskFailed>) -> DeviceResult
     requires { IfErr done (λ failed. failed.done < 2 ^ 32) }
-    ensures { result ≡ answer_of done }
+    ensures { result ≡ answer_without_bytes done }
 {
     match done {
         Ok(()) => DeviceResult::Done,

@@ -16,7 +16,7 @@ use Rattle.slab.proofs.SlabLemmas.{ContainsKey-within}
 use Rattle.slab.specs.Slab.{Slab, get, slab_len, Updates, HasRoomFor, SameValues, with_value as slab_with_value}
 use Rattle.geo_slots.specs.Slots.{IsRising, value_at, first_from, with_value, without}
 use Rattle.geo_slots.proofs.RowLemmas.{IsRising_ends, IsRising_from, IsRising-push, with_value_below, without_below}
-use Rattle.geo_slots.specs.Index.{keyed, reserved, key_at, has_row, with_key, keyed_number, first_key_from, NoneHas, AreApart, row_of, rows_of, AreHeld, IsIndex}
+use Rattle.geo_slots.specs.Index.{keyed, reserved, key_at, has_row, with_key, keyed_number, first_key_from, NoneHas, KeysAreApart, row_of, rows_of, AreHeld, IsIndex}
 
 -- Look-ups in the index
 
@@ -162,7 +162,8 @@ NoneHas-remove_entry k n (p ∷ ps) none =
       | inr other ↦ rw (ne_eqb p.0 n other) (none.0, NoneHas-remove_entry k n ps none.1)
     ]
 
-pub AreApart-remove_entry : (n : ℕ) (live : List (ℕ × ℕ)) → AreApart live → AreApart (remove_entry (λ m. m == n) live)
+pub AreApart-remove_entry : (n : ℕ) (live : List (ℕ × ℕ)) → KeysAreApart live
+    → KeysAreApart (remove_entry (λ m. m == n) live)
 AreApart-remove_entry n [] apart = tt
 AreApart-remove_entry n (p ∷ ps) apart =
     elim (cases_eq p.0 n) [
@@ -174,8 +175,8 @@ NoneHas-push : (k n key : ℕ) (live : List (ℕ × ℕ)) → NoneHas k live →
 NoneHas-push k n key [] none differs = (differs, tt)
 NoneHas-push k n key (p ∷ ps) none differs = (none.0, NoneHas-push k n key ps none.1 differs)
 
-pub AreApart-push : (n key : ℕ) (live : List (ℕ × ℕ)) → NoneHas key live → AreApart live
-    → AreApart (live ++ (n, key) ∷ [])
+pub AreApart-push : (n key : ℕ) (live : List (ℕ × ℕ)) → NoneHas key live → KeysAreApart live
+    → KeysAreApart (live ++ (n, key) ∷ [])
 AreApart-push n key [] none apart = (tt, tt)
 AreApart-push n key (p ∷ ps) none apart =
     (NoneHas-push p.1 n key ps apart.0 (λ same. none.0 (sym same)), AreApart-push n key ps none.1 apart.1)
@@ -246,7 +247,7 @@ module _ {T : Type 0} where
 
   -- another value under a number that has one
   pub rows-with_value : (old new : Slab T) (key n low : ℕ) (w : T) (live : List (ℕ × ℕ)) (high : ℕ)
-      → Updates old new key (Some w) → AreHeld old live → AreApart live → IsRising low live high
+      → Updates old new key (Some w) → AreHeld old live → KeysAreApart live → IsRising low live high
       → lookup (λ m. m == n) live ≡ Some key
       → rows_of new (map keyed live) ≡ with_value (rows_of old (map keyed live)) n w
   rows-with_value old new key n low w [] high updates held apart rising found = absurd (cc)
@@ -280,7 +281,7 @@ module _ {T : Type 0} where
 
   -- the rows without a number
   pub rows-without : (old new : Slab T) (key n low : ℕ) (live : List (ℕ × ℕ)) (high : ℕ) → Updates old new key None
-      → AreHeld old live → AreApart live → IsRising low live high → lookup (λ m. m == n) live ≡ Some key
+      → AreHeld old live → KeysAreApart live → IsRising low live high → lookup (λ m. m == n) live ≡ Some key
       → rows_of new (map keyed (remove_entry (λ m. m == n) live)) ≡ without (rows_of old (map keyed live)) n
   rows-without old new key n low [] high updates held apart rising found = absurd (cc)
   rows-without old new key n low (p ∷ ps) high updates held apart rising found =
@@ -300,7 +301,7 @@ module _ {T : Type 0} where
       ]
 
   pub AreHeld-without : (old new : Slab T) (key n low : ℕ) (live : List (ℕ × ℕ)) (high : ℕ)
-      → Updates old new key None → AreHeld old live → AreApart live → lookup (λ m. m == n) live ≡ Some key
+      → Updates old new key None → AreHeld old live → KeysAreApart live → lookup (λ m. m == n) live ≡ Some key
       → AreHeld new (remove_entry (λ m. m == n) live)
   AreHeld-without old new key n low [] high updates held apart found = tt
   AreHeld-without old new key n low (p ∷ ps) high updates held apart found =

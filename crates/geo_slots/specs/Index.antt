@@ -40,9 +40,9 @@ NoneHas key [] = Unit {0}
 NoneHas key (p ∷ ps) = (p.1 ≢ key) × NoneHas key ps
 
 -- no key stands twice
-abbrev pub AreApart : List (ℕ × ℕ) → Type 0
-AreApart [] = Unit {0}
-AreApart (p ∷ ps) = NoneHas p.1 ps × AreApart ps
+abbrev pub KeysAreApart : List (ℕ × ℕ) → Type 0
+KeysAreApart [] = Unit {0}
+KeysAreApart (p ∷ ps) = NoneHas p.1 ps × KeysAreApart ps
 
 module _ {T : Type 0} where
   -- the row of a number, if it has a key and the key a value
@@ -64,6 +64,6 @@ module _ {T : Type 0} where
     pub parts : index ≡ map keyed live ++ reserved next spare
     pub rising : IsRising 1 live next
     pub held : AreHeld values live
-    pub apart : AreApart live
+    pub apart : KeysAreApart live
     pub room : HasRoomFor values spare
     pub numbers : next + spare < 2 ^ 64

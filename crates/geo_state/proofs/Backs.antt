@@ -16,9 +16,9 @@ use Rattle.geo_handles.specs.Handles.{HandlesView, HoldsAlone, holding_handle}
 use Rattle.geo_state.specs.declared.state.State.{State}
 use Rattle.geo_state.specs.Trips.{trips}
 use Rattle.geo_state.specs.Ready.{refreshed}
-use Rattle.geo_state.specs.Bios.{CameThrough, CanLeave, IsOfItsOwner, OnlyBios, own_after, read_after}
+use Rattle.geo_state.specs.Bios.{CameThrough, CanLeave, IsOfItsOwner, OnlyBios, own_after, taste_read_after}
 use Rattle.geo_state.specs.Holds.{Holds}
-use Rattle.geo_state.specs.World.{header_disk}
+use Rattle.geo_state.specs.World.{disk_of_seat}
 use Rattle.geo_state.proofs.Unseen.{InPhase}
 use Rattle.geo_state.proofs.Rises.{active-at, can-leave, holds-rose, rises, some-out}
 
@@ -54,7 +54,7 @@ module _ (s : State) (b : ℕ) (x : BioOf Held) (log : ℕ → Option (List ℕ)
       (alone : HoldsAlone s.handles.handles x.source
       (option_map (λ (k : Handle). k.number) (holding_handle s.handles.handles x.source)))
       (bios : new.traffic.bios ≡ after_up log s.traffic.bios x x.owner)
-      (own : new.own.items ≡ own_after s x.owner) (read : new.read ≡ read_after s x.owner)
+      (own : new.own.items ≡ own_after s x.owner) (read : new.read ≡ taste_read_after s x.owner)
       (all : new ≡ record s {
         traffic = new.traffic;
         topo = with_active s.topo x.source (λ n. n - 1);
@@ -85,7 +85,7 @@ module _ (s : State) (b : ℕ) (x : BioOf Held) (log : ℕ → Option (List ℕ)
 
     -- nothing but requests changed
     pub only-back : OnlyBios s new
-    only-back = record { rest = rest; disks = ap (λ (z : State). map header_disk z.disks.items) all }
+    only-back = record { rest = rest; disks = ap (λ (z : State). map disk_of_seat z.disks.items) all }
 
     -- all is kept
     pub holds-back : Holds new

@@ -20,7 +20,7 @@ use Rattle.geo_state.specs.declared.state.State.{State}
 use Rattle.geo_state.specs.Trips.{Trip, trip_of, trips}
 use Rattle.geo_state.specs.Bios.{IsNoHandles, OnlyBios, all_out}
 use Rattle.geo_state.specs.Holds.{Holds}
-use Rattle.geo_state.specs.World.{header_disk}
+use Rattle.geo_state.specs.World.{disk_of_seat}
 use Rattle.geo_state.proofs.Lists.{around-all}
 use Rattle.geo_state.proofs.TripLemmas.{trips-same}
 use Rattle.geo_state.proofs.Unseen.{InPhase, in-phase, down-is}
@@ -79,7 +79,7 @@ module _ (s new : State) (next b : ℕ) (x : BioOf Held) (pieces : List Piece) (
       (all-out-active targets s.topo))
 
   pub only-split : OnlyBios s new
-  only-split = record { rest = rest; disks = ap (λ (z : State). map header_disk z.disks.items) is }
+  only-split = record { rest = rest; disks = ap (λ (z : State). map disk_of_seat z.disks.items) is }
 
   pub holds-split : Holds s → Holds new
   holds-split h =

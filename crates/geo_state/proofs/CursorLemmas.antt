@@ -9,7 +9,7 @@ use Rattle.geo_base.proofs.FindLists.{find_agree}
 use Rattle.geo_model.specs.declared.step.Phase.{Phase}
 use Rattle.geo_model.specs.World.{BioOf, change_number}
 use Rattle.geo_bio.specs.declared.bio.Held.{Held}
-use Rattle.geo_bio.specs.BioTable.{bio_among, has_phase, first_bio}
+use Rattle.geo_bio.specs.BioTable.{bio_among, has_phase, bio_from}
 use Rattle.geo_laws_graph.proofs.Lists.{length-changed}
 use Rattle.geo_state.specs.declared.cursor.Cursor.{Cursor}
 use Rattle.geo_state.specs.Traffic.{first_in, count_in}
@@ -25,54 +25,54 @@ module _ (test : Phase → Bool) where
   from_on low x = nat_le low x.number && test x.phase
 
   -- where no number is reached, nothing is found
-  none_reached : (low : ℕ) (bios : List (BioOf Held)) → first_bio bios low ≡ None → find (from_on low) bios ≡ None
+  none_reached : (low : ℕ) (bios : List (BioOf Held)) → bio_from bios low ≡ None → find (from_on low) bios ≡ None
   none_reached low [] none = refl
   none_reached low (x ∷ xs) none = at (nat_le low x.number) refl (none_reached low xs) where
-    at : (b : Bool) → nat_le low x.number ≡ b → (first_bio xs low ≡ None → find (from_on low) xs ≡ None)
+    at : (b : Bool) → nat_le low x.number ≡ b → (bio_from xs low ≡ None → find (from_on low) xs ≡ None)
         → find (from_on low) (x ∷ xs) ≡ None
     at true e later = absurd (let never : Some x.number ≡ None = rw e at none in cc)
-    at false e later = let rest : first_bio xs low ≡ None = rw e at none in rw e (later rest)
+    at false e later = let rest : bio_from xs low ≡ None = rw e at none in rw e (later rest)
 
-  pub walk_ends : (low : ℕ) (bios : List (BioOf Held)) → first_bio bios low ≡ None → first_from test bios low ≡ None
+  pub walk_ends : (low : ℕ) (bios : List (BioOf Held)) → bio_from bios low ≡ None → first_from test bios low ≡ None
   walk_ends low bios none = ap (option_map (λ (x : BioOf Held). x.number)) (none_reached low bios none)
 
   -- the first number from one on isn't below it
-  pub reached_above : (low b : ℕ) (bios : List (BioOf Held)) → first_bio bios low ≡ Some b → low ≤ b
+  pub reached_above : (low b : ℕ) (bios : List (BioOf Held)) → bio_from bios low ≡ Some b → low ≤ b
   reached_above low b [] first = absurd cc
   reached_above low b (x ∷ xs) first = at (nat_le low x.number) refl (reached_above low b xs) where
-    at : (d : Bool) → nat_le low x.number ≡ d → (first_bio xs low ≡ Some b → low ≤ b) → low ≤ b
+    at : (d : Bool) → nat_le low x.number ≡ d → (bio_from xs low ≡ Some b → low ≤ b) → low ≤ b
     at true e later =
         let here : Some x.number ≡ Some b = rw e at first in
         let same : x.number ≡ b = cc in
         subst (λ m. low ≤ m) same (leb-true low x.number e)
-    at false e later = let rest : first_bio xs low ≡ Some b = rw e at first in later rest
+    at false e later = let rest : bio_from xs low ≡ Some b = rw e at first in later rest
 
   -- it is the number of a bio
-  pub reached_there : (low b : ℕ) (bios : List (BioOf Held)) → Rising bios → first_bio bios low ≡ Some b
+  pub reached_there : (low b : ℕ) (bios : List (BioOf Held)) → Rising bios → bio_from bios low ≡ Some b
       → (x : BioOf Held) × (bio_among bios b ≡ Some x)
   reached_there low b [] rising first = absurd cc
   reached_there low b (x ∷ xs) rising first = at (nat_le low x.number) refl (reached_there low b xs rising.1) where
     at : (d : Bool) → nat_le low x.number ≡ d
-        → (first_bio xs low ≡ Some b → (y : BioOf Held) × (bio_among xs b ≡ Some y))
+        → (bio_from xs low ≡ Some b → (y : BioOf Held) × (bio_among xs b ≡ Some y))
         → (y : BioOf Held) × (bio_among (x ∷ xs) b ≡ Some y)
     at true e later =
         let here : Some x.number ≡ Some b = rw e at first in
         let same : x.number ≡ b = cc in
         (x, rw (eq-eqb x.number b same) refl)
     at false e later =
-        let rest : first_bio xs low ≡ Some b = rw e at first in
+        let rest : bio_from xs low ≡ Some b = rw e at first in
         let there = later rest in
         let above = reached_above low b xs rest in
         let less = leb-false low x.number e in
         (there.0, rw (ne_eqb x.number b (λ same. omega (arith, same, less, above))) there.1)
 
   -- one that passes is found
-  pub walk_hits : (low b : ℕ) (bios : List (BioOf Held)) → Rising bios → first_bio bios low ≡ Some b
+  pub walk_hits : (low b : ℕ) (bios : List (BioOf Held)) → Rising bios → bio_from bios low ≡ Some b
       → has_phase test bios b ≡ true → first_from test bios low ≡ Some b
   walk_hits low b [] rising first passes = absurd cc
   walk_hits low b (x ∷ xs) rising first passes = at (nat_le low x.number) refl (walk_hits low b xs rising.1) where
     at : (d : Bool) → nat_le low x.number ≡ d
-        → (first_bio xs low ≡ Some b → has_phase test xs b ≡ true → first_from test xs low ≡ Some b)
+        → (bio_from xs low ≡ Some b → has_phase test xs b ≡ true → first_from test xs low ≡ Some b)
         → first_from test (x ∷ xs) low ≡ Some b
     at true e later =
         let here : Some x.number ≡ Some b = rw e at first in
@@ -80,7 +80,7 @@ module _ (test : Phase → Bool) where
         let hit : test x.phase ≡ true = rw (eq-eqb x.number b same) at passes in
         rw (e, hit) here
     at false e later =
-        let rest : first_bio xs low ≡ Some b = rw e at first in
+        let rest : bio_from xs low ≡ Some b = rw e at first in
         let above = reached_above low b xs rest in
         let less = leb-false low x.number e in
         let differs = ne_eqb x.number b (λ same. omega (arith, same, less, above)) in
@@ -88,7 +88,7 @@ module _ (test : Phase → Bool) where
         rw e (later rest there)
 
   -- from one that doesn't pass the walk goes on behind it
-  pub walk_goes_on : (low b : ℕ) (bios : List (BioOf Held)) → Rising bios → first_bio bios low ≡ Some b
+  pub walk_goes_on : (low b : ℕ) (bios : List (BioOf Held)) → Rising bios → bio_from bios low ≡ Some b
       → has_phase test bios b ≡ false → first_from test bios (b + 1) ≡ first_from test bios low
   walk_goes_on low b [] rising first fails = refl
   walk_goes_on low b (x ∷ xs) rising first fails =
@@ -103,7 +103,7 @@ module _ (test : Phase → Bool) where
       )
 
       at : (d : Bool) → nat_le low x.number ≡ d
-          → (first_bio xs low ≡ Some b → has_phase test xs b ≡ false
+          → (bio_from xs low ≡ Some b → has_phase test xs b ≡ false
           → first_from test xs (b + 1) ≡ first_from test xs low)
           → first_from test (x ∷ xs) (b + 1) ≡ first_from test (x ∷ xs) low
       at true e later =
@@ -115,7 +115,7 @@ module _ (test : Phase → Bool) where
           (ap (option_map (λ (y : BioOf Held). y.number)) (find_agree (from_on (b + 1)) (from_on low) xs
           (behind under xs (subst (λ m. AllByRecursion (λ y. m < y.number) xs) same rising.0))))
       at false e later =
-          let rest : first_bio xs low ≡ Some b = rw e at first in
+          let rest : bio_from xs low ≡ Some b = rw e at first in
           let above = reached_above low b xs rest in
           let less = leb-false low x.number e in
           let differs = ne_eqb x.number b (λ same. omega (arith, same, less, above)) in

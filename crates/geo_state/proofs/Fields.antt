@@ -12,8 +12,8 @@ use Rattle.geo_state.specs.declared.state.DiskSeat.{DiskSeat}
 use Rattle.geo_state.specs.declared.state.OwnBios.{OwnBios}
 use Rattle.geo_state.specs.Trips.{Trip, trips, out_through, busy_at, IsOwnCount}
 use Rattle.geo_state.specs.Seats.{change_seat, with_busy_at}
-use Rattle.geo_state.specs.Holds.{Holds, AreOut, AreOwn, AreSeats, IsSeat}
-use Rattle.geo_state.specs.World.{header_disk}
+use Rattle.geo_state.specs.Holds.{Holds, OutAreCounted, AreOwn, AreSeats, IsSeat}
+use Rattle.geo_state.specs.World.{disk_of_seat}
 use Rattle.geo_state.proofs.Unseen.{SameReads}
 use Rattle.geo_state.proofs.ReadyLemmas.{ready-same}
 
@@ -23,7 +23,7 @@ apart m n e same = let never : true ≡ false = sym (eq-eqb m n same) ∙ e in c
 
 -- as many are out
 pub out-same : (t : TopoView Config) (xs ys : List Trip) → ((c : ℕ) → out_through ys c ≡ out_through xs c)
-    → AreOut t xs → AreOut t ys
+    → OutAreCounted t xs → OutAreCounted t ys
 out-same t xs ys same out = out ∙ rows t.topology.consumers
   where
     rows : (cs : List Consumer)
@@ -98,13 +98,13 @@ seats-busy seats t xs ys disk busy same are = on (slice_get seats disk) refl
 
 -- the header's disks don't see what is at them
 pub disks-busy : (seats : List DiskSeat) (disk : ℕ) (busy : Option ℕ)
-    → map header_disk (with_busy_at seats disk busy) ≡ map header_disk seats
+    → map disk_of_seat (with_busy_at seats disk busy) ≡ map disk_of_seat seats
 disks-busy seats disk busy = on (slice_get seats disk) refl
   where
     on : (o : Option DiskSeat) → slice_get seats disk ≡ o
-        → map header_disk (change_seat (λ x. record x { busy = busy }) seats disk o) ≡ map header_disk seats
+        → map disk_of_seat (change_seat (λ x. record x { busy = busy }) seats disk o) ≡ map disk_of_seat seats
     on None is = refl
-    on (Some seat) is = slot-seen header_disk seats disk (record seat { busy = busy }) seat is refl
+    on (Some seat) is = slot-seen disk_of_seat seats disk (record seat { busy = busy }) seat is refl
 
 -- with other requests, which the other parts don't see, and other seats that have what is at the disks
 pub holds-unseen : (s new : State) → new ≡ record s { traffic = new.traffic; disks = new.disks }

@@ -20,7 +20,7 @@ use Rattle.geo_model.specs.Steady.{ComesFromItsOwner}
 use Rattle.geo_bio.specs.declared.bio.Held.{Held}
 use Rattle.geo_handles.specs.Handles.{handle_at}
 use Rattle.geo_log.specs.Places.{delivered_at}
-use Rattle.geo_state.specs.Shown.{shown, shown_bio}
+use Rattle.geo_state.specs.Shown.{shown_bio, shown_bios}
 use Rattle.geo_laws_graph.proofs.Lists.{rise-from, none_outside}
 use Rattle.geo_state.specs.declared.state.State.{State}
 use Rattle.geo_state.specs.Parts.{IsUnderWay, AreUnderWay, HasLineHandle}
@@ -51,9 +51,10 @@ module _ (log : List Entry) (s : State) (actors : List (List LineCommand)) where
       of (owners.Child parent index) fact = tt
 
   each : (bios : List (BioOf Held))
-      → AllByRecursion (IsBioInOrder (world actors log s)) (shown (delivered_at log) bios)
-      → AllByRecursion (λ (x : Bio). ComesFromItsOwner (world actors log s) x x.owner) (shown (delivered_at log) bios)
-      → AllByRecursion (IsFamilyInOrder (world actors log s)) (shown (delivered_at log) bios)
+      → AllByRecursion (IsBioInOrder (world actors log s)) (shown_bios (delivered_at log) bios)
+      → AllByRecursion (λ (x : Bio). ComesFromItsOwner (world actors log s) x x.owner)
+      (shown_bios (delivered_at log) bios)
+      → AllByRecursion (IsFamilyInOrder (world actors log s)) (shown_bios (delivered_at log) bios)
       → AreUnderWay s.topo.topology s.handles.handles (trips bios)
   each [] order owners_are families = tt
   each (x ∷ xs) order owners_are families =

@@ -14,7 +14,7 @@ use Rattle.geo_model.specs.Bios.{disk_at}
 use Rattle.geo_model.specs.GeomCommands.{is_geom_of_disk}
 use Rattle.geo_model.specs.Events.{QueuedTopology, post, mark_spoiled, spoil_at, orphan_provider, wither, wither_unless_withering, offer_again, announce_risen, announce_fallen, spoil, spoil_consumer, is_of_dev, orphan, orphan_consumer, resize, is_outgrown, outgrow_consumer}
 use Rattle.geo_laws_graph.proofs.Lists.{map-changed}
-use Rattle.geo_state.specs.Parts.{SameParts, disk_row, geom_of_disk, geom_row}
+use Rattle.geo_state.specs.Parts.{SameParts, disk_row, geom_of_disk, owner_row}
 
 pub parts-self : (t : Topology Config) → SameParts t t
 parts-self t = record { geoms = refl; providers = refl; consumers = refl }
@@ -73,7 +73,7 @@ abbrev pub disk_under : List (ℕ × ℕ) → List (ℕ × Option ℕ) → ℕ �
 disk_under providers geoms p = option_and_then (λ g. option_flatten (under geoms g)) (under providers p)
 
 pub disk_read : (t : Topology Config) (p : ℕ)
-    → disk_at t p ≡ disk_under (map geom_row t.providers)
+    → disk_at t p ≡ disk_under (map owner_row t.providers)
     (map disk_row t.geoms) p
 disk_read t p =
     on (provider_at t p)
@@ -101,14 +101,14 @@ pub parts-disk : (t u : Topology Config) → SameParts t u → (p : ℕ) → dis
 parts-disk t u same p =
     disk_read u p
     ∙ ap (λ rows. disk_under rows (map disk_row u.geoms) p) same.providers
-    ∙ ap (λ rows. disk_under (map geom_row t.providers) rows p) same.geoms
+    ∙ ap (λ rows. disk_under (map owner_row t.providers) rows p) same.geoms
     ∙ sym (disk_read t p)
 
 pub parts-count : (t u : Topology Config) → SameParts t u → length u.providers ≡ length t.providers
 parts-count t u same =
-    sym (length-map u.providers geom_row)
+    sym (length-map u.providers owner_row)
     ∙ ap (λ rows. length rows) same.providers
-    ∙ length-map t.providers geom_row
+    ∙ length-map t.providers owner_row
 
 -- Changes of one thing
 
@@ -125,7 +125,7 @@ module _ (t : Topology Config) where
     geoms = refl;
     providers =
         map-changed (λ (x : Provider). x.number == p) (λ x. record x { errored = true })
-        geom_row (λ x e. refl) t.providers;
+        owner_row (λ x e. refl) t.providers;
     consumers = refl;
   }
 
@@ -134,7 +134,7 @@ module _ (t : Topology Config) where
     geoms = refl;
     providers =
         map-changed (λ (x : Provider). x.number == p) (λ x. record x { size = size })
-        geom_row (λ x e. refl) t.providers;
+        owner_row (λ x e. refl) t.providers;
     consumers = refl;
   }
 

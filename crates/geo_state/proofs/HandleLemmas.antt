@@ -15,7 +15,7 @@ use Rattle.geo_model.specs.Opens.{with_grant}
 use Rattle.geo_model.specs.World.{Handle, Taste, is_of_handle, taste_grant}
 use Rattle.geo_slots.specs.Slots.{with_value}
 use Rattle.geo_handles.specs.Handles.{handle_at, released, closed}
-use Rattle.geo_handles.specs.HandleLaws.{noted}
+use Rattle.geo_handles.specs.HandleLaws.{noted_handles}
 use Rattle.geo_handles.proofs.HandleLawLemmas.{notes_follow}
 use Rattle.geo_laws_graph.proofs.Lists.{find-changed}
 use Rattle.geo_state.specs.declared.state.OwnBios.{OwnBios}
@@ -276,7 +276,7 @@ module _ (hs : List Handle) (n c : ℕ) (h : Handle) (it : IsOnly hs n c h) wher
 
   -- the notes after it was reaped
   pub released-ready : (xs : List Trip)
-      → with_value (noted (can_be_reaped xs) hs) n false ≡ noted (can_be_reaped xs) (released hs c)
+      → with_value (noted_handles (can_be_reaped xs) hs) n false ≡ noted_handles (can_be_reaped xs) (released hs c)
   released-ready xs = (notes_follow (can_be_reaped xs) hs).notes n false ∙ rows hs named-it
     where
       none_can : (k : Handle) → can_be_reaped xs (reap_one k) ≡ false
@@ -284,16 +284,16 @@ module _ (hs : List Handle) (n c : ℕ) (h : Handle) (it : IsOnly hs n c h) wher
 
       rows : (ks : List Handle)
           → AllByRecursion (λ (k : Handle). names_number k.consumer c ≡ (k.number == n)) ks
-          → noted (λ k. if k.number == n then false else can_be_reaped xs k) ks
-          ≡ noted (can_be_reaped xs) (released ks c)
+          → noted_handles (λ k. if k.number == n then false else can_be_reaped xs k) ks
+          ≡ noted_handles (can_be_reaped xs) (released ks c)
       rows [] all = refl
       rows (k ∷ ks) all = at (k.number == n) refl (rows ks all.1)
         where
           at : (b : Bool) → (k.number == n) ≡ b
-              → noted (λ j. if j.number == n then false else can_be_reaped xs j) ks
-              ≡ noted (can_be_reaped xs) (released ks c)
-              → noted (λ j. if j.number == n then false else can_be_reaped xs j) (k ∷ ks)
-              ≡ noted (can_be_reaped xs) (released (k ∷ ks) c)
+              → noted_handles (λ j. if j.number == n then false else can_be_reaped xs j) ks
+              ≡ noted_handles (can_be_reaped xs) (released ks c)
+              → noted_handles (λ j. if j.number == n then false else can_be_reaped xs j) (k ∷ ks)
+              ≡ noted_handles (can_be_reaped xs) (released (k ∷ ks) c)
           at true e rest =
               let named : names_number k.consumer c ≡ true = all.0 ∙ e in
               rw (e, named, rest, none_can k) refl

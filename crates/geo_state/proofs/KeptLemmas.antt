@@ -23,13 +23,13 @@ use Rattle.geo_laws_counts.specs.CountWords.{HoldsGrants}
 use Rattle.geo_access.specs.Access.{granted_by, holds_grants, granted_view}
 use Rattle.geo_access.proofs.Gone.{refused_consumers_go}
 use Rattle.geo_handles.specs.Handles.{HandlesView, handle_at, released, closed}
-use Rattle.geo_handles.specs.HandleLaws.{noted}
+use Rattle.geo_handles.specs.HandleLaws.{noted_handles}
 use Rattle.geo_handles.proofs.HandleLawLemmas.{notes_follow}
 use Rattle.geo_laws_graph.proofs.Lists.{found_fresh, numbers-push, numbers-kept, numbers-changed}
 use Rattle.geo_state.specs.declared.state.State.{State}
-use Rattle.geo_state.specs.Parts.{SameParts, DisksStay, disk_row, geom_row}
+use Rattle.geo_state.specs.Parts.{SameParts, DisksStay, disk_row, owner_row}
 use Rattle.geo_state.specs.Trips.{Trip, trips, out_through, can_be_reaped, is_own}
-use Rattle.geo_state.specs.Holds.{Holds, AreOut, AreReady, AreOwn, granted_of, owed_events}
+use Rattle.geo_state.specs.Holds.{Holds, OutAreCounted, ReapableAreNoted, AreOwn, granted_of, owed_events}
 use Rattle.geo_state.specs.Changes.{Effects, IsSettled, HasGoer, with_consumer_at, coming, KeptAfterOpen, KeptAfterRefusal, KeptAfterClose, KeptAfterForget, KeptAfterReap, KeptWithHandles}
 use Rattle.geo_state.proofs.Lists.{find-before, find-none, find-past}
 use Rattle.geo_state.proofs.Frames.{parts-geom, parts-disk}
@@ -45,7 +45,7 @@ use Rattle.geo_state.proofs.HandleLemmas.{owns-alike_at, came-own, came-granted,
 
 pub record SameSites (t u : Topology Config) : Type 0 where
   pub geoms : map disk_row u.geoms ≡ map disk_row t.geoms
-  pub providers : map geom_row u.providers ≡ map geom_row t.providers
+  pub providers : map owner_row u.providers ≡ map owner_row t.providers
 
 pub sites-trans : (t u v : Topology Config) → SameSites t u → SameSites u v → SameSites t v
 sites-trans t u v first second =
@@ -76,9 +76,9 @@ sites-stay t u xs same = record {
 
 pub sites-count : (t u : Topology Config) → SameSites t u → length u.providers ≡ length t.providers
 sites-count t u same =
-    sym (length-map u.providers geom_row)
+    sym (length-map u.providers owner_row)
     ∙ ap (λ rows. length rows) same.providers
-    ∙ length-map t.providers geom_row
+    ∙ length-map t.providers owner_row
 
 -- All of it
 
@@ -86,7 +86,7 @@ sites-count t u same =
 pub holds-with : (s : State) (u : TopoView Config) (q : Queued) (v : HandlesView) → Holds s → IsSettled u q
     → SameSites s.topo.topology u.topology → AreNumbers (map (λ (h : Handle). h.number) v.handles) v.next
     → ((c : ℕ) → granted_by u c ≡ granted_of v.handles s.taste c)
-    → AreOut u (trips s.traffic.bios) → AreReady v (trips s.traffic.bios)
+    → OutAreCounted u (trips s.traffic.bios) → ReapableAreNoted v (trips s.traffic.bios)
     → AreOwn s.own.items v.handles (trips s.traffic.bios) → Holds (record s { topo = u; queue = q; handles = v })
 holds-with s u q v h settled sites numbers grants active ready own = record {
   counted = settled.counted;
@@ -105,7 +105,7 @@ holds-with s u q v h settled sites numbers grants active ready own = record {
 }
 
 -- effects leave the requests out
-pub effects-out : (t u : TopoView Config) (xs : List Trip) → Effects t u → AreOut t xs → AreOut u xs
+pub effects-out : (t u : TopoView Config) (xs : List Trip) → Effects t u → OutAreCounted t xs → OutAreCounted u xs
 effects-out t u xs e out =
     e.active ∙ out ∙ rows_out xs t.topology.consumers
     ∙ ap (map (row_out xs)) (sym e.parts.consumers)
@@ -223,7 +223,7 @@ kept_after_open log s t u q v prov actor name grant h firm came settled opened =
     (ready
     ∙ ap (λ rows. rows ++ (s.handles.next, false) ∷ []) h.ready
     ∙ (notes_follow (can_be_reaped xs) hs).opens k refl
-    ∙ ap (noted (can_be_reaped xs)) (sym handles))
+    ∙ ap (noted_handles (can_be_reaped xs)) (sym handles))
     (rw handles
     (owns-alike_at s.own.items hs (hs ++ k ∷ []) xs
     (came-own hs k xs (none-of s.topo.topology hs xs s.handles.next none_of way)) h.own))
@@ -257,14 +257,14 @@ kept_after_refusal s u q v h used events room same =
     })
     (record {
       geoms = ap (λ (w : TopoView Config). map disk_row w.topology.geoms) used;
-      providers = ap (λ (w : TopoView Config). map geom_row w.topology.providers) used;
+      providers = ap (λ (w : TopoView Config). map owner_row w.topology.providers) used;
     })
     (rw (handles, next) h.numbers)
     (λ d. ap (λ (w : TopoView Config). granted_by w d) used ∙ granted-is s h d
     ∙ ap (λ (js : List Handle). granted_of js s.taste d) (sym handles))
     (ap (λ (w : TopoView Config). w.active) used ∙ h.active
     ∙ ap (map (λ (c : Consumer). let row : ℕ × ℕ = (c.number, out_through xs c.number) in row)) (sym consumers))
-    (ready ∙ h.ready ∙ ap (noted (can_be_reaped xs)) (sym handles))
+    (ready ∙ h.ready ∙ ap (noted_handles (can_be_reaped xs)) (sym handles))
     (rw handles h.own)
 
 -- Closed and reaped
@@ -277,12 +277,12 @@ module _ (s : State) (t f u : TopoView Config) (c : ℕ) (h : Holds s) (is : IsH
         sites-trans s.topo.topology t.topology u.topology
         (record {
           geoms = ap (λ (w : TopoView Config). map disk_row w.topology.geoms) gone.released;
-          providers = ap (λ (w : TopoView Config). map geom_row w.topology.providers) gone.released;
+          providers = ap (λ (w : TopoView Config). map owner_row w.topology.providers) gone.released;
         })
         (sites-trans t.topology f.topology u.topology (sites-of t.topology f.topology gone.followed.parts)
         (record {
           geoms = ap (λ (w : TopoView Config). map disk_row w.topology.geoms) gone.goes;
-          providers = ap (λ (w : TopoView Config). map geom_row w.topology.providers) gone.goes;
+          providers = ap (λ (w : TopoView Config). map owner_row w.topology.providers) gone.goes;
         }))
 
     -- nothing is granted to the one that went, and the others hold what they held
@@ -295,7 +295,7 @@ module _ (s : State) (t f u : TopoView Config) (c : ℕ) (h : Holds s) (is : IsH
         (λ other. granted-is s h d)
 
     -- as many are out through the others
-    goer_out : AreOut u (trips s.traffic.bios)
+    goer_out : OutAreCounted u (trips s.traffic.bios)
     goer_out =
         (fields_follow f u (trips s.traffic.bios)).goes c
         (record {
@@ -303,7 +303,7 @@ module _ (s : State) (t f u : TopoView Config) (c : ℕ) (h : Holds s) (is : IsH
           active = ap (λ (w : TopoView Config). w.active) gone.goes;
         })
         (effects-out t f (trips s.traffic.bios) gone.followed
-        (subst (λ (w : TopoView Config). AreOut w (trips s.traffic.bios)) (sym gone.released) h.active))
+        (subst (λ (w : TopoView Config). OutAreCounted w (trips s.traffic.bios)) (sym gone.released) h.active))
 
 -- what is out through a consumer, by what is kept of it
 out-none : (s : State) (c : ℕ) → Holds s → IsHeld s c → value_at s.topo.active c ≡ Some 0
@@ -342,7 +342,7 @@ kept_after_close log s t f u q v k c h firm found has idle gone settled same =
     (ready
     ∙ ap (λ rows. without rows n) h.ready
     ∙ (notes_follow (can_be_reaped xs) hs).closes n
-    ∙ ap (noted (can_be_reaped xs)) (sym handles))
+    ∙ ap (noted_handles (can_be_reaped xs)) (sym handles))
     (rw handles
     (owns-alike_at s.own.items hs (closed hs n) xs
     (gone-own hs n xs
@@ -368,7 +368,7 @@ kept_after_forget log s v k h firm found none same =
     (ready
     ∙ ap (λ rows. without rows n) h.ready
     ∙ (notes_follow (can_be_reaped xs) hs).closes n
-    ∙ ap (noted (can_be_reaped xs)) (sym handles))
+    ∙ ap (noted_handles (can_be_reaped xs)) (sym handles))
     (rw handles
     (owns-alike_at s.own.items hs (closed hs n) xs
     (gone-own hs n xs
@@ -397,7 +397,7 @@ kept_after_reap log s t f u q v k c h firm found has idle gone settled same =
     (ready
     ∙ ap (λ rows. with_value rows n false) h.ready
     ∙ released-ready hs n c k it xs
-    ∙ ap (noted (can_be_reaped xs)) (sym handles))
+    ∙ ap (noted_handles (can_be_reaped xs)) (sym handles))
     (rw handles (owns-alike_at s.own.items hs (released hs c) xs (λ actor. each actor xs) h.own))
   where
     each : (actor : ℕ) (ys : List Trip)

@@ -14,14 +14,14 @@ use Rattle.geo_model.specs.World.{Config, Handle, Taste, is_of_handle, taste_gra
 use Rattle.geo_slots.specs.Slots.{value_at, with_value}
 use Rattle.geo_mesh.specs.Topo.{TopoView}
 use Rattle.geo_handles.specs.Handles.{HandlesView, HoldsAlone, holding_handle, killed}
-use Rattle.geo_handles.specs.HandleLaws.{noted}
+use Rattle.geo_handles.specs.HandleLaws.{noted_handles}
 use Rattle.geo_laws_graph.proofs.Lists.{find-changed, numbers-changed, unhit, found_itself}
 use Rattle.geo_laws_graph.proofs.Members.{find-Contains}
 use Rattle.geo_state.specs.declared.state.State.{State}
 use Rattle.geo_state.specs.declared.state.OwnBios.{OwnBios}
 use Rattle.geo_state.specs.Trips.{Trip, trips, out_through, can_be_reaped, is_own, IsOwnCount}
 use Rattle.geo_state.specs.Ready.{is_idle_now, renoted, refreshed}
-use Rattle.geo_state.specs.Holds.{Holds, AreOwn, AreReady, granted_of}
+use Rattle.geo_state.specs.Holds.{Holds, AreOwn, ReapableAreNoted, granted_of}
 use Rattle.geo_state.proofs.Lists.{count-same}
 use Rattle.geo_state.proofs.ReadyLemmas.{IsHolder, holder}
 use Rattle.geo_state.proofs.Rises.{active-at}
@@ -102,16 +102,16 @@ module _ (hs : List Handle) (c : ℕ) where
     rows_killed : (ks : List Handle)
         → AllByRecursion (λ (k : Handle). ((k.number == h.number) ≡ true → k ≡ h)
         × (names_number k.consumer c ≡ (k.number == h.number))) ks
-        → with_value (noted (can_be_reaped xs) ks) h.number (out_through xs c == 0)
-        ≡ noted (can_be_reaped xs) (killed ks c)
+        → with_value (noted_handles (can_be_reaped xs) ks) h.number (out_through xs c == 0)
+        ≡ noted_handles (can_be_reaped xs) (killed ks c)
     rows_killed [] all = refl
     rows_killed (k ∷ ks) all = at (k.number == h.number) refl (rows_killed ks all.1)
       where
         at : (b : Bool) → (k.number == h.number) ≡ b
-            → with_value (noted (can_be_reaped xs) ks) h.number (out_through xs c == 0)
-            ≡ noted (can_be_reaped xs) (killed ks c)
-            → with_value (noted (can_be_reaped xs) (k ∷ ks)) h.number (out_through xs c == 0)
-            ≡ noted (can_be_reaped xs) (killed (k ∷ ks) c)
+            → with_value (noted_handles (can_be_reaped xs) ks) h.number (out_through xs c == 0)
+            ≡ noted_handles (can_be_reaped xs) (killed ks c)
+            → with_value (noted_handles (can_be_reaped xs) (k ∷ ks)) h.number (out_through xs c == 0)
+            ≡ noted_handles (can_be_reaped xs) (killed (k ∷ ks) c)
         at true e rest =
             let named : names_number k.consumer c ≡ true = all.0.1 ∙ e in
             let same : k ≡ h = all.0.0 e in
@@ -127,8 +127,8 @@ module _ (hs : List Handle) (c : ℕ) where
 pub killed-ready : (v : HandlesView) (t : TopoView Config) (c : ℕ) (xs : List Trip)
     → AreNumbers (map (λ (k : Handle). k.number) v.handles) v.next
     → HoldsAlone v.handles c (option_map (λ (k : Handle). k.number) (holding_handle v.handles c))
-    → value_at t.active c ≡ Some (out_through xs c) → AreReady v xs
-    → refreshed (record v { handles = killed v.handles c }) t c ≡ noted (can_be_reaped xs) (killed v.handles c)
+    → value_at t.active c ≡ Some (out_through xs c) → ReapableAreNoted v xs
+    → refreshed (record v { handles = killed v.handles c }) t c ≡ noted_handles (can_be_reaped xs) (killed v.handles c)
 killed-ready v t c xs numbers alone out ready = on (holding_handle v.handles c) refl
   where
     idle : is_idle_now t c ≡ (out_through xs c == 0)
@@ -144,13 +144,14 @@ killed-ready v t c xs numbers alone out ready = on (holding_handle v.handles c) 
         ∙ ap (λ b. let k : Handle = if b then record h { dead = true } else h in Some k) named
 
     on : (o : Option Handle) → holding_handle v.handles c ≡ o
-        → refreshed (record v { handles = killed v.handles c }) t c ≡ noted (can_be_reaped xs) (killed v.handles c)
+        → refreshed (record v { handles = killed v.handles c }) t c
+        ≡ noted_handles (can_be_reaped xs) (killed v.handles c)
     on None is =
         let same : killed v.handles c ≡ v.handles = killed-none v.handles c is in
         ap (λ ks. renoted v.ready (is_idle_now t c) (holding_handle ks c)) same
         ∙ ap (renoted v.ready (is_idle_now t c)) is
         ∙ ready
-        ∙ ap (noted (can_be_reaped xs)) (sym same)
+        ∙ ap (noted_handles (can_be_reaped xs)) (sym same)
     on (Some h) is =
         let named : names_number h.consumer c ≡ true =
         found_passes (λ (j : Handle). names_number j.consumer c) v.handles h is in

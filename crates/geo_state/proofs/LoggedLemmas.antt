@@ -23,7 +23,7 @@ use Rattle.geo_bio.specs.Up.{held_as, gathered, are_in, completed, after_up}
 use Rattle.geo_laws_graph.proofs.Lists.{all-changed}
 use Rattle.geo_log.specs.Places.{delivered_at}
 use Rattle.geo_log.proofs.PlaceLemmas.{places_stay}
-use Rattle.geo_state.specs.Shown.{shown, shown_bio, IsBelow, AreLogged}
+use Rattle.geo_state.specs.Shown.{shown_bios, shown_bio, IsBelow, AreLogged}
 use Rattle.geo_state.specs.ShownLaws.{GrownLogShowsTheSame, LoggedStay, PlacesStayLogged}
 
 -- A log that grows
@@ -43,7 +43,7 @@ same_result entries more x (Some (held.AtPlace place)) below =
 -- so for all
 same_results : (entries more : List Entry) (bios : List (BioOf Held))
     → AllByRecursion (λ x. IsBelow (length entries) x.result) bios
-    → shown (delivered_at (entries ++ more)) bios ≡ shown (delivered_at entries) bios
+    → shown_bios (delivered_at (entries ++ more)) bios ≡ shown_bios (delivered_at entries) bios
 same_results entries more [] below = refl
 same_results entries more (x ∷ xs) below =
     (λ i. same_result entries more x x.result below.0 i ∷ same_results entries more xs below.1 i)

@@ -30,7 +30,7 @@ use Rattle.geo_state.specs.declared.state.OwnBios.{OwnBios}
 use Rattle.geo_state.specs.Trips.{Trip, trip_of, trips, out_through, handle_of_owner, is_own, taste_read, IsOwnCount}
 use Rattle.geo_state.specs.Own.{with_bio, change_own, entered}
 use Rattle.geo_state.specs.Bios.{all_out}
-use Rattle.geo_state.specs.Holds.{Holds, AreOut, AreReady, AreOwn, AreSeats}
+use Rattle.geo_state.specs.Holds.{Holds, OutAreCounted, ReapableAreNoted, AreOwn, AreSeats}
 use Rattle.geo_state.proofs.Lists.{Around, around, around-all, around-fact}
 use Rattle.geo_state.proofs.Outs.{eqb_sym, rows-changed, out-more}
 use Rattle.geo_state.proofs.Owned.{own-other, own-more, read-other, read-first, busy-other}
@@ -40,8 +40,8 @@ use Rattle.geo_state.proofs.Fields.{apart, seats-same}
 -- the fields that read the requests on their way
 pub record Kept (t : TopoView Config) (v : HandlesView) (owns : List OwnBios) (read : Option ℕ)
     (seats : List DiskSeat) (xs : List Trip) : Type 0 where
-  pub active : AreOut t xs
-  pub ready : AreReady v xs
+  pub active : OutAreCounted t xs
+  pub ready : ReapableAreNoted v xs
   pub own : AreOwn owns v.handles xs
   pub taste : read ≡ taste_read xs
   pub seat : AreSeats seats t.topology xs
@@ -109,7 +109,7 @@ pub record IsNew (z : Trip) (c : ℕ) : Type 0 where
 
 module _ (t : TopoView Config) (v : HandlesView) (xs : List Trip) (z : Trip) (c : ℕ) (new : IsNew z c) where
   -- one more is out through its consumer
-  pub active-more : AreOut t xs → AreOut (with_active t c (λ n. n + 1)) (xs ++ z ∷ [])
+  pub active-more : OutAreCounted t xs → OutAreCounted (with_active t c (λ n. n + 1)) (xs ++ z ∷ [])
   active-more out =
       ap (λ rows. change_at (λ n. n + 1) rows c) out
       ∙ rows-changed (λ (x : Consumer). x.number) (out_through xs) (out_through (xs ++ z ∷ [])) (λ n. n + 1) c
@@ -124,7 +124,7 @@ module _ (t : TopoView Config) (v : HandlesView) (xs : List Trip) (z : Trip) (c 
       (ne_eqb d z.source (λ same. other (same ∙ new.source)))
 
   pub ready-more : AllByRecursion (λ h. names_number h.consumer c ≡ true → h.dead ≡ false) v.handles
-      → AreReady v xs → AreReady v (xs ++ z ∷ [])
+      → ReapableAreNoted v xs → ReapableAreNoted v (xs ++ z ∷ [])
   ready-more alive ready = ready-alive v c xs (xs ++ z ∷ []) others_out alive ready
 
   pub seats-more : (seats : List DiskSeat) → AreSeats seats t.topology xs

@@ -15,7 +15,7 @@ use Rattle.geo_state.specs.declared.state.State.{State}
 use Rattle.geo_state.specs.declared.state.DiskSeat.{DiskSeat}
 use Rattle.geo_state.specs.declared.state.OwnBios.{OwnBios}
 use Rattle.geo_state.specs.Trips.{trips, taste_read, IsOwnCount}
-use Rattle.geo_state.specs.Holds.{Holds, AreOut, AreReady, IsSeat, granted_of, owed_events}
+use Rattle.geo_state.specs.Holds.{Holds, OutAreCounted, ReapableAreNoted, IsSeat, granted_of, owed_events}
 use Rattle.geo_state.specs.Opening.{IsFreeSeat}
 
 -- what holds of each holds of the one at a place, and so does what follows from it
@@ -43,8 +43,8 @@ holds-empty s topo handles bios taste read providers seats own =
       grants =
           (λ i. granted_by (topo i))
           ∙ sym (ap (λ (v : HandlesView). granted_of v.handles s.taste) handles ∙ ap (granted_of []) taste);
-      active = subst (λ (u : TopoView Config). AreOut u (trips s.traffic.bios)) (sym topo) refl;
-      ready = subst (λ (v : HandlesView). AreReady v (trips s.traffic.bios)) (sym handles) refl;
+      active = subst (λ (u : TopoView Config). OutAreCounted u (trips s.traffic.bios)) (sym topo) refl;
+      ready = subst (λ (v : HandlesView). ReapableAreNoted v (trips s.traffic.bios)) (sym handles) refl;
       own = λ actor.
           weaker-at (λ (x : OwnBios). x.count ≡ 0)
           (λ (x : OwnBios). IsOwnCount s.handles.handles (trips s.traffic.bios) actor x.count x.low)

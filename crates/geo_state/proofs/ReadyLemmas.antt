@@ -12,7 +12,7 @@ use Rattle.geo_model.proofs.DemandLemmas.{map_same, names_some}
 use Rattle.geo_slots.specs.Slots.{value_at, with_value}
 use Rattle.geo_mesh.specs.Topo.{TopoView}
 use Rattle.geo_handles.specs.Handles.{HandlesView, holding_handle, HoldsAlone}
-use Rattle.geo_handles.specs.HandleLaws.{noted}
+use Rattle.geo_handles.specs.HandleLaws.{noted_handles}
 use Rattle.geo_handles.proofs.HandleLawLemmas.{notes_follow}
 use Rattle.geo_state.specs.Trips.{Trip, out_through, can_be_reaped}
 use Rattle.geo_state.specs.Ready.{is_idle_now, renoted, refreshed}
@@ -21,7 +21,7 @@ use Rattle.geo_state.proofs.Outs.{reaped-same}
 
 -- notes by another test that gives the same
 pub noted-same : (test other : Handle → Bool) (handles : List Handle)
-    → AllByRecursion (λ h. other h ≡ test h) handles → noted other handles ≡ noted test handles
+    → AllByRecursion (λ h. other h ≡ test h) handles → noted_handles other handles ≡ noted_handles test handles
 noted-same test other handles same =
     map_same (λ (h : Handle). let row : ℕ × Bool = (h.number, other h) in row)
     (λ (h : Handle). let row : ℕ × Bool = (h.number, test h) in row) handles
@@ -31,7 +31,7 @@ noted-same test other handles same =
 
 -- where as many are out, the same handles can be reaped
 pub ready-same : (v : HandlesView) (xs ys : List Trip) → ((c : ℕ) → out_through ys c ≡ out_through xs c)
-    → v.ready ≡ noted (can_be_reaped xs) v.handles → v.ready ≡ noted (can_be_reaped ys) v.handles
+    → v.ready ≡ noted_handles (can_be_reaped xs) v.handles → v.ready ≡ noted_handles (can_be_reaped ys) v.handles
 ready-same v xs ys same ready =
     ready ∙ sym (noted-same (can_be_reaped xs) (can_be_reaped ys) v.handles (each v.handles))
   where
@@ -48,7 +48,7 @@ ready-same v xs ys same ready =
 pub ready-alive : (v : HandlesView) (c : ℕ) (xs ys : List Trip)
     → ((d : ℕ) → d ≢ c → out_through ys d ≡ out_through xs d)
     → AllByRecursion (λ h. names_number h.consumer c ≡ true → h.dead ≡ false) v.handles
-    → v.ready ≡ noted (can_be_reaped xs) v.handles → v.ready ≡ noted (can_be_reaped ys) v.handles
+    → v.ready ≡ noted_handles (can_be_reaped xs) v.handles → v.ready ≡ noted_handles (can_be_reaped ys) v.handles
 ready-alive v c xs ys others alive ready =
     ready
     ∙ sym (noted-same (can_be_reaped xs) (can_be_reaped ys) v.handles
@@ -105,8 +105,8 @@ module _ (v : HandlesView) (t : TopoView Config) (c : ℕ) (ys : List Trip) (bef
   idle_is : is_idle_now t c ≡ (out_through ys c == 0)
   idle_is = ap (λ o. option_map_or (λ n. n == 0) o false) out
 
-  pub refreshed-none : holding_handle v.handles c ≡ None → v.ready ≡ noted before v.handles
-      → refreshed v t c ≡ noted (can_be_reaped ys) v.handles
+  pub refreshed-none : holding_handle v.handles c ≡ None → v.ready ≡ noted_handles before v.handles
+      → refreshed v t c ≡ noted_handles (can_be_reaped ys) v.handles
   refreshed-none none ready =
       ap (λ o. renoted v.ready (is_idle_now t c) o) none
       ∙ ready
@@ -119,7 +119,7 @@ module _ (v : HandlesView) (t : TopoView Config) (c : ℕ) (ys : List Trip) (bef
       (none_passes (λ (h : Handle). names_number h.consumer c) v.handles none))))
 
   pub refreshed-one : (h : Handle) → holding_handle v.handles c ≡ Some h → IsHolder v c h
-      → v.ready ≡ noted before v.handles → refreshed v t c ≡ noted (can_be_reaped ys) v.handles
+      → v.ready ≡ noted_handles before v.handles → refreshed v t c ≡ noted_handles (can_be_reaped ys) v.handles
   refreshed-one h is one ready =
       ap (λ o. renoted v.ready (is_idle_now t c) o) is
       ∙ ap (λ rows. with_value rows h.number (h.dead && is_idle_now t c)) ready

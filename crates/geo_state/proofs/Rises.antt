@@ -24,16 +24,16 @@ use Rattle.geo_slots.specs.Slots.{value_at}
 use Rattle.geo_mesh.specs.Topo.{TopoView, with_active}
 use Rattle.geo_mesh.specs.Rows.{change_at}
 use Rattle.geo_handles.specs.Handles.{HandlesView, HoldsAlone, holding_handle, handle_at}
-use Rattle.geo_handles.specs.HandleLaws.{noted}
+use Rattle.geo_handles.specs.HandleLaws.{noted_handles}
 use Rattle.geo_laws_graph.proofs.Lists.{find-changed, all-changed, found_itself}
 use Rattle.geo_laws_graph.proofs.Members.{find-Contains}
 use Rattle.geo_state.specs.declared.state.State.{State}
 use Rattle.geo_state.specs.declared.state.OwnBios.{OwnBios}
 use Rattle.geo_state.specs.Trips.{Trip, trip_of, trips, out_through, can_be_reaped, taste_read, is_at_disk, busy_at, is_own, IsOwnCount}
-use Rattle.geo_state.specs.Own.{without_bio, change_own, left_by}
-use Rattle.geo_state.specs.Bios.{own_after, read_after, CanLeave, IsOfItsOwner}
+use Rattle.geo_state.specs.Own.{with_one_less, change_own, left_by}
+use Rattle.geo_state.specs.Bios.{own_after, taste_read_after, CanLeave, IsOfItsOwner}
 use Rattle.geo_state.specs.Ready.{refreshed}
-use Rattle.geo_state.specs.Holds.{Holds, AreOut, AreReady, AreOwn, AreSeats}
+use Rattle.geo_state.specs.Holds.{Holds, OutAreCounted, ReapableAreNoted, AreOwn, AreSeats}
 use Rattle.geo_state.proofs.Lists.{Around, around-all}
 use Rattle.geo_state.proofs.TripLemmas.{trips-changed, trips-same, trips-kept}
 use Rattle.geo_state.proofs.Outs.{rows-changed, out-back, out-gone, out-some, reaped-same}
@@ -48,7 +48,7 @@ pub record Rise (s : State) (x : Trip) (ys : List Trip) : Type 0 where
   pub out : (d : ℕ) → out_through ys d
       ≡ (if d == x.source then out_through (trips s.traffic.bios) d - 1 else out_through (trips s.traffic.bios) d)
   pub own : AreOwn (own_after s x.owner) s.handles.handles ys
-  pub taste : read_after s x.owner ≡ taste_read ys
+  pub taste : taste_read_after s x.owner ≡ taste_read ys
   pub busy : (disk : ℕ) → busy_at s.topo.topology ys disk ≡ busy_at s.topo.topology (trips s.traffic.bios) disk
 
 -- what isn't seen of the second list
@@ -88,7 +88,7 @@ module _ (handles : List Handle) (b : ℕ) (x : Trip) (xs : List Trip) (r : Arou
   owns-left actor mine own a = on (slice_get owns actor) refl (actor == a) refl
     where
       on : (o : Option OwnBios) → slice_get owns actor ≡ o → (c : Bool) → (actor == a) ≡ c
-          → IfSome (slice_get (change_own without_bio owns actor (slice_get owns actor)) a)
+          → IfSome (slice_get (change_own with_one_less owns actor (slice_get owns actor)) a)
           (λ y. IsOwnCount handles rest a y.count y.low)
       on None is true e =
           let same : actor ≡ a = eqb-true actor a e in
@@ -97,16 +97,16 @@ module _ (handles : List Handle) (b : ℕ) (x : Trip) (xs : List Trip) (r : Arou
       on None is false e = rw is (one-kept a (mine a ∙ e) (own a))
       on (Some o) is true e =
           let same : actor ≡ a = eqb-true actor a e in
-          let at : slice_get (change_own without_bio owns actor (Some o)) a ≡ Some (without_bio o) =
-          ap (slice_get (change_own without_bio owns actor (Some o))) (sym same)
-          ∙ slot-same owns actor (without_bio o) o is in
+          let at : slice_get (change_own with_one_less owns actor (Some o)) a ≡ Some (with_one_less o) =
+          ap (slice_get (change_own with_one_less owns actor (Some o))) (sym same)
+          ∙ slot-same owns actor (with_one_less o) o is in
           let old : IsOwnCount handles xs a o.count o.low =
           at-found (slice_get owns a) (λ (y : OwnBios). IsOwnCount handles xs a y.count y.low) o
           (ap (slice_get owns) (sym same) ∙ is) (own a) in
           rw (is, at) (own-gone handles a b x xs o.count o.low r (mine a ∙ e) old)
       on (Some o) is false e =
-          let at : slice_get (change_own without_bio owns actor (Some o)) a ≡ slice_get owns a =
-          slot-other owns actor a (without_bio o) (λ same. apart actor a e (sym same)) in
+          let at : slice_get (change_own with_one_less owns actor (Some o)) a ≡ slice_get owns a =
+          slot-other owns actor a (with_one_less o) (λ same. apart actor a e (sym same)) in
           rw (is, at) (one-kept a (mine a ∙ e) (own a))
 
 -- Roots
@@ -427,7 +427,7 @@ module _ (s : State) (next b : ℕ) (x : BioOf Held) (log : ℕ → Option (List
       (h.own k.actor))))
 
 -- how many are out through a consumer that lives, as it is kept
-pub active-at : (t : TopoView Config) (xs : List Trip) (c : ℕ) → AreOut t xs → IsSome (consumer_at t.topology c)
+pub active-at : (t : TopoView Config) (xs : List Trip) (c : ℕ) → OutAreCounted t xs → IsSome (consumer_at t.topology c)
     → value_at t.active c ≡ Some (out_through xs c)
 active-at t xs c out lives = ap (λ rows. value_at rows c) out ∙ on t.topology.consumers lives
   where
@@ -451,8 +451,8 @@ pub refreshed-ready : (v : HandlesView) (t : TopoView Config) (c : ℕ) (xs ys :
     → AreNumbers (map (λ (k : Handle). k.number) v.handles) v.next
     → HoldsAlone v.handles c (option_map (λ (k : Handle). k.number) (holding_handle v.handles c))
     → ((d : ℕ) → d ≢ c → out_through ys d ≡ out_through xs d)
-    → value_at t.active c ≡ Some (out_through ys c) → AreReady v xs
-    → refreshed v t c ≡ noted (can_be_reaped ys) v.handles
+    → value_at t.active c ≡ Some (out_through ys c) → ReapableAreNoted v xs
+    → refreshed v t c ≡ noted_handles (can_be_reaped ys) v.handles
 refreshed-ready v t c xs ys numbers alone others out ready = on (holding_handle v.handles c) refl
   where
     each : (ks : List Handle)
@@ -465,7 +465,7 @@ refreshed-ready v t c xs ys numbers alone others out ready = on (holding_handle 
     )
 
     on : (o : Option Handle) → holding_handle v.handles c ≡ o
-        → refreshed v t c ≡ noted (can_be_reaped ys) v.handles
+        → refreshed v t c ≡ noted_handles (can_be_reaped ys) v.handles
     on None e = refreshed-none v t c ys (can_be_reaped xs) (each v.handles) out e ready
     on (Some k) e =
         refreshed-one v t c ys (can_be_reaped xs) (each v.handles) out k e
@@ -481,7 +481,7 @@ pub holds-rose : (s new : State) (x : BioOf Held) (ys : List Trip) → Rise s (t
     (option_map (λ (k : Handle). k.number) (holding_handle s.handles.handles x.source))
     → trips new.traffic.bios ≡ ys → new.topo ≡ with_active s.topo x.source (λ n. n - 1)
     → new.handles ≡ record s.handles { ready = refreshed s.handles new.topo x.source }
-    → new.own.items ≡ own_after s x.owner → new.read ≡ read_after s x.owner → new.disks ≡ s.disks
+    → new.own.items ≡ own_after s x.owner → new.read ≡ taste_read_after s x.owner → new.disks ≡ s.disks
     → new ≡ record s {
       topo = record s.topo { active = new.topo.active };
       handles = record s.handles { ready = new.handles.ready };
@@ -495,7 +495,7 @@ holds-rose s new x ys r lives alone seen topo handles own read disks rest h =
     let c : ℕ = x.source in
     let xs : List Trip = trips s.traffic.bios in
     let t : TopoView Config = with_active s.topo c (λ n. n - 1) in
-    let active : AreOut t ys =
+    let active : OutAreCounted t ys =
     ap (λ rows. change_at (λ n. n - 1) rows c) h.active
     ∙ rows-changed (λ (y : Consumer). y.number) (out_through xs) (out_through ys) (λ n. n - 1) c r.out
     s.topo.topology.consumers in

@@ -12,7 +12,7 @@ use Rattle.geo_model.specs.declared.step.Phase.{Phase}
 use Rattle.geo_model.specs.World.{Bio, BioOf, change_number}
 use Rattle.geo_bio.specs.declared.bio.Held.{Held}
 use Rattle.geo_state.specs.Traffic.{first_in}
-use Rattle.geo_state.specs.Shown.{shown, shown_bio}
+use Rattle.geo_state.specs.Shown.{shown_bio, shown_bios}
 use Rattle.geo_state.specs.ShownLaws.{ShownAreFound, ShownChanges}
 
 module _ {X Y : Type 0} (f : X → Y) where
@@ -43,7 +43,8 @@ module _ {X Y : Type 0} (f : X → Y) where
 
 module _ (log : ℕ → Option (List ℕ)) where
   -- the first number in a phase
-  first_shown : (test : Phase → Bool) (bios : List (BioOf Held)) → first_in test (shown log bios) ≡ first_in test bios
+  first_shown : (test : Phase → Bool) (bios : List (BioOf Held)) → first_in test (shown_bios log bios)
+      ≡ first_in test bios
   first_shown test bios =
       ap (option_map (λ (x : Bio). x.number)) (find-map (λ (x : Bio). test x.phase) (shown_bio log) bios)
       ∙ at (find (λ (x : BioOf Held). test x.phase) bios)
@@ -56,7 +57,7 @@ module _ (log : ℕ → Option (List ℕ)) where
   -- a change of the bio of a number
   pub change_shown : (b : ℕ) (f : BioOf Held → BioOf Held) (g : Bio → Bio)
       → ((x : BioOf Held) → shown_bio log (f x) ≡ g (shown_bio log x))
-      → (bios : List (BioOf Held)) → shown log (change_number b f bios) ≡ change_number b g (shown log bios)
+      → (bios : List (BioOf Held)) → shown_bios log (change_number b f bios) ≡ change_number b g (shown_bios log bios)
   change_shown b f g goes bios =
       changed-map (shown_bio log) (λ x. x.number == b) (λ x. x.number == b) f g (λ x. refl) bios
       (of_each _ (λ x e. goes x) bios)

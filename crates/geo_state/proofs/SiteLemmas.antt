@@ -25,11 +25,11 @@ use Rattle.geo_mesh.specs.Topo.{TopoView}
 use Rattle.geo_access.specs.Access.{granted_by}
 use Rattle.geo_state.specs.declared.state.State.{State}
 use Rattle.geo_state.specs.declared.state.DiskSeat.{DiskSeat}
-use Rattle.geo_state.specs.Parts.{IsUnderWay, AreUnderWay, DisksStay, disk_row, geom_row, geom_of_disk}
-use Rattle.geo_state.specs.Seats.{change_seat, with_geom_at}
+use Rattle.geo_state.specs.Parts.{IsUnderWay, AreUnderWay, DisksStay, disk_row, owner_row, geom_of_disk}
+use Rattle.geo_state.specs.Seats.{change_seat, with_disk_geom}
 use Rattle.geo_state.specs.Trips.{Trip, trips, out_through, is_at_disk, busy_at}
 use Rattle.geo_state.specs.World.{StandsFirm}
-use Rattle.geo_state.specs.Holds.{Holds, AreOut, AreSeats, IsSeat, granted_of}
+use Rattle.geo_state.specs.Holds.{Holds, OutAreCounted, AreSeats, IsSeat, granted_of}
 use Rattle.geo_state.specs.Changes.{IsSettled}
 use Rattle.geo_state.specs.Sites.{AreFresh, no_row, seats_without, KeptAfterComers, KeptAfterInsert, KeptAfterProvider, KeptAfterConsumer, KeptAfterGeom, KeptWithSites}
 use Rattle.geo_state.proofs.Lists.{Around, around, around-all, find-before, find-past, find-kept_by}
@@ -57,7 +57,7 @@ busy-stays t u xs stay disk =
 
 pub seats-geom : (seats : List DiskSeat) (t u : Topology Config) (xs : List Trip) (disk : ℕ) (geom : Option ℕ)
     → ((d : ℕ) → geom_of_disk u d ≡ (if d == disk then geom else geom_of_disk t d)) → TargetsStay t u xs
-    → AreSeats seats t xs → AreSeats (with_geom_at seats disk geom) u xs
+    → AreSeats seats t xs → AreSeats (with_disk_geom seats disk geom) u xs
 seats-geom seats t u xs disk geom same stay are = on (slice_get seats disk) refl
   where
     kept : (d : ℕ) → (d == disk) ≡ false → IfSome (slice_get seats d) (λ (x : DiskSeat). IsSeat u xs d x.geom x.busy)
@@ -69,7 +69,7 @@ seats-geom seats t u xs disk geom same stay are = on (slice_get seats disk) refl
         }) (slice_get seats d) (are d)
 
     one : (seat : DiskSeat) → slice_get seats disk ≡ Some seat → (d : ℕ) (b : Bool) → (d == disk) ≡ b
-        → IfSome (slice_get (with_geom_at seats disk geom) d) (λ (x : DiskSeat). IsSeat u xs d x.geom x.busy)
+        → IfSome (slice_get (with_disk_geom seats disk geom) d) (λ (x : DiskSeat). IsSeat u xs d x.geom x.busy)
     one seat is d true e =
         let here : d ≡ disk = eqb-true d disk e in
         let new : DiskSeat = record seat { geom = geom } in
@@ -88,13 +88,13 @@ seats-geom seats t u xs disk geom same stay are = on (slice_get seats disk) refl
         rw (is, at) (kept d e)
 
     none : slice_get seats disk ≡ None → (d : ℕ) (b : Bool) → (d == disk) ≡ b
-        → IfSome (slice_get (with_geom_at seats disk geom) d) (λ (x : DiskSeat). IsSeat u xs d x.geom x.busy)
+        → IfSome (slice_get (with_disk_geom seats disk geom) d) (λ (x : DiskSeat). IsSeat u xs d x.geom x.busy)
     none is d true e =
         let here : d ≡ disk = eqb-true d disk e in
         rw (here, is, is) tt
     none is d false e = rw is (kept d e)
 
-    on : (o : Option DiskSeat) → slice_get seats disk ≡ o → AreSeats (with_geom_at seats disk geom) u xs
+    on : (o : Option DiskSeat) → slice_get seats disk ≡ o → AreSeats (with_disk_geom seats disk geom) u xs
     on None is d = none is d (d == disk) refl
     on (Some seat) is d = one seat is d (d == disk) refl
 
@@ -120,7 +120,7 @@ under-some number see n xs there =
 
 module _ (t u : Topology Config) (gs : List (ℕ × Option ℕ)) (ps : List (ℕ × ℕ))
     (geoms : map disk_row u.geoms ≡ map disk_row t.geoms ++ gs)
-    (providers : map geom_row u.providers ≡ map geom_row t.providers ++ ps)
+    (providers : map owner_row u.providers ≡ map owner_row t.providers ++ ps)
     (live : AllByRecursion (λ (p : Provider). IsSome (geom_at t p.geom)) t.providers) where
   -- a provider that was there leads to the same disk
   grown-disk : (p : ℕ) → IsSome (provider_at t p) → disk_at u p ≡ disk_at t p
@@ -131,15 +131,15 @@ module _ (t u : Topology Config) (gs : List (ℕ × Option ℕ)) (ps : List (ℕ
       on (Some x) e lives =
           let g : IsSome (geom_at t x.geom) =
           found-fact (λ (y : Provider). IsSome (geom_at t y.geom)) (λ y. y.number == p) t.providers x live e in
-          let at : under (map geom_row t.providers) p ≡ Some x.geom =
+          let at : under (map owner_row t.providers) p ≡ Some x.geom =
           sym (under_read (λ (y : Provider). y.number) (λ y. y.geom) p t.providers)
           ∙ ap (option_map (λ (y : Provider). y.geom)) e in
-          let more : under (map geom_row t.providers ++ ps) p ≡ Some x.geom =
-          under-more (map geom_row t.providers) ps p
+          let more : under (map owner_row t.providers ++ ps) p ≡ Some x.geom =
+          under-more (map owner_row t.providers) ps p
           (under-some (λ (y : Provider). y.number) (λ y. y.geom) p t.providers (subst IsSome (sym e) refl)) ∙ at in
           disk_read u p
           ∙ ap (λ rows. disk_under rows (map disk_row u.geoms) p) providers
-          ∙ ap (λ rows. disk_under (map geom_row t.providers ++ ps) rows p) geoms
+          ∙ ap (λ rows. disk_under (map owner_row t.providers ++ ps) rows p) geoms
           ∙ ap (option_and_then (λ n. option_flatten (under (map disk_row t.geoms ++ gs) n))) more
           ∙ ap option_flatten
           (under-more (map disk_row t.geoms) gs x.geom
@@ -200,7 +200,7 @@ grown-out : (s : State) (u : TopoView Config) (cs : List ℕ) (xs : List Trip)
     → map (λ (x : Consumer). x.number) u.topology.consumers
     ≡ map (λ (x : Consumer). x.number) s.topo.topology.consumers ++ cs
     → u.active ≡ s.topo.active ++ map no_row cs → AllByRecursion (λ c. out_through xs c ≡ 0) cs
-    → AreOut s.topo xs → AreOut u xs
+    → OutAreCounted s.topo xs → OutAreCounted u xs
 grown-out s u cs xs consumers active none out =
     active
     ∙ ap (λ rows. rows ++ map no_row cs) (out ∙ rows_out xs s.topo.topology.consumers)
@@ -235,13 +235,13 @@ fresh-none log s cs h firm fresh =
 
 -- how many providers there are
 grown-count : (t u : Topology Config) (ps : List (ℕ × ℕ))
-    → map geom_row u.providers ≡ map geom_row t.providers ++ ps
+    → map owner_row u.providers ≡ map owner_row t.providers ++ ps
     → length u.providers ≡ length t.providers + length ps
 grown-count t u ps providers =
-    sym (length-map u.providers geom_row)
+    sym (length-map u.providers owner_row)
     ∙ ap (λ rows. length rows) providers
-    ∙ length-append (map geom_row t.providers) ps
-    ∙ ap (λ n. n + length ps) (length-map t.providers geom_row)
+    ∙ length-append (map owner_row t.providers) ps
+    ∙ ap (λ n. n + length ps) (length-map t.providers owner_row)
 
 offerers : (log : List Entry) (s : State) → StandsFirm log s
     → AllByRecursion (λ (p : Provider). IsSome (geom_at s.topo.topology p.geom)) s.topo.topology.providers
@@ -309,7 +309,7 @@ kept_after_insert log s new disk geom prov h firm came none granted settled disk
 -- with another mesh in which each disk has its geom, and each request goes to its disk
 with-mesh : (s : State) (u : TopoView Config) (q : Queued) (taste : Option Taste) (providers : ℕ) → Holds s
     → IsSettled u q → ((c : ℕ) → granted_by u c ≡ granted_of s.handles.handles taste c)
-    → AreOut u (trips s.traffic.bios) → DisksStay s.topo.topology u.topology (trips s.traffic.bios)
+    → OutAreCounted u (trips s.traffic.bios) → DisksStay s.topo.topology u.topology (trips s.traffic.bios)
     → providers ≡ length u.topology.providers
     → Holds (record s { topo = u; queue = q; taste = taste; providers = providers })
 with-mesh s u q taste providers h settled granted out stay count = record {

@@ -29,7 +29,7 @@ use Rattle.geo_model.proofs.DemandLemmas.{find_passes}
 use Rattle.geo_laws_graph.proofs.Numbered.{unique}
 use Rattle.geo_log.proofs.PlaceLemmas.{delivered_is_result}
 use Rattle.geo_log.specs.Places.{delivered_at}
-use Rattle.geo_state.specs.Shown.{shown, shown_bio, errno_of}
+use Rattle.geo_state.specs.Shown.{shown_bios, shown_bio, errno_of}
 use Rattle.geo_state.specs.ShownLaws.{BiosAreOfWorld, WorldShowsBios, DeliveriesAreShown, PlaceIsAnswer}
 use Rattle.geo_state.proofs.ShownLemmas.{length-of_map, changed-map, change_shown}
 
@@ -48,7 +48,7 @@ got_is log (Some h) = refl
 -- the children of a split, from any piece on
 split_shown : (log : ℕ → Option (List ℕ)) (t : Topology Config) (first : ℕ) (x : BioOf Held) (k : ℕ)
     (zs : List PieceTarget)
-    → shown log (split_into first x k (map (λ z. z.piece) zs) (map (target_in t) zs))
+    → shown_bios log (split_into first x k (map (λ z. z.piece) zs) (map (target_in t) zs))
     ≡ map (λ item. piece_child t first (shown_bio log x) item.0 item.1) (enumerate_from k zs)
 split_shown log t first x k [] = refl
 split_shown log t first x k (z ∷ zs) =
@@ -56,7 +56,7 @@ split_shown log t first x k (z ∷ zs) =
 
 -- the results of the children of a bio
 results_shown : (log : ℕ → Option (List ℕ)) (bios : List (BioOf Held))
-    → map (λ (x : Bio). unwrap_or x.result results.Done) (shown log bios) ≡ map (λ x. resolved log x.result) bios
+    → map (λ (x : Bio). unwrap_or x.result results.Done) (shown_bios log bios) ≡ map (λ x. resolved log x.result) bios
 results_shown log [] = refl
 results_shown log (x ∷ xs) = (λ i. got_is log x.result i ∷ results_shown log xs i)
 
@@ -70,7 +70,7 @@ up_from g p = (
 module _ (log : ℕ → Option (List ℕ)) (w : World) (bios : List (BioOf Held)) where
   -- the world with these bios
   abbrev with_shown : World
-  with_shown = record w { bios = shown log bios }
+  with_shown = record w { bios = shown_bios log bios }
 
   -- whether all children are in
   in_shown : (p : ℕ) → is_complete with_shown p ≡ are_in bios p
@@ -92,7 +92,7 @@ module _ (log : ℕ → Option (List ℕ)) (w : World) (bios : List (BioOf Held)
   parent_shown : (p : ℕ) (y : BioOf Held) → y.number ≡ p
       → complete_parent with_shown (shown_bio log y)
       ≡ record w {
-        bios = shown log
+        bios = shown_bios log
             (filter (λ z. not (is_child_of z.owner p)) (change_number p (up_with (gathered log bios y)) bios));
       }
   parent_shown p y is =
@@ -100,7 +100,7 @@ module _ (log : ℕ → Option (List ℕ)) (w : World) (bios : List (BioOf Held)
       gathers y.number y ∙ sym (resolved_as log _) in
       (λ i. record w {
         bios = filter (λ (z : Bio). not (is_child_of z.owner (is i)))
-            (change_number (is i) (up_with (got i)) (shown log bios));
+            (change_number (is i) (up_with (got i)) (shown_bios log bios));
       })
       ∙ ap (λ xs. record w { bios = filter (λ (z : Bio). not (is_child_of z.owner p)) xs })
       (sym (change_shown log p (up_with (gathered log bios y)) (up_with (resolved log (Some (gathered log bios y))))
@@ -112,7 +112,7 @@ module _ (log : ℕ → Option (List ℕ)) (w : World) (bios : List (BioOf Held)
   -- the parent, if it is there
   completed_shown : (p : ℕ)
       → option_map_or (λ y. complete_parent with_shown y) (bio_at with_shown p) with_shown
-      ≡ record w { bios = shown log (completed log bios p) }
+      ≡ record w { bios = shown_bios log (completed log bios p) }
   completed_shown p =
       ap (λ o. option_map_or (λ (y : Bio). complete_parent with_shown y) o with_shown)
       (find-map (λ (x : Bio). x.number == p) (shown_bio log) bios)
@@ -121,7 +121,7 @@ module _ (log : ℕ → Option (List ℕ)) (w : World) (bios : List (BioOf Held)
       at : (o : Option (BioOf Held)) → bio_among bios p ≡ o
           → option_map_or (λ (y : Bio). complete_parent with_shown y) (option_map (shown_bio log) (bio_among bios p))
           with_shown
-          ≡ record w { bios = shown log (completed log bios p) }
+          ≡ record w { bios = shown_bios log (completed log bios p) }
       at None e = rw e refl
       at (Some y) e =
           let is : y.number ≡ p = eqb-true y.number p (find_passes (λ (x : BioOf Held). x.number == p) bios y e) in
@@ -131,23 +131,23 @@ module _ (log : ℕ → Option (List ℕ)) (w : World) (bios : List (BioOf Held)
   risen_is : (p : ℕ) (b : Bool) → are_in bios p ≡ b
       → up_from with_shown p
       ≡ (
-        record w { bios = shown log (cond (are_in bios p) (completed log bios p) bios) },
+        record w { bios = shown_bios log (cond (are_in bios p) (completed log bios p) bios) },
         outcomes.Gathered p (are_in bios p),
       )
   risen_is p true e =
       rw (in_shown p, e) (ap (λ v. (v, outcomes.Gathered p true)) (completed_shown p))
   risen_is p false e = rw (in_shown p, e) refl
 
-module _ (log : ℕ → Option (List ℕ)) (bios : List (BioOf Held)) (w : World) (is : w.bios ≡ shown log bios) where
+module _ (log : ℕ → Option (List ℕ)) (bios : List (BioOf Held)) (w : World) (is : w.bios ≡ shown_bios log bios) where
   -- a change of the world's bios
   changed : (b : ℕ) (f : BioOf Held → BioOf Held) (g : Bio → Bio)
       → ((x : BioOf Held) → shown_bio log (f x) ≡ g (shown_bio log x))
-      → change_number b g w.bios ≡ shown log (change_number b f bios)
+      → change_number b g w.bios ≡ shown_bios log (change_number b f bios)
   changed b f g goes = ap (change_number b g) is ∙ sym (change_shown log b f g goes bios)
 
   -- a bio less
   without_shown : (b : ℕ)
-      → filter (λ (y : Bio). not (y.number == b)) w.bios ≡ shown log (filter (λ y. not (y.number == b)) bios)
+      → filter (λ (y : Bio). not (y.number == b)) w.bios ≡ shown_bios log (filter (λ y. not (y.number == b)) bios)
   without_shown b =
       ap (filter (λ (y : Bio). not (y.number == b))) is
       ∙ filter-map (λ (y : Bio). not (y.number == b)) (shown_bio log) bios
@@ -156,7 +156,7 @@ module _ (log : ℕ → Option (List ℕ)) (bios : List (BioOf Held)) (w : World
       → split_bio w (shown_bio log x) zs
       ≡ (
         record w {
-          bios = shown log (change_number x.number (with_phase phases.Waiting) bios
+          bios = shown_bios log (change_number x.number (with_phase phases.Waiting) bios
               ++ split_into w.next_bio x 0 (map (λ z. z.piece) zs) (map (target_in w.topology) zs));
           next_bio = w.next_bio + length zs;
         },
@@ -180,7 +180,7 @@ module _ (log : ℕ → Option (List ℕ)) (bios : List (BioOf Held)) (w : World
   take_is : (x : BioOf Held) (seat disk : ℕ)
       → take_bio w seat disk (shown_bio log x)
       ≡ (
-        record w { bios = shown log (change_number x.number (with_phase (phases.Busy seat)) bios) },
+        record w { bios = shown_bios log (change_number x.number (with_phase (phases.Busy seat)) bios) },
         outcomes.Asked (request_of_bio w disk (shown_bio log x)),
       )
   unfolding take_bio
@@ -191,7 +191,7 @@ module _ (log : ℕ → Option (List ℕ)) (bios : List (BioOf Held)) (w : World
   child_is : (x : BioOf Held) (parent index : ℕ)
       → up_to w (shown_bio log x) (owners.Child parent index)
       ≡ (
-        record w { bios = shown log (after_up log bios x (owners.Child parent index)) },
+        record w { bios = shown_bios log (after_up log bios x (owners.Child parent index)) },
         outcomes.Gathered parent (are_in (change_number x.number (with_phase phases.Done) bios) parent),
       )
   child_is x parent index =

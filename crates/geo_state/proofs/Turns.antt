@@ -18,7 +18,7 @@ use Rattle.geo_state.specs.declared.state.DiskSeat.{DiskSeat}
 use Rattle.geo_state.specs.Trips.{Trip, trip_of, trips, busy_at}
 use Rattle.geo_state.specs.Seats.{with_busy_at}
 use Rattle.geo_state.specs.Holds.{Holds, IsSeat}
-use Rattle.geo_state.specs.World.{header_disk}
+use Rattle.geo_state.specs.World.{disk_of_seat}
 use Rattle.geo_state.specs.Bios.{OnlyBios, GoesTo, IsFree, IsAloneAt}
 use Rattle.geo_state.proofs.Lists.{around-all}
 use Rattle.geo_state.proofs.TripLemmas.{trips-changed, trips-same}
@@ -157,5 +157,5 @@ module _ (s new : State) (next b disk : ℕ) (are : AreNumbers (map (λ (x : Bio
           disks = new.disks;
           own = z.own;
         }) (sym is) is;
-    disks = ap (map header_disk) disks ∙ disks-busy s.disks.items disk busy;
+    disks = ap (map disk_of_seat) disks ∙ disks-busy s.disks.items disk busy;
   }

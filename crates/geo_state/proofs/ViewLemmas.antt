@@ -20,7 +20,7 @@ use Rattle.geo_handles.proofs.HandleLawLemmas.{handles_are_of_world}
 use Rattle.geo_laws_graph.proofs.Lists.{Rise, rise-from, none_outside}
 use Rattle.geo_log.specs.Places.{delivered_at}
 use Rattle.geo_slots.specs.Slots.{value_at}
-use Rattle.geo_state.specs.Shown.{shown, shown_bio}
+use Rattle.geo_state.specs.Shown.{shown_bio, shown_bios}
 use Rattle.geo_state.specs.declared.state.State.{State}
 use Rattle.geo_state.specs.declared.state.DiskSeat.{DiskSeat}
 use Rattle.geo_state.specs.Trips.{Trip, trip_of, trips, is_out, out_through, can_be_reaped, handle_of_owner, is_own, is_at_disk}
@@ -53,30 +53,30 @@ module _ (log : ℕ → Option (List ℕ)) where
   -- a test of trips among the bios of a world
   any-shown : (p : Bio → Bool) (q : Trip → Bool)
       → ((x : BioOf Held) → p (shown_bio log x) ≡ q (trip_of x)) → (bios : List (BioOf Held))
-      → list_any p (shown log bios) ≡ list_any q (trips bios)
+      → list_any p (shown_bios log bios) ≡ list_any q (trips bios)
   any-shown p q same [] = refl
   any-shown p q same (x ∷ xs) =
-      ap (λ c. c || list_any p (shown log xs)) (same x) ∙ ap (λ c. q (trip_of x) || c) (any-shown p q same xs)
+      ap (λ c. c || list_any p (shown_bios log xs)) (same x) ∙ ap (λ c. q (trip_of x) || c) (any-shown p q same xs)
 
   -- the number of the first
   first-shown : (p : Bio → Bool) (q : Trip → Bool)
       → ((x : BioOf Held) → p (shown_bio log x) ≡ q (trip_of x)) → (bios : List (BioOf Held))
-      → option_map (λ (x : Bio). x.number) (find p (shown log bios))
+      → option_map (λ (x : Bio). x.number) (find p (shown_bios log bios))
       ≡ option_map (λ (x : Trip). x.number) (find q (trips bios))
   first-shown p q same [] = refl
   first-shown p q same (x ∷ xs) = at (q (trip_of x)) refl (first-shown p q same xs)
     where
       at : (b : Bool) → q (trip_of x) ≡ b
-          → option_map (λ (x : Bio). x.number) (find p (shown log xs))
+          → option_map (λ (x : Bio). x.number) (find p (shown_bios log xs))
           ≡ option_map (λ (x : Trip). x.number) (find q (trips xs))
-          → option_map (λ (x : Bio). x.number) (find p (shown log (x ∷ xs)))
+          → option_map (λ (x : Bio). x.number) (find p (shown_bios log (x ∷ xs)))
           ≡ option_map (λ (x : Trip). x.number) (find q (trips (x ∷ xs)))
       at true e rest =
-          ap (λ c. option_map (λ (y : Bio). y.number) (cond c (Some (shown_bio log x)) (find p (shown log xs))))
+          ap (λ c. option_map (λ (y : Bio). y.number) (cond c (Some (shown_bio log x)) (find p (shown_bios log xs))))
           (same x ∙ e)
           ∙ sym (ap (λ c. option_map (λ (y : Trip). y.number) (cond c (Some (trip_of x)) (find q (trips xs)))) e)
       at false e rest =
-          ap (λ c. option_map (λ (y : Bio). y.number) (cond c (Some (shown_bio log x)) (find p (shown log xs))))
+          ap (λ c. option_map (λ (y : Bio). y.number) (cond c (Some (shown_bio log x)) (find p (shown_bios log xs))))
           (same x ∙ e)
           ∙ rest
           ∙ sym (ap (λ c. option_map (λ (y : Trip). y.number) (cond c (Some (trip_of x)) (find q (trips xs)))) e)

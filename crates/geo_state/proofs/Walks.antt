@@ -10,7 +10,7 @@ use Rattle.geo_base.proofs.FindLists.{find_agree}
 use Rattle.geo_model.specs.declared.step.Owner.TheVariants as owners
 use Rattle.geo_model.specs.World.{BioOf, Handle}
 use Rattle.geo_bio.specs.declared.bio.Held.{Held}
-use Rattle.geo_bio.specs.BioTable.{first_bio}
+use Rattle.geo_bio.specs.BioTable.{bio_from}
 use Rattle.geo_handles.specs.Handles.{handle_at}
 use Rattle.geo_state.proofs.OrderLemmas.{Rising}
 use Rattle.geo_state.proofs.CursorLemmas.{reached_above}
@@ -31,24 +31,24 @@ module _ (test : BioOf Held → Bool) where
   from_on low x = nat_le low x.number && test x
 
   -- where no number is reached, nothing is found
-  none_reached : (low : ℕ) (bios : List (BioOf Held)) → first_bio bios low ≡ None → find (from_on low) bios ≡ None
+  none_reached : (low : ℕ) (bios : List (BioOf Held)) → bio_from bios low ≡ None → find (from_on low) bios ≡ None
   none_reached low [] none = refl
   none_reached low (x ∷ xs) none = at (nat_le low x.number) refl (none_reached low xs) where
-    at : (b : Bool) → nat_le low x.number ≡ b → (first_bio xs low ≡ None → find (from_on low) xs ≡ None)
+    at : (b : Bool) → nat_le low x.number ≡ b → (bio_from xs low ≡ None → find (from_on low) xs ≡ None)
         → find (from_on low) (x ∷ xs) ≡ None
     at true e later = absurd (let never : Some x.number ≡ None = rw e at none in cc)
-    at false e later = let rest : first_bio xs low ≡ None = rw e at none in rw e (later rest)
+    at false e later = let rest : bio_from xs low ≡ None = rw e at none in rw e (later rest)
 
-  pub walk_ends : (low : ℕ) (bios : List (BioOf Held)) → first_bio bios low ≡ None → first_passing test bios low ≡ None
+  pub walk_ends : (low : ℕ) (bios : List (BioOf Held)) → bio_from bios low ≡ None → first_passing test bios low ≡ None
   walk_ends low bios none = ap (option_map (λ (x : BioOf Held). x.number)) (none_reached low bios none)
 
   -- one that passes is found
-  pub walk_hits : (low b : ℕ) (bios : List (BioOf Held)) → Rising bios → first_bio bios low ≡ Some b
+  pub walk_hits : (low b : ℕ) (bios : List (BioOf Held)) → Rising bios → bio_from bios low ≡ Some b
       → passes test bios b ≡ true → first_passing test bios low ≡ Some b
   walk_hits low b [] rising first hits = absurd cc
   walk_hits low b (x ∷ xs) rising first hits = at (nat_le low x.number) refl (walk_hits low b xs rising.1) where
     at : (d : Bool) → nat_le low x.number ≡ d
-        → (first_bio xs low ≡ Some b → passes test xs b ≡ true → first_passing test xs low ≡ Some b)
+        → (bio_from xs low ≡ Some b → passes test xs b ≡ true → first_passing test xs low ≡ Some b)
         → first_passing test (x ∷ xs) low ≡ Some b
     at true e later =
         let here : Some x.number ≡ Some b = rw e at first in
@@ -56,7 +56,7 @@ module _ (test : BioOf Held → Bool) where
         let hit : test x ≡ true = rw (eq-eqb x.number b same) at hits in
         rw (e, hit) here
     at false e later =
-        let rest : first_bio xs low ≡ Some b = rw e at first in
+        let rest : bio_from xs low ≡ Some b = rw e at first in
         let above = reached_above (λ p. true) low b xs rest in
         let less = leb-false low x.number e in
         let differs = ne_eqb x.number b (λ same. omega (arith, same, less, above)) in
@@ -64,7 +64,7 @@ module _ (test : BioOf Held → Bool) where
         rw e (later rest there)
 
   -- from one that doesn't pass the walk goes on behind it
-  pub walk_goes_on : (low b : ℕ) (bios : List (BioOf Held)) → Rising bios → first_bio bios low ≡ Some b
+  pub walk_goes_on : (low b : ℕ) (bios : List (BioOf Held)) → Rising bios → bio_from bios low ≡ Some b
       → passes test bios b ≡ false → first_passing test bios (b + 1) ≡ first_passing test bios low
   walk_goes_on low b [] rising first fails = refl
   walk_goes_on low b (x ∷ xs) rising first fails =
@@ -79,7 +79,7 @@ module _ (test : BioOf Held → Bool) where
       )
 
       at : (d : Bool) → nat_le low x.number ≡ d
-          → (first_bio xs low ≡ Some b → passes test xs b ≡ false
+          → (bio_from xs low ≡ Some b → passes test xs b ≡ false
           → first_passing test xs (b + 1) ≡ first_passing test xs low)
           → first_passing test (x ∷ xs) (b + 1) ≡ first_passing test (x ∷ xs) low
       at true e later =
@@ -91,7 +91,7 @@ module _ (test : BioOf Held → Bool) where
           (ap (option_map (λ (y : BioOf Held). y.number)) (find_agree (from_on (b + 1)) (from_on low) xs
           (behind under xs (subst (λ m. AllByRecursion (λ y. m < y.number) xs) same rising.0))))
       at false e later =
-          let rest : first_bio xs low ≡ Some b = rw e at first in
+          let rest : bio_from xs low ≡ Some b = rw e at first in
           let above = reached_above (λ p. true) low b xs rest in
           let less = leb-false low x.number e in
           let differs = ne_eqb x.number b (λ same. omega (arith, same, less, above)) in

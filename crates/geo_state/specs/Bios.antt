@@ -13,7 +13,7 @@ use Rattle.geo_state.specs.declared.state.State.{State}
 use Rattle.geo_state.specs.declared.state.OwnBios.{OwnBios}
 use Rattle.geo_state.specs.Own.{left_by}
 use Rattle.geo_state.specs.Trips.{Trip, trips, is_at_disk}
-use Rattle.geo_state.specs.World.{header_disk}
+use Rattle.geo_state.specs.World.{disk_of_seat}
 
 -- only the requests on their way are others, with what is kept of them
 pub record OnlyBios (old new : State) : Type 0 where
@@ -25,7 +25,7 @@ pub record OnlyBios (old new : State) : Type 0 where
     disks = new.disks;
     own = new.own;
   }
-  pub disks : map header_disk new.disks.items ≡ map header_disk old.disks.items
+  pub disks : map disk_of_seat new.disks.items ≡ map disk_of_seat old.disks.items
 
 -- one more request out through each of the consumers, in order
 abbrev pub all_out : TopoView Config → List (ℕ × ℕ) → TopoView Config
@@ -71,19 +71,19 @@ CameThrough s bio =
     IsSome (consumer_at s.topo.topology x.source) × IsOfItsOwner s x.source x.owner)
 
 -- an actor's own requests after one of a handle is back, if there is the handle
-abbrev pub left_of : List OwnBios → Option Handle → List OwnBios
-left_of owns None = owns
-left_of owns (Some h) = left_by owns h.actor
+abbrev pub own_left : List OwnBios → Option Handle → List OwnBios
+own_left owns None = owns
+own_left owns (Some h) = left_by owns h.actor
 
 -- actors' own requests, and the taste's read, after a request of the owner is back
 abbrev pub own_after : State → Owner → List OwnBios
-own_after s (owners.Line handle line) = left_of s.own.items (handle_at s.handles.handles handle)
+own_after s (owners.Line handle line) = own_left s.own.items (handle_at s.handles.handles handle)
 own_after s owner = s.own.items
 
 -- the taste's read after it
-abbrev pub read_after : State → Owner → Option ℕ
-read_after s owners.Taste = None
-read_after s owner = s.read
+abbrev pub taste_read_after : State → Owner → Option ℕ
+taste_read_after s owners.Taste = None
+taste_read_after s owner = s.read
 
 -- the actor of the owner's handle has a request out
 abbrev pub CanLeave : State → Owner → Type 0

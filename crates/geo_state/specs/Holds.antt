@@ -8,7 +8,7 @@ use Rattle.geo_model.specs.Topology.{Topology, Provider, Consumer}
 use Rattle.geo_model.specs.World.{Config, Handle, Taste, taste_grant}
 use Rattle.geo_mesh.specs.Topo.{TopoView}
 use Rattle.geo_access.specs.Access.{IsCounted, IsQuiet, granted_by}
-use Rattle.geo_handles.specs.HandleLaws.{noted}
+use Rattle.geo_handles.specs.HandleLaws.{noted_handles}
 use Rattle.geo_handles.specs.Handles.{HandlesView}
 use Rattle.geo_state.specs.declared.state.State.{State}
 use Rattle.geo_state.specs.declared.state.DiskSeat.{DiskSeat}
@@ -31,12 +31,12 @@ GrantsAgree t handles taste = granted_by t ≡ granted_of handles taste
 -- Requests out
 
 -- each consumer's number with how many are out through it
-abbrev pub AreOut : TopoView Config → List Trip → Type 0
-AreOut t xs = t.active ≡ map (λ (c : Consumer). (c.number, out_through xs c.number)) t.topology.consumers
+abbrev pub OutAreCounted : TopoView Config → List Trip → Type 0
+OutAreCounted t xs = t.active ≡ map (λ (c : Consumer). (c.number, out_through xs c.number)) t.topology.consumers
 
 -- just the handles that can be reaped are noted
-abbrev pub AreReady : HandlesView → List Trip → Type 0
-AreReady v xs = v.ready ≡ noted (can_be_reaped xs) v.handles
+abbrev pub ReapableAreNoted : HandlesView → List Trip → Type 0
+ReapableAreNoted v xs = v.ready ≡ noted_handles (can_be_reaped xs) v.handles
 
 -- each actor's own requests are counted
 abbrev pub AreOwn : List OwnBios → List Handle → List Trip → Type 0
@@ -73,8 +73,8 @@ pub record Holds (s : State) : Type 0 where
   pub quiet : IsQuiet s.topo
   pub numbers : AreNumbers (map (λ (h : Handle). h.number) s.handles.handles) s.handles.next
   pub grants : GrantsAgree s.topo s.handles.handles s.taste
-  pub active : AreOut s.topo (trips s.traffic.bios)
-  pub ready : AreReady s.handles (trips s.traffic.bios)
+  pub active : OutAreCounted s.topo (trips s.traffic.bios)
+  pub ready : ReapableAreNoted s.handles (trips s.traffic.bios)
   pub own : AreOwn s.own.items s.handles.handles (trips s.traffic.bios)
   pub read : s.read ≡ taste_read (trips s.traffic.bios)
   pub seats : AreSeats s.disks.items s.topo.topology (trips s.traffic.bios)

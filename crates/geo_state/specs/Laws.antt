@@ -9,7 +9,7 @@ use Rattle.geo_access.specs.Access.{IsCounted, IsQuiet, granted_by}
 use Rattle.geo_state.specs.declared.state.State.{State}
 use Rattle.geo_state.specs.Parts.{SameParts, DisksStay, Comes, IsGone}
 use Rattle.geo_state.specs.Trips.{Trip, out_through}
-use Rattle.geo_state.specs.Holds.{Holds, AreOut, AreSeats, owed_events}
+use Rattle.geo_state.specs.Holds.{Holds, OutAreCounted, AreSeats, owed_events}
 use Rattle.geo_state.specs.declared.state.DiskSeat.{DiskSeat}
 
 -- effects leave each geom its disk, each provider its geom, and the consumers their numbers
@@ -35,7 +35,7 @@ HoldsAfterEffects =
 -- requests out through each consumer, after one came through which none is, and after one is gone; and the seats, where
 -- the disks stay
 pub record FieldsFollow (t u : TopoView Config) (xs : List Trip) : Type 0 where
-  pub comes : (c : ℕ) → Comes t u c → out_through xs c ≡ 0 → AreOut t xs → AreOut u xs
-  pub goes : (c : ℕ) → IsGone t u c → AreOut t xs → AreOut u xs
+  pub comes : (c : ℕ) → Comes t u c → out_through xs c ≡ 0 → OutAreCounted t xs → OutAreCounted u xs
+  pub goes : (c : ℕ) → IsGone t u c → OutAreCounted t xs → OutAreCounted u xs
   pub seats : (seats : List DiskSeat) → DisksStay t.topology u.topology xs → AreSeats seats t.topology xs
       → AreSeats seats u.topology xs

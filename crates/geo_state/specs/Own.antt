@@ -11,8 +11,8 @@ abbrev pub with_bio : ℕ → OwnBios → OwnBios
 with_bio number x = record { count = x.count + 1; low = lower x.count x.low number }
 
 -- with one less
-abbrev pub without_bio : OwnBios → OwnBios
-without_bio x = record { count = x.count - 1; low = x.low }
+abbrev pub with_one_less : OwnBios → OwnBios
+with_one_less x = record { count = x.count - 1; low = x.low }
 
 -- those of an actor changed, if there is the actor
 abbrev pub change_own : (OwnBios → OwnBios) → List OwnBios → ℕ → Option OwnBios → List OwnBios
@@ -25,4 +25,4 @@ entered owns actor number = change_own (with_bio number) owns actor (slice_get o
 
 -- with one less
 abbrev pub left_by : List OwnBios → ℕ → List OwnBios
-left_by owns actor = change_own without_bio owns actor (slice_get owns actor)
+left_by owns actor = change_own with_one_less owns actor (slice_get owns actor)

@@ -21,15 +21,15 @@ geom_of_disk t disk = option_map (λ g. g.number) (find (is_geom_of_disk disk) t
 abbrev pub disk_row : Geom Config → ℕ × Option ℕ
 disk_row g = (g.number, disk_of g.config)
 
-abbrev pub geom_row : Provider → ℕ × ℕ
-geom_row p = (p.number, p.geom)
+abbrev pub owner_row : Provider → ℕ × ℕ
+owner_row p = (p.number, p.geom)
 
 -- each geom's number with its disk, each provider's with its geom, and the consumers' numbers are the same
 pub record SameParts (t u : Topology Config) : Type 0 where
   pub geoms : map disk_row u.geoms
       ≡ map disk_row t.geoms
-  pub providers : map geom_row u.providers
-      ≡ map geom_row t.providers
+  pub providers : map owner_row u.providers
+      ≡ map owner_row t.providers
   pub consumers : map (λ (c : Consumer). c.number) u.consumers ≡ map (λ (c : Consumer). c.number) t.consumers
 
 -- each disk has the geom that it had, and each request on its way goes to the disk to which it went

@@ -8,8 +8,8 @@ change_seat change seats disk None = seats
 change_seat change seats disk (Some seat) = slice_set seats disk (change seat)
 
 -- with another geom of the disk
-abbrev pub with_geom_at : List DiskSeat → ℕ → Option ℕ → List DiskSeat
-with_geom_at seats disk geom =
+abbrev pub with_disk_geom : List DiskSeat → ℕ → Option ℕ → List DiskSeat
+with_disk_geom seats disk geom =
     change_seat (λ seat. record seat { geom = geom }) seats disk (slice_get seats disk)
 
 -- with another request at the disk

@@ -26,8 +26,8 @@ shown_bio log x = record {
 }
 
 -- the bios as the mesh's definitions have them
-abbrev pub shown : (ℕ → Option (List ℕ)) → List (BioOf Held) → List Bio
-shown log bios = map (shown_bio log) bios
+abbrev pub shown_bios : (ℕ → Option (List ℕ)) → List (BioOf Held) → List Bio
+shown_bios log bios = map (shown_bio log) bios
 
 -- a place that a bio names is among so many
 abbrev pub IsBelow : ℕ → Option Held → Type 0

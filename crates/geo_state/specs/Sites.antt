@@ -11,8 +11,8 @@ use Rattle.geo_slots.specs.Slots.{value_at}
 use Rattle.geo_access.specs.Access.{granted_by}
 use Rattle.geo_state.specs.declared.state.State.{State}
 use Rattle.geo_state.specs.declared.state.DiskSeat.{DiskSeat}
-use Rattle.geo_state.specs.Parts.{disk_row, geom_row, geom_of_disk}
-use Rattle.geo_state.specs.Seats.{with_geom_at}
+use Rattle.geo_state.specs.Parts.{disk_row, owner_row, geom_of_disk}
+use Rattle.geo_state.specs.Seats.{with_disk_geom}
 use Rattle.geo_state.specs.World.{StandsFirm}
 use Rattle.geo_state.specs.Holds.{Holds, granted_of}
 use Rattle.geo_state.specs.Changes.{IsSettled}
@@ -33,7 +33,7 @@ pub record HasComers (t u : TopoView Config) (new : Comers) : Type 0 where
       ≡ map (λ (x : Consumer). x.number) t.topology.consumers ++ new.consumers
   pub active : u.active ≡ t.active ++ map no_row new.consumers
   pub geoms : map disk_row u.topology.geoms ≡ map disk_row t.topology.geoms ++ new.geoms
-  pub providers : map geom_row u.topology.providers ≡ map geom_row t.topology.providers ++ new.providers
+  pub providers : map owner_row u.topology.providers ≡ map owner_row t.topology.providers ++ new.providers
 
 -- none of the consumers is there yet
 abbrev pub AreFresh : TopoView Config → List ℕ → Type 0
@@ -57,7 +57,7 @@ KeptAfterInsert =
     (record { consumers = []; geoms = (geom, Some disk) ∷ []; providers = (prov, geom) ∷ [] })
     → geom_of_disk s.topo.topology disk ≡ None
     → ((c : ℕ) → granted_by new.topo c ≡ granted_by s.topo c) → IsSettled new.topo new.queue
-    → new.disks.items ≡ with_geom_at s.disks.items disk (Some geom)
+    → new.disks.items ≡ with_disk_geom s.disks.items disk (Some geom)
     → new ≡ record s {
       topo = new.topo;
       queue = new.queue;
@@ -85,7 +85,7 @@ KeptAfterConsumer =
 -- the seats once a geom is gone, of a disk or not
 abbrev pub seats_without : List DiskSeat → Option ℕ → List DiskSeat
 seats_without seats None = seats
-seats_without seats (Some disk) = with_geom_at seats disk None
+seats_without seats (Some disk) = with_disk_geom seats disk None
 
 -- after a geom went that had no provider
 abbrev pub KeptAfterGeom : Type 0

@@ -7,22 +7,22 @@ use Rattle.geo_model.specs.Fitting.{Firm}
 use Rattle.geo_log.specs.Places.{delivered_at}
 use Rattle.geo_state.specs.declared.state.State.{State}
 use Rattle.geo_state.specs.declared.state.DiskSeat.{DiskSeat}
-use Rattle.geo_state.specs.Shown.{shown, AreLogged}
+use Rattle.geo_state.specs.Shown.{shown_bios, AreLogged}
 
 -- a disk's seat as the model's disk
-abbrev pub header_disk : DiskSeat → HeaderDisk
-header_disk seat = record { name = seat.name; sector = seat.sector; size = seat.size }
+abbrev pub disk_of_seat : DiskSeat → HeaderDisk
+disk_of_seat seat = record { name = seat.name; sector = seat.sector; size = seat.size }
 
 -- the world that a state stands for, where the actors have these commands left and the log has these entries
 abbrev pub world : List (List LineCommand) → List Entry → State → World
 world actors log s = record {
   topology = s.topo.topology;
   handles = s.handles.handles;
-  bios = shown (delivered_at log) s.traffic.bios;
+  bios = shown_bios (delivered_at log) s.traffic.bios;
   events = s.queue.events;
   taste = s.taste;
   actors = actors;
-  disks = map header_disk s.disks.items;
+  disks = map disk_of_seat s.disks.items;
   next_handle = s.handles.next;
   next_bio = s.traffic.next;
 }

@@ -9,7 +9,7 @@ ghost use Rattle.geo_mesh.specs.Topo.{with_active};
 ghost use Rattle.geo_handles.specs.Handles.{HoldsAlone, handle_at, holding_handle};
 ghost use Rattle.geo_state.specs.Holds.{Holds};
 ghost use Rattle.geo_state.specs.Ready.{refreshed};
-ghost use Rattle.geo_state.specs.Bios.{OnlyBios, CameThrough, CanLeave, left_of, own_after, read_after};
+ghost use Rattle.geo_state.specs.Bios.{OnlyBios, CameThrough, CanLeave, own_left, own_after, taste_read_after};
 
 use crate::handles::{is_alone, refresh};
 use crate::own::leave;
@@ -56,7 +56,7 @@ fn come_back(state: &mut State, from: ConsId, owner: Owner)
     requires some_out { IfSome (value_at state.old.topo.active from) (λ n. 1 ≤ n) }
     requires own { CanLeave state.old owner }
     ensures own { state.new.own.items ≡ own_after state.old owner }
-    ensures read { state.new.read ≡ read_after state.old owner }
+    ensures read { state.new.read ≡ taste_read_after state.old owner }
     ensures alone { HoldsAlone state.old.handles.handles from
         (option_map (λ h. h.number) (holding_handle state.old.handles.handles from)) }
     ensures rest { state.new ≡ record state.old {
@@ -78,7 +78,7 @@ fn come_back(state: &mut State, from: ConsId, owner: Owner)
 fn leave_owner(state: &mut State, owner: Owner)
     requires { CanLeave state.old owner }
     ensures own { state.new.own.items ≡ own_after state.old owner }
-    ensures read { state.new.read ≡ read_after state.old owner }
+    ensures read { state.new.read ≡ taste_read_after state.old owner }
     ensures rest { state.new ≡ record state.old { own = state.new.own; read = state.new.read } }
 {
     match owner {
@@ -92,7 +92,7 @@ fn leave_owner(state: &mut State, owner: Owner)
 fn leave_line(state: &mut State, handle: HandleId)
     requires { IfSome (handle_at state.old.handles.handles handle) (λ h.
         IfSome (slice_get state.old.own.items h.actor) (λ own. 1 ≤ own.count)) }
-    ensures own { state.new.own.items ≡ left_of state.old.own.items (handle_at state.old.handles.handles handle) }
+    ensures own { state.new.own.items ≡ own_left state.old.own.items (handle_at state.old.handles.handles handle) }
     ensures rest { state.new ≡ record state.old { own = state.new.own } }
 {
     if let Some(found) = state.handles.get(handle) {

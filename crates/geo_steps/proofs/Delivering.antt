@@ -19,7 +19,7 @@ use Rattle.geo_model.proofs.NeverFull.{deliver-is_full}
 use Rattle.geo_serve.specs.Drives.{DriveView}
 use Rattle.geo_serve.specs.Serve.{fits_request}
 use Rattle.geo_laws_disks.proofs.Answered.{taken_can_be_answered}
-use Rattle.geo_lock.specs.Logged.{entries_of}
+use Rattle.geo_lock.specs.Logged.{entries_with_seat}
 use Rattle.geo_lock.specs.Yard.{IsPassOf, YardView}
 use Rattle.geo_core.specs.declared.logged.MeshStart.{MeshStart}
 use Rattle.geo_core.specs.Mesh.{IsHistory, entry_of}
@@ -185,7 +185,7 @@ enabled_now y p q bio got of can goes good =
 
     own : filter (is_of p.number) q.seen ≡ can.earlier ++ e ∷ []
     own =
-        subst (λ n. entries_of (λ (x : Entry). x.seat) n q.seen ≡ q.own) goes.same.number good.good.own_seen
+        subst (λ n. entries_with_seat (λ (x : Entry). x.seat) n q.seen ≡ q.own) goes.same.number good.good.own_seen
         ∙ (goes.own ∙ (append-nil p.own ∙ can.own))
 
     last : StandsLast p.number q.seen e

@@ -2,7 +2,7 @@
 ghost use Rattle.std.specs.Prelude.{◌≡◌, ◌<◌, ◌≤◌, length, IsTrue};
 ghost use Rattle.geo_base.specs.Name.{is_short_name};
 ghost use Rattle.geo_model.specs.Records.{is_stripe_size, stripe_record, stripe_sector};
-ghost use Rattle.geo_record.specs.Head.{answer_of};
+ghost use Rattle.geo_record.specs.Head.{decoder_answer};
 ghost use Rattle.geo_stripe.specs.Record.{EncodedIsDecoded};
 
 use geo_base::{DeclineCause, Declined, MAX_STRIPE_BYTES};
@@ -28,7 +28,7 @@ fn is_stripe_size(stripe: u32, sector: u64) -> bool
 /// sector size.
 pub fn decode(sector: &[u8]) -> Result<StripeRecord, Declined>
     requires { 48 ≤ length sector.now }
-    ensures { answer_of result ≡ stripe_record sector.now }
+    ensures { decoder_answer result ≡ stripe_record sector.now }
 {
     let name = decode_head(sector, &MAGIC, VERSION)?;
     let place = u16_at(sector, 40);

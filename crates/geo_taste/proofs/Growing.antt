@@ -37,7 +37,7 @@ use Rattle.geo_taste.specs.Joining.{MayBeMember, MayJoin}
 use Rattle.geo_taste.proofs.ModelLemmas.{accepted_is}
 use Rattle.geo_taste.proofs.StandingLemmas.{standing_at, standing_may}
 use Rattle.geo_access.specs.Access.{granted_by}
-use Rattle.geo_taste.specs.Taster.{held_by, IsSettled, IsTasteOf}
+use Rattle.geo_taste.specs.Taster.{held_by_taste, IsSettled, IsTasteOf}
 use Rattle.geo_taste.proofs.Adding.{config_kept, consumer_kept, geom_kept, no_geom, provider_kept}
 use Rattle.geo_taste.proofs.Coming.{taste_stands}
 use Rattle.geo_taste.proofs.Kept.{kept_counted}
@@ -178,7 +178,7 @@ module _ (s : Taste) where
               attached = is.tasting.tasting.attached;
             };
             holds = kept_value t.wants (t.topology.next_consumer, no_counts) s.consumer
-                (held_by s) is.tasting.holds;
+                (held_by_taste s) is.tasting.holds;
           };
         }
 

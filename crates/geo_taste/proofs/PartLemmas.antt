@@ -22,7 +22,7 @@ use Rattle.geo_laws_making.proofs.NewSlices.{new-differ, slice-tells, logical-te
 use Rattle.geo_taste.specs.Making.{QueuedMesh, with_offer}
 use Rattle.geo_taste.specs.Accepting.{with_slices_of}
 use Rattle.geo_taste.specs.Accepts.{HaveSizes}
-use Rattle.geo_taste.specs.Parts.{are_names, CanAddPart, Differ, is_addable}
+use Rattle.geo_taste.specs.Parts.{are_names, CanAddPart, is_addable, PartsDiffer}
 use Rattle.geo_taste.specs.Standing.{MayOffer}
 use Rattle.geo_taste.proofs.Following.{CarriesRoom}
 
@@ -134,14 +134,14 @@ free_addable t (x ∷ xs) sizes free =
     rw (parts.1, sizes.0, free_addable t xs sizes.1 first.1) refl
 
 -- slices differ in name
-pub slices_differ : (below : List ℕ) (xs : List (Option Slice)) → PairsByRecursion Differ (new_slices below xs)
+pub slices_differ : (below : List ℕ) (xs : List (Option Slice)) → PairsByRecursion PartsDiffer (new_slices below xs)
 slices_differ below xs =
     new-differ (slice_name below) (λ (y : Slice). y.count) slice_place (length xs)
     (λ i less. slice-tells below i) 0 xs (omega arith)
 
 -- and so do partitions
 pub partitions_differ : (below : List ℕ) (xs : List (Option EbrPart)) → length xs ≤ MAX_LINKS
-    → PairsByRecursion Differ (new_parts below xs)
+    → PairsByRecursion PartsDiffer (new_parts below xs)
 partitions_differ below xs few =
     new-differ (logical_name below) (λ (y : EbrPart). y.count) (λ name. end_number name - 1) (length xs)
     (λ i less.

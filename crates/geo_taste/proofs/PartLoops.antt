@@ -14,7 +14,7 @@ use Rattle.geo_laws_life.proofs.Standers.{PairsByRecursion}
 use Rattle.geo_laws_making.proofs.NewSlices.{new_of}
 use Rattle.geo_taste.specs.Making.{QueuedMesh, both, AreBoth, with_offer}
 use Rattle.geo_taste.specs.Accepting.{with_slices_of}
-use Rattle.geo_taste.specs.Parts.{are_names, named_all, IsPlaced, IsPushed, CanAddPart, Differ}
+use Rattle.geo_taste.specs.Parts.{are_names, named_all, IsPlacePushed, IsPushed, CanAddPart, PartsDiffer}
 use Rattle.geo_taste.specs.Standing.{MayOffer}
 use Rattle.geo_taste.proofs.Following.{with_room, both-are}
 use Rattle.geo_taste.proofs.PartLemmas.{add_more, may_more, offers_carry}
@@ -46,7 +46,7 @@ module _ {X : Type 0} (name : ℕ → List ℕ) (count : X → ℕ) (all : List 
   -- one place more
   named_step : (place : ℕ) (items more : List NewSlice) (o : Option X) (rest : List (Option X)) (named : Bool)
       → NamedSoFar place items (o ∷ rest)
-      → IsPlaced (name_of (name place)) (option_map count o) named items more → named ≡ true
+      → IsPlacePushed (name_of (name place)) (option_map count o) named items more → named ≡ true
       → NamedSoFar (place + 1) more rest
   named_step place items more None rest named far placed good =
       let e : place + (1 + length rest) ≡ length all = omega (arith, far.number) in
@@ -78,7 +78,7 @@ module _ {X : Type 0} (name : ℕ → List ℕ) (count : X → ℕ) (all : List 
   -- a place without a name
   named_no : (place : ℕ) (items more : List NewSlice) (o : Option X) (rest : List (Option X)) (named : Bool)
       → NamedSoFar place items (o ∷ rest)
-      → IsPlaced (name_of (name place)) (option_map count o) named items more → named ≡ false
+      → IsPlacePushed (name_of (name place)) (option_map count o) named items more → named ≡ false
       → None ≡ named_all (new_of name count 0 all)
   named_no place items more None rest named far placed bad =
       absurd (let no : true ≡ false = sym placed.0 ∙ bad in let never : ⊥ = cc in never)
@@ -98,7 +98,7 @@ module _ {X : Type 0} (name : ℕ → List ℕ) (count : X → ℕ) (all : List 
 
   module _ (place i : ℕ) (items more : List NewSlice) (o : Option X) (named : Bool) (less : i < length all)
       (is : o ≡ get_or all i o) (far : NamedSoFar place items (drop i all))
-      (placed : IsPlaced (name_of (name place)) (option_map count o) named items more) where
+      (placed : IsPlacePushed (name_of (name place)) (option_map count o) named items more) where
     -- what was so far
     now : NamedSoFar place items (o ∷ drop (i + 1) all)
     now = subst (NamedSoFar place items) (first_left all i o less is) far
@@ -136,7 +136,7 @@ pub record OfferedSoFar (t u : TopoView Config) (q r : Queued) (geom : ℕ) (res
       ≡ with_room (with_slices_of (both t q) geom all) t.room
   pub may : MayOffer u.topology geom
   pub can : AllByRecursion (CanAddPart u.topology) rest
-  pub apart : PairsByRecursion Differ rest
+  pub apart : PairsByRecursion PartsDiffer rest
   pub room : length rest ≤ u.room.providers
   pub spare : length rest ≤ r.spare
   pub left : q.spare + length rest ≤ r.spare + length all

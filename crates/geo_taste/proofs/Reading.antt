@@ -22,7 +22,7 @@ use Rattle.geo_laws_counts.proofs.Members.{in_head}
 use Rattle.geo_laws_counts.proofs.Openers.{wants_grant}
 use Rattle.geo_access.specs.Access.{granted_by, holds_grants, counted_view, granted_view, released_view, leaves_zero, comes_to_zero, place_of, IsQuiet, IsHolder}
 use Rattle.geo_access.proofs.Decided.{item_at}
-use Rattle.geo_taste.specs.Taster.{held_by, with_granted, IsTasteOf}
+use Rattle.geo_taste.specs.Taster.{held_by_taste, with_granted, IsTasteOf}
 use Rattle.geo_taste.proofs.Writing.{have_writes, leaves_none, comes_none}
 use Rattle.geo_taste.proofs.Coming.{taste_holds}
 
@@ -61,7 +61,7 @@ module _ (t : Topology Config) (sound : IsSoundGraph t) (s : Taste) (is : IsTast
 -- The read
 
 -- what a taste holds writes nothing
-pub held_reads : (s : Taste) → (held_by s).w ≡ 0
+pub held_reads : (s : Taste) → (held_by_taste s).w ≡ 0
 held_reads s = by (is_read_out s.asked)
   where
     by : (b : Bool) → (if b then one_read else no_counts).w ≡ 0
@@ -69,7 +69,7 @@ held_reads s = by (is_read_out s.asked)
     by false = refl
 
 -- while its read isn't out it holds nothing, and while it is out, one read
-pub held_idle : (s : Taste) → is_read_out s.asked ≡ false → held_by s ≡ no_counts
+pub held_idle : (s : Taste) → is_read_out s.asked ≡ false → held_by_taste s ≡ no_counts
 held_idle s idle = ap (λ b. if b then one_read else no_counts) idle
 
 module _ {C : Type 0} (t : TopoView C) (c : ℕ) where
@@ -169,7 +169,7 @@ module _ (t : TopoView Config) (sound : IsSoundGraph t.topology) (s : Taste) (is
       (eq-eqb is.tasting.consumer.number s.consumer is.tasting.number)
 
   -- so it is the consumer of a taste of which it is
-  pub given_tasting : (z : Taste) → z.consumer ≡ s.consumer → z.provider ≡ s.provider → held_by z ≡ add
+  pub given_tasting : (z : Taste) → z.consumer ≡ s.consumer → z.provider ≡ s.provider → held_by_taste z ≡ add
       → IsTasteOf (with_granted t s.consumer add) z
   given_tasting z consumer provider held = record {
     tasting = record {

@@ -21,7 +21,7 @@ use Rattle.geo_mesh.specs.Topo.{TopoView}
 use Rattle.geo_access.specs.Access.{granted_by}
 use Rattle.geo_class.specs.Taste.{after_back, after_verdict, ended, sector_back, verdict_back, weighed}
 use Rattle.geo_taste.specs.Going.{going}
-use Rattle.geo_taste.specs.Saying.{said_of, with_said, IsTaken, IsSaidOn, IsSaid}
+use Rattle.geo_taste.specs.Saying.{said_of, with_said, IsReadTaken, IsSaidOn, IsSaid}
 use Rattle.geo_taste.specs.declared.judge.Said.{Said}
 use Rattle.geo_taste.specs.declared.judge.Said.TheVariants.{Came, Accepts}
 use Rattle.geo_taste.specs.Taster.{queued}
@@ -59,7 +59,7 @@ module _ (granted : ℕ → Counts) (q : QueuedTopology Config) (s : Taste) (p :
 
     -- each verdict
     taken_by : (w : Verdict) → verdict_on granted s kind bytes f ≡ w → (z : Taste) → z ≡ weighed granted s f (Some w)
-        → IsTaken granted q s p kind (Bytes bytes) z (said_of (Some w))
+        → IsReadTaken granted q s p kind (Bytes bytes) z (said_of (Some w))
     taken_by (Decline cause) e z same =
         ap (follow granted q (with_read granted s kind bytes f) p kind) e
         ∙ ap next (read-ended granted s kind bytes f ∙ sym (same ∙ after_is (Decline cause) e))
@@ -78,23 +78,23 @@ module _ (granted : ℕ → Counts) (q : QueuedTopology Config) (s : Taste) (p :
 
   -- so what becomes of a read that is back
   pub taken : (got : BioResult) → s.asked ≡ ReadBack kind got → (v : Option Verdict) → v ≡ verdict_back granted s f
-      → (z : Taste) → z ≡ weighed granted s f v → IsTaken granted q s p kind got z (said_of v)
+      → (z : Taste) → z ≡ weighed granted s f v → IsReadTaken granted q s p kind got z (said_of v)
   taken (Bytes bytes) asked v is z same =
       let told : v ≡ Some (verdict_on granted s kind bytes f) =
       is ∙ ap (λ a. option_map (λ (x : Kind × List ℕ). verdict_on granted s x.0 x.1 f) (sector_back a)) asked in
-      subst (λ o. IsTaken granted q s p kind (Bytes bytes) z (said_of o)) (sym told)
+      subst (λ o. IsReadTaken granted q s p kind (Bytes bytes) z (said_of o)) (sym told)
       (taken_by bytes asked (verdict_on granted s kind bytes f) refl z (same ∙ ap (weighed granted s f) told))
   taken Done asked v is z same =
       let told : v ≡ None =
       is ∙ ap (λ a. option_map (λ (x : Kind × List ℕ). verdict_on granted s x.0 x.1 f) (sector_back a)) asked in
-      subst (λ o. IsTaken granted q s p kind Done z (said_of o)) (sym told)
+      subst (λ o. IsReadTaken granted q s p kind Done z (said_of o)) (sym told)
       (ap next (sym (same ∙ ap (weighed granted s f) told
       ∙ ap (λ a. option_map_or (λ (x : Kind × List ℕ). after_verdict granted s x.0 x.1 f
       (verdict_on granted s x.0 x.1 f)) (sector_back a) (ended s)) asked)))
   taken (Failed e) asked v is z same =
       let told : v ≡ None =
       is ∙ ap (λ a. option_map (λ (x : Kind × List ℕ). verdict_on granted s x.0 x.1 f) (sector_back a)) asked in
-      subst (λ o. IsTaken granted q s p kind (Failed e) z (said_of o)) (sym told)
+      subst (λ o. IsReadTaken granted q s p kind (Failed e) z (said_of o)) (sym told)
       (ap next (sym (same ∙ ap (weighed granted s f) told
       ∙ ap (λ a. option_map_or (λ (x : Kind × List ℕ). after_verdict granted s x.0 x.1 f
       (verdict_on granted s x.0 x.1 f)) (sector_back a) (ended s)) asked)))
@@ -139,7 +139,7 @@ said_plain (Some (Accept shape)) t c = refl
 pub said_back : (t : TopoView Config) (s : Taste) (p : Provider) (z : Taste) (kind : Kind) (got : BioResult)
     (said : Said)
     → s.asked ≡ ReadBack kind got
-    → ((events : List Event) → IsTaken (granted_by t) (queued t events) s p kind got z said)
+    → ((events : List Event) → IsReadTaken (granted_by t) (queued t events) s p kind got z said)
     → IsSaidOn t s p t z said
 said_back t s p z kind got (Came j) asked taken =
     λ events. ap (go_on (granted_by t) (queued t events) s p) asked ∙ taken events

@@ -21,8 +21,8 @@ abbrev pub CanAddPart : Topology Config → NewSlice → Type 0
 CanAddPart t x = (is_name_taken t x.name ≡ false) × (is_provider_size x.size 512 ≡ true)
 
 -- two parts differ in name
-abbrev pub Differ : NewSlice → NewSlice → Type 0
-Differ x y = same_name x.name y.name ≡ false
+abbrev pub PartsDiffer : NewSlice → NewSlice → Type 0
+PartsDiffer x y = same_name x.name y.name ≡ false
 
 -- whether a provider can be made of a part
 abbrev pub is_addable : Topology Config → NewSlice → Bool
@@ -35,6 +35,6 @@ IsPushed (Some name) sectors named old new =
     (named ≡ true) × (new ≡ old ++ record { name = name; size = sectors * 512 } ∷ [])
 
 -- so was the part of a place that may be empty
-abbrev pub IsPlaced : Option (List ℕ) → Option ℕ → Bool → List NewSlice → List NewSlice → Type 0
-IsPlaced name None named old new = (named ≡ true) × (new ≡ old)
-IsPlaced name (Some sectors) named old new = IsPushed name sectors named old new
+abbrev pub IsPlacePushed : Option (List ℕ) → Option ℕ → Bool → List NewSlice → List NewSlice → Type 0
+IsPlacePushed name None named old new = (named ≡ true) × (new ≡ old)
+IsPlacePushed name (Some sectors) named old new = IsPushed name sectors named old new

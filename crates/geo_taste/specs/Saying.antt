@@ -38,10 +38,11 @@ is_plain (Came j) = not (makes j)
 is_plain (Accepts shape) = true
 
 -- what becomes of a read that is back: the next step goes on, or the class accepts a shape, and the taste is as it was
-abbrev pub IsTaken : (ℕ → Counts) → QueuedTopology Config → Taste → Provider → Kind → BioResult → Taste → Said → Type 0
-IsTaken granted q s p kind got z (Came j) =
+abbrev pub IsReadTaken : (ℕ → Counts) → QueuedTopology Config → Taste → Provider → Kind → BioResult → Taste → Said
+    → Type 0
+IsReadTaken granted q s p kind got z (Came j) =
     take_result granted q s p kind got ≡ record { queued = q; taste = z; judged = j }
-IsTaken granted q s p kind got z (Accepts shape) =
+IsReadTaken granted q s p kind got z (Accepts shape) =
     (z ≡ s) × (verdict_back granted s (facts_of q.topology p) ≡ Some (Accept shape))
     × (take_result granted q s p kind got ≡ accepting granted q s p shape)
 

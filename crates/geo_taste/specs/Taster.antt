@@ -32,8 +32,8 @@ first_taste p c = record {
 }
 
 -- what the taste holds at its provider: one read while its read is out
-abbrev pub held_by : Taste → Counts
-held_by s = if is_read_out s.asked then one_read else no_counts
+abbrev pub held_by_taste : Taste → Counts
+held_by_taste s = if is_read_out s.asked then one_read else no_counts
 
 module _ {C : Type 0} where
   -- the graph and the events, as the model has them
@@ -75,4 +75,4 @@ with_judged t c judged = t
 -- the taste's consumer is the only one of TASTE, is attached to the tasted provider, and holds what the taste does
 pub record IsTasteOf (t : TopoView Config) (s : Taste) : Type 0 where
   pub tasting : IsTasting t.topology s
-  pub holds : value_at t.wants s.consumer ≡ Some (held_by s)
+  pub holds : value_at t.wants s.consumer ≡ Some (held_by_taste s)

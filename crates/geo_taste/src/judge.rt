@@ -10,7 +10,7 @@ ghost use Rattle.geo_model.specs.World.{Config as ConfigValue, ReadBack};
 ghost use Rattle.geo_mesh.specs.Topo.{TopoView};
 ghost use Rattle.geo_access.specs.Access.{consumers_below};
 ghost use Rattle.geo_class.specs.Taste.{sector_back};
-ghost use Rattle.geo_taste.specs.Saying.{IsSaid, IsSaidOn, IsTaken, is_plain, said_of, with_said};
+ghost use Rattle.geo_taste.specs.Saying.{IsReadTaken, IsSaid, IsSaidOn, is_plain, said_of, with_said};
 ghost use Rattle.geo_taste.specs.Taster.{IsSettled, IsTasteOf};
 
 use crate::ask::{facts, next_class};
@@ -86,7 +86,7 @@ fn take_result(taste: &mut Taste, facts: &Facts) -> Said
     ensures kept { (t : TopoView ConfigValue) (c : ℕ) → t ≡ with_said t c result }
     ensures taken { (granted : ℕ → CountsValue) (q : QueuedTopology ConfigValue) (p : ProviderValue) (kind : KindValue)
         (got : BioResultValue) → taste.old.asked ≡ ReadBack kind got → facts.now ≡ facts_of q.topology p
-        → IsTaken granted q taste.old p kind got taste.new result }
+        → IsReadTaken granted q taste.old p kind got taste.new result }
     ensures tasting { (t : TopoView ConfigValue) (kind : KindValue) (got : BioResultValue)
         → taste.old.asked ≡ ReadBack kind got → IsTasteOf t taste.old → IsTasteOf t taste.new }
     ensures plain { is_plain result ≡ true }

@@ -7,7 +7,7 @@ ghost use Rattle.geo_model.specs.Names.{slice_name, logical_name};
 ghost use Rattle.geo_laws_life.proofs.Standers.{PairsByRecursion};
 ghost use Rattle.geo_taste.specs.Making.{both, AreBoth};
 ghost use Rattle.geo_taste.specs.Accepting.{with_slices_of};
-ghost use Rattle.geo_taste.specs.Parts.{named_all, IsPlaced, IsPushed, CanAddPart, Differ, is_addable};
+ghost use Rattle.geo_taste.specs.Parts.{named_all, IsPlacePushed, IsPushed, CanAddPart, PartsDiffer, is_addable};
 ghost use Rattle.geo_taste.specs.Standing.{MayOffer};
 
 use crate::names::{logical_name, slice_name};
@@ -77,7 +77,7 @@ fn push_slice(
     slice: &Option<Slice>,
 ) -> Result<bool, NoMemory>
     requires { place < 4 }
-    ensures { IfOk result (λ named. IsPlaced (name_of (slice_name below.now place))
+    ensures { IfOk result (λ named. IsPlacePushed (name_of (slice_name below.now place))
         (option_map (λ s. s.count) slice.now) named parts.old.items parts.new.items) }
 {
     match slice {
@@ -94,7 +94,7 @@ fn push_partition(
     part: &Option<EbrPart>,
 ) -> Result<bool, NoMemory>
     requires { place < 99 }
-    ensures { IfOk result (λ named. IsPlaced (name_of (logical_name below.now place))
+    ensures { IfOk result (λ named. IsPlacePushed (name_of (logical_name below.now place))
         (option_map (λ s. s.count) part.now) named parts.old.items parts.new.items) }
 {
     match part {
@@ -159,7 +159,7 @@ pub fn offer_parts(topo: &mut Topo<Config>, queue: &mut EventQueue, geom: GeomId
     requires spare { length parts.now ≤ queue.old.spare }
     requires may { MayOffer topo.old.topology geom }
     requires parts { AllByRecursion (CanAddPart topo.old.topology) parts.now }
-    requires apart { PairsByRecursion Differ parts.now }
+    requires apart { PairsByRecursion PartsDiffer parts.now }
     ensures made { AreBoth topo.new queue.new (with_slices_of (both topo.old queue.old) geom parts.now) }
     ensures spare { queue.old.spare ≤ queue.new.spare + length parts.now }
 {

@@ -16,7 +16,7 @@ use Rattle.geo_laws_counts.specs.CountWords.{HoldsGrants}
 use Rattle.geo_access.specs.Access.{IsCounted, IsQuiet, IsPlaced, IsHolder}
 use Rattle.geo_access.specs.ShutLaws.{MeshesStayShut, ShutMeshesAreCounted}
 use Rattle.geo_access.proofs.Shut.{meshes_stay_shut, shut_meshes_are_counted}
-use Rattle.geo_tests_core.specs.Built.{AreAttached, IsBuilt}
+use Rattle.geo_tests_core.specs.Built.{ConsumersAreAttached, IsBuilt}
 
 -- the first mesh is built
 pub first_built : {C : Type 0} (t : TopoView C) (dev taste : C) → t ≡ first_mesh dev taste t.room → IsBuilt t
@@ -33,7 +33,7 @@ pub geom_built : {C : Type 0} (t new : TopoView C) (kind : Kind) (name : List �
     → IsButForRoom new (with_geom t kind name config automatic) → IsBuilt t → IsBuilt new
 geom_built {C} t new kind name config automatic other is built = record {
   shut = MeshesStayShut.geom meshes_stay_shut t new kind name config automatic other is built.shut;
-  attached = subst (λ (v : TopoView C). AreAttached v.topology) (sym is) built.attached;
+  attached = subst (λ (v : TopoView C). ConsumersAreAttached v.topology) (sym is) built.attached;
 }
 
 -- with a provider
@@ -41,7 +41,7 @@ pub provider_built : {C : Type 0} (t new : TopoView C) (geom : ℕ) (name : List
     → IsButForRoom new (with_provider t geom name size sector) → IsBuilt t → IsBuilt new
 provider_built {C} t new geom name size sector is built = record {
   shut = MeshesStayShut.provider meshes_stay_shut t new geom name size sector is built.shut;
-  attached = subst (λ (v : TopoView C). AreAttached v.topology) (sym is) built.attached;
+  attached = subst (λ (v : TopoView C). ConsumersAreAttached v.topology) (sym is) built.attached;
 }
 
 -- a consumer, attached where it has the number
@@ -49,8 +49,8 @@ abbrev put : ℕ → ℕ → Consumer → Consumer
 put n p y = if y.number == n then record y { provider = Some p } else y
 
 -- where a consumer is made and attached, each one is
-pub comer_attached : {C : Type 0} (t : Topology C) (geom p : ℕ) → AreAttached t
-    → AreAttached (attach (add_consumer t geom None) t.next_consumer p)
+pub comer_attached : {C : Type 0} (t : Topology C) (geom p : ℕ) → ConsumersAreAttached t
+    → ConsumersAreAttached (attach (add_consumer t geom None) t.next_consumer p)
 comer_attached {C} t geom p before =
     all_of (λ (c : Consumer). IsSome c.provider) (attach (add_consumer t geom None) t.next_consumer p).consumers
     (λ c there.
@@ -92,7 +92,7 @@ consumer_built {C} t mid geom p is built = record {
   shut = MeshesStayShut.attached meshes_stay_shut mid t.topology.next_consumer p
       (MeshesStayShut.consumer meshes_stay_shut t mid geom is built.shut);
   attached =
-      subst (λ (v : TopoView C). AreAttached (attach v.topology t.topology.next_consumer p)) (sym is)
+      subst (λ (v : TopoView C). ConsumersAreAttached (attach v.topology t.topology.next_consumer p)) (sym is)
       (comer_attached t.topology geom p built.attached);
 }
 
@@ -130,7 +130,7 @@ quiet_found t counted risen fallen = record {
 }
 
 -- where each consumer is attached, each that isn't is of a geom without providers
-pub attached_placed : {C : Type 0} (t : Topology C) → AreAttached t → IsPlaced t
+pub attached_placed : {C : Type 0} (t : Topology C) → ConsumersAreAttached t → IsPlaced t
 attached_placed t all =
     all_of (λ (c : Consumer). c.provider ≡ None
     → filter (λ (y : Provider). y.geom == c.geom) t.providers ≡ []) t.consumers
@@ -154,10 +154,10 @@ dev_holder {C} t sound cons c found dev attached = record {
 
 -- where a new consumer of a mesh has joined, each one is attached
 pub joined_attached : {C : Type 0} (t mid : TopoView C) (geom p : ℕ) → IsButForRoom mid (with_consumer t geom)
-    → AreAttached t.topology
-    → AreAttached (attach mid.topology t.topology.next_consumer p)
+    → ConsumersAreAttached t.topology
+    → ConsumersAreAttached (attach mid.topology t.topology.next_consumer p)
 joined_attached {C} t mid geom p is before =
-    subst (λ (v : TopoView C). AreAttached (attach v.topology t.topology.next_consumer p)) (sym is)
+    subst (λ (v : TopoView C). ConsumersAreAttached (attach v.topology t.topology.next_consumer p)) (sym is)
     (comer_attached t.topology geom p before)
 
 -- nothing is there where nothing is said to be

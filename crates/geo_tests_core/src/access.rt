@@ -6,7 +6,7 @@ ghost use Rattle.geo_model.specs.Demand.{is_zero, no_counts};
 ghost use Rattle.geo_slots.specs.Slots.{value_at};
 ghost use Rattle.geo_access.specs.Access.{IsCounted, IsHolder, IsQuiet};
 ghost use Rattle.geo_access.specs.Join.{IsLoose};
-ghost use Rattle.geo_tests_core.specs.Built.{AreAttached, IsBuilt};
+ghost use Rattle.geo_tests_core.specs.Built.{ConsumersAreAttached, IsBuilt};
 
 use crate::built::{consumer_of, first_mesh, geom_of, is_quiet, name, open, provider_of, stand};
 use geo_access::{JoinRefusal, Steps, could_grant, join};
@@ -176,9 +176,9 @@ fn grow<L: Ledger>(
     steps: &mut Steps<L>,
 ) -> Result<Result<(), JoinRefusal>, Fail>
     requires counted { IsCounted topo.old }
-    requires attached { AreAttached topo.old.topology }
+    requires attached { ConsumersAreAttached topo.old.topology }
     ensures counted { IfOk result (λ r. OnOk r (IsCounted topo.new)) }
-    ensures attached { IfOk result (λ r. OnOk r (AreAttached topo.new.topology)) }
+    ensures attached { IfOk result (λ r. OnOk r (ConsumersAreAttached topo.new.topology)) }
 {
     if topo.geom(geom).is_none() || topo.provider(prov).is_none() || !is_quiet(topo) {
         return Err(Fail::from("not to grow"));

@@ -4,7 +4,7 @@ ghost use Rattle.geo_model.specs.Demand.{is_zero, no_counts};
 ghost use Rattle.geo_model.specs.Words.{is_granted_kind};
 ghost use Rattle.geo_slots.specs.Slots.{value_at};
 ghost use Rattle.geo_access.specs.Access.{IsCounted, IsHolder, IsQuiet};
-ghost use Rattle.geo_tests_core.specs.Built.{AreAttached, IsBuilt};
+ghost use Rattle.geo_tests_core.specs.Built.{ConsumersAreAttached, IsBuilt};
 
 use geo_access::{GrantRefusal, Steps, grant};
 use geo_base::{ConsId, Counts, GeomId, Kind, Name, ProvId};
@@ -102,7 +102,7 @@ pub fn open<C, L: Ledger>(
     requires built { IsBuilt topo.old }
     requires some { is_zero add ≡ false }
     ensures counted { OnOk result (IsCounted topo.new) }
-    ensures attached { OnOk result (AreAttached topo.new.topology) }
+    ensures attached { OnOk result (ConsumersAreAttached topo.new.topology) }
 {
     let cons = consumer_of(topo, GeomId::new(1), prov)?;
     if !holds_nothing(topo, cons) {

@@ -15,7 +15,7 @@ use Rattle.geo_model.specs.Listing.{listing}
 use Rattle.geo_model.specs.Log.{replay}
 use Rattle.geo_model.specs.Opening.{opening}
 use Rattle.geo_view.specs.MeshStart.{MeshStart}
-use Rattle.geo_view.specs.Logged.{start_of}
+use Rattle.geo_view.specs.Logged.{mesh_start}
 use Rattle.geo_view.specs.Mesh.{MeshView, world_of}
 use Rattle.geo_view.specs.Tried.{Tried}
 use Rattle.geo_view.specs.Tried.TheVariants as tries
@@ -25,7 +25,7 @@ use Rattle.geo_view.specs.Listings.{listing_after, listing_seen}
 use Rattle.geo_view.proofs.Replies.{replies_can_be_shown}
 
 -- a mesh that made no step is what the first pass of its yard has seen
-pub listed_first : (m : MeshView) (y : YardView MeshStart) → m.log ≡ [] → y.start ≡ start_of m
+pub listed_first : (m : MeshView) (y : YardView MeshStart) → m.log ≡ [] → y.start ≡ mesh_start m
     → listing (world_of m) ≡ listing_seen (first_pass y)
 unfolding listing_after
 listed_first m y log start = ap (λ (l : List Entry). listing (replay (opening m.plan m.facts) l)) log
@@ -57,6 +57,6 @@ first_is_of y p is =
 
 -- so it can show a mesh that made no step
 pub first_shows : (m : MeshView) (y : YardView MeshStart) (p : MeshPass) (lines : List GeomLine) → m.log ≡ []
-    → y.start ≡ start_of m → p ≡ first_pass y → lines ≡ listing (world_of m) → lines ≡ listing_seen p
+    → y.start ≡ mesh_start m → p ≡ first_pass y → lines ≡ listing (world_of m) → lines ≡ listing_seen p
 first_shows m y p lines log start is listed =
     listed ∙ (listed_first m y log start ∙ ap (λ (q : MeshPass). listing_seen q) (sym is))

@@ -4,7 +4,7 @@ use Rattle.std.specs.List.{AllZip, enumerate_from}
 use Rattle.std.proofs.Common.{ap, arith, refl, sym, ◌∙◌}
 use Rattle.std.proofs.lemmas.Bool.{eq-eqb, ne_eqb}
 use Rattle.std.proofs.lemmas.List.Elements.{filter-append}
-use Rattle.geo_threads.specs.Deal.{dealt, drives_in, gathered, merged, own_disks}
+use Rattle.geo_threads.specs.Deal.{dealt, drives_in, gathered_drives, merged, own_disks}
 
 -- one more element comes with the next number
 enumerate_push : {X : Type 0} (n : ℕ) (xs : List X) (z : X)
@@ -87,7 +87,8 @@ module _ {X : Type 0} where
 
 -- what one round of gathering leaves
 pub record Rounds {X : Type 0} (even odd : List (ℕ × X)) (x : ℕ × X) : Type 0 where
-  pub gives : gathered even odd ≡ x.1 ∷ [] ++ drives_in (take 1 odd) ++ gathered (drop 1 even) (drop 1 odd)
+  pub gives : gathered_drives even odd ≡ x.1 ∷ [] ++ drives_in (take 1 odd)
+      ++ gathered_drives (drop 1 even) (drop 1 odd)
   pub fewer : length (drop 1 odd) ≤ length (drop 1 even)
   pub one_less : length even ≡ length (drop 1 even) + 1
   pub rest : length odd ≡ length (take 1 odd) + length (drop 1 odd)
@@ -108,7 +109,7 @@ one_round {X} (e ∷ even) [] x first fewer =
 one_round {X} (e ∷ even) (o ∷ odd) x first fewer =
     let same : e ≡ x = cc in
     record {
-      gives = ap (λ (y : ℕ × X). y.1 ∷ o.1 ∷ gathered even odd) same;
+      gives = ap (λ (y : ℕ × X). y.1 ∷ o.1 ∷ gathered_drives even odd) same;
       fewer = omega (arith, fewer);
       one_less = omega arith;
       rest = omega arith;
@@ -116,7 +117,7 @@ one_round {X} (e ∷ even) (o ∷ odd) x first fewer =
 
 -- and then there is none
 pub none_left : {X : Type 0} (even odd : List (ℕ × X)) → None ≡ slice_get even 0 → length odd ≤ length even
-    → gathered even odd ≡ []
+    → gathered_drives even odd ≡ []
 none_left [] [] first fewer = refl
 none_left [] (o ∷ odd) first fewer = absurd (omega (arith, fewer))
 none_left (e ∷ even) odd first fewer = absurd (let bad : ⊥ = cc in bad)

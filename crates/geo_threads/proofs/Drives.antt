@@ -13,7 +13,7 @@ use Rattle.geo_model.specs.declared.step.Entry.{Entry}
 use Rattle.geo_serve.specs.Drives.{DriveView}
 use Rattle.geo_serve.specs.Served.{AreServed, IsServed, IsServedAt}
 use Rattle.geo_work.specs.Drives.{HasDrives}
-use Rattle.geo_threads.specs.Deal.{dealt, gathered, merged}
+use Rattle.geo_threads.specs.Deal.{dealt, gathered_drives, merged}
 use Rattle.geo_threads.specs.Left.{size_of}
 use Rattle.geo_threads.proofs.Dealing.{merged_from, merged_zip}
 
@@ -114,12 +114,13 @@ module _ {D : Type 0} (seen : Drive D → DriveView) (log : List Entry) where
         (merged_zip DidServe (dealt 0 drives) even (dealt 1 drives) odd evens odds)
 
     -- all drives did what the log says
-    pub are_served : AreServed log (map seen drives) (map seen (gathered even odd))
+    pub are_served : AreServed log (map seen drives) (map seen (gathered_drives even odd))
     are_served disk =
-        subst (λ m. IsServedAt log m (slice_get (map seen drives) disk) (slice_get (map seen (gathered even odd)) disk))
+        subst (λ m. IsServedAt log m (slice_get (map seen drives) disk)
+        (slice_get (map seen (gathered_drives even odd)) disk))
         (omega arith) (served_from 0 drives (merged even odd) in_turn disk)
 
     -- and have their sizes
-    pub sizes_kept : map size_of (map seen (gathered even odd))
+    pub sizes_kept : map size_of (map seen (gathered_drives even odd))
         ≡ map size_of (map seen drives)
     sizes_kept = sizes_stay 0 drives (merged even odd) in_turn

@@ -14,7 +14,7 @@ use Rattle.geo_work.specs.Jobs.{drives_of}
 use Rattle.geo_threads.specs.declared.left.JobsEnd.{JobsEnd}
 use Rattle.geo_threads.specs.declared.left.JobsEnd.TheVariants as ends
 use Rattle.geo_threads.specs.Closing.{IsEndOf, lists_of, passes_of, worse}
-use Rattle.geo_threads.specs.Deal.{AreTwo, gathered, gathered_of}
+use Rattle.geo_threads.specs.Deal.{AreTwo, gathered_drives, gathered_of}
 
 module _ {X : Type 0} (P : X → Type 0) (xs : List X) (x : X) where
   -- some element of more
@@ -143,7 +143,7 @@ two_long count lists two = let p = pair_of count lists two in ap (λ l. length l
 pub two_are : {D : Type 0} (count : ℕ) (lists front : List (DriveListView D)) (even odd : DriveListView D)
     → AreTwo count lists → lists ≡ front ++ even ∷ [] ++ odd ∷ []
     → (length odd.items ≤ length even.items) × (length even.items + length odd.items ≤ count)
-    × (gathered_of lists ≡ gathered even.items odd.items)
+    × (gathered_of lists ≡ gathered_drives even.items odd.items)
 two_are count lists front even odd two split =
     let p = pair_of count lists two in
     let same = last_two lists front p.even p.odd even odd (sym p.both) split in
@@ -154,6 +154,6 @@ two_are count lists front even odd two split =
       omega (arith, fewer, long, other),
       omega (arith, fits, long, other),
       ap (λ (l : List (DriveListView _)). gathered_of l) p.both
-          ∙ ap (λ (l : DriveListView _). gathered l.items p.odd.items) same.0
-          ∙ ap (λ (l : DriveListView _). gathered even.items l.items) same.1,
+          ∙ ap (λ (l : DriveListView _). gathered_drives l.items p.odd.items) same.0
+          ∙ ap (λ (l : DriveListView _). gathered_drives even.items l.items) same.1,
     )

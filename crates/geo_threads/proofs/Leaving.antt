@@ -30,7 +30,7 @@ use Rattle.geo_work.specs.Jobs.{drives_of}
 use Rattle.geo_threads.specs.declared.left.JobsEnd.{JobsEnd}
 use Rattle.geo_threads.specs.declared.left.JobsEnd.TheVariants as ends
 use Rattle.geo_threads.specs.Closing.{EndsYard, IsEndOf, lists_of, passes_of}
-use Rattle.geo_threads.specs.Deal.{AreTwo, dealt, gathered, gathered_of}
+use Rattle.geo_threads.specs.Deal.{AreTwo, dealt, gathered_drives, gathered_of}
 use Rattle.geo_threads.specs.Ended.{DidAs, EndedAs, HasEnded, HaveEnded, WasFull}
 use Rattle.geo_threads.specs.Left.{DrivesFit, TellsEnd, ThreadsRan, size_of}
 use Rattle.geo_threads.specs.Started.{MeshYard}
@@ -283,7 +283,7 @@ module _ {D : Type 0} (y : MeshYard) (seen : Drive D → DriveView) (drives : Li
       two_served y seen count_of_yard drives (count_of_yard + 3) 1 ws ended (omega arith) (omega (arith, many)) in
       let evens = list_served 0 two.even.items two.evens in
       let odds = list_served 1 two.odd.items two.odds in
-      let back_is : back ≡ gathered two.even.items two.odd.items =
+      let back_is : back ≡ gathered_drives two.even.items two.odd.items =
       is ∙ ap (λ (l : List (DriveListView D)). gathered_of l) two.lists_are in
       record {
         plan = refl;

@@ -16,7 +16,7 @@ use Rattle.geo_lock.specs.Yard.{IsWhole, first_pass}
 use Rattle.geo_work.specs.MeshStart.{MeshStart}
 use Rattle.geo_work.specs.Listings.{listing_after, listing_seen}
 use Rattle.geo_work.specs.Mesh.{IsHistory, MeshView, world_of}
-use Rattle.geo_work.specs.Logged.{mesh_of, start_of}
+use Rattle.geo_work.specs.Logged.{mesh_of, mesh_start}
 use Rattle.geo_work.specs.Lanes.{Lanes}
 use Rattle.geo_work.specs.Passes.{MeshPass}
 use Rattle.geo_work.specs.declared.run.Worker.{Worker}
@@ -119,10 +119,10 @@ crew_ended y lanes seen drives actors first crew after is begins ran =
 
 -- A yard that holds a mesh that made no step
 
-module _ (m : MeshView) (y : MeshYard) (none : m.log ≡ []) (start : y.start ≡ start_of m) where
+module _ (m : MeshView) (y : MeshYard) (none : m.log ≡ []) (start : y.start ≡ mesh_start m) where
   pub begins : mesh_of y.start [] ≡ m
   begins =
-      ap (λ (s : MeshStart). mesh_of s []) start ∙ ap (λ (l : List Entry). mesh_of (start_of m) l) (sym none)
+      ap (λ (s : MeshStart). mesh_of s []) start ∙ ap (λ (l : List Entry). mesh_of (mesh_start m) l) (sym none)
 
   pub begins_history : IsHistory m → IsHistory (mesh_of y.start [])
   begins_history law = subst (λ (x : MeshView). IsHistory x) (sym begins) law

@@ -23,7 +23,7 @@ use Rattle.geo_work.specs.Workers.{IsReady}
 use Rattle.geo_threads.specs.declared.lanes.Passes.{Passes}
 use Rattle.geo_threads.specs.Deal.{dealt}
 use Rattle.geo_threads.specs.Lanes.{ArePasses, IsPutter, taker_of}
-use Rattle.geo_threads.specs.Started.{AreStarted, HasBegun, HasRole, IsFirst, IsStarted, MeshYard, beginning, next_of, others}
+use Rattle.geo_threads.specs.Started.{AreStarted, HasBegun, HasRole, IsFirst, IsStarted, MeshYard, beginning, other_workers, pass_of_number}
 
 module _ {D : Type 0} (y : MeshYard) (lanes : Lanes) (seen : Drive D → DriveView) (actors : ℕ)
     (drives : List (Drive D)) where
@@ -55,8 +55,9 @@ module _ {D : Type 0} (y : MeshYard) (lanes : Lanes) (seen : Drive D → DriveVi
 
   -- a worker that begins with the next pass
   begun : (n : ℕ) (first : MeshPass) (number : ℕ) (role : Role D) → IsPassOf y first → number ≡ n
-      → IsRoleOf lanes (next_of first number) role → HasItsDrives y.start.facts seen role → HasRole actors drives n role
-      → IsStarted y lanes seen actors drives n (beginning (next_of first number) role)
+      → IsRoleOf lanes (pass_of_number first number) role → HasItsDrives y.start.facts seen role
+      → HasRole actors drives n role
+      → IsStarted y lanes seen actors drives n (beginning (pass_of_number first number) role)
   begun n first number role of_yard is its_lanes its_drives its = record {
     ready = record {
       job = record { pass = record { yard = of_yard.yard; start = of_yard.start }; role = its_lanes };
@@ -79,13 +80,13 @@ module _ {D : Type 0} (y : MeshYard) (lanes : Lanes) (seen : Drive D → DriveVi
   -- a client, which shows nothing or can show what its pass has seen
   pub client_started : (actor : ℕ) (pass : MeshPass) (role : Role D) (down : LanePassView)
       (publisher : Option PublisherView) → IsFirst y (actor + 1) first → actor < actors → IsPutter lanes.down down
-      → IfSome publisher (λ (v : PublisherView). CanShow v pass) → pass ≡ next_of first first.made
+      → IfSome publisher (λ (v : PublisherView). CanShow v pass) → pass ≡ pass_of_number first first.made
       → role ≡ roles.Client (record { actor = actor; line = 0; down = down; publisher = publisher })
       → IsStarted y lanes seen actors drives (1 + actor) (beginning pass role)
   client_started actor pass role down publisher is lt putter shows pass_is role_is =
       let job : Role D = roles.Client (record { actor = actor; line = 0; down = down; publisher = publisher }) in
       let made = is.made in
-      let here : IsStarted y lanes seen actors drives (1 + actor) (beginning (next_of first first.made) job) =
+      let here : IsStarted y lanes seen actors drives (1 + actor) (beginning (pass_of_number first first.made) job) =
       begun y lanes seen actors drives (1 + actor) first first.made job is.of_yard (omega (arith, made))
       (record {
         puts = within_none lanes.down down putter;
@@ -98,7 +99,7 @@ module _ {D : Type 0} (y : MeshYard) (lanes : Lanes) (seen : Drive D → DriveVi
   pub others_started : (p : Passes) (even odd : DriveListView D) → IsFirst y (actors + 1) first → ArePasses lanes p
       → even.items ≡ dealt 0 drives → odd.items ≡ dealt 1 drives
       → HasDrives y.start.facts seen even.items → HasDrives y.start.facts seen odd.items
-      → AreStarted y lanes seen actors drives (1 + actors) (others first p even odd)
+      → AreStarted y lanes seen actors drives (1 + actors) (other_workers first p even odd)
   others_started p even odd is passes evens odds fit_even fit_odd =
       let made = is.made in (
         begun y lanes seen actors drives (1 + actors) first first.made (roles.Events (record { down = p.events_down }))
@@ -149,7 +150,7 @@ module _ {D : Type 0} (y : MeshYard) (lanes : Lanes) (seen : Drive D → DriveVi
       )
 
 -- the pass that is made of another has seen the mesh as that has
-pub next_listing : (p : MeshPass) (n : ℕ) → listing_seen (next_of p n) ≡ listing_seen p
+pub next_listing : (p : MeshPass) (n : ℕ) → listing_seen (pass_of_number p n) ≡ listing_seen p
 unfolding listing_after
 next_listing p n = refl
 
@@ -164,7 +165,7 @@ can_show v p of stands = record {
 pub begun_push : {D : Type 0} (y : MeshYard) (lanes : Lanes) (seen : Drive D → DriveView) (actors : ℕ)
     (first after : MeshPass) (down left puts : LanePassView) (ws : List (Worker D)) (actor : ℕ) (pass : MeshPass)
     (role : Role D) (publisher : Option PublisherView) → HasBegun y lanes seen actors first down ws
-    → length ws ≡ actor → actor < actors → pass ≡ next_of first first.made
+    → length ws ≡ actor → actor < actors → pass ≡ pass_of_number first first.made
     → after ≡ record first { made = first.made + 1 } → puts ≡ next_pass down
     → left ≡ record down { split = down.split + 1 }
     → role ≡ roles.Client (record { actor = actor; line = 0; down = puts; publisher = publisher })
@@ -218,8 +219,9 @@ module _ (first : MeshPass) where
       more ∙ ap (λ (p : MeshPass). record p { made = p.made + 1 }) is
       ∙ ap (λ n. record first { made = n }) (let e : first.made + k + 1 ≡ first.made + (k + 1) = omega arith in e)
 
-  pub next_after : (k : ℕ) (f : MeshPass) → f ≡ after k → next_of f f.made ≡ next_of first (first.made + k)
-  next_after k f is = ap (λ (p : MeshPass). next_of p p.made) is
+  pub next_after : (k : ℕ) (f : MeshPass) → f ≡ after k → pass_of_number f f.made
+      ≡ pass_of_number first (first.made + k)
+  next_after k f is = ap (λ (p : MeshPass). pass_of_number p p.made) is
 
 -- workers that begin alike
 pub begin_alike : {D : Type 0} (p q : MeshPass) (r s : Role D) → p ≡ q → r ≡ s → beginning p r ≡ beginning q s

@@ -2,7 +2,7 @@
 use Rattle.std.specs.Prelude.{◌≡◌, ◌≢◌, List, map, filter_map, All, Any}
 use Rattle.geo_lock.specs.Yard.{IsEnd}
 use Rattle.geo_work.specs.Mesh.{IsHistory, MeshView}
-use Rattle.geo_work.specs.Logged.{mesh_of, start_of}
+use Rattle.geo_work.specs.Logged.{mesh_of, mesh_start}
 use Rattle.geo_work.specs.Turn.{Turn}
 use Rattle.geo_work.specs.Turn.TheVariants as turns
 use Rattle.geo_work.specs.Passes.{MeshPass}
@@ -26,7 +26,7 @@ answers_of {D} ws = map (λ (w : Worker D). w.answer) ws
 
 -- the mesh at the end of a yard, whose passes these are
 abbrev pub EndsYard : MeshYard → List MeshPass → MeshView → Type 0
-EndsYard y ps m = IsEnd start_of (λ x. x.log) (λ s log. IsHistory (mesh_of s log)) (λ e. e.seat) y ps m
+EndsYard y ps m = IsEnd mesh_start (λ x. x.log) (λ s log. IsHistory (mesh_of s log)) (λ e. e.seat) y ps m
 
 -- how the jobs ended, by their answers: memory was wanting to one; or else one found the log full; or else none did
 abbrev pub IsEndOf : {D : Type 0} → List (Worker D) → JobsEnd → Type 0

@@ -23,8 +23,8 @@ abbrev pub drives_in : {X : Type 0} → List (ℕ × X) → List X
 drives_in {X} items = map (λ (x : ℕ × X). x.1) items
 
 -- the drives of two lists, in turn
-abbrev pub gathered : {X : Type 0} → List (ℕ × X) → List (ℕ × X) → List X
-gathered even odd = drives_in (merged even odd)
+abbrev pub gathered_drives : {X : Type 0} → List (ℕ × X) → List (ℕ × X) → List X
+gathered_drives even odd = drives_in (merged even odd)
 
 -- these are the lists of two disk workers, in which so many drives have room
 abbrev pub AreTwo : {D : Type 0} → ℕ → List (DriveListView D) → Type 0
@@ -34,5 +34,5 @@ AreTwo count _ = ⊥
 
 -- their drives, in turn
 abbrev pub gathered_of : {D : Type 0} → List (DriveListView D) → List (Drive D)
-gathered_of (even ∷ odd ∷ []) = gathered even.items odd.items
+gathered_of (even ∷ odd ∷ []) = gathered_drives even.items odd.items
 gathered_of _ = []

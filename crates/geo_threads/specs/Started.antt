@@ -29,8 +29,8 @@ pub record IsFirst (y : MeshYard) (count : ℕ) (p : MeshPass) : Type 0 where
   pub made : p.made ≡ count
 
 -- the next pass, which is made of it
-abbrev pub next_of : MeshPass → ℕ → MeshPass
-next_of first number = record first { number = number; own = []; made = 0 }
+abbrev pub pass_of_number : MeshPass → ℕ → MeshPass
+pass_of_number first number = record first { number = number; own = []; made = 0 }
 
 -- a worker that begins
 abbrev pub beginning : {D : Type 0} → MeshPass → Role D → Worker D
@@ -70,15 +70,15 @@ pub record HasBegun {D : Type 0} (y : MeshYard) (lanes : Lanes) (seen : Drive D 
   pub started : (drives : List (Drive D)) → AreStarted y lanes seen actors drives 1 ws
 
 -- the workers that aren't clients, with the passes that come next
-abbrev pub others : {D : Type 0} → MeshPass → Passes → DriveListView D → DriveListView D → List (Worker D)
-others first p even odd =
-    beginning (next_of first first.made) (roles.Events (record { down = p.events_down }))
-    ∷ beginning (next_of first (first.made + 1))
+abbrev pub other_workers : {D : Type 0} → MeshPass → Passes → DriveListView D → DriveListView D → List (Worker D)
+other_workers first p even odd =
+    beginning (pass_of_number first first.made) (roles.Events (record { down = p.events_down }))
+    ∷ beginning (pass_of_number first (first.made + 1))
     (roles.Down (record { down = p.down_takes; up = p.down_up; disk0 = p.down_disk0; disk1 = p.down_disk1 }))
-    ∷ beginning (next_of first (first.made + 2)) (roles.Up (record { up = p.up_takes }))
-    ∷ beginning (next_of first (first.made + 3))
+    ∷ beginning (pass_of_number first (first.made + 2)) (roles.Up (record { up = p.up_takes }))
+    ∷ beginning (pass_of_number first (first.made + 3))
     (roles.Disk (record { worker = 0; drives = even; own = p.disk0_takes; up = p.disk0_up }))
-    ∷ beginning (next_of first (first.made + 4))
+    ∷ beginning (pass_of_number first (first.made + 4))
     (roles.Disk (record { worker = 1; drives = odd; own = p.disk1_takes; up = p.disk1_up })) ∷ []
 
 -- workers that are ready

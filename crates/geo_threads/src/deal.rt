@@ -1,6 +1,6 @@
 //! Drives that are dealt to the disk workers, and gathered again.
 ghost use Rattle.std.specs.Prelude.{◌≡◌, ◌+◌, ◌<◌, ◌≤◌, ◌^◌, [], ◌∷◌, ◌++◌, drop, length, take, vec_capacity, vec_len};
-ghost use Rattle.geo_threads.specs.Deal.{dealt, drives_in, gathered, own_disks};
+ghost use Rattle.geo_threads.specs.Deal.{dealt, drives_in, gathered_drives, own_disks};
 
 use geo_disk::Drive;
 use geo_work::DriveList;
@@ -54,7 +54,7 @@ fn move_first<D>(list: &mut DriveList<D>, back: &mut Vec<Drive<D>>)
 pub fn gather<D: Drop>(mut even: DriveList<D>, mut odd: DriveList<D>, back: &mut Vec<Drive<D>>)
     requires fewer { length odd.items ≤ length even.items }
     requires room { vec_len back.old + length even.items + length odd.items ≤ vec_capacity back.old }
-    ensures { back.new.items ≡ back.old.items ++ gathered even.items odd.items }
+    ensures { back.new.items ≡ back.old.items ++ gathered_drives even.items odd.items }
 {
     while let Some((_, drive)) = even.take_first() {
         back.push_reserved(drive);

@@ -8,7 +8,7 @@ ghost use Rattle.geo_work.specs.Drives.{HasDrives};
 ghost use Rattle.geo_threads.specs.Deal.{dealt};
 ghost use Rattle.geo_threads.specs.Lanes.{taker_of, takers_of};
 ghost use Rattle.geo_work.specs.Listings.{listing_seen};
-ghost use Rattle.geo_threads.specs.Started.{AreStarted, HasBegun, IsFirst, beginning, next_of, others};
+ghost use Rattle.geo_threads.specs.Started.{AreStarted, HasBegun, IsFirst, beginning, other_workers, pass_of_number};
 ghost use Rattle.geo_threads.specs.Viewed.{LooksAtFirst, first_view};
 
 use crate::lanes::{Passes, Takers, passes_of, putter};
@@ -22,7 +22,7 @@ use geo_work::{DriveList, Job, Lanes, Mesh, Pass, Turn, Watcher, Worker, Yard, v
 fn next_pass(yard: &Yard<Mesh>, first: &mut Pass<Mesh>) -> Pass<Mesh>
     requires first { IsFirst yard.now first.old.made first.old }
     requires room { first.old.made < 2 ^ 16 }
-    ensures pass { result ≡ next_of first.old first.old.made }
+    ensures pass { result ≡ pass_of_number first.old first.old.made }
     ensures first { first.new ≡ record first.old { made = first.old.made + 1 } }
 {
     yard.split(first)
@@ -143,7 +143,7 @@ fn start_others<D>(
     requires first { IsFirst yard.now first.old.made first.old }
     requires room { vec_len workers.old + 5 ≤ vec_capacity workers.old }
     ensures first { IsFirst yard.now (first.old.made + 5) first.new }
-    ensures items { workers.new.items ≡ workers.old.items ++ others first.old passes even odd }
+    ensures items { workers.new.items ≡ workers.old.items ++ other_workers first.old passes even odd }
 {
     let Passes {
         events_down,

@@ -19,7 +19,7 @@ use Rattle.geo_verify.specs.declared.refusal.VerifyRefusal.TheVariants as refusa
 use Rattle.geo_verify.specs.declared.replaying.Replayed.{Replayed}
 use Rattle.geo_verify.specs.Forms.{IsFormFault, steps_from}
 use Rattle.geo_verify.specs.Making.{MakesSteps, stop_of}
-use Rattle.geo_verify.specs.Replays.{IsVerifyRefusal, Replays, IsReplayOf, ReplaysRead, trace_from, mesh_of, found_from, found_with}
+use Rattle.geo_verify.specs.Replays.{IsVerifyRefusal, Replays, IsReplayOf, ReplaysRead, trace_from, replayed_mesh, found_from, found_with}
 
 -- Faults
 
@@ -152,7 +152,8 @@ pub found_is : (t : ReadTrace) (r : Replayed) → Replays t r → found_with r �
 found_is t r replays =
     ap (λ (o : Option ℕ). found_unless o (found_from r.mesh r.report)) replays.stopped
     ∙ ap (λ (m : MeshView). found_unless (stopped_at t.line t.trace) (found_from m r.report)) replays.mesh
-    ∙ ap (λ (x : List ℕ). found_unless (stopped_at t.line t.trace) (found_from (mesh_of t.trace) x)) replays.report
+    ∙ ap
+    (λ (x : List ℕ). found_unless (stopped_at t.line t.trace) (found_from (replayed_mesh t.trace) x)) replays.report
 
 pub text_found : (text : List ℕ) (r : Replayed) (found : Verified) → IsReplayOf (read_trace text) r
     → found ≡ found_with r → verified text ≡ Ok found

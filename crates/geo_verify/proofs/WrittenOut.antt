@@ -12,13 +12,13 @@ use Rattle.geo_model.specs.World.{Plan}
 use Rattle.geo_headline.specs.Traces.{ended_script, size_line, step_line, report_mark, steps_of, trace_text}
 use Rattle.geo_model.specs.Report.{end_line}
 use Rattle.geo_laws_traces.specs.TraceLaws.{AreWritable, FewBytes, IsWritable}
-use Rattle.geo_verify.specs.Written.{is_ended, trace_of, written_of}
+use Rattle.geo_verify.specs.Written.{is_last_line_ended, trace_of, written_of}
 
 -- The script
 
 -- the last byte tells whether the last line is ended
 pub last_is : (text : List ℕ) (o : Option ℕ) → o ≡ slice_get text (length text - 1)
-    → option_map_or (λ b. b == 10) o true ≡ is_ended text
+    → option_map_or (λ b. b == 10) o true ≡ is_last_line_ended text
 last_is [] o is = ap (λ (x : Option ℕ). option_map_or (λ b. b == 10) x true) is
 last_is (b ∷ []) o is = ap (λ (x : Option ℕ). option_map_or (λ b. b == 10) x true) is
 last_is (b ∷ c ∷ cs) o is =
@@ -27,12 +27,12 @@ last_is (b ∷ c ∷ cs) o is =
     shorter : length (b ∷ c ∷ cs) - 1 ≡ suc (length (c ∷ cs) - 1)
     shorter = omega arith
 
-pub ended_then : (text : List ℕ) → is_ended text ≡ true → ended_script text ≡ text
+pub ended_then : (text : List ℕ) → is_last_line_ended text ≡ true → ended_script text ≡ text
 ended_then [] is = refl
 ended_then (b ∷ []) is = rw is refl
 ended_then (b ∷ c ∷ cs) is = ap (λ xs. b ∷ xs) (ended_then (c ∷ cs) is)
 
-pub ended_else : (text : List ℕ) → is_ended text ≡ false → ended_script text ≡ text ++ 10 ∷ []
+pub ended_else : (text : List ℕ) → is_last_line_ended text ≡ false → ended_script text ≡ text ++ 10 ∷ []
 ended_else [] is = absurd (let bad : ⊥ = cc in bad)
 ended_else (b ∷ []) is = rw is refl
 ended_else (b ∷ c ∷ cs) is = ap (λ xs. b ∷ xs) (ended_else (c ∷ cs) is)

@@ -21,12 +21,12 @@ IsVerifyRefusal read (refusals.Trace line) = read ≡ Err (InTrace line)
 IsVerifyRefusal read refusals.NoMemory = Unit {0}
 
 -- the mesh of a trace whose steps were made
-abbrev pub mesh_of : Trace → MeshView
-mesh_of t = record { plan = t.plan; facts = t.facts; log = log_of t }
+abbrev pub replayed_mesh : Trace → MeshView
+replayed_mesh t = record { plan = t.plan; facts = t.facts; log = log_of t }
 
 -- the steps of a trace were made, up to the first that isn't enabled
 pub record Replays (t : ReadTrace) (r : Replayed) : Type 0 where
-  pub mesh : r.mesh ≡ mesh_of t.trace
+  pub mesh : r.mesh ≡ replayed_mesh t.trace
   pub stopped : r.stopped ≡ stopped_at t.line t.trace
   pub report : r.report ≡ t.trace.report
 

@@ -18,10 +18,10 @@ IsShortAnswer (devices.Bytes bytes) = (1 ≤ length bytes) × (length bytes ≤ 
 IsShortAnswer _ = ⊤
 
 -- whether the last line of a script is ended, if it has one
-abbrev pub is_ended : List ℕ → Bool
-is_ended [] = true
-is_ended (b ∷ []) = b == 10
-is_ended (b ∷ bs) = is_ended bs
+abbrev pub is_last_line_ended : List ℕ → Bool
+is_last_line_ended [] = true
+is_last_line_ended (b ∷ []) = b == 10
+is_last_line_ended (b ∷ bs) = is_last_line_ended bs
 
 -- the parts of a trace in their order, with the lines of the entries of its log
 abbrev pub written_of : List ℕ → Plan → List (ℕ × ℕ) → List Entry → List ℕ → List ℕ

@@ -6,7 +6,7 @@ ghost use Rattle.geo_model.specs.Plans.{FactsFit};
 ghost use Rattle.geo_model.specs.Report.{end_line};
 ghost use Rattle.geo_model.specs.Script.{IsScript};
 ghost use Rattle.geo_headline.specs.Traces.{answer_text, ended_script, report_mark, size_line, step_line, step_text, trace_text, IsTrace};
-ghost use Rattle.geo_verify.specs.Written.{is_ended, trace_of, written_of};
+ghost use Rattle.geo_verify.specs.Written.{is_last_line_ended, trace_of, written_of};
 
 use crate::fits::are_writable;
 use geo_base::{Block, NoMemory};
@@ -108,7 +108,7 @@ fn add_sizes(text: &mut Text, disks: &[DiskDecl], facts: &[(u32, u64)]) -> Resul
 
 /// Whether the last line of a script is ended, if it has one.
 fn is_ended(script: &[u8]) -> bool
-    ensures { result ≡ is_ended script.now }
+    ensures { result ≡ is_last_line_ended script.now }
 {
     match script.last() {
         Some(last) => *last == b'\n',

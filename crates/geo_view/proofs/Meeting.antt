@@ -12,7 +12,7 @@ use Rattle.geo_view.specs.declared.role.Role.TheVariants.{First, Shows, Comes, L
 use Rattle.geo_view.specs.declared.known.Known.{Known}
 use Rattle.geo_view.specs.declared.shown.Shown.{Shown}
 use Rattle.geo_view.specs.Kept.{Slot, Layout, Plays, Knows, IsKept}
-use Rattle.geo_view.specs.Views.{opening_view, met, newcomer, note, nobody, informed}
+use Rattle.geo_view.specs.Views.{publisher_at_start, met, watcher_coming, note, learned_note, informed}
 use Rattle.geo_view.proofs.Moves.{differ, moves, none_begins, one_more_begins, plays, views_stay}
 
 module _ (from : MeshPass) where
@@ -30,7 +30,7 @@ module _ (from : MeshPass) where
   meet_parts p watcher j ne has_watcher seen Note k = k
 
   -- the watcher comes
-  pub meets : (id : ℕ) (v : Known) → v.role ≡ First → Splits (IsKept from) id v (met v) (newcomer v)
+  pub meets : (id : ℕ) (v : Known) → v.role ≡ First → Splits (IsKept from) id v (met v) (watcher_coming v)
   meets id v role s r at =
       let k = r.each_view id v at in
       let part = plays from r.layout id v First k role in
@@ -50,7 +50,7 @@ module _ (from : MeshPass) where
             record { of = k.of; seen = k.seen; told = k.told; part = (part.0, sym part.2, sym part.4, part.7) }
             (λ i o ne g. moves from r.layout q (prefix_self r.layout.latest) i
             (meet_parts r.layout watcher i (λ h. ne (h ∙ sym part.0)) part.1) o (r.each_view i o g)) j d f)
-            (λ (t : (j ≡ length (set s.views id (met v))) × (newcomer v ≡ d)).
+            (λ (t : (j ≡ length (set s.views id (met v))) × (watcher_coming v ≡ d)).
             subst (λ (z : ℕ × Known). Knows from q z.0 z.1) (λ i. (sym (t.0 ∙ long) i, t.1 i))
             record {
               of = k.of;
@@ -58,7 +58,7 @@ module _ (from : MeshPass) where
               told = one_more_begins v.seen [] r.layout.latest k.seen (none_begins r.layout.latest);
               part = (refl, refl, sym part.3, part.5, part.6);
             })
-            (at_end (set s.views id (met v)) (newcomer v) d j e);
+            (at_end (set s.views id (met v)) (watcher_coming v) d j e);
       }
 
   -- the publisher tells
@@ -81,7 +81,8 @@ module _ (from : MeshPass) where
   }
 
   -- the watcher learns a note
-  pub learns : (id : ℕ) (v : Known) (other : ℕ) (w : Known) → Joins (IsKept from) id v other w (informed v w) nobody
+  pub learns : (id : ℕ) (v : Known) (other : ℕ) (w : Known)
+      → Joins (IsKept from) id v other w (informed v w) learned_note
   learns id v other w s r at apart there =
       let k = r.each_view id v at in
       let told : Knows from r.layout other w = r.each_view other w
@@ -94,7 +95,7 @@ module _ (from : MeshPass) where
         shown = r.shown;
         back_home = r.back_home;
         front_home = r.front_home;
-        each_view = views_stay from r.layout (set s.views id (informed v w)) other nobody
+        each_view = views_stay from r.layout (set s.views id (informed v w)) other learned_note
             record {
               of = λ o e. absurd (cc e);
               seen = (r.layout.latest, refl);
@@ -112,14 +113,14 @@ module _ (from : MeshPass) where
       }
 
   -- the publisher alone, at the start
-  opening_views : (p : Layout) → Knows from p 0 (opening_view from) → (j : ℕ) (d : Known)
-      → get_elem? (opening_view from ∷ []) j ≡ some d → Knows from p j d
-  opening_views p k zero d e = subst (λ (z : Known). Knows from p 0 z) (some-injective (opening_view from) d e) k
+  opening_views : (p : Layout) → Knows from p 0 (publisher_at_start from) → (j : ℕ) (d : Known)
+      → get_elem? (publisher_at_start from ∷ []) j ≡ some d → Knows from p j d
+  opening_views p k zero d e = subst (λ (z : Known). Knows from p 0 z) (some-injective (publisher_at_start from) d e) k
   opening_views p k (suc j) d e = absurd (some-ne-none d (sym e))
 
   -- a view begins by its rule
   pub opens : (x : Shown) (y z : Slot) → x.at.value ≡ from
-      → IsKept from (opening (1 ∷ []) (Some x ∷ y ∷ z ∷ []) (opening_view from))
+      → IsKept from (opening (1 ∷ []) (Some x ∷ y ∷ z ∷ []) (publisher_at_start from))
   opens x y z at = let p : Layout = record {
     latest = from.seen;
     middle = 0;

@@ -12,7 +12,7 @@ use Rattle.geo_view.specs.declared.role.Role.{Role}
 use Rattle.geo_view.specs.declared.role.Role.TheVariants.{First, Shows, Comes, Looks, Note}
 use Rattle.geo_view.specs.declared.known.Known.{Known}
 use Rattle.geo_view.specs.declared.shown.Shown.{Shown}
-use Rattle.geo_view.specs.Kept.{Slot, Seat, Layout, Plays, IsKept, TakesBack, ShowsIt}
+use Rattle.geo_view.specs.Kept.{Slot, Seat, Layout, Plays, IsKept, TakesSlotBack, ShowsIt}
 use Rattle.geo_view.specs.Views.{showing, AreOnePass}
 use Rattle.geo_view.proofs.Moves.{carried_list, differ, moves, names_middle, plays, views_stay}
 
@@ -41,7 +41,7 @@ module _ (from : MeshPass) where
 
   -- the publisher takes its slot
   pub takes_back : (slots id : ℕ) (v : Known) (b : ℕ) → v.role ≡ Shows b false
-      → Allows (IsKept from) slots id (v, []) 0 (λ n. n) (TakesBack (step slots 0 0 0 none) (v, []))
+      → Allows (IsKept from) slots id (v, []) 0 (λ n. n) (TakesSlotBack (step slots 0 0 0 none) (v, []))
   takes_back slots id v b role s r _ at _ =
       let k = r.each_view id v at in
       let part = plays from r.layout id v (Shows b false) k role in
@@ -130,9 +130,9 @@ module _ (from : MeshPass) where
 
   -- the same for a seat whose slots are told by an equation
   pub takes_back_as : (slots id : ℕ) (me : Seat) (b : ℕ) → me.1 ≡ [] → me.0.role ≡ Shows b false
-      → Allows (IsKept from) slots id me 0 (λ n. n) (TakesBack (step slots 0 0 0 none) me)
+      → Allows (IsKept from) slots id me 0 (λ n. n) (TakesSlotBack (step slots 0 0 0 none) me)
   takes_back_as slots id me b empty role = let P : List (ℕ × Slot) → Type 0 =
-      λ z. Allows (IsKept from) slots id (me.0, z) 0 (λ n. n) (TakesBack (step slots 0 0 0 none) (me.0, z)) in
+      λ z. Allows (IsKept from) slots id (me.0, z) 0 (λ n. n) (TakesSlotBack (step slots 0 0 0 none) (me.0, z)) in
       subst P (sym empty) (takes_back slots id me.0 b role)
 
   pub shows_as : (slots id : ℕ) (me : Seat) (b : ℕ) (x : Shown) (new : ℕ) → me.1 ≡ (b, Some x) ∷ []

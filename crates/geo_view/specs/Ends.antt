@@ -32,8 +32,8 @@ pub record ToldView : Type 0 where
   pub stood : List Entry
 
 -- the mesh as it is printed after what the watcher has seen
-abbrev pub listing_in : WatcherView → List GeomLine
-listing_in v = option_map_or (λ p. listing_after p v.seen) v.of []
+abbrev pub listing_of_watcher : WatcherView → List GeomLine
+listing_of_watcher v = option_map_or (λ p. listing_after p v.seen) v.of []
 
 -- the publisher can show what this pass has seen: it is the pass of the view, and has seen all at which the view stands
 pub record CanShow (v : PublisherView) (p : MeshPass) : Type 0 where

@@ -79,8 +79,9 @@ pub record IsKept (from : MeshPass) (s : ViewState) : Type 0 where
   pub each_view : (j : ℕ) (d : Known) → get_elem? s.views j ≡ some d → Knows from layout j d
 
 -- the publisher has its slot
-abbrev pub TakesBack : Step Slot → Seat → ℕ → Seat → Type 0
-TakesBack st m r m' = (b : ℕ) → m.0.role ≡ Shows b false → (y : Slot) × (m' ≡ (showing m.0 b m.0.seen, (b, y) ∷ m.1))
+abbrev pub TakesSlotBack : Step Slot → Seat → ℕ → Seat → Type 0
+TakesSlotBack st m r m' = (b : ℕ) → m.0.role ≡ Shows b false → (y : Slot)
+    × (m' ≡ (showing m.0 b m.0.seen, (b, y) ∷ m.1))
 
 -- the publisher has shown what was in its slot, and has the slot that waited
 abbrev pub ShowsIt : Step Slot → Seat → ℕ → Seat → Type 0

@@ -13,16 +13,16 @@ abbrev pub known : Role → Option MeshPass → List Entry → List (List Entry)
 known role of seen told = record { role = role; of = of; seen = seen; told = told }
 
 -- the publisher at the start, of whose pass the list is shown
-abbrev pub opening_view : MeshPass → Known
-opening_view p = known First (Some p) p.seen []
+abbrev pub publisher_at_start : MeshPass → Known
+publisher_at_start p = known First (Some p) p.seen []
 
 -- the publisher, once the watcher has come
 abbrev pub met : Known → Known
 met v = known (Shows 1 false) v.of v.seen v.told
 
 -- the watcher that comes, which was told of what the publisher has shown
-abbrev pub newcomer : Known → Known
-newcomer v = known (Comes 2) v.of [] (v.seen ∷ [])
+abbrev pub watcher_coming : Known → Known
+watcher_coming v = known (Comes 2) v.of [] (v.seen ∷ [])
 
 -- the publisher with a slot, once it has shown a list
 abbrev pub showing : Known → ℕ → List Entry → Known
@@ -41,8 +41,8 @@ abbrev pub note : Known → Known
 note v = known Note v.of v.seen []
 
 -- what is left of a note that was learned
-abbrev pub nobody : Known
-nobody = known Note None [] []
+abbrev pub learned_note : Known
+learned_note = known Note None [] []
 
 -- the watcher that learned a note
 abbrev pub informed : Known → Known → Known

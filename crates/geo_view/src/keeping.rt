@@ -10,20 +10,20 @@ pub struct Keeping;
 
 impl TableRule<Option<Shown>, Known, Snapshot<Pass<Mesh>>> for Keeping {
     ghost use Rattle.geo_view.specs.Kept.{IsKept};
-    ghost use Rattle.geo_view.specs.Views.{opening_view};
+    ghost use Rattle.geo_view.specs.Views.{publisher_at_start};
 
     ghost holds = { λ k. IsKept k.value };
 
-    ghost first = { λ k. opening_view k.value };
+    ghost first = { λ k. publisher_at_start k.value };
 }
 
 /// The publisher takes its slot.
 pub struct TakeBack;
 
 impl Play<Option<Shown>, Known> for TakeBack {
-    ghost use Rattle.geo_view.specs.Kept.{TakesBack};
+    ghost use Rattle.geo_view.specs.Kept.{TakesSlotBack};
 
-    ghost then = { TakesBack };
+    ghost then = { TakesSlotBack };
 }
 
 /// The publisher shows what is in its slot, and has the slot that waited.
@@ -57,11 +57,11 @@ impl Play<Option<Shown>, Known> for Fetch {
 pub struct Meeting;
 
 impl Split<Known> for Meeting {
-    ghost use Rattle.geo_view.specs.Views.{met, newcomer};
+    ghost use Rattle.geo_view.specs.Views.{met, watcher_coming};
 
     ghost left = { met };
 
-    ghost right = { newcomer };
+    ghost right = { watcher_coming };
 }
 
 /// A note is made, and learned.
@@ -76,9 +76,9 @@ impl Split<Known> for Notes {
 }
 
 impl Join<Known> for Notes {
-    ghost use Rattle.geo_view.specs.Views.{informed, nobody};
+    ghost use Rattle.geo_view.specs.Views.{informed, learned_note};
 
     ghost both = { informed };
 
-    ghost spent = { nobody };
+    ghost spent = { learned_note };
 }

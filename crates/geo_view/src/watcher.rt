@@ -2,7 +2,7 @@
 ghost use Rattle.std.specs.Prelude.{◌≡◌, [], ◌∷◌, IfOk};
 ghost use mathlib.Core.List.{IsPrefix};
 ghost use Rattle.geo_steps.specs.Passes.{MeshPass};
-ghost use Rattle.geo_view.specs.Ends.{HasSeen, IsLooking, listing_in};
+ghost use Rattle.geo_view.specs.Ends.{HasSeen, IsLooking, listing_of_watcher};
 ghost use Rattle.geo_view.specs.Views.{AllBegin};
 
 use crate::keeping::{Fetch, Keeping, Notes, Peep};
@@ -91,7 +91,7 @@ impl Watcher {
     pub fn look(&mut self) -> Result<MeshList, NoMemory>
         ensures same { (self.new.view ≡ self.old.view) × (self.new.of ≡ self.old.of) × (self.new.told ≡ []) }
         ensures later { IsPrefix self.old.seen self.new.seen × AllBegin self.old.told self.new.seen }
-        ensures list { IfOk result (λ l. l ≡ listing_in self.new) }
+        ensures list { IfOk result (λ l. l ≡ listing_of_watcher self.new) }
         ensures moment { (p : MeshPass) × HasSeen self.new p }
     {
         let shared = &self.slots.shared;

@@ -103,7 +103,7 @@ up_cause D opened p q a b turns.LogFull did other =
 up_cause D opened p q a b turns.NoMemory did other = tt
 
 disk_cause : {D : Type 0} (opened : World) (seen : Drive D → DriveView) (p q : MeshPass) (a b : DiskJob D) (r : Turn)
-    → disks.DidTurn opened seen p q a b r → r ≢ turns.Worked → Cause opened q (roles.Disk a) r
+    → disks.DidDiskTurn opened seen p q a b r → r ≢ turns.Worked → Cause opened q (roles.Disk a) r
 disk_cause opened seen p q a b turns.Worked did other = absurd (other refl)
 disk_cause opened seen p q a b turns.Idle did other = tt
 disk_cause opened seen p q a b turns.Finished did other = did

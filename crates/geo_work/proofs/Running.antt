@@ -31,9 +31,9 @@ use Rattle.geo_work.specs.Downs.{DidDown, Starts, down_with, start_in}
 use Rattle.geo_work.specs.Events.{DidEvents}
 use Rattle.geo_work.specs.Jobs.{DidRole, DidTurn, HasItsDrives, IsOfRole}
 use Rattle.geo_work.specs.Kinds.{IsOfClient, IsOfDown, IsOfEvents, IsOfUp, event_steps}
-use Rattle.geo_work.specs.LanePasses.{Adds, Rests}
+use Rattle.geo_work.specs.LanePasses.{MadeOneStep, Rests}
 use Rattle.geo_work.specs.Runs.{IsKept, JobRan, RoleRan}
-use Rattle.geo_work.specs.Ups.{DidUp, GivesUp, up_in, up_with}
+use Rattle.geo_work.specs.Ups.{DidUp, GivesUp, up_in, with_ticket_taken}
 use Rattle.geo_work.proofs.Showing.{view_stays}
 
 -- Passes
@@ -48,7 +48,7 @@ pass_rested : (kind : Step → Type 0) (p q : MeshPass) → Goes p q [] → Pass
 pass_rested kind p q goes =
     record { added = []; goes = goes; kinds = All-nil (λ (e : Entry). kind e.step) }
 
-pass_made : (kind : Step → Type 0) (p q : MeshPass) (st : Step) (o : Outcome) → Adds p q st o → kind st
+pass_made : (kind : Step → Type 0) (p q : MeshPass) (st : Step) (o : Outcome) → MadeOneStep p q st o → kind st
     → PassRan kind p q
 pass_made kind p q st o adds is = record {
   added = record { seat = p.number; step = st; outcome = o } ∷ [];
@@ -125,7 +125,7 @@ down_ran opened p q a b turns.NoMemory did = pass_rested IsOfDown p q did.1.goes
 up_ran : (opened : World) (p q : MeshPass) (a b : UpJob) (r : Turn) → DidUp opened p q a b r → PassRan IsOfUp p q
 up_ran opened p q a b turns.Worked did = by (up_in did.0.step) did.1
   where
-    by : (o : Option ℕ) → IsSomeAnd o (λ bio. GivesUp bio p q (up_with a did.0) b) → PassRan IsOfUp p q
+    by : (o : Option ℕ) → IsSomeAnd o (λ bio. GivesUp bio p q (with_ticket_taken a did.0) b) → PassRan IsOfUp p q
     by None gives = absurd gives
     by (Some bio) gives = pass_made IsOfUp p q (steps.Up bio) gives.outcome gives.adds tt
 up_ran opened p q a b turns.Idle (inl did) = pass_rested IsOfUp p q did.0.goes
@@ -136,7 +136,7 @@ up_ran opened p q a b turns.NoMemory did = pass_rested IsOfUp p q did.1.goes
 
 -- a disk worker keeps its number
 worker_stays : {D : Type 0} (opened : World) (seen : Drive D → DriveView) (p q : MeshPass) (a b : DiskJob D) (r : Turn)
-    → disks.DidTurn opened seen p q a b r → b.worker ≡ a.worker
+    → disks.DidDiskTurn opened seen p q a b r → b.worker ≡ a.worker
 worker_stays {D} opened seen p q a b turns.Worked did = by (take_in did.0.step) did.1
   where
     by : (o : Option (ℕ × ℕ)) → IsSomeAnd o (λ (x : ℕ × ℕ). ServesBio seen x.0 x.1 p q (with_ticket a did.0) b)

@@ -23,7 +23,7 @@ use Rattle.geo_disk_job.proofs.Shows.{shows_on}
 use Rattle.geo_work.specs.declared.client.ClientJob.{ClientJob}
 use Rattle.geo_work.specs.Clients.{ClientWorked, IsClientJob, NotesOutcome, Showed, ShowsOutcome, stands_after}
 use Rattle.geo_work.specs.Hints.{go_hints}
-use Rattle.geo_work.specs.LanePasses.{Adds, AreFew, IsPassTo}
+use Rattle.geo_work.specs.LanePasses.{AreFew, IsPassTo, MadeOneStep}
 use Rattle.geo_work.proofs.Joining.{pass_worked}
 
 -- What can be shown
@@ -105,7 +105,7 @@ client_keeps lanes p q e a m b o goes job noted few same can = record {
   shows = can;
 }
 
-pub client_worked : (p q : MeshPass) (a m b : ClientJob) (o : Outcome) → Adds p q (steps.Go a.actor) o
+pub client_worked : (p q : MeshPass) (a m b : ClientJob) (o : Outcome) → MadeOneStep p q (steps.Go a.actor) o
     → NotesOutcome o a m → m.publisher ≡ a.publisher → IsButShown m b
     → ShowsOutcome o q.seen m.publisher b.publisher → ClientWorked p q a b
 client_worked p q a m b o adds noted same rest shown = record {

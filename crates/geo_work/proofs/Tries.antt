@@ -18,7 +18,7 @@ use Rattle.geo_disk_job.specs.Passes.{Goes, IsGoodPass, MeshPass}
 use Rattle.geo_disk_job.proofs.Joins.{goes_join, goes_self}
 use Rattle.geo_work.specs.Events.{AreInVain, DidLast, EndsAt, TriesInVain}
 use Rattle.geo_work.specs.Kinds.{event_steps}
-use Rattle.geo_work.specs.LanePasses.{Adds}
+use Rattle.geo_work.specs.LanePasses.{MadeOneStep}
 
 -- In vain
 
@@ -94,7 +94,7 @@ vain_join opened p m q one two first rest = record {
 
 -- A step that ends them
 
-adds_behind : (p m q : MeshPass) (st : Step) (o : Outcome) → Goes p m [] → Adds m q st o → Adds p q st o
+adds_behind : (p m q : MeshPass) (st : Step) (o : Outcome) → Goes p m [] → MadeOneStep m q st o → MadeOneStep p q st o
 adds_behind p m q st o goes adds =
     subst (λ n. Goes p q (record { seat = n; step = st; outcome = o } ∷ [])) goes.same.number
     (goes_join p m q [] (record { seat = m.number; step = st; outcome = o } ∷ []) goes adds)

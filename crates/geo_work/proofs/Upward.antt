@@ -17,7 +17,7 @@ use Rattle.geo_lane.specs.LanePass.{LanePassView}
 use Rattle.geo_work.specs.declared.up.UpJob.{UpJob}
 use Rattle.geo_work.specs.Hints.{up_hints}
 use Rattle.geo_work.specs.LanePasses.{AreFew}
-use Rattle.geo_work.specs.Ups.{DidGiveUp, DidUp, GivesUp, IsUpJob, up_in, up_with}
+use Rattle.geo_work.specs.Ups.{DidGiveUp, DidUp, GivesUp, IsUpJob, up_in, with_ticket_taken}
 use Rattle.geo_work.proofs.Joining.{pass_worked}
 
 pub at_some : (o : Option ℕ) (bio : ℕ) (P : ℕ → Type 0) → o ≡ Some bio → P bio → IsSomeAnd o P
@@ -28,9 +28,9 @@ if_some o bio P is given = subst (λ x. IfSome x P) (sym is) given
 
 -- a worker took the ticket of a bio, and this became of it
 pub did_up : (opened : World) (p q : MeshPass) (a b : UpJob) (t : Ticket) (bio : ℕ) (r : Turn)
-    → up_in t.step ≡ Some bio → DidGiveUp opened bio p q (up_with a t) b r → DidUp opened p q a b r
+    → up_in t.step ≡ Some bio → DidGiveUp opened bio p q (with_ticket_taken a t) b r → DidUp opened p q a b r
 did_up opened p q a b t bio turns.Worked is did =
-    (t, at_some (up_in t.step) bio (λ n. GivesUp n p q (up_with a t) b) is did)
+    (t, at_some (up_in t.step) bio (λ n. GivesUp n p q (with_ticket_taken a t) b) is did)
 did_up opened p q a b t bio turns.Idle is did =
     inr (t, did.0, if_some (up_in t.step) bio (λ n. WasIdle opened q.seen q.number (steps.Up n)) is did.1)
 did_up opened p q a b t bio turns.Finished is did = absurd did

@@ -21,7 +21,7 @@ use Rattle.geo_disk_job.specs.Putting.{PutsAll}
 use Rattle.geo_disk_job.specs.Ends.{CanShow, PublisherView}
 use Rattle.geo_work.specs.declared.client.ClientJob.{ClientJob}
 use Rattle.geo_work.specs.Hints.{go_hints}
-use Rattle.geo_work.specs.LanePasses.{Adds, IsPassTo, Rests}
+use Rattle.geo_work.specs.LanePasses.{IsPassTo, MadeOneStep, Rests}
 
 -- it puts into the down lane; and if it shows, it can show what the pass has seen
 pub record IsClientJob (lanes : Lanes) (p : MeshPass) (j : ClientJob) : Type 0 where
@@ -70,7 +70,7 @@ ShowsOutcome outcome seen (Some a) b = IsSomeAnd b (Showed outcome seen a)
 -- the next command of the client's actor was made
 pub record ClientWorked (p q : MeshPass) (a b : ClientJob) : Type 0 where
   pub outcome : Outcome
-  pub adds : Adds p q (steps.Go a.actor) outcome
+  pub adds : MadeOneStep p q (steps.Go a.actor) outcome
   pub noted : NotesOutcome outcome a b
   pub shown : ShowsOutcome outcome q.seen a.publisher b.publisher
 

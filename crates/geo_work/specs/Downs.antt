@@ -15,7 +15,7 @@ use Rattle.geo_disk_job.specs.Passes.{MeshPass}
 use Rattle.geo_disk_job.specs.Putting.{PutsAll}
 use Rattle.geo_work.specs.declared.down.DownJob.{DownJob}
 use Rattle.geo_work.specs.Hints.{bounced_hint, queued_hint, split_hints}
-use Rattle.geo_work.specs.LanePasses.{Adds, AreFew, CanPut, IsPassTo, Rests, WasEmpty, with_taken}
+use Rattle.geo_work.specs.LanePasses.{AreFew, CanPut, IsPassTo, MadeOneStep, Rests, WasEmpty, with_taken}
 
 -- it takes from the down lane, and puts into all four
 pub record IsDownJob (lanes : Lanes) (entries : List Entry) (j : DownJob) : Type 0 where
@@ -58,7 +58,7 @@ pub record AreFewOfStart (bio : ℕ) (outcome : Outcome) : Type 0 where
 -- a bio was started
 pub record Starts (bio : ℕ) (p q : MeshPass) (a b : DownJob) : Type 0 where
   pub outcome : Outcome
-  pub adds : Adds p q (steps.Start bio) outcome
+  pub adds : MadeOneStep p q (steps.Start bio) outcome
   pub puts : PutsOfStart bio outcome a b
 
 -- what became of a bio that was tried to be started

@@ -17,7 +17,7 @@ use Rattle.geo_disk_job.specs.Putting.{PutsAll}
 use Rattle.geo_work.specs.declared.events.EventJob.{EventJob}
 use Rattle.geo_work.specs.Hints.{judge_hints}
 use Rattle.geo_work.specs.Kinds.{event_steps}
-use Rattle.geo_work.specs.LanePasses.{Adds, IsPassTo, Rests}
+use Rattle.geo_work.specs.LanePasses.{IsPassTo, MadeOneStep, Rests}
 
 -- it puts into the down lane
 abbrev pub IsEventJob : Lanes → List Entry → EventJob → Type 0
@@ -50,7 +50,7 @@ pub record IsReached (opened : World) (p q : MeshPass) (step : Step) : Type 0 wh
 
 -- what was done at a step that was tried last, by the answer
 abbrev pub DidLast : World → MeshPass → MeshPass → Step → Tried → Type 0
-DidLast opened p q step (tries.Made outcome) = Adds p q step outcome
+DidLast opened p q step (tries.Made outcome) = MadeOneStep p q step outcome
 DidLast opened p q step (tries.NotEnabled found) = ⊥
 DidLast opened p q step tries.LogFull = Goes p q [] × FoundFull opened q.seen q.number step
 DidLast opened p q step tries.NoMemory = Goes p q []
@@ -66,7 +66,7 @@ pub record EventWorked (opened : World) (p q : MeshPass) (a b : EventJob) : Type
   pub step : Step
   pub reached : IsReached opened p q step
   pub outcome : Outcome
-  pub adds : Adds p q step outcome
+  pub adds : MadeOneStep p q step outcome
   pub puts : PutsAll a.down (judge_hints outcome) b.down
 
 -- what a turn did, by its answer

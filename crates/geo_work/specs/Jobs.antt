@@ -67,7 +67,7 @@ DidRole opened seen p q (roles.Client a) (roles.Client b) r = DidClient opened p
 DidRole opened seen p q (roles.Events a) (roles.Events b) r = DidEvents opened p q a b r
 DidRole opened seen p q (roles.Down a) (roles.Down b) r = DidDown opened p q a b r
 DidRole opened seen p q (roles.Up a) (roles.Up b) r = DidUp opened p q a b r
-DidRole opened seen p q (roles.Disk a) (roles.Disk b) r = disks.DidTurn opened seen p q a b r
+DidRole opened seen p q (roles.Disk a) (roles.Disk b) r = disks.DidDiskTurn opened seen p q a b r
 DidRole opened seen p q _ _ r = ⊥
 
 -- what a turn of a job did, by its answer

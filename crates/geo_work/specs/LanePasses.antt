@@ -35,8 +35,8 @@ abbrev pub WasEmpty : LanePassView → Type 0
 WasEmpty p = Held 0 (Tells (view_of p))
 
 -- the pass made one step, with this outcome
-abbrev pub Adds : MeshPass → MeshPass → Step → Outcome → Type 0
-Adds p q step outcome = Goes p q (record { seat = p.number; step = step; outcome = outcome } ∷ [])
+abbrev pub MadeOneStep : MeshPass → MeshPass → Step → Outcome → Type 0
+MadeOneStep p q step outcome = Goes p q (record { seat = p.number; step = step; outcome = outcome } ∷ [])
 
 -- nothing was added to the log, and the job is as it was
 pub record Rests {J : Type 0} (p q : MeshPass) (a b : J) : Type 0 where

@@ -15,7 +15,7 @@ use Rattle.geo_disk_job.specs.Passes.{MeshPass}
 use Rattle.geo_disk_job.specs.Putting.{PutsAll}
 use Rattle.geo_work.specs.declared.up.UpJob.{UpJob}
 use Rattle.geo_work.specs.Hints.{up_hints}
-use Rattle.geo_work.specs.LanePasses.{Adds, IsPassTo, Rests, WasEmpty, with_taken}
+use Rattle.geo_work.specs.LanePasses.{IsPassTo, MadeOneStep, Rests, WasEmpty, with_taken}
 
 -- it takes from the up lane, and puts into it
 pub record IsUpJob (lanes : Lanes) (entries : List Entry) (j : UpJob) : Type 0 where
@@ -28,13 +28,13 @@ up_in (hints.Up bio) = Some bio
 up_in _ = None
 
 -- the worker that took one ticket more
-abbrev pub up_with : UpJob → Ticket → UpJob
-up_with j t = record j { up = with_taken j.up t }
+abbrev pub with_ticket_taken : UpJob → Ticket → UpJob
+with_ticket_taken j t = record j { up = with_taken j.up t }
 
 -- a bio went up, and the tickets that this outcome names were put
 pub record GivesUp (bio : ℕ) (p q : MeshPass) (a b : UpJob) : Type 0 where
   pub outcome : Outcome
-  pub adds : Adds p q (steps.Up bio) outcome
+  pub adds : MadeOneStep p q (steps.Up bio) outcome
   pub puts : PutsAll a.up (up_hints outcome) b.up
 
 -- what became of a bio that was tried to be given up
@@ -51,11 +51,12 @@ IsNoUp opened q t = IfSome (up_in t) (λ bio. WasIdle opened q.seen q.number (st
 
 -- what a turn did, by its answer
 abbrev pub DidUp : World → MeshPass → MeshPass → UpJob → UpJob → Turn → Type 0
-DidUp opened p q a b turns.Worked = (t : Ticket) × IsSomeAnd (up_in t.step) (λ bio. GivesUp bio p q (up_with a t) b)
+DidUp opened p q a b turns.Worked = (t : Ticket)
+    × IsSomeAnd (up_in t.step) (λ bio. GivesUp bio p q (with_ticket_taken a t) b)
 DidUp opened p q a b turns.Idle =
-    (Rests p q a b × WasEmpty a.up) ⊎ ((t : Ticket) × Rests p q (up_with a t) b × IsNoUp opened q t.step)
+    (Rests p q a b × WasEmpty a.up) ⊎ ((t : Ticket) × Rests p q (with_ticket_taken a t) b × IsNoUp opened q t.step)
 DidUp opened p q a b turns.Finished = ⊥
 DidUp opened p q a b turns.LogFull =
-    (t : Ticket) × Rests p q (up_with a t) b
+    (t : Ticket) × Rests p q (with_ticket_taken a t) b
     × IsSomeAnd (up_in t.step) (λ bio. FoundFull opened q.seen q.number (steps.Up bio))
-DidUp opened p q a b turns.NoMemory = (t : Ticket) × Rests p q (up_with a t) b
+DidUp opened p q a b turns.NoMemory = (t : Ticket) × Rests p q (with_ticket_taken a t) b

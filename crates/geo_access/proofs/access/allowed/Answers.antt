@@ -1,7 +1,7 @@
 use Rattle.std.proofs.Common.{◌≡◌, ap, ◌∙◌, subst, arith}
 use Rattle.geo_access.specs.declared.counts.Way.TheVariants.{Rises}
 use Rattle.geo_access.specs.Access.{place_of}
-use Rattle.geo_access.specs.Views.{IsTried, order_of, judged, answer_of}
+use Rattle.geo_access.specs.Views.{IsTried, order_of, judged, grant_answer}
 use Rattle.geo_access.proofs.Granting.{holder_is, holder_lives}
 use Rattle.geo_access.proofs.Decided.{counted_told, steps_bound}
 use Rattle.geo_access.proofs.Coming.{open_tells}
@@ -73,12 +73,12 @@ returns-clause-answer g c =
     subst (λ n. IsTried c.args.topo.now n c.args.add Rises c.try_out-order.new.topo c.try_out-order.result)
     c.place_of-prov.ensures.place c.try_out-order.ensures.tried in
     let is : c.answer.result
-    ≡ answer_of (judged c.try_out-order.new.topo (place_of c.args.topo.now.topology c.args.cons) c.args.add
+    ≡ grant_answer (judged c.try_out-order.new.topo (place_of c.args.topo.now.topology c.args.cons) c.args.add
     (order_of c.try_out-order.new.topo c.try_out-order.result)) c.args.cons
     (place_of c.args.topo.now.topology c.args.cons) =
     c.answer.ensures
-    ∙ ap (λ r. answer_of r c.args.cons c.place_of-prov.result) c.judge-refused.ensures
-    ∙ ap (λ n. answer_of
+    ∙ ap (λ r. grant_answer r c.args.cons c.place_of-prov.result) c.judge-refused.ensures
+    ∙ ap (λ n. grant_answer
     (judged c.try_out-order.new.topo n c.args.add (order_of c.try_out-order.new.topo c.try_out-order.result))
     c.args.cons n) c.place_of-prov.ensures.place in
     rw is (its_answer c.args.topo.now c.place_of-prov.ensures.sound c.requires.counted c.args.cons holder
@@ -92,12 +92,12 @@ returns-clause-named g c =
     subst (λ n. IsTried c.args.topo.now n c.args.add Rises c.try_out-order.new.topo c.try_out-order.result)
     c.place_of-prov.ensures.place c.try_out-order.ensures.tried in
     let is : c.answer.result
-    ≡ answer_of (judged c.try_out-order.new.topo (place_of c.args.topo.now.topology c.args.cons) c.args.add
+    ≡ grant_answer (judged c.try_out-order.new.topo (place_of c.args.topo.now.topology c.args.cons) c.args.add
     (order_of c.try_out-order.new.topo c.try_out-order.result)) c.args.cons
     (place_of c.args.topo.now.topology c.args.cons) =
     c.answer.ensures
-    ∙ ap (λ r. answer_of r c.args.cons c.place_of-prov.result) c.judge-refused.ensures
-    ∙ ap (λ n. answer_of
+    ∙ ap (λ r. grant_answer r c.args.cons c.place_of-prov.result) c.judge-refused.ensures
+    ∙ ap (λ n. grant_answer
     (judged c.try_out-order.new.topo n c.args.add (order_of c.try_out-order.new.topo c.try_out-order.result))
     c.args.cons n) c.place_of-prov.ensures.place in
     rw is (its_names c.args.topo.now c.place_of-prov.ensures.sound c.requires.counted c.args.cons holder

@@ -5,7 +5,7 @@ use Rattle.geo_model.specs.Opens.{grant_refusal, with_grant}
 use Rattle.geo_mesh.specs.Topo.{TopoView, with_want}
 use Rattle.geo_access.specs.declared.counts.Way.TheVariants.{Rises}
 use Rattle.geo_access.specs.Access.{granted_by, granted_view, leaves_zero, noted, place_of, IsRefusal, IsNamed, IsCounted}
-use Rattle.geo_access.specs.Views.{IsTried, order_of, judged, answer_of}
+use Rattle.geo_access.specs.Views.{IsTried, order_of, judged, grant_answer}
 use Rattle.geo_access.proofs.Granting.{holder_is, holder_lives, others_stay}
 use Rattle.geo_access.proofs.Decided.{counted_told, steps_bound}
 use Rattle.geo_access.proofs.Coming.{open_tells}
@@ -115,11 +115,11 @@ returns-in-Some-clause-answer g c =
     c.judge.ensures
     ∙ ap (λ n. judged c.try_out-order.new.topo n c.args.add
     (order_of c.try_out-order.new.topo c.try_out-order.result)) c.place_of-prov.ensures.place in
-    let is : answer_of (judged c.try_out-order.new.topo (place_of c.args.topo.now.topology c.args.cons) c.args.add
+    let is : grant_answer (judged c.try_out-order.new.topo (place_of c.args.topo.now.topology c.args.cons) c.args.add
     (order_of c.try_out-order.new.topo c.try_out-order.result)) c.args.cons
     (place_of c.args.topo.now.topology c.args.cons) ≡ Err c.refusal.result =
-    ap (λ r. answer_of r c.args.cons (place_of c.args.topo.now.topology c.args.cons)) (sym at ∙ c.in-Some.is)
-    ∙ ap (answer_of (Some c.in-Some.why) c.args.cons) (sym c.place_of-prov.ensures.place) ∙ c.refusal.ensures in
+    ap (λ r. grant_answer r c.args.cons (place_of c.args.topo.now.topology c.args.cons)) (sym at ∙ c.in-Some.is)
+    ∙ ap (grant_answer (Some c.in-Some.why) c.args.cons) (sym c.place_of-prov.ensures.place) ∙ c.refusal.ensures in
     subst (λ r. IsRefusal r (grant_refusal (with_grant (granted_by c.args.topo.now) c.args.cons c.args.add)
     c.args.topo.now.topology (place_of c.args.topo.now.topology c.args.cons))) is
     (its_answer c.args.topo.now c.place_of-prov.ensures.sound c.requires.counted c.args.cons holder
@@ -137,11 +137,11 @@ returns-in-Some-clause-named g c =
     c.judge.ensures
     ∙ ap (λ n. judged c.try_out-order.new.topo n c.args.add
     (order_of c.try_out-order.new.topo c.try_out-order.result)) c.place_of-prov.ensures.place in
-    let is : answer_of (judged c.try_out-order.new.topo (place_of c.args.topo.now.topology c.args.cons) c.args.add
+    let is : grant_answer (judged c.try_out-order.new.topo (place_of c.args.topo.now.topology c.args.cons) c.args.add
     (order_of c.try_out-order.new.topo c.try_out-order.result)) c.args.cons
     (place_of c.args.topo.now.topology c.args.cons) ≡ Err c.refusal.result =
-    ap (λ r. answer_of r c.args.cons (place_of c.args.topo.now.topology c.args.cons)) (sym at ∙ c.in-Some.is)
-    ∙ ap (answer_of (Some c.in-Some.why) c.args.cons) (sym c.place_of-prov.ensures.place) ∙ c.refusal.ensures in
+    ap (λ r. grant_answer r c.args.cons (place_of c.args.topo.now.topology c.args.cons)) (sym at ∙ c.in-Some.is)
+    ∙ ap (grant_answer (Some c.in-Some.why) c.args.cons) (sym c.place_of-prov.ensures.place) ∙ c.refusal.ensures in
     subst (IsNamed (with_grant (granted_by c.args.topo.now) c.args.cons c.args.add) c.args.topo.now.topology
     (place_of c.args.topo.now.topology c.args.cons)) is
     (its_names c.args.topo.now c.place_of-prov.ensures.sound c.requires.counted c.args.cons holder
@@ -271,7 +271,7 @@ returns-clause-answer g c =
     c.judge.ensures
     ∙ ap (λ n. judged c.try_out-order.new.topo n c.args.add
     (order_of c.try_out-order.new.topo c.try_out-order.result)) c.place_of-prov.ensures.place in
-    subst (λ r. IsRefusal (answer_of r c.args.cons (place_of c.args.topo.now.topology c.args.cons))
+    subst (λ r. IsRefusal (grant_answer r c.args.cons (place_of c.args.topo.now.topology c.args.cons))
     (grant_refusal (with_grant (granted_by c.args.topo.now) c.args.cons c.args.add) c.args.topo.now.topology
     (place_of c.args.topo.now.topology c.args.cons)))
     (sym at ∙ c.in_default.is)

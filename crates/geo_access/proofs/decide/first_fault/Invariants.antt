@@ -1,13 +1,13 @@
 use Rattle.std.proofs.Common.{◌≡◌, All, IsSome}
 use Rattle.geo_model.specs.Topology.{geom_at}
-use Rattle.geo_access.specs.Views.{order_of, fault_in, first_some}
+use Rattle.geo_access.specs.Views.{order_of, fault_in, first_given}
 use Rattle.geo_access.proofs.decide.first_fault.Given as goal
 
 abbrev pub invariant-loop-geom : goal.invariant-loop-geom
 invariant-loop-geom g l = record {
   lives : All (λ x. IsSome (geom_at l.topo.topology x)) (order_of l.topo l.rest);
-  first : first_some (fault_in l.topo l.asked) (order_of l.topo l.rest)
-      ≡ first_some (fault_in l.topo l.asked) (order_of l.topo l.fn.order);
+  first : first_given (fault_in l.topo l.asked) (order_of l.topo l.rest)
+      ≡ first_given (fault_in l.topo l.asked) (order_of l.topo l.fn.order);
 }
 
 abbrev pub decreases-loop-geom : goal.decreases-loop-geom

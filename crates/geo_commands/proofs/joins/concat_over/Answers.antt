@@ -5,7 +5,7 @@ use Rattle.geo_model.specs.Names.{concat_name}
 use Rattle.geo_model.specs.Acceptance.{joined_size}
 use Rattle.geo_model.specs.GeomCommands.{concat_config, found_providers}
 use Rattle.geo_model.specs.Place.{disk_of}
-use Rattle.geo_class.specs.Assembly.{size_of}
+use Rattle.geo_class.specs.Assembly.{allowed_size}
 use Rattle.geo_state.specs.declared.state.State.{State}
 use Rattle.geo_commands.proofs.Assembled.{below-places, below-sizes, concat-fits, concat-is, concat-placed, concat-told, join-free, join-made, join-sized, join-stands, placed, size-told}
 use Rattle.geo_commands.proofs.Commanded.{joined-refused}
@@ -26,7 +26,7 @@ returns-in-Some-clause-does c = λ log actors.
     concat-told s firm names few below found name c.joined_name-full.result c.concat_size-size.result
     c.in_ok-sizes.sizes.items
     c.in_ok-sizes.ensures c.joined_refusal.result c.joined_name-full.ensures
-    (c.concat_size-size.ensures ∙ ap (λ (ns : List ℕ). size_of (sum ns)) c.deref.ensures.value)
+    (c.concat_size-size.ensures ∙ ap (λ (ns : List ℕ). allowed_size (sum ns)) c.deref.ensures.value)
     c.joined_refusal.ensures in
     joined-refused s s c.args.line c.refused.result actors log kinds.Concat name (concat_name name)
     config (length names) ps
@@ -47,12 +47,12 @@ unreachable-requires c =
     concat-told s firm names few below found name c.joined_name-full.result c.concat_size-size.result
     c.in_ok-sizes.sizes.items
     c.in_ok-sizes.ensures c.joined_refusal.result c.joined_name-full.ensures
-    (c.concat_size-size.ensures ∙ ap (λ (ns : List ℕ). size_of (sum ns)) c.deref.ensures.value)
+    (c.concat_size-size.ensures ∙ ap (λ (ns : List ℕ). allowed_size (sum ns)) c.deref.ensures.value)
     c.joined_refusal.ensures in
     let none = sym c.in_default.is ∙ told in
     let can = concat-fits s firm names few name none in
     size-told (joined_size config) can.fits.some can.fits.limited
-    (sym (c.concat_size-size.ensures ∙ ap (λ (ns : List ℕ). size_of (sum ns))
+    (sym (c.concat_size-size.ensures ∙ ap (λ (ns : List ℕ). allowed_size (sum ns))
     (c.deref.ensures.value ∙ c.in_ok-sizes.ensures ∙ below-sizes s.topo.topology ps below found))
     ∙ c.in_default-size.is)
 
@@ -86,7 +86,7 @@ concat-config-requires-clause-fits c =
     concat-told s firm names few below found name c.joined_name-full.result c.concat_size-size.result
     c.in_ok-sizes.sizes.items
     c.in_ok-sizes.ensures c.joined_refusal.result c.joined_name-full.ensures
-    (c.concat_size-size.ensures ∙ ap (λ (ns : List ℕ). size_of (sum ns)) c.deref.ensures.value)
+    (c.concat_size-size.ensures ∙ ap (λ (ns : List ℕ). allowed_size (sum ns)) c.deref.ensures.value)
     c.joined_refusal.ensures in
     let none = sym c.in_default.is ∙ told in
     let can = concat-fits s firm names few name none in
@@ -110,13 +110,13 @@ make_over-requires-clause-stands c =
     concat-told s firm names few below found name c.joined_name-full.result c.concat_size-size.result
     c.in_ok-sizes.sizes.items
     c.in_ok-sizes.ensures c.joined_refusal.result c.joined_name-full.ensures
-    (c.concat_size-size.ensures ∙ ap (λ (ns : List ℕ). size_of (sum ns)) c.deref.ensures.value)
+    (c.concat_size-size.ensures ∙ ap (λ (ns : List ℕ). allowed_size (sum ns)) c.deref.ensures.value)
     c.joined_refusal.ensures in
     let none = sym c.in_default.is ∙ told in
     let can = concat-fits s firm names few name none in
     join-stands s firm names few below found c.joined_name-full.result (concat_name name) config can
     c.joined_name-full.ensures c.in-Some-size.size c.sector_below-sector.result
-    (sym (c.concat_size-size.ensures ∙ ap (λ (ns : List ℕ). size_of (sum ns))
+    (sym (c.concat_size-size.ensures ∙ ap (λ (ns : List ℕ). allowed_size (sum ns))
     (c.deref.ensures.value ∙ c.in_ok-sizes.ensures ∙ below-sizes s.topo.topology ps below found)) ∙ c.in-Some-size.is)
     c.sector_below-sector.ensures c.in_ok-over.over.items c.in_ok-over.ensures
 
@@ -135,13 +135,13 @@ make_over-requires-clause-size c =
     concat-told s firm names few below found name c.joined_name-full.result c.concat_size-size.result
     c.in_ok-sizes.sizes.items
     c.in_ok-sizes.ensures c.joined_refusal.result c.joined_name-full.ensures
-    (c.concat_size-size.ensures ∙ ap (λ (ns : List ℕ). size_of (sum ns)) c.deref.ensures.value)
+    (c.concat_size-size.ensures ∙ ap (λ (ns : List ℕ). allowed_size (sum ns)) c.deref.ensures.value)
     c.joined_refusal.ensures in
     let none = sym c.in_default.is ∙ told in
     let can = concat-fits s firm names few name none in
     join-sized s firm names few below found c.joined_name-full.result (concat_name name) config can
     c.joined_name-full.ensures c.in-Some-size.size c.sector_below-sector.result
-    (sym (c.concat_size-size.ensures ∙ ap (λ (ns : List ℕ). size_of (sum ns))
+    (sym (c.concat_size-size.ensures ∙ ap (λ (ns : List ℕ). allowed_size (sum ns))
     (c.deref.ensures.value ∙ c.in_ok-sizes.ensures ∙ below-sizes s.topo.topology ps below found)) ∙ c.in-Some-size.is)
     c.sector_below-sector.ensures c.in_ok-over.over.items c.in_ok-over.ensures
 
@@ -160,13 +160,13 @@ make_over-requires-clause-free c =
     concat-told s firm names few below found name c.joined_name-full.result c.concat_size-size.result
     c.in_ok-sizes.sizes.items
     c.in_ok-sizes.ensures c.joined_refusal.result c.joined_name-full.ensures
-    (c.concat_size-size.ensures ∙ ap (λ (ns : List ℕ). size_of (sum ns)) c.deref.ensures.value)
+    (c.concat_size-size.ensures ∙ ap (λ (ns : List ℕ). allowed_size (sum ns)) c.deref.ensures.value)
     c.joined_refusal.ensures in
     let none = sym c.in_default.is ∙ told in
     let can = concat-fits s firm names few name none in
     join-free s firm names few below found c.joined_name-full.result (concat_name name) config can
     c.joined_name-full.ensures c.in-Some-size.size c.sector_below-sector.result
-    (sym (c.concat_size-size.ensures ∙ ap (λ (ns : List ℕ). size_of (sum ns))
+    (sym (c.concat_size-size.ensures ∙ ap (λ (ns : List ℕ). allowed_size (sum ns))
     (c.deref.ensures.value ∙ c.in_ok-sizes.ensures ∙ below-sizes s.topo.topology ps below found)) ∙ c.in-Some-size.is)
     c.sector_below-sector.ensures c.in_ok-over.over.items c.in_ok-over.ensures
 
@@ -188,7 +188,7 @@ returns-clause-does c = λ log actors.
     concat-told s firm names few below found name c.joined_name-full.result c.concat_size-size.result
     c.in_ok-sizes.sizes.items
     c.in_ok-sizes.ensures c.joined_refusal.result c.joined_name-full.ensures
-    (c.concat_size-size.ensures ∙ ap (λ (ns : List ℕ). size_of (sum ns)) c.deref.ensures.value)
+    (c.concat_size-size.ensures ∙ ap (λ (ns : List ℕ). allowed_size (sum ns)) c.deref.ensures.value)
     c.joined_refusal.ensures in
     let none = sym c.in_default.is ∙ told in
     let can = concat-fits s firm names few name none in
@@ -196,7 +196,7 @@ returns-clause-does c = λ log actors.
     let sizes_are = c.in_ok-sizes.ensures ∙ below-sizes s.topo.topology ps below found in
     join-made s firm names few below found c.joined_name-full.result (concat_name name) config can
     c.joined_name-full.ensures c.in-Some-size.size c.sector_below-sector.result
-    (sym (c.concat_size-size.ensures ∙ ap (λ (ns : List ℕ). size_of (sum ns))
+    (sym (c.concat_size-size.ensures ∙ ap (λ (ns : List ℕ). allowed_size (sum ns))
     (c.deref.ensures.value ∙ c.in_ok-sizes.ensures ∙ below-sizes s.topo.topology ps below found)) ∙ c.in-Some-size.is)
     c.sector_below-sector.ensures c.in_ok-over.over.items c.in_ok-over.ensures
     kinds.Concat name c.concat-config.result

@@ -7,7 +7,7 @@ use Rattle.geo_model.specs.Names.{stripe_name}
 use Rattle.geo_model.specs.Acceptance.{joined_size, smallest}
 use Rattle.geo_model.specs.GeomCommands.{stripe_config, found_providers, is_invalid_stripe}
 use Rattle.geo_model.specs.Place.{disk_of}
-use Rattle.geo_class.specs.Assembly.{size_of}
+use Rattle.geo_class.specs.Assembly.{allowed_size}
 use Rattle.geo_state.specs.declared.state.State.{State}
 use Rattle.geo_commands.specs.Below.{is_bad_stripe}
 use Rattle.geo_commands.proofs.Assembled.{below-places, below-sizes, stripe-fits, stripe-is, stripe-placed, stripe-told, join-free, join-made, join-sized, join-stands, placed, size-told, found-sector, below-sector, sizes-few}
@@ -50,7 +50,8 @@ returns-in-Some-clause-does c = λ log actors.
     c.in_ok-sizes.ensures c.joined_refusal.result c.args.stripe c.is_bad_stripe-is_bad.result
     c.joined_name-full.ensures
     (c.stripe_size-size.ensures
-    ∙ ap (λ (ns : List ℕ). size_of (length ns * ((smallest ns / c.args.stripe) * c.args.stripe))) c.deref.ensures.value)
+    ∙ ap
+    (λ (ns : List ℕ). allowed_size (length ns * ((smallest ns / c.args.stripe) * c.args.stripe))) c.deref.ensures.value)
     (c.is_bad_stripe-is_bad.ensures ∙ ap (λ n. is_bad_stripe n below) c.from.ensures) c.joined_refusal.ensures in
     joined-refused s s c.args.line c.refused.result actors log kinds.Stripe name (stripe_name name)
     config (length names) ps
@@ -73,13 +74,14 @@ unreachable-requires c =
     c.in_ok-sizes.ensures c.joined_refusal.result c.args.stripe c.is_bad_stripe-is_bad.result
     c.joined_name-full.ensures
     (c.stripe_size-size.ensures
-    ∙ ap (λ (ns : List ℕ). size_of (length ns * ((smallest ns / c.args.stripe) * c.args.stripe))) c.deref.ensures.value)
+    ∙ ap
+    (λ (ns : List ℕ). allowed_size (length ns * ((smallest ns / c.args.stripe) * c.args.stripe))) c.deref.ensures.value)
     (c.is_bad_stripe-is_bad.ensures ∙ ap (λ n. is_bad_stripe n below) c.from.ensures) c.joined_refusal.ensures in
     let none = sym c.in_default.is ∙ told in
     let can = stripe-fits s firm names few name c.args.stripe none in
     size-told (joined_size config) can.fits.some can.fits.limited
     (sym (c.stripe_size-size.ensures
-    ∙ ap (λ (ns : List ℕ). size_of (length ns * ((smallest ns / c.args.stripe) * c.args.stripe)))
+    ∙ ap (λ (ns : List ℕ). allowed_size (length ns * ((smallest ns / c.args.stripe) * c.args.stripe)))
     (c.deref.ensures.value ∙ c.in_ok-sizes.ensures ∙ below-sizes s.topo.topology ps below found))
     ∙ c.in_default-size.is)
 
@@ -115,7 +117,8 @@ stripe-config-requires-clause-fits c =
     c.in_ok-sizes.ensures c.joined_refusal.result c.args.stripe c.is_bad_stripe-is_bad.result
     c.joined_name-full.ensures
     (c.stripe_size-size.ensures
-    ∙ ap (λ (ns : List ℕ). size_of (length ns * ((smallest ns / c.args.stripe) * c.args.stripe))) c.deref.ensures.value)
+    ∙ ap
+    (λ (ns : List ℕ). allowed_size (length ns * ((smallest ns / c.args.stripe) * c.args.stripe))) c.deref.ensures.value)
     (c.is_bad_stripe-is_bad.ensures ∙ ap (λ n. is_bad_stripe n below) c.from.ensures) c.joined_refusal.ensures in
     let none = sym c.in_default.is ∙ told in
     let can = stripe-fits s firm names few name c.args.stripe none in
@@ -141,14 +144,15 @@ make_over-requires-clause-stands c =
     c.in_ok-sizes.ensures c.joined_refusal.result c.args.stripe c.is_bad_stripe-is_bad.result
     c.joined_name-full.ensures
     (c.stripe_size-size.ensures
-    ∙ ap (λ (ns : List ℕ). size_of (length ns * ((smallest ns / c.args.stripe) * c.args.stripe))) c.deref.ensures.value)
+    ∙ ap
+    (λ (ns : List ℕ). allowed_size (length ns * ((smallest ns / c.args.stripe) * c.args.stripe))) c.deref.ensures.value)
     (c.is_bad_stripe-is_bad.ensures ∙ ap (λ n. is_bad_stripe n below) c.from.ensures) c.joined_refusal.ensures in
     let none = sym c.in_default.is ∙ told in
     let can = stripe-fits s firm names few name c.args.stripe none in
     join-stands s firm names few below found c.joined_name-full.result (stripe_name name) config can
     c.joined_name-full.ensures c.in-Some-size.size c.sector_below-sector.result
     (sym (c.stripe_size-size.ensures
-    ∙ ap (λ (ns : List ℕ). size_of (length ns * ((smallest ns / c.args.stripe) * c.args.stripe)))
+    ∙ ap (λ (ns : List ℕ). allowed_size (length ns * ((smallest ns / c.args.stripe) * c.args.stripe)))
     (c.deref.ensures.value ∙ c.in_ok-sizes.ensures ∙ below-sizes s.topo.topology ps below found)) ∙ c.in-Some-size.is)
     c.sector_below-sector.ensures c.in_ok-over.over.items c.in_ok-over.ensures
 
@@ -169,14 +173,15 @@ make_over-requires-clause-size c =
     c.in_ok-sizes.ensures c.joined_refusal.result c.args.stripe c.is_bad_stripe-is_bad.result
     c.joined_name-full.ensures
     (c.stripe_size-size.ensures
-    ∙ ap (λ (ns : List ℕ). size_of (length ns * ((smallest ns / c.args.stripe) * c.args.stripe))) c.deref.ensures.value)
+    ∙ ap
+    (λ (ns : List ℕ). allowed_size (length ns * ((smallest ns / c.args.stripe) * c.args.stripe))) c.deref.ensures.value)
     (c.is_bad_stripe-is_bad.ensures ∙ ap (λ n. is_bad_stripe n below) c.from.ensures) c.joined_refusal.ensures in
     let none = sym c.in_default.is ∙ told in
     let can = stripe-fits s firm names few name c.args.stripe none in
     join-sized s firm names few below found c.joined_name-full.result (stripe_name name) config can
     c.joined_name-full.ensures c.in-Some-size.size c.sector_below-sector.result
     (sym (c.stripe_size-size.ensures
-    ∙ ap (λ (ns : List ℕ). size_of (length ns * ((smallest ns / c.args.stripe) * c.args.stripe)))
+    ∙ ap (λ (ns : List ℕ). allowed_size (length ns * ((smallest ns / c.args.stripe) * c.args.stripe)))
     (c.deref.ensures.value ∙ c.in_ok-sizes.ensures ∙ below-sizes s.topo.topology ps below found)) ∙ c.in-Some-size.is)
     c.sector_below-sector.ensures c.in_ok-over.over.items c.in_ok-over.ensures
 
@@ -197,14 +202,15 @@ make_over-requires-clause-free c =
     c.in_ok-sizes.ensures c.joined_refusal.result c.args.stripe c.is_bad_stripe-is_bad.result
     c.joined_name-full.ensures
     (c.stripe_size-size.ensures
-    ∙ ap (λ (ns : List ℕ). size_of (length ns * ((smallest ns / c.args.stripe) * c.args.stripe))) c.deref.ensures.value)
+    ∙ ap
+    (λ (ns : List ℕ). allowed_size (length ns * ((smallest ns / c.args.stripe) * c.args.stripe))) c.deref.ensures.value)
     (c.is_bad_stripe-is_bad.ensures ∙ ap (λ n. is_bad_stripe n below) c.from.ensures) c.joined_refusal.ensures in
     let none = sym c.in_default.is ∙ told in
     let can = stripe-fits s firm names few name c.args.stripe none in
     join-free s firm names few below found c.joined_name-full.result (stripe_name name) config can
     c.joined_name-full.ensures c.in-Some-size.size c.sector_below-sector.result
     (sym (c.stripe_size-size.ensures
-    ∙ ap (λ (ns : List ℕ). size_of (length ns * ((smallest ns / c.args.stripe) * c.args.stripe)))
+    ∙ ap (λ (ns : List ℕ). allowed_size (length ns * ((smallest ns / c.args.stripe) * c.args.stripe)))
     (c.deref.ensures.value ∙ c.in_ok-sizes.ensures ∙ below-sizes s.topo.topology ps below found)) ∙ c.in-Some-size.is)
     c.sector_below-sector.ensures c.in_ok-over.over.items c.in_ok-over.ensures
 
@@ -228,7 +234,8 @@ returns-clause-does c = λ log actors.
     c.in_ok-sizes.ensures c.joined_refusal.result c.args.stripe c.is_bad_stripe-is_bad.result
     c.joined_name-full.ensures
     (c.stripe_size-size.ensures
-    ∙ ap (λ (ns : List ℕ). size_of (length ns * ((smallest ns / c.args.stripe) * c.args.stripe))) c.deref.ensures.value)
+    ∙ ap
+    (λ (ns : List ℕ). allowed_size (length ns * ((smallest ns / c.args.stripe) * c.args.stripe))) c.deref.ensures.value)
     (c.is_bad_stripe-is_bad.ensures ∙ ap (λ n. is_bad_stripe n below) c.from.ensures) c.joined_refusal.ensures in
     let none = sym c.in_default.is ∙ told in
     let can = stripe-fits s firm names few name c.args.stripe none in
@@ -237,7 +244,7 @@ returns-clause-does c = λ log actors.
     join-made s firm names few below found c.joined_name-full.result (stripe_name name) config can
     c.joined_name-full.ensures c.in-Some-size.size c.sector_below-sector.result
     (sym (c.stripe_size-size.ensures
-    ∙ ap (λ (ns : List ℕ). size_of (length ns * ((smallest ns / c.args.stripe) * c.args.stripe)))
+    ∙ ap (λ (ns : List ℕ). allowed_size (length ns * ((smallest ns / c.args.stripe) * c.args.stripe)))
     (c.deref.ensures.value ∙ c.in_ok-sizes.ensures ∙ below-sizes s.topo.topology ps below found)) ∙ c.in-Some-size.is)
     c.sector_below-sector.ensures c.in_ok-over.over.items c.in_ok-over.ensures
     kinds.Stripe name c.stripe-config.result

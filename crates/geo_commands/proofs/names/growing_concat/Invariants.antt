@@ -2,12 +2,12 @@
 use Rattle.std.proofs.Common.{◌≡◌, ◌-◌, find}
 use Rattle.geo_base.specs.declared.kind.Kind.TheVariants as kinds
 use Rattle.geo_model.specs.Append.{is_growing}
-use Rattle.geo_commands.specs.Names.{named_from, offers}
+use Rattle.geo_commands.specs.Names.{can_grow, named_from}
 use Rattle.geo_commands.proofs.names.growing_concat.Given as goal
 
 abbrev pub invariant-loop-geom : goal.invariant-loop-geom
 invariant-loop-geom l =
-    find (offers l.topo.topology) (named_from l.topo.topology kinds.Concat l.name l.from)
+    find (can_grow l.topo.topology) (named_from l.topo.topology kinds.Concat l.name l.from)
     ≡ find (is_growing l.topo.topology l.name) l.topo.topology.geoms
 
 abbrev pub decreases-loop-geom : goal.decreases-loop-geom

@@ -1,13 +1,13 @@
 use Rattle.std.proofs.Common.{◌<◌, ◌^◌, ◌∙◌, subst}
 use Rattle.geo_model.specs.World.{World}
-use Rattle.geo_bio.specs.Rows.{seen}
+use Rattle.geo_bio.specs.Rows.{as_bio}
 use Rattle.geo_core.proofs.Spots.{spot_gone, spot_there}
 use Rattle.geo_core.proofs.sent.sent.Goals as goal
 
 pub returns-in-Some-clause-spot : goal.returns-in-Some-clause-spot
 returns-in-Some-clause-spot c =
     c.spot_in.ensures
-    ∙ spot_there c.args.running.now c.requires c.args.bio (seen c.args.bio c.in-Some.found.now)
+    ∙ spot_there c.args.running.now c.requires c.args.bio (as_bio c.args.bio c.in-Some.found.now)
     c.in-Some.ensures.found
 
 pub returns-in-Some-clause-bound : goal.returns-in-Some-clause-bound

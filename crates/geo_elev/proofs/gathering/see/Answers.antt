@@ -1,6 +1,6 @@
 use Rattle.std.proofs.Common.{List, subst}
 use Rattle.geo_elev.specs.declared.disks.DiskHead.{DiskHead}
-use Rattle.geo_elev.specs.Disks.{ChangesOne, Moves}
+use Rattle.geo_elev.specs.Disks.{ChangesOne, HeadMoves}
 use Rattle.geo_elev.proofs.Gathered.{moved_then}
 use Rattle.geo_elev.proofs.gathering.see.Goals as goal
 
@@ -10,4 +10,4 @@ returns-in-Asked-clause-seen c =
     let new = c.move_head.new.disks in
     λ log n old.
     moved_then log c.args.entry.now n q c.in-Asked.is new
-    (subst (λ (ds : List DiskHead). ChangesOne q.disk (Moves q) ds new) old c.move_head.ensures.moves)
+    (subst (λ (ds : List DiskHead). ChangesOne q.disk (HeadMoves q) ds new) old c.move_head.ensures.moves)

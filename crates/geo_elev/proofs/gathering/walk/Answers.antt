@@ -1,7 +1,7 @@
 use Rattle.std.proofs.Common.{◌≡◌, ◌∙◌, ◌<◌, ◌≤◌, ◌+◌, ℕ, List, sym, subst, refl, arith}
 use Rattle.geo_drain.specs.Meshes.{world_of, spot_of}
 use Rattle.geo_elev.specs.declared.disks.DiskHead.{DiskHead}
-use Rattle.geo_elev.specs.Gathering.{Puts, heads_below}
+use Rattle.geo_elev.specs.Gathering.{PutsAtSpot, heads_below}
 use Rattle.geo_elev.proofs.Gathered.{walk_begins, walk_ends, walk_goes_on, not_before, was_given}
 use Rattle.geo_elev.proofs.gathering.walk.Goals as goal
 
@@ -33,7 +33,8 @@ loop-bio-preserved c =
       walked = λ log n old.
           subst (λ (k : ℕ). c.put_in.new.disks ≡ heads_below (world_of m) log (k + 1) n) (sym c.number-from.ensures)
           (walk_goes_on m c.requires.history c.loop-bio.from c.in-Some.bio c.in-Some.ensures log n c.put_in.new.disks
-          (subst (λ (ds : List DiskHead). Puts (spot_of (world_of m) c.in-Some.bio) c.in-Some.bio ds c.put_in.new.disks)
+          (subst (λ (ds : List DiskHead). PutsAtSpot
+          (spot_of (world_of m) c.in-Some.bio) c.in-Some.bio ds c.put_in.new.disks)
           (c.loop-bio.invariant.walked log n old) c.in_ok-put_in.ensures.put));
       length = c.in_ok-put_in.ensures.length ∙ c.loop-bio.invariant.length;
     }

@@ -2,7 +2,7 @@ use Rattle.std.proofs.Common.{◌≡◌, ◌∙◌, ℕ, List, sym, subst}
 use Rattle.geo_model.specs.declared.step.Entry.{Entry}
 use Rattle.geo_drain.specs.Meshes.{opened, world_of}
 use Rattle.geo_elev.specs.declared.disks.DiskHead.{DiskHead}
-use Rattle.geo_elev.specs.Following.{ComesAfter, Followed, Starts, Takes, heads_at}
+use Rattle.geo_elev.specs.Following.{ComesAfter, Followed, Starts, TakesIfFollowed, heads_at}
 use Rattle.geo_elev.proofs.Histories.{if_ok, quiet_then, take_then, start_then}
 use Rattle.geo_elev.proofs.heads.follow.Goals as goal
 
@@ -17,13 +17,13 @@ returns-in-Asked-clause-followed c =
     let m = c.args.mesh.now in
     let e = c.args.entry.now in
     let new = c.follow_take.new.disks in
-    if_ok (λ b. Takes b c.in-Asked.request e.step c.args.disks.now new)
+    if_ok (λ b. TakesIfFollowed b c.in-Asked.request e.step c.args.disks.now new)
     (λ b. (seen : List Entry) (n : ℕ) → ComesAfter m.log seen e c.args.is_last
     → c.args.disks.now ≡ heads_at (opened m) seen n → Followed b (opened m) seen e n new)
     c.follow_take.result
     (λ b does seen n comes old.
     take_then m c.requires.history seen e c.args.is_last comes n b c.in-Asked.request new c.in-Asked.is
-    (subst (λ (ds : List DiskHead). Takes b c.in-Asked.request e.step ds new) old does))
+    (subst (λ (ds : List DiskHead). TakesIfFollowed b c.in-Asked.request e.step ds new) old does))
     c.follow_take.ensures.takes
 
 pub returns-in-Queued-clause-followed : goal.returns-in-Queued-clause-followed

@@ -1,5 +1,5 @@
 use Rattle.std.proofs.Common.{sym, ◌∙◌}
-use Rattle.geo_family.specs.Links.{part_at, last_of}
+use Rattle.geo_family.specs.Links.{part_at, last_in_ends}
 use Rattle.geo_family.proofs.LastLemmas.{last_child_is}
 use Rattle.geo_family.proofs.links.last.Goals as goal
 
@@ -7,5 +7,5 @@ pub returns : goal.returns
 returns c =
     c.last_at.ensures
     ∙ sym (last_child_is c.args.parent 1 c.args.links.now.next c.args.links.now.rows
-    (part_at last_of c.args.ends.now.rows c.args.parent) c.first_from.ensures.rising
+    (part_at last_in_ends c.args.ends.now.rows c.args.parent) c.first_from.ensures.rising
     (c.requires.lasts c.args.parent))

@@ -1,5 +1,5 @@
 use Rattle.std.proofs.Common.{◌∙◌, ap, map}
-use Rattle.geo_bio.specs.Rows.{seen}
+use Rattle.geo_bio.specs.Rows.{as_bio}
 use Rattle.geo_mesh.specs.Cells.{provider_seen}
 use Rattle.geo_class.proofs.TargetLemmas.{flushes_go_through}
 use Rattle.geo_requests.specs.Ways.{through}
@@ -9,7 +9,7 @@ use Rattle.geo_requests.proofs.cut.cut_flush.Goals as goal
 pub returns : goal.returns
 returns c =
     cut_of c.args.topo.now.topology _ _ _ _
-    (flushes_go_through c.args.config.now (provider_seen c.args.bio.now.to c.args.prov.now) (seen 0 c.args.bio.now)
+    (flushes_go_through c.args.config.now (provider_seen c.args.bio.now.to c.args.prov.now) (as_bio 0 c.args.bio.now)
     c.requires)
     c.in_ok-pieces.ensures
     (c.in_ok-targets.ensures

@@ -1,5 +1,5 @@
 use Rattle.std.proofs.Common.{◌∙◌, ap, map, refl}
-use Rattle.geo_bio.specs.Rows.{seen}
+use Rattle.geo_bio.specs.Rows.{as_bio}
 use Rattle.geo_mesh.specs.Cells.{provider_seen}
 use Rattle.geo_class.specs.Targets.{consumers_for}
 use Rattle.geo_class.proofs.TargetLemmas.{pieces_go_through}
@@ -12,7 +12,7 @@ returns c =
     let p = provider_seen c.args.bio.now.to c.args.prov.now in
     let pieces = c.in_ok-pieces.ensures p refl refl in
     cut_of c.args.topo.now.topology _ _ _ _
-    (pieces_go_through c.args.config.now p (seen 0 c.args.bio.now) c.requires.moves
+    (pieces_go_through c.args.config.now p (as_bio 0 c.args.bio.now) c.requires.moves
     (c.requires.cut c.requires.moves).filled)
     pieces
     (c.in_ok-targets.ensures

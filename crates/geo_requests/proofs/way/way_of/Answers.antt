@@ -1,9 +1,9 @@
 use Rattle.std.proofs.Common.{◌≡◌, ◌∙◌, sym, subst, None, false, IfOk}
 use Rattle.geo_model.specs.Topology.{is_errored, provider_at}
 use Rattle.geo_model.specs.Bios.{Way}
-use Rattle.geo_bio.specs.Rows.{seen}
+use Rattle.geo_bio.specs.Rows.{as_bio}
 use Rattle.geo_mesh.specs.Cells.{geom_seen, provider_seen}
-use Rattle.geo_requests.specs.Ways.{IsWay}
+use Rattle.geo_requests.specs.Ways.{IsModelWay}
 use Rattle.geo_requests.proofs.Errored.{errored_found, errored_nowhere}
 use Rattle.geo_requests.proofs.Ways.{way_errored, way_nowhere, way_bare, way_there}
 use Rattle.geo_requests.proofs.way.way_of.Goals as goal
@@ -12,12 +12,12 @@ pub returns-in_default : goal.returns-in_default
 returns-in_default c =
     let t = c.args.topo.now.topology in
     let none : provider_at t c.args.bio.now.to ≡ None = c.in_default.ensures.provider in
-    way_nowhere t (seen 0 c.args.bio.now) (errored_nowhere t c.args.bio.now.to none) none
+    way_nowhere t (as_bio 0 c.args.bio.now) (errored_nowhere t c.args.bio.now.to none) none
 
 pub returns-then-prov : goal.returns-then-prov
 returns-then-prov c =
     let t = c.args.topo.now.topology in
-    way_errored t (seen 0 c.args.bio.now)
+    way_errored t (as_bio 0 c.args.bio.now)
     (errored_found t c.provider.ensures.sound.orderly.order c.args.bio.now.to _ c.in-Some.ensures.provider
     ∙ c.if-prov.true)
 
@@ -33,8 +33,8 @@ returns-in-Some-geom c =
     let fine : is_errored t c.args.bio.now.to ≡ false =
     errored_found t c.provider.ensures.sound.orderly.order c.args.bio.now.to _ c.in-Some.ensures.provider
     ∙ c.if-prov.false in
-    subst (λ (way : Way). IfOk c.way_at.result (λ own. IsWay t own way))
-    (sym (way_there t (seen 0 c.args.bio.now) _ _ fine c.in-Some.ensures.provider c.in-Some-geom.ensures.geom))
+    subst (λ (way : Way). IfOk c.way_at.result (λ own. IsModelWay t own way))
+    (sym (way_there t (as_bio 0 c.args.bio.now) _ _ fine c.in-Some.ensures.provider c.in-Some-geom.ensures.geom))
     c.way_at.ensures
 
 pub returns-in-None : goal.returns-in-None
@@ -43,4 +43,4 @@ returns-in-None c =
     let fine : is_errored t c.args.bio.now.to ≡ false =
     errored_found t c.provider.ensures.sound.orderly.order c.args.bio.now.to _ c.in-Some.ensures.provider
     ∙ c.if-prov.false in
-    way_bare t (seen 0 c.args.bio.now) _ fine c.in-Some.ensures.provider c.in-None.ensures.geom
+    way_bare t (as_bio 0 c.args.bio.now) _ fine c.in-Some.ensures.provider c.in-None.ensures.geom

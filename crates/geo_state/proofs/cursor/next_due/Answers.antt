@@ -1,5 +1,5 @@
 use Rattle.std.proofs.Common.{◌≡◌, ◌∙◌, ◌+◌, Some, sym, ap, arith}
-use Rattle.geo_bio.specs.BioTable.{first_bio}
+use Rattle.geo_bio.specs.BioTable.{bio_from}
 use Rattle.geo_state.specs.Cursors.{is_due, first_from}
 use Rattle.geo_state.proofs.OrderLemmas.{table_rises, number_below}
 use Rattle.geo_state.proofs.CursorLemmas.{walk_ends, walk_hits, walk_goes_on, reached_above, reached_there}
@@ -8,7 +8,7 @@ use Rattle.geo_state.proofs.cursor.next_due.Goals as goal
 pub returns-then-waits : goal.returns-then-waits
 returns-then-waits c =
     let t = c.args.bios.now in
-    let first : first_bio t.bios c.loop-bio.from ≡ Some c.in-Some.bio =
+    let first : bio_from t.bios c.loop-bio.from ≡ Some c.in-Some.bio =
     sym c.next_from.ensures.first ∙ c.in-Some.is in
     ap Some c.number.ensures
     ∙ sym (walk_hits (is_due c.args.due) c.loop-bio.from c.in-Some.bio t.bios
@@ -19,7 +19,7 @@ returns-then-waits c =
 pub overflow_add-from : goal.overflow_add-from
 overflow_add-from c =
     let t = c.args.bios.now in
-    let first : first_bio t.bios c.loop-bio.from ≡ Some c.in-Some.bio =
+    let first : bio_from t.bios c.loop-bio.from ≡ Some c.in-Some.bio =
     sym c.next_from.ensures.first ∙ c.in-Some.is in
     let order = c.next_from.ensures.in_order in
     let there = reached_there (is_due c.args.due) c.loop-bio.from c.in-Some.bio t.bios (table_rises t order) first in
@@ -29,7 +29,7 @@ overflow_add-from c =
 pub loop-bio-smaller : goal.loop-bio-smaller
 loop-bio-smaller c =
     let t = c.args.bios.now in
-    let first : first_bio t.bios c.loop-bio.from ≡ Some c.in-Some.bio =
+    let first : bio_from t.bios c.loop-bio.from ≡ Some c.in-Some.bio =
     sym c.next_from.ensures.first ∙ c.in-Some.is in
     let order = c.next_from.ensures.in_order in
     let there = reached_there (is_due c.args.due) c.loop-bio.from c.in-Some.bio t.bios (table_rises t order) first in
@@ -40,7 +40,7 @@ loop-bio-smaller c =
 pub loop-bio-preserved : goal.loop-bio-preserved
 loop-bio-preserved c =
     let t = c.args.bios.now in
-    let first : first_bio t.bios c.loop-bio.from ≡ Some c.in-Some.bio =
+    let first : bio_from t.bios c.loop-bio.from ≡ Some c.in-Some.bio =
     sym c.next_from.ensures.first ∙ c.in-Some.is in
     ap (λ n. first_from (is_due c.args.due) t.bios (n + 1)) c.number-from.ensures
     ∙ walk_goes_on (is_due c.args.due) c.loop-bio.from c.in-Some.bio t.bios

@@ -3,7 +3,7 @@ use Rattle.geo_base.proofs.Options.{at-found}
 use Rattle.geo_model.specs.World.{BioOf, is_up}
 use Rattle.geo_bio.specs.declared.bio.Held.{Held}
 use Rattle.geo_bio.specs.BioTable.{BioTableView, bio_among}
-use Rattle.geo_bio.specs.Rows.{seen}
+use Rattle.geo_bio.specs.Rows.{as_bio}
 use Rattle.geo_bio.specs.Up.{after_up}
 use Rattle.geo_mesh.specs.Topo.{with_active}
 use Rattle.geo_state.specs.declared.state.State.{State}
@@ -15,7 +15,7 @@ use Rattle.geo_state.proofs.ups.up.Goals as goal
 pub come_back-requires : goal.come_back-requires
 come_back-requires g c =
     let s : State = c.args.state.now in
-    let x : BioOf Held = seen c.args.bio c.in-Some.found.now in
+    let x : BioOf Held = as_bio c.args.bio c.in-Some.found.now in
     let log = g.B.LogBytes.place_bytes c.args.log.now in
     let order = c.get.ensures.in_order.numbers in
     let at : InPhase is_up s.traffic.bios c.args.bio =
@@ -31,7 +31,7 @@ come_back-requires g c =
 pub returns-clause-kept : goal.returns-clause-kept
 returns-clause-kept g c =
     let s : State = c.args.state.now in
-    let x : BioOf Held = seen c.args.bio c.in-Some.found.now in
+    let x : BioOf Held = as_bio c.args.bio c.in-Some.found.now in
     let log = g.B.LogBytes.place_bytes c.args.log.now in
     let order = c.get.ensures.in_order.numbers in
     let at : InPhase is_up s.traffic.bios c.args.bio =

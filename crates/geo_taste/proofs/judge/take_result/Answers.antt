@@ -2,7 +2,7 @@ use Rattle.std.proofs.Common.{Some, None, sym, ap, ◌∙◌, subst}
 use Rattle.geo_model.specs.Demand.{no_counts}
 use Rattle.geo_model.specs.Tasting.{facts_of}
 use Rattle.geo_class.specs.Taste.{verdict_back, weighed}
-use Rattle.geo_taste.specs.Saying.{IsTaken, with_said}
+use Rattle.geo_taste.specs.Saying.{IsReadTaken, with_said}
 use Rattle.geo_taste.specs.Taster.{IsTasteOf}
 use Rattle.geo_taste.proofs.Resting.{is_back, rest_tasting, weighed_rest}
 use Rattle.geo_taste.proofs.Saying.{said_plain, taken}
@@ -14,7 +14,7 @@ returns-in-Some-clause-kept c t n =
 
 pub returns-in-Some-clause-taken : goal.returns-in-Some-clause-taken
 returns-in-Some-clause-taken c granted q p kind got asked facts =
-    subst (IsTaken granted q c.args.taste.now p kind got c.weigh_back.new.self) (sym c.said_of.ensures.said)
+    subst (IsReadTaken granted q c.args.taste.now p kind got c.weigh_back.new.self) (sym c.said_of.ensures.said)
     (taken granted q c.args.taste.now p kind got asked (Some c.in-Some.verdict)
     (sym c.in-Some.is ∙ c.weigh_back.ensures.verdict granted ∙ ap (verdict_back granted c.args.taste.now) facts)
     c.weigh_back.new.self

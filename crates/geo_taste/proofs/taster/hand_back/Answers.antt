@@ -4,7 +4,7 @@ use Rattle.geo_model.specs.Topology.{Consumer}
 use Rattle.geo_model.specs.Demand.{no_counts}
 use Rattle.geo_access.specs.Access.{IsQuiet, released_view}
 use Rattle.geo_model.specs.World.{Taste, is_read_out}
-use Rattle.geo_taste.specs.Taster.{held_by, IsTasteOf}
+use Rattle.geo_taste.specs.Taster.{held_by_taste, IsTasteOf}
 use Rattle.geo_taste.proofs.Reading.{given_tasting, granted_reads, held_idle, held_reads, released_quietly}
 use Rattle.geo_taste.proofs.Resting.{back_idle}
 use Rattle.geo_taste.proofs.taster.hand_back.Goals as goal
@@ -14,7 +14,7 @@ returns-clause-topo g c =
     c.release.ensures.released
     ∙ ap (released_view c.args.topo.now) c.holder-consumer.ensures.number
     ∙ released_quietly c.args.topo.now c.args.taste.now.consumer c.requires.settled.quiet
-    (granted_reads c.args.topo.now c.args.taste.now.consumer (held_by c.args.taste.now) c.requires.tasting.holds
+    (granted_reads c.args.topo.now c.args.taste.now.consumer (held_by_taste c.args.taste.now) c.requires.tasting.holds
     (held_reads c.args.taste.now)) no_counts refl refl
 
 pub returns-clause-settled : goal.returns-clause-settled

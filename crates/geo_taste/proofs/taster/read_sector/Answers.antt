@@ -6,7 +6,7 @@ use Rattle.geo_model.specs.Demand.{one_read}
 use Rattle.geo_model.specs.World.{ReadOut, Taste}
 use Rattle.geo_access.specs.Access.{IsQuiet, granted_view}
 use Rattle.geo_class.specs.Taste.{ended}
-use Rattle.geo_taste.specs.Taster.{held_by, IsTasteOf}
+use Rattle.geo_taste.specs.Taster.{held_by_taste, IsTasteOf}
 use Rattle.geo_taste.proofs.Asking.{read_refused, read_granted, read_made}
 use Rattle.geo_taste.proofs.Reading.{given_tasting, granted_reads, held_reads, granted_quietly, quiet_granted, refusal_told}
 use Rattle.geo_taste.proofs.Resting.{ended_rest, rest_tasting}
@@ -17,7 +17,7 @@ returns-in-Ok-clause-topo g c =
     c.in-Ok.ensures.granted
     ∙ ap (λ n. granted_view c.args.topo.now n one_read) c.holder-consumer.ensures.number
     ∙ granted_quietly c.args.topo.now c.args.taste.now.consumer c.requires.settled.quiet
-    (granted_reads c.args.topo.now c.args.taste.now.consumer (held_by c.args.taste.now) c.requires.tasting.holds
+    (granted_reads c.args.topo.now c.args.taste.now.consumer (held_by_taste c.args.taste.now) c.requires.tasting.holds
     (held_reads c.args.taste.now)) one_read refl
 
 pub returns-in-Ok-clause-judged : goal.returns-in-Ok-clause-judged
@@ -52,7 +52,7 @@ returns-in-Ok-clause-tasting g c =
     subst (λ v. IsTasteOf v c.note_read.new.self) (sym (returns-in-Ok-clause-topo g c))
     (given_tasting c.args.topo.now c.holder-consumer.ensures.sound c.args.taste.now c.requires.tasting one_read
     c.note_read.new.self (ap (λ (z : Taste). z.consumer) same) (ap (λ (z : Taste). z.provider) same)
-    (ap (λ (z : Taste). held_by z) same))
+    (ap (λ (z : Taste). held_by_taste z) same))
 
 pub returns-in-Err-clause-tasting : goal.returns-in-Err-clause-tasting
 returns-in-Err-clause-tasting g c =

@@ -5,7 +5,7 @@ use Rattle.geo_mesh.specs.Topo.{TopoView}
 use Rattle.geo_access.specs.Join.{IsCountedBut}
 use Rattle.geo_access.specs.JoinLaws.{NewConsumersMayJoin}
 use Rattle.geo_access.proofs.NewJoiner.{new_consumers_may_join}
-use Rattle.geo_tests_core.specs.Built.{AreAttached}
+use Rattle.geo_tests_core.specs.Built.{ConsumersAreAttached}
 use Rattle.geo_tests_core.proofs.Building.{joined_attached}
 use Rattle.geo_tests_core.proofs.access.grow.Goals as goal
 
@@ -19,8 +19,8 @@ pub returns-clause-attached : goal.returns-clause-attached
 returns-clause-attached g c =
     on_ok_weaker c.join.result
     (λ joined.
-    subst (λ (v : TopoView ℕ). AreAttached v.topology) (sym joined)
-    (subst (λ (n : ℕ). AreAttached (attach c.new_consumer.new.self.topology n c.args.prov))
+    subst (λ (v : TopoView ℕ). ConsumersAreAttached v.topology) (sym joined)
+    (subst (λ (n : ℕ). ConsumersAreAttached (attach c.new_consumer.new.self.topology n c.args.prov))
     (sym c.in_ok-cons.ensures.number)
     (joined_attached c.args.topo.now c.new_consumer.new.self c.args.geom c.args.prov c.in_ok-cons.ensures.added
     c.requires.attached)))

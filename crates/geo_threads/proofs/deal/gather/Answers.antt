@@ -1,6 +1,6 @@
 use Rattle.std.proofs.Common.{◌≡◌, ◌++◌, ◌∷◌, ◌∙◌, [], ap, sym, length, append_assoc, append-nil, arith, drop, take}
 use Rattle.std.proofs.lemmas.List.{length-append, length-map}
-use Rattle.geo_threads.specs.Deal.{drives_in, gathered}
+use Rattle.geo_threads.specs.Deal.{drives_in, gathered_drives}
 use Rattle.geo_threads.proofs.Dealing.{none_left, one_round}
 use Rattle.geo_threads.proofs.deal.gather.Goals as goal
 
@@ -30,12 +30,12 @@ loop-drive-preserved g c =
     let one = length-append b (d ∷ []) in
     let moved_long = length-map (take 1 o) (λ x. x.1) in
     let fits = inv.2 in (
-      ap (λ l. l ++ gathered c.take_first.new.self.items c.move_first.new.list.items) back
-          ∙ ap (λ l. b ++ d ∷ [] ++ drives_in (take 1 o) ++ gathered l c.move_first.new.list.items)
+      ap (λ l. l ++ gathered_drives c.take_first.new.self.items c.move_first.new.list.items) back
+          ∙ ap (λ l. b ++ d ∷ [] ++ drives_in (take 1 o) ++ gathered_drives l c.move_first.new.list.items)
           c.take_first.ensures.rest
-          ∙ ap (λ l. b ++ d ∷ [] ++ drives_in (take 1 o) ++ gathered (drop 1 e) l) moved.list
-          ∙ append_assoc (b ++ d ∷ []) (drives_in (take 1 o)) (gathered (drop 1 e) (drop 1 o))
-          ∙ append_assoc b (d ∷ []) (drives_in (take 1 o) ++ gathered (drop 1 e) (drop 1 o))
+          ∙ ap (λ l. b ++ d ∷ [] ++ drives_in (take 1 o) ++ gathered_drives (drop 1 e) l) moved.list
+          ∙ append_assoc (b ++ d ∷ []) (drives_in (take 1 o)) (gathered_drives (drop 1 e) (drop 1 o))
+          ∙ append_assoc b (d ∷ []) (drives_in (take 1 o) ++ gathered_drives (drop 1 e) (drop 1 o))
           ∙ ap (λ l. b ++ l) (sym round.gives) ∙ inv.0,
       omega (arith, fewer, shorter, other),
       omega (

@@ -1,11 +1,11 @@
 use Rattle.std.proofs.Common.{◌≡◌, ◌+◌, ◌++◌, ◌≤◌, length, vec_len, vec_capacity}
-use Rattle.geo_threads.specs.Deal.{gathered}
+use Rattle.geo_threads.specs.Deal.{gathered_drives}
 use Rattle.geo_threads.proofs.deal.gather.Given as goal
 
 abbrev pub invariant-loop-drive : goal.invariant-loop-drive
 invariant-loop-drive g l =
-    (l.back.items ++ gathered l.even.items l.odd.items
-    ≡ l.fn.back.items ++ gathered l.fn.even.items l.fn.odd.items)
+    (l.back.items ++ gathered_drives l.even.items l.odd.items
+    ≡ l.fn.back.items ++ gathered_drives l.fn.even.items l.fn.odd.items)
     × (length l.odd.items ≤ length l.even.items)
     × (vec_len l.back + length l.even.items + length l.odd.items ≤ vec_capacity l.back)
 

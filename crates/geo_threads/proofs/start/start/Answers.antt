@@ -2,7 +2,7 @@ use Rattle.std.proofs.Common.{◌+◌, ap, arith, length, subst, sym}
 use Rattle.std.proofs.lemmas.List.{length-append}
 use Rattle.geo_lock.proofs.Prefixes.{prefix_trans}
 use Rattle.geo_serve.specs.Drives.{drive_view}
-use Rattle.geo_threads.specs.Started.{AreStarted, IsFirst, others}
+use Rattle.geo_threads.specs.Started.{AreStarted, IsFirst, other_workers}
 use Rattle.geo_threads.proofs.Starting.{others_started, started_append}
 use Rattle.geo_threads.proofs.start.start.Goals as goal
 
@@ -16,7 +16,7 @@ returns-clause-count g c =
     let long = ap (λ l. length l) c.start_others.ensures.items in
     let both =
     length-append c.start_clients.new.workers.items
-    (others c.start_clients.new.first c.passes_of-passes.result c.args.even c.args.odd) in
+    (other_workers c.start_clients.new.first c.passes_of-passes.result c.args.even c.args.odd) in
     let clients = c.start_clients.ensures.count in
     omega (arith, long, both, clients)
 
@@ -28,7 +28,7 @@ returns-clause-started g c drives evens odds fit_even fit_odd =
     let actors = c.args.actors in
     let ws = c.start_clients.new.workers.items in
     let first = c.start_clients.new.first in
-    let more = others first c.passes_of-passes.result c.args.even c.args.odd in
+    let more = other_workers first c.passes_of-passes.result c.args.even c.args.odd in
     let behind =
     others_started y lanes seen actors drives first c.passes_of-passes.result c.args.even c.args.odd
     c.start_clients.ensures.first c.passes_of-passes.ensures evens odds fit_even fit_odd in
@@ -40,6 +40,6 @@ pub returns-clause-begins : goal.returns-clause-begins
 returns-clause-begins g c =
     prefix_trans c.args.workers.now.items c.start_clients.new.workers.items c.start_others.new.workers.items
     c.start_clients.ensures.begins (
-      others c.start_clients.new.first c.passes_of-passes.result c.args.even c.args.odd,
+      other_workers c.start_clients.new.first c.passes_of-passes.result c.args.even c.args.odd,
       sym c.start_others.ensures.items,
     )

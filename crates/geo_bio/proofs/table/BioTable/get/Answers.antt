@@ -3,7 +3,7 @@ use Rattle.std.specs.Option.{option_map, option_copied}
 use Rattle.geo_model.specs.World.{is_waiting, children_among}
 use Rattle.geo_slots.specs.Slots.{value_at}
 use Rattle.geo_bio.specs.BioTable.{BioTableView, AreInOrder, HasParent, bio_among}
-use Rattle.geo_bio.specs.Rows.{seen, KnowsChildren}
+use Rattle.geo_bio.specs.Rows.{as_bio, KnowsChildren}
 use Rattle.geo_bio.proofs.GetLemmas.{family_told, parent_told}
 use Rattle.geo_bio.proofs.OrderLemmas.{in_order}
 use Rattle.geo_bio.proofs.TableLemmas.{bio_among-rows}
@@ -12,7 +12,7 @@ use Rattle.geo_bio.proofs.table.BioTable.get.Goals as goal
 pub returns-clause-found : goal.returns-clause-found
 returns-clause-found c =
     let found = c.get.ensures.value ∙ ap (value_at c.self.inside.bios.rows) c.number.ensures in
-    ap (option_map (seen c.args.bio)) found ∙ sym (bio_among-rows c.self.inside.bios.rows c.args.bio)
+    ap (option_map (as_bio c.args.bio)) found ∙ sym (bio_among-rows c.self.inside.bios.rows c.args.bio)
     ∙ ap (λ v. bio_among v.bios c.args.bio) c.self.view_is
 
 pub returns-clause-family : goal.returns-clause-family

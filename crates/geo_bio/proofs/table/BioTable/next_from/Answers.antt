@@ -1,5 +1,5 @@
 use Rattle.std.proofs.Common.{sym, ap, subst, ◌∙◌, refl, Some}
-use Rattle.geo_bio.specs.BioTable.{AreInOrder, first_bio}
+use Rattle.geo_bio.specs.BioTable.{AreInOrder, bio_from}
 use Rattle.geo_bio.specs.Rows.{seen_row}
 use Rattle.geo_bio.proofs.OrderLemmas.{in_order}
 use Rattle.geo_bio.proofs.ValueLemmas.{find-from_items}
@@ -9,12 +9,12 @@ pub returns-in-Some-clause-first : goal.returns-in-Some-clause-first
 returns-in-Some-clause-first c =
     let first = find-from_items seen_row (λ x. x.number) (λ row. refl) c.args.number c.self.inside.bios.rows in
     ap Some c.new.ensures ∙ sym c.in-Some.is ∙ c.first_from.ensures.first ∙ sym first
-    ∙ ap (λ v. first_bio v.bios c.args.number) c.self.view_is
+    ∙ ap (λ v. bio_from v.bios c.args.number) c.self.view_is
 
 pub returns-in-None-clause-first : goal.returns-in-None-clause-first
 returns-in-None-clause-first c =
     let first = find-from_items seen_row (λ x. x.number) (λ row. refl) c.args.number c.self.inside.bios.rows in
-    sym c.in-None.is ∙ c.first_from.ensures.first ∙ sym first ∙ ap (λ v. first_bio v.bios c.args.number) c.self.view_is
+    sym c.in-None.is ∙ c.first_from.ensures.first ∙ sym first ∙ ap (λ v. bio_from v.bios c.args.number) c.self.view_is
 
 pub returns-in-Some-clause-in_order : goal.returns-in-Some-clause-in_order
 returns-in-Some-clause-in_order c =

@@ -1,7 +1,7 @@
 use Rattle.std.proofs.Common.{◌≡◌, ◌+◌, List, ℕ, length, slice_set, sym, ◌∙◌, ap, subst, arith}
 use Rattle.std.proofs.lemmas.Option.{slice_get_within}
 use Rattle.geo_model.specs.declared.command.LineCommand.{LineCommand}
-use Rattle.geo_core.specs.Left.{left_from, left_of, AreNext, IsNext}
+use Rattle.geo_core.specs.Left.{commands_from, left_of, AreNext, IsNext}
 use Rattle.geo_core.proofs.Lefts.{has_place, inside_place, next-set, gone}
 use Rattle.geo_core.proofs.left.Left.advance.Goals as goal
 
@@ -33,10 +33,10 @@ returns-clause-next c =
 
 pub returns-clause-gone : goal.returns-clause-gone
 returns-clause-gone c =
-    let skips : left_from c.args.plan.now.commands c.args.actor c.next_place.result
-    ≡ left_from c.args.plan.now.commands c.args.actor (c.in-Some.place + 1) =
-    subst (λ (cs : List LineCommand). left_from cs c.args.actor c.next_place.result
-    ≡ left_from cs c.args.actor (c.in-Some.place + 1)) c.commands.ensures.commands c.next_place.ensures.skips in
+    let skips : commands_from c.args.plan.now.commands c.args.actor c.next_place.result
+    ≡ commands_from c.args.plan.now.commands c.args.actor (c.in-Some.place + 1) =
+    subst (λ (cs : List LineCommand). commands_from cs c.args.actor c.next_place.result
+    ≡ commands_from cs c.args.actor (c.in-Some.place + 1)) c.commands.ensures.commands c.next_place.ensures.skips in
     ap (λ (ps : List ℕ). left_of c.args.plan.now.commands (slice_set ps c.args.actor c.next_place.result))
     c.self.view_is
     ∙ gone c.args.plan.now c.args.self.now c.requires.next c.args.actor c.in-Some.place c.next_place.result

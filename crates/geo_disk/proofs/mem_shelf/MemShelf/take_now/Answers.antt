@@ -1,5 +1,5 @@
 use Rattle.std.proofs.Common.{◌≡◌, List, [], length, Some, true, get_or, set, refl, ap, ◌∙◌, sym}
-use Rattle.geo_disk.specs.MemShelf.{disk_of, emptied_slot, slot_at, slot_of}
+use Rattle.geo_disk.specs.MemShelf.{disk_of_slot, emptied_slot, slot_at, slot_of}
 use Rattle.geo_disk.specs.Lending.{faults_of}
 use Rattle.geo_base.specs.Images.{IsDiskSize}
 use Rattle.geo_disk.specs.declared.mem_shelf.Slot.{Slot}
@@ -93,9 +93,9 @@ returns-clause-disk c =
           (emptied_slot []) (place c),
     )
     (c.lend_out.ensures.disk
-    ∙ ap (λ faults. disk_of c.args.sector faults c.asked_of-asked.result.items
+    ∙ ap (λ faults. disk_of_slot c.args.sector faults c.asked_of-asked.result.items
     (slot_at c.self.inside.slots.items c.in-Some.at)) c.faults_of-faults.ensures
-    ∙ ap (λ asked. disk_of c.args.sector (faults_of c.self.inside.lending c.args.name.now) asked
+    ∙ ap (λ asked. disk_of_slot c.args.sector (faults_of c.self.inside.lending c.args.name.now) asked
     (slot_at c.self.inside.slots.items c.in-Some.at)) c.asked_of-asked.ensures)
 
 pub returns-clause-emptied : goal.returns-clause-emptied

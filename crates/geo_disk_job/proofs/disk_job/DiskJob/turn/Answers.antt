@@ -2,7 +2,7 @@ use Rattle.std.specs.Prelude.{◌≡◌, length}
 use Rattle.std.proofs.Common.{rules, sym, ◌∙◌, arith}
 use Rattle.geo_serve.specs.Drives.{drive_view}
 use Rattle.geo_view.specs.Passes.{opened_by}
-use Rattle.geo_disk_job.specs.Drives.{IsForeign}
+use Rattle.geo_disk_job.specs.Drives.{LacksDisk}
 use Rattle.geo_disk_job.proofs.Places.{own_disk}
 use Rattle.geo_disk_job.proofs.Turning.{drives_stay, foreign_ticket, found_empty, job_stays, kept_job, other_ticket, took_job, tried_ticket, without_room}
 use Rattle.geo_disk_job.proofs.disk_job.DiskJob.turn.Goals as goal
@@ -34,7 +34,7 @@ returns-then-not-has-clause-job g c =
 
 pub returns-then-not-has-clause-did : goal.returns-then-not-has-clause-did
 returns-then-not-has-clause-did g c =
-    let foreign : IsForeign c.args.self.now.drives.items c.in-Some-asked_in.asked.0 = search rules in
+    let foreign : LacksDisk c.args.self.now.drives.items c.in-Some-asked_in.asked.0 = search rules in
     foreign_ticket (opened_by c.args.yard.now.start) (drive_view g.D.Disk.view) c.args.self.now c.args.pass.now
     c.take.new.pass c.in-Some.ticket c.in-Some-asked_in.asked.0 c.in-Some-asked_in.asked.1 c.in-Some.ensures.taken
     (sym c.in-Some-asked_in.is ∙ c.asked_in.ensures) foreign
@@ -60,7 +60,7 @@ serve-requires-clause-room g c =
 
 pub returns-clause-did : goal.returns-clause-did
 returns-clause-did g c =
-    let has : IsForeign c.args.self.now.drives.items c.in-Some-asked_in.asked.0 → ⊥ = search rules in
+    let has : LacksDisk c.args.self.now.drives.items c.in-Some-asked_in.asked.0 → ⊥ = search rules in
     tried_ticket (opened_by c.args.yard.now.start) (drive_view g.D.Disk.view) c.args.self.now c.args.pass.now
     c.serve.new.pass c.serve.new.self c.take.new.pass c.in-Some.ticket c.in-Some-asked_in.asked.0
     c.in-Some-asked_in.asked.1 c.serve.result c.in-Some.ensures.taken (sym c.in-Some-asked_in.is ∙ c.asked_in.ensures)

@@ -1,7 +1,7 @@
 use Rattle.std.specs.Prelude.{◌≤◌, ◌+◌, Some, false}
 use Rattle.std.proofs.Common.{refl, ap, arith}
 use Rattle.geo_base.proofs.Options.{on_ok}
-use Rattle.geo_handles.specs.Inside.{room_of}
+use Rattle.geo_handles.specs.Inside.{handle_room}
 use Rattle.geo_handles.proofs.RowLemmas.{rows-few}
 use Rattle.geo_handles.proofs.InsideLemmas.{named-free, held-free, inside-opened}
 use Rattle.geo_handles.proofs.handles.Handles.open.Goals as goal
@@ -14,7 +14,7 @@ overflow_add-self c =
 
 pub invariant_of-self : goal.invariant_of-self
 invariant_of-self c =
-    let room : 1 ≤ room_of c.self.inside.inside = rw (← c.self.view_is) at c.requires.room in
+    let room : 1 ≤ handle_room c.self.inside.inside = rw (← c.self.view_is) at c.requires.room in
     let names = on_ok c.insert.result (c.insert.ensures.succeeds (omega arith)) c.insert.ensures.updates in
     let consumers = on_ok c.insert-2.result (c.insert-2.ensures.succeeds (omega arith))
     c.insert-2.ensures.updates in

@@ -1,7 +1,7 @@
 use Rattle.std.proofs.Common.{◌≡◌, ◌∙◌, [], ◌∷◌, ◌++◌, IfOk, ap, sym, subst}
 use lib.ListN.{get_elem?}
 use mathlib.Core.List.{IsPrefix}
-use Rattle.geo_lock.specs.Logged.{entries_of, Grows}
+use Rattle.geo_lock.specs.Logged.{entries_with_seat, Grows}
 use Rattle.geo_lock.specs.View.{out_of_turn, first_number}
 use Rattle.geo_lock.specs.Pass.{own_of}
 use Rattle.geo_lock.proofs.Prefixes.{prefix_trans}
@@ -54,11 +54,11 @@ returns-clause-made g c = let m = c.apply_as-result.ensures in let f = c.enter-w
     (λ o. g.met.L.Logged.seat_is c.args.pass.now.number c.args.step o)
     (λ h. g.L.Logged.answer c.args.self.now.start h c.args.pass.now.number c.args.step) c.args.pass.now _
     (subst (λ p. IsPrefix p.seen (g.L.Logged.log c.enter-word.result.1)) c.pass.view_is f.longer)
-    (subst (λ p. entries_of g.L.Logged.seat_of p.number (g.L.Logged.log c.enter-word.result.1) ≡ p.own)
+    (subst (λ p. entries_with_seat g.L.Logged.seat_of p.number (g.L.Logged.log c.enter-word.result.1) ≡ p.own)
     c.pass.view_is (f.own _ (ap (λ z. get_elem? z 0) claims)))
     (ap (λ z. z.0.seen) c.leave.ensures.turn)
     (ap (λ z. own_of z.0.claims) c.leave.ensures.turn
-    ∙ ap (λ k. entries_of g.L.Logged.seat_of k (g.L.Logged.log c.apply_as-result.new.self))
+    ∙ ap (λ k. entries_with_seat g.L.Logged.seat_of k (g.L.Logged.log c.apply_as-result.new.self))
     (ap (λ z. first_number z.0.claims) c.enter-word.ensures.turn ∙ (ap first_number claims ∙ n)))
     c.apply_as-result.result
     (subst (λ k. IfOk c.apply_as-result.result (λ o. g.L.Logged.log c.apply_as-result.new.self
@@ -78,10 +78,10 @@ returns-clause-unmade g c = let f = c.enter-word.ensures.found in let n = ap (λ
       own = own_of c.leave.new.seat.me.0.claims;
       made = c.pass.inside.made;
     }
-    (subst (λ p. entries_of g.L.Logged.seat_of p.number (g.L.Logged.log c.enter-word.result.1) ≡ p.own)
+    (subst (λ p. entries_with_seat g.L.Logged.seat_of p.number (g.L.Logged.log c.enter-word.result.1) ≡ p.own)
     c.pass.view_is (f.own _ (ap (λ z. get_elem? z 0) claims)))
     (ap (λ z. own_of z.0.claims) c.leave.ensures.turn
-    ∙ ap (λ k. entries_of g.L.Logged.seat_of k (g.L.Logged.log c.apply_as-result.new.self))
+    ∙ ap (λ k. entries_with_seat g.L.Logged.seat_of k (g.L.Logged.log c.apply_as-result.new.self))
     (ap (λ z. first_number z.0.claims) c.enter-word.ensures.turn ∙ (ap first_number claims ∙ n)))
     c.apply_as-result.result c.apply_as-result.ensures.err
 

@@ -1,7 +1,7 @@
 use Rattle.std.proofs.Common.{◌≡◌, ◌-◌, refl, sym, ap, subst, ◌∙◌, arith, IsSome}
 use Rattle.geo_model.specs.Topology.{geom_at}
 use Rattle.geo_mesh.specs.Topo.{Room, IsButForRoom, with_consumer}
-use Rattle.geo_mesh.specs.Cells.{graph, view_of}
+use Rattle.geo_mesh.specs.Cells.{graph, topo_view}
 use Rattle.geo_mesh.proofs.IndexLemmas.{owned_parent}
 use Rattle.geo_mesh.proofs.ViewLemmas.{with_consumer-view, roomier-view}
 use Rattle.geo_mesh.proofs.WholeParts.{whole-new_consumer}
@@ -52,6 +52,6 @@ returns-clause-added g c =
     (with_consumer-view c.reserve.new.self c.args.geom c.reserve.new.self.edges.consumers.spare
     ∙ ap (λ v. record (with_consumer v c.args.geom) {
       room =
-          record (view_of c.reserve.new.self).room { consumers = c.reserve.new.self.edges.consumers.spare - 1 };
+          record (topo_view c.reserve.new.self).room { consumers = c.reserve.new.self.edges.consumers.spare - 1 };
     })
     (roomier-view c.self.inside.tables c.reserve.new.self c.reserve.ensures.same)))

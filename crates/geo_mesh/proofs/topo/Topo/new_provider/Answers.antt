@@ -3,7 +3,7 @@ use Rattle.geo_model.specs.Topology.{geom_at, is_name_taken, is_withering}
 use Rattle.geo_slots.specs.Slots.{IsRising}
 use Rattle.geo_mesh.specs.declared.records.ProvCell.{ProvCell}
 use Rattle.geo_mesh.specs.Topo.{with_provider, no_counts, no_scratch}
-use Rattle.geo_mesh.specs.Cells.{graph, view_of, provider_row}
+use Rattle.geo_mesh.specs.Cells.{graph, topo_view, provider_row}
 use Rattle.geo_mesh.specs.Names.{AddsName, is_sound_named}
 use Rattle.geo_mesh.proofs.IndexLemmas.{offered_parent}
 use Rattle.geo_mesh.proofs.ViewLemmas.{with_provider-view, roomier-view, is_withering-rows}
@@ -88,6 +88,6 @@ returns-clause-added g c =
     c.reserve.new.self.edges.providers.spare
     ∙ ap (λ v. record (with_provider v c.args.geom c.args.name c.args.size c.args.sector) {
       room =
-          record (view_of c.reserve.new.self).room { providers = c.reserve.new.self.edges.providers.spare - 1 };
+          record (topo_view c.reserve.new.self).room { providers = c.reserve.new.self.edges.providers.spare - 1 };
     })
     (roomier-view c.self.inside.tables c.reserve.new.self c.reserve.ensures.same))

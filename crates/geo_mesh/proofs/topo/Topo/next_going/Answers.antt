@@ -1,6 +1,6 @@
 use Rattle.std.proofs.Common.{ap, rules}
 use Rattle.std.specs.Prelude.{◌&&◌}
-use Rattle.geo_mesh.specs.Cells.{view_of}
+use Rattle.geo_mesh.specs.Cells.{topo_view}
 use Rattle.geo_mesh.specs.Going.{can_go, is_free_in}
 use Rattle.geo_mesh.proofs.RankFirst.{kin-of}
 use Rattle.geo_mesh.proofs.GraphLemmas.{sound-graph}
@@ -13,7 +13,7 @@ returns-clause-first g c =
     c.self.invariant.tables.indexed in
     rw (
       ← c.self.view_is,
-      ← first-going c.args.from (can_go (view_of c.self.inside.tables)) (is_free_in c.self.inside.tables)
+      ← first-going c.args.from (can_go (topo_view c.self.inside.tables)) (is_free_in c.self.inside.tables)
           (λ row. ap (λ b. row.1.geom.withering && b) (free-rows c.self.inside.tables kin.consumers_rise row.0))
           c.self.inside.tables.geoms.rows,
       ← c.self.invariant.going,
