@@ -14,9 +14,9 @@ use std::mem;
 use std::process::Abort;
 use std::test::Fail;
 
-// The script, which is given 100 bytes a call. These calls fail.
-fn source_of(alloc: Global, fails: Calls) -> Result<MemSource, NoMemory> {
-    match Block::from_slice(alloc, USERS) {
+// A script, which is given 100 bytes a call. These calls fail.
+fn source_of(alloc: Global, script: &[u8], fails: Calls) -> Result<MemSource, NoMemory> {
+    match Block::from_slice(alloc, script) {
         Ok(text) => Ok(MemSource::new(text, 100, fails)),
         Err(error) => {
             drop(fails);
@@ -25,10 +25,10 @@ fn source_of(alloc: Global, fails: Calls) -> Result<MemSource, NoMemory> {
     }
 }
 
-// The source fails at one call.
-fn fail_source(users: &mut Users, call: u64) -> Result<(), Fail> {
+/// The source gives a script and fails at one call.
+pub fn fail_source(users: &mut Users, script: &[u8], call: u64) -> Result<(), Fail> {
     let fails = Calls::of(users.alloc, &[call])?;
-    let source = source_of(users.alloc, fails)?;
+    let source = source_of(users.alloc, script, fails)?;
     drop(mem::replace(&mut users.outside.source, source));
     Ok(())
 }
@@ -41,13 +41,13 @@ fn reads_of(
     want: &Left,
     text: &[u8],
 ) -> Result<(), Fail> {
-    fail_source(users, call)?;
+    fail_source(users, USERS, call)?;
     leaves(rt, users, want, text, b"", call)
 }
 
 // The same of users that are dropped then.
 fn reads(rt: &impl Abort, alloc: Global, call: u64, want: &Left, text: &[u8]) -> Result<(), Fail> {
-    let mut users = set_up(alloc)?;
+    let mut users = set_up(alloc, USERS)?;
     let answer = reads_of(rt, &mut users, call, want, text);
     drop(users);
     answer
@@ -57,7 +57,7 @@ fn reads(rt: &impl Abort, alloc: Global, call: u64, want: &Left, text: &[u8]) ->
 const READS: u64 = 5;
 
 /// A script that wasn't read.
-const UNREAD: Left = Left {
+pub const UNREAD: Left = Left {
     status: 3,
     opened: false,
     disks: [Some(0), Some(0)],
@@ -71,8 +71,8 @@ fn each_failing_call_of_a_source_is_told(rt: HostRuntime) -> Result<(), Fail> {
     reads(&rt, rt.alloc(), READS + 1, &DONE, USERS_REPORT)
 }
 
-// The sink takes 10 bytes a call, and fails at one call.
-fn fail_sink(users: &mut Users, call: u64) -> Result<(), Fail> {
+/// The sink takes 10 bytes a call, and fails at one call.
+pub fn fail_sink(users: &mut Users, call: u64) -> Result<(), Fail> {
     let fails = Calls::of(users.alloc, &[call])?;
     let sink = MemSink::new(users.alloc, 4096, 10, fails)?;
     drop(mem::replace(&mut users.outside.sink, sink));
@@ -93,7 +93,7 @@ fn writes_of(
 
 // The same of users that are dropped then.
 fn writes(rt: &impl Abort, alloc: Global, call: u64, want: &Left, text: &[u8]) -> Result<(), Fail> {
-    let mut users = set_up(alloc)?;
+    let mut users = set_up(alloc, USERS)?;
     let answer = writes_of(rt, &mut users, call, want, text);
     drop(users);
     answer
@@ -103,7 +103,7 @@ fn writes(rt: &impl Abort, alloc: Global, call: u64, want: &Left, text: &[u8]) -
 const WRITES: usize = 16;
 
 /// A run whose report wasn't written whole.
-const CUT: Left = Left {
+pub const CUT: Left = Left {
     status: 4,
     opened: true,
     disks: [Some(0x11), Some(0x22)],
@@ -129,8 +129,8 @@ const SHELVES: [(&[u64], &[u8], bool, [Option<u8>; 2]); 6] = [
     (&[3, 4], b"shelf fault ada0\n", true, [None, None]),
 ];
 
-// These calls of the shelf fail.
-fn fail_shelf(users: &mut Users, calls: &[u64]) -> Result<(), Fail> {
+/// These calls of the shelf fail.
+pub fn fail_shelf(users: &mut Users, calls: &[u64]) -> Result<(), Fail> {
     let fails = Calls::of(users.alloc, calls)?;
     users.outside.shelf.fail_calls(fails);
     Ok(())
@@ -157,7 +157,7 @@ fn lends(
     want: &Left,
     told: &[u8],
 ) -> Result<(), Fail> {
-    let mut users = set_up(alloc)?;
+    let mut users = set_up(alloc, USERS)?;
     let answer = lends_of(rt, &mut users, calls, want, told);
     drop(users);
     answer

@@ -3,7 +3,8 @@
 //! Lists of steps are made on a bench (`bench.rt`), a mesh over disks that the tests hold themselves; its reports are
 //! compared with worked ones. The program is run over a source, a sink and a shelf in memory (`outside.rt`), each of
 //! whose calls fails in turn; status, text and images are compared with a table. `memory.rt` is written to be run
-//! with one allocation refused (`rt try --test --fail-alloc N`). docs/PROVED.md tells what these tests show.
+//! with one allocation refused (`rt try --test --fail-alloc N`). Runs in threads have gates at which jobs meet
+//! (`gates.rt`). docs/PROVED.md tells what these tests show.
 //!
 //! What is large, as a bench, an outside or how a run ended, is made in a short function, which lends it to another
 //! one and then drops it by a call. At the end of a scope or at a `?` the drop of each part of it would be written
@@ -21,6 +22,8 @@ mod faults;
 #[cfg(test)]
 mod found;
 #[cfg(test)]
+mod gates;
+#[cfg(test)]
 mod memory;
 #[cfg(test)]
 mod outside;
@@ -28,6 +31,8 @@ mod outside;
 mod scripts;
 #[cfg(test)]
 mod steps;
+#[cfg(test)]
+mod threads;
 #[cfg(test)]
 mod users;
 #[cfg(test)]

@@ -6,7 +6,7 @@ use crate::bench::{
 use crate::contents::has_contents;
 use crate::outside::{Outside, outside_of, run, run_to_end};
 use crate::scripts::{
-    ASSEMBLY, ASSEMBLY_REPORT, STRIPE, STRIPE_REPORT, USERS_REPORT, WRITER, WRITER_REPORT,
+    ASSEMBLY, ASSEMBLY_REPORT, STRIPE, STRIPE_REPORT, USERS, USERS_REPORT, WRITER, WRITER_REPORT,
 };
 use crate::users::{DONE, SIZE, Users, fronts, set_up_if};
 use geo_base::{BioId, Name};
@@ -229,7 +229,7 @@ fn use_disks_at_last(rt: &impl Abort, mut users: Users) -> Result<(), Fail> {
 
 #[test]
 fn disks_come_back_as_logged_without_memory(rt: HostRuntime) -> Result<(), Fail> {
-    match set_up_if(rt.alloc())? {
+    match set_up_if(rt.alloc(), USERS)? {
         Some(users) => use_disks_at_last(&rt, users),
         None => Ok(()),
     }

@@ -5,7 +5,7 @@ use crate::contents::{Failures, failures_of};
 use geo_base::{Block, Calls, Name, NoMemory};
 use geo_disk::MemShelf;
 use geo_io::{MemSink, MemSource};
-use geo_run::{Ended, OpenGate, run_alone, threads_of};
+use geo_run::{Ended, Gate, OpenGate, run_alone, threads_of};
 use std::alloc::Global;
 use std::process::Abort;
 use std::sync::Wait;
@@ -127,22 +127,32 @@ pub fn run(rt: &impl Abort, alloc: Global, outside: &mut Outside) -> Option<Ende
     Some(ended)
 }
 
-/// The same by threads, which show the mesh.
-pub fn watch<R: Threads + Wait + Sync + AllocGlobal>(
+// The run of the word in threads that the gate may hold, or none where there is no memory for the words.
+fn run_threads<R: Threads + Wait + Sync + AllocGlobal, G: Gate + Sync>(
     rt: &R,
+    word: &str,
     outside: &mut Outside,
+    gate: &G,
 ) -> Option<Ended> {
-    let words = words_of(rt.alloc(), "watch")?;
+    let words = words_of(rt.alloc(), word)?;
     let ended = geo_run::run(
         rt,
         words.as_slice(),
         &mut outside.source,
         &mut outside.sink,
         &mut outside.shelf,
-        &OpenGate,
+        gate,
     );
     drop(words);
     Some(ended)
+}
+
+/// The same in threads that show the mesh.
+pub fn watch<R: Threads + Wait + Sync + AllocGlobal>(
+    rt: &R,
+    outside: &mut Outside,
+) -> Option<Ended> {
+    run_threads(rt, "watch", outside, &OpenGate)
 }
 
 /// The end of a run: its status, whether its mesh opened, and the failures of disks in its log.
@@ -167,6 +177,18 @@ fn end_of(ended: Ended) -> End {
 /// The end of the run of the script, or none where there is no memory for the words.
 pub fn run_to_end(rt: &impl Abort, alloc: Global, outside: &mut Outside) -> Option<End> {
     match run(rt, alloc, outside) {
+        Some(ended) => Some(end_of(ended)),
+        None => None,
+    }
+}
+
+/// The same of a run in threads that the gate may hold.
+pub fn run_threads_to_end<R: Threads + Wait + Sync + AllocGlobal, G: Gate + Sync>(
+    rt: &R,
+    outside: &mut Outside,
+    gate: &G,
+) -> Option<End> {
+    match run_threads(rt, "run", outside, gate) {
         Some(ended) => Some(end_of(ended)),
         None => None,
     }

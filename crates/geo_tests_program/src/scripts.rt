@@ -360,3 +360,124 @@ pub const UNLISTED_VIEW: &[u8] = b"view 0
 geom DISK md0 rank 1
   provider md0 size 2048 sector 512 r0w0e0
 ";
+
+/// Two actors, each of which writes to a disk of the shelf of its own, so that each run in threads tells the same.
+pub const WRITERS: &[u8] = b"disk ada0 512
+disk ada1 512
+actor root
+actor user
+root open h ada0 r1w1e0
+root write h 0 11*4096
+root sync
+root close h
+user open k ada1 r1w1e0
+user write k 0 22*4096
+user sync
+user close k
+";
+
+pub const WRITERS_REPORT: &[u8] = b"5 ok
+6 ok
+7 ok
+8 ok
+9 ok
+10 ok
+11 ok
+12 ok
+geom DISK ada0 rank 1
+  provider ada0 size 1048576 sector 512 r0w0e0
+geom DISK ada1 rank 1
+  provider ada1 size 1048576 sector 512 r0w0e0
+";
+
+/// Four actors on two disks, of which the second is pulled while its actors are at work.
+pub const FOUR: &[u8] = b"ram md0 512 64
+ram md1 512 64
+actor p
+actor q
+actor r
+actor s
+p open h md0 r1w1e0
+p write h 512 11*1024
+p sync
+p read h 512 1024
+p sync
+p delete h 512 512
+p sync
+p read h 512 1024
+p sync
+q open h md0 r1w1e0
+q write h 10752 22*1024
+q sync
+q read h 10752 1024
+q sync
+r open h md1 r1w1e0
+r write h 512 33*1024
+r sync
+r read h 512 1024
+r sync
+s open h md1 r1w1e0
+s write h 10752 44*1024
+s pull md1
+s read h 10752 1024
+";
+
+/// What the report has of the actors of the first disk, whose lines come first.
+pub const FOUR_FRONT: &[u8] = b"7 ok
+8 ok
+9 ok
+10 ok 11*1024
+11 ok
+12 ok
+13 ok
+14 ok 00*512 11*512
+15 ok
+16 ok
+17 ok
+18 ok
+19 ok 22*1024
+20 ok
+";
+
+/// Two actors, each of which reads from a disk of its own.
+pub const TWO_DISKS: &[u8] = b"ram md0 512 16
+ram md1 512 16
+actor a
+actor b
+a open h md0 r1w0e0
+a read h 512 512
+b open k md1 r1w0e0
+b read k 512 512
+";
+
+pub const TWO_DISKS_REPORT: &[u8] = b"5 ok
+6 ok 00*512
+7 ok
+8 ok 00*512
+geom DISK md0 rank 1
+  provider md0 size 8192 sector 512 r1w0e0
+geom DISK md1 rank 1
+  provider md1 size 8192 sector 512 r1w0e0
+";
+
+/// Two actors with three commands each, none of which waits.
+pub const OPENS: &[u8] = b"ram md0 512 16
+actor a
+actor b
+a open h md0 r1w0e0
+a open i md0 r1w0e0
+a open j md0 r1w0e0
+b open k md0 r1w0e0
+b open l md0 r1w0e0
+b open m md0 r1w0e0
+";
+
+pub const OPENS_REPORT: &[u8] = b"4 ok
+5 ok
+6 ok
+7 ok
+8 ok
+9 ok
+geom DISK md0 rank 1
+  provider md0 size 8192 sector 512 r6w0e0
+";

@@ -1,8 +1,7 @@
-//! The script of the two users, whose disks are on the shelf, and what a run of it left.
+//! Scripts of two users, whose disks are on the shelf, and what a run of one left.
 ghost use Rattle.std.specs.Prelude.{◌≡◌, [], OnOk};
 
 use crate::outside::{Outside, Unready, name, outside_of, put, run_to_end, says};
-use crate::scripts::USERS;
 use geo_base::{Block, Calls, Name};
 use geo_disk::MemShelf;
 use std::alloc::Global;
@@ -39,9 +38,9 @@ fn put_both(alloc: Global, shelf: &mut MemShelf, names: &[Name; 2]) -> Result<()
     put_zeros(alloc, shelf, &names[1])
 }
 
-// The outside with both disks.
-fn with_disks(alloc: Global, names: &[Name; 2]) -> Result<Outside, Unready> {
-    let mut made = outside_of(alloc, USERS)?;
+// The outside of a script with both disks.
+fn with_disks(alloc: Global, script: &[u8], names: &[Name; 2]) -> Result<Outside, Unready> {
+    let mut made = outside_of(alloc, script)?;
     match put_both(alloc, &mut made.shelf, names) {
         Ok(()) => Ok(made),
         Err(unready) => {
@@ -51,10 +50,10 @@ fn with_disks(alloc: Global, names: &[Name; 2]) -> Result<Outside, Unready> {
     }
 }
 
-/// The script, and both disks, of zeros. No call is to fail. None where there is no memory.
-pub fn set_up_if(alloc: Global) -> Result<Option<Users>, Fail> {
+/// A script, and both disks, of zeros. No call is to fail. None where there is no memory.
+pub fn set_up_if(alloc: Global, script: &[u8]) -> Result<Option<Users>, Fail> {
     let names = [name(b"ada0")?, name(b"ada1")?];
-    match with_disks(alloc, &names) {
+    match with_disks(alloc, script, &names) {
         Ok(outside) => Ok(Some(Users {
             alloc,
             outside,
@@ -66,8 +65,8 @@ pub fn set_up_if(alloc: Global) -> Result<Option<Users>, Fail> {
 }
 
 /// The same where there is memory.
-pub fn set_up(alloc: Global) -> Result<Users, Fail> {
-    match set_up_if(alloc)? {
+pub fn set_up(alloc: Global, script: &[u8]) -> Result<Users, Fail> {
+    match set_up_if(alloc, script)? {
         Some(users) => Ok(users),
         None => Err("no memory".into()),
     }
