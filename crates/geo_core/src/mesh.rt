@@ -32,7 +32,8 @@ use std::mem;
 #[derive(Drop)]
 pub struct Mesh {
     alloc: Global,
-    running: Running,
+    // In a box, so that whoever moves a mesh, as each pass of a lock does, moves little.
+    running: Box<Running>,
 }
 
 impl Model for Mesh {
@@ -41,9 +42,9 @@ impl Model for Mesh {
 
     ghost Value = { MeshView };
 
-    ghost view = { λ m. seen m.running };
+    ghost view = { λ m. seen m.running.value };
 
-    ghost invariant = { λ m. IsMesh m.running };
+    ghost invariant = { λ m. IsMesh m.running.value };
 }
 
 impl Mesh {
@@ -53,7 +54,7 @@ impl Mesh {
         ensures began { IfOk result (λ mesh. mesh ≡ record { plan = plan; facts = disks.now.items; log = [] }) }
         ensures history { IfOk result IsHistory }
     {
-        let running = begin(alloc, plan, disks)?;
+        let running = Box::new(alloc, begin(alloc, plan, disks)?)?;
         Ok(Mesh { alloc, running })
     }
 
@@ -82,7 +83,7 @@ impl Mesh {
     pub fn enabled(&self, seat: u32, step: &Step) -> bool
         ensures { result ≡ is_enabled (world_of self.now) seat step.now }
     {
-        let running = &self.running;
+        let running = &*self.running;
         found_against(&running.plan, &running.left, &running.state, seat, step).is_none()
     }
 
@@ -185,7 +186,7 @@ impl Mesh {
         ensures history { IsHistory self }
     {
         let Mesh { alloc, running } = self;
-        let mut rest = running;
+        let mut rest = Box::into_inner(running);
         let log = mem::replace(&mut rest.log, Log::new(alloc));
         drop(rest);
         log

@@ -1,17 +1,20 @@
-use Rattle.std.proofs.Common.{◌≡◌, ◌∙◌, subst}
+use Rattle.std.proofs.Common.{◌≡◌, ◌∙◌, sym, ap, subst}
 use Rattle.geo_model.specs.Step.{is_enabled}
 use Rattle.geo_core.specs.Mesh.{MeshView, world_of}
+use Rattle.geo_core.specs.Running.{IsMesh, seen}
 use Rattle.geo_core.proofs.Meshes.{mesh_is_firm}
 use Rattle.geo_core.proofs.Due.{none_told}
 use Rattle.geo_core.proofs.Applying.{enabled_is}
 use Rattle.geo_core.proofs.mesh.Mesh.enabled.Goals as goal
 
 pub found_against-requires-clause-firm : goal.found_against-requires-clause-firm
-found_against-requires-clause-firm c = mesh_is_firm c.self.inside.running c.self.invariant
+found_against-requires-clause-firm c =
+    mesh_is_firm c.deref-running.result.now (subst IsMesh (sym c.deref-running.ensures) c.self.invariant)
 
 pub returns : goal.returns
 returns c =
-    subst (λ (v : MeshView). c.is_none.result ≡ is_enabled (world_of v) c.args.seat c.args.step.now) c.self.view_is
+    subst (λ (v : MeshView). c.is_none.result ≡ is_enabled (world_of v) c.args.seat c.args.step.now)
+    (ap seen c.deref-running.ensures ∙ c.self.view_is)
     (none_told c.found_against.result c.is_none.result c.is_none.ensures
-    ∙ enabled_is c.self.inside.running c.self.invariant c.args.seat c.args.step.now c.found_against.result
-    c.found_against.ensures)
+    ∙ enabled_is c.deref-running.result.now (subst IsMesh (sym c.deref-running.ensures) c.self.invariant)
+    c.args.seat c.args.step.now c.found_against.result c.found_against.ensures)

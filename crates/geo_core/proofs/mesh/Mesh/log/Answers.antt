@@ -4,4 +4,4 @@ use Rattle.geo_core.proofs.Meshes.{mesh_history}
 use Rattle.geo_core.proofs.mesh.Mesh.log.Goals as goal
 
 pub returns-clause-history : goal.returns-clause-history
-returns-clause-history c = subst IsHistory c.self.view_is (mesh_history c.self.inside.running c.self.invariant)
+returns-clause-history c = subst IsHistory c.self.view_is (mesh_history c.self.inside.running.value c.self.invariant)
