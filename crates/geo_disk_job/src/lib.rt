@@ -4,7 +4,7 @@
 //! Contracts see a [`DriveList`] as its drives by the numbers of their disks, and its room. A pass is seen as
 //! geo_lock has it, a lane's pass as geo_lane has it.
 //!
-//! [`DiskJob::turn`] keeps `DidTurn`, by its answer. `Worked`: it took one ticket, and added just the Take and the
+//! [`DiskJob::turn`] keeps `DidDiskTurn`, by its answer. `Worked`: it took one ticket, and added just the Take and the
 //! Deliver of that bio. Its drive was asked exactly this request and answered so (`ServesAt`), and the ticket to give
 //! the bio up was put or dropped. `Idle`: its lane was empty at a moment of the turn, or it took one ticket in vain.
 //! That isn't one to take a bio, or is of another's disk, or its Take wasn't enabled at what the worker had seen.
