@@ -31,11 +31,10 @@ use Rattle.geo_access.specs.declared.order.Order.{Order}
 use Rattle.geo_access.specs.declared.decide.Refused.{Refused}
 use Rattle.geo_access.specs.declared.decide.Refused.TheVariants.{Named, Writer, Exclusive}
 use Rattle.geo_access.specs.declared.refusal.GrantRefusal.TheVariants.{Enxio, Eperm, Eoverflow}
-use Rattle.geo_access.specs.Tries.{Apart}
 use Rattle.geo_access.specs.Access.{granted_by}
 use Rattle.geo_access.specs.Views.{CountsTell, order_of, finish_geom, IsTried, judged, errno_of_refused}
 use Rattle.geo_access.proofs.Trying.{trying}
-use Rattle.geo_access.proofs.Walked.{geoms_below, below_ordered, below_lives, below_covers, tried_order, order_apart}
+use Rattle.geo_access.proofs.Walked.{geoms_below, below_covers}
 use Rattle.geo_access.proofs.Verdict.{After, IsVerdict, refused}
 use Rattle.geo_access.proofs.Decided.{IsTold, consumer_known, new_is, tells, cleared, decided, end}
 
@@ -282,9 +281,6 @@ module _ {C : Type 0} (t : TopoView C) (sound : IsSoundGraph t.topology) (told :
     pub open_demand : Demands t.topology p add (have (granted_by t) t.topology) opened_gains opened_mores open_order
     open_demand = opening open_order (below_covers t sound told.clear p tried.offer tried.found)
 
-    pub open_order_is : order_of new o ≡ open_order
-    open_order_is = tried_order t sound told.clear p add Rises new o tried
-
     -- what the walk comes to
     pub open_is : new
         ≡ trying t (end t sound told p add new o tried t.topology.next_consumer opened_grants opened opened_gains
@@ -296,21 +292,6 @@ module _ {C : Type 0} (t : TopoView C) (sound : IsSoundGraph t.topology) (told :
     pub open_tells : CountsTell new p
     open_tells = tells t sound told p add new o tried t.topology.next_consumer opened_grants opened opened_gains
         opened_mores opening_after open_demand
-
-    -- the geoms of the order live
-    pub open_lives : All (λ x. IsSome (geom_at new.topology x)) (order_of new o)
-    open_lives =
-        subst (λ u. All (λ x. IsSome (geom_at u x)) (order_of new o))
-        (sym (ap (λ v. v.topology) open_is))
-        (subst (All (λ x. IsSome (geom_at t.topology x))) (sym open_order_is)
-        (all_of (λ x. IsSome (geom_at t.topology x)) open_order
-        (below_lives t sound told.clear p tried.offer tried.found)))
-
-    -- and differ
-    pub open_apart : Apart (order_of new o)
-    open_apart =
-        subst Apart (sym open_order_is)
-        (order_apart t.topology open_order (below_ordered t sound told.clear p tried.offer tried.found))
 
     -- the end of the walk leaves the mesh as it was
     pub open_end : fold (finish_geom None) new (order_of new o) ≡ t

@@ -322,3 +322,35 @@ module _ {C : Type 0} where
       x y no_scratch other)
       ∙ ap (λ rows. option_map_or (λ (s : Scratch). s.mark) (value_at rows y) 0)
       (finishes_leave keep (providers_of v.topology x) (raise_wants keep v x) ∙ raised_leave keep v x)
+
+  -- what is handed down from a geom leaves the graph
+  pub spread_graph : (way : Way) (v : TopoView C) (x : ℕ) → (spread_from way v x).topology ≡ v.topology
+  spread_graph way v x =
+      hands_leave (λ (w : TopoView C). w.topology) (λ w q s. refl) (gain_of v way x) (consumers_of v.topology x)
+      (with_geom_scratch v x (record { mark = mark_at v x; trial = gain_of v way x }))
+
+  -- and the end of a walk does, at a provider
+  provider_graph : (keep : Option Way) (v : TopoView C) (y : Provider)
+      → (finish_provider keep v y).topology ≡ v.topology
+  provider_graph None v y = refl
+  provider_graph (Some Rises) v y = refl
+  provider_graph (Some Falls) v y = refl
+
+  -- at the consumers of a geom
+  wants_graph : (keep : Option Way) (v : TopoView C) (x : ℕ) → (raise_wants keep v x).topology ≡ v.topology
+  wants_graph None v x = refl
+  wants_graph (Some way) v x =
+      fold_graph (λ (c : Consumer). c.number) (λ (g : Topology C). consumers_of g x) (raise_want way (made_at v x))
+      (λ w c. refl) (consumers_of v.topology x) v
+
+  -- so at a geom
+  pub geom_graph : (keep : Option Way) (v : TopoView C) (x : ℕ) → (finish_geom keep v x).topology ≡ v.topology
+  geom_graph keep v x =
+      fold_graph (λ (y : Provider). y.number) (λ (g : Topology C). providers_of g x) (finish_provider keep)
+      (provider_graph keep) (providers_of v.topology x) (raise_wants keep v x) ∙ wants_graph keep v x
+
+  -- and at all geoms of an order
+  pub order_graph : (keep : Option Way) (xs : List ℕ) (v : TopoView C)
+      → (fold (finish_geom keep) v xs).topology ≡ v.topology
+  order_graph keep [] v = refl
+  order_graph keep (x ∷ xs) v = order_graph keep xs (finish_geom keep v x) ∙ geom_graph keep v x

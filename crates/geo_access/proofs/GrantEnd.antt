@@ -7,7 +7,7 @@ use Rattle.std.proofs.lemmas.List.Elements.{All-contains}
 use Rattle.geo_base.specs.declared.request.Counts.{Counts}
 use Rattle.geo_model.specs.Words.{names_number}
 use Rattle.geo_model.specs.Topology.{Provider, Consumer, provider_at, providers_of, attached_to}
-use Rattle.geo_model.specs.Demand.{no_counts, add_counts, sum_counts, have, want, fits_limit}
+use Rattle.geo_model.specs.Demand.{no_counts, add_counts, sum_counts, have, want, fits_limit, risen}
 use Rattle.geo_slots.specs.Slots.{value_at}
 use Rattle.geo_mesh.specs.Topo.{TopoView, with_want}
 use Rattle.geo_mesh.specs.Graph.{IsSoundGraph}
@@ -24,17 +24,19 @@ use Rattle.geo_laws_counts.proofs.Openers.{wants_grant}
 use Rattle.geo_laws_counts.proofs.Raising.{Demands}
 use Rattle.geo_access.specs.declared.counts.Way.TheVariants.{Rises}
 use Rattle.geo_access.specs.declared.order.Order.{Order}
-use Rattle.geo_access.specs.Access.{granted_by, IsCounted, IsQuiet, IsPlaced, granted_view, leaves_zero}
+use Rattle.geo_access.specs.Access.{granted_by, IsCounted, IsQuiet, IsPlaced, granted_view, leaves_zero, IsHolder, place_of, noted}
 use Rattle.geo_access.specs.Tries.{shifted}
-use Rattle.geo_access.specs.Views.{order_of, finish_geom, IsTried}
+use Rattle.geo_access.specs.Views.{order_of, finish_geom, IsTried, judged}
 use Rattle.geo_access.proofs.Trying.{Tries}
 use Rattle.geo_access.proofs.Walked.{below_ordered, below_lives, below_covers, all_reached, first_below, tried_order, order_apart}
 use Rattle.geo_access.proofs.Clearing.{link_outside, outside_gains}
 use Rattle.geo_access.proofs.Verdict.{After}
 use Rattle.geo_access.proofs.Decided.{counted_told, order, provider_known, provider_stands, new_is, end}
-use Rattle.geo_access.proofs.Granting.{Holder, granted_after, place, gains, mores, granting, granting_after, one_only, one_number, own_is, grants_rise}
+use Rattle.geo_access.proofs.Granting.{Holder, granted_after, place, gains, mores, granting, granting_after, one_only, one_number, own_is, grants_rise, holder_is, others_stay}
 use Rattle.geo_access.proofs.Keeping.{Cell, kept_cell, Kept, keep_all}
-use Rattle.geo_access.proofs.Granted.{tried_parts, want_of_number, want_number, parts_are, parts_end, part_at_most, capped_is}
+use Rattle.geo_access.proofs.Granted.{tried_parts, want_of_number, want_number, parts_are, parts_end, part_at_most, capped_is, new_counted, noted_is}
+use Rattle.geo_model.specs.Opens.{with_grant}
+use Rattle.geo_access.proofs.Allowing.{its_allowed}
 
 -- a choice between the same
 pub same_both : {V : Type 0} (b : Bool) (x y z : V) → (b ≡ true → x ≡ z) → (b ≡ false → y ≡ z)
@@ -259,3 +261,41 @@ module _ {C : Type 0} (t : TopoView C) (sound : IsSoundGraph t.topology) (counte
           ((tried_parts t sound counted tries).cells z.number))
       cell_of see true z = refl
       cell_of see false z = refl
+
+-- the mesh in which a grant stands: all counts are kept, and the providers are noted whose write count rose from zero
+pub record IsGranted {C : Type 0} (t : TopoView C) (cons : ℕ) (add : Counts) (last : TopoView C) : Type 0 where
+  pub is : last ≡ granted_view t cons add
+  pub counted : IsCounted last
+  pub notes : noted last.risen
+      ≡ risen (granted_by t) t.topology (with_grant (granted_by t) cons add) t.topology
+
+-- so it is where nothing refused the grant and the walk has ended
+pub grant_stands : {C : Type 0} {t : TopoView C} {p : ℕ} {add : Counts} {new : TopoView C} {o : Order}
+    {last : TopoView C} (cons : ℕ) → IsTried t p add Rises new o → p ≡ place_of t.topology cons
+    → IsSoundGraph t.topology → IsCounted t → IsQuiet t → IsPlaced t.topology → IsHolder t.topology cons
+    → value_at t.wants cons ≡ Some no_counts → judged new p add (order_of new o) ≡ None
+    → last ≡ with_want (fold (finish_geom (Some Rises)) new (order_of new o)) cons add → IsGranted t cons add last
+grant_stands {C} {t} {p} {add} {new} {o} {last} cons tried at sound counted quiet placed holds stored none ends =
+    let granted : ℕ → Counts = with_grant (granted_by t) cons add in
+    let holder : Holder t.topology cons = holder_is t.topology cons holds in
+    let here : IsTried t (place_of t.topology cons) add Rises new o =
+    subst (λ n. IsTried t n add Rises new o) at tried in
+    let fits = its_allowed t sound counted cons holder stored add new o here
+    (subst (λ n. judged new n add (order_of new o) ≡ None) at none) in
+    let is : last ≡ granted_view t cons add =
+    ends ∙ grant_end t sound counted quiet placed cons holder add stored new o here fits.1 in
+    record {
+      is = is;
+      counted =
+          subst IsCounted (sym (is ∙ ap (λ rows. record (granted_view t cons add) { fallen = rows }) quiet.fallen))
+          (new_counted t sound counted cons holder.one holder.found holder.kind add granted
+          (others_stay t sound counted cons holder add)
+          (λ z. leaves_zero (have (granted_by t) t.topology z.number) (have granted t.topology z.number))
+          (λ z. false) fits.0 fits.1);
+      notes =
+          ap (λ (v : TopoView C). noted v.risen) is
+          ∙ noted_is (λ (z : Provider). z.number)
+          (λ (z : Provider).
+          leaves_zero (have (granted_by t) t.topology z.number) (have granted t.topology z.number))
+          t.topology.providers;
+    }

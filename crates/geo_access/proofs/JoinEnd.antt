@@ -35,7 +35,7 @@ use Rattle.geo_access.specs.Access.{granted_by, IsQuiet, leaves_zero}
 use Rattle.geo_access.specs.Join.{IsCountedBut, IsPlacedBut, joined_view}
 use Rattle.geo_access.specs.Tries.{shifted}
 use Rattle.geo_access.specs.Views.{order_of, IsTried}
-use Rattle.geo_access.proofs.Folding.{fold_graph}
+use Rattle.geo_access.proofs.Folding.{geom_graph}
 use Rattle.geo_access.proofs.Trying.{Tries, trying}
 use Rattle.geo_access.proofs.TryOut.{Spread}
 use Rattle.geo_access.proofs.Walked.{below_ordered, below_lives, all_reached, first_below, first_tries, tried_order, order_apart}
@@ -66,13 +66,6 @@ module _ {C : Type 0} where
   provider_over u (Some Rises) v y = refl
   provider_over u (Some Falls) v y = refl
 
-  -- it keeps the graph
-  provider_graph : (keep : Option Way) (v : TopoView C) (y : Provider)
-      → (finish_provider keep v y).topology ≡ v.topology
-  provider_graph None v y = refl
-  provider_graph (Some Rises) v y = refl
-  provider_graph (Some Falls) v y = refl
-
   -- what consumers gain
   wants_over : (u : Topology C) (keep : Option Way) (v : TopoView C) (x : ℕ)
       → consumers_of u x ≡ consumers_of v.topology x
@@ -81,13 +74,6 @@ module _ {C : Type 0} where
   wants_over u (Some way) v x same =
       ap (fold (raise_want way (made_at v x)) (with_topology v u)) same
       ∙ fold_over u (raise_want way (made_at v x)) (λ w c. refl) (consumers_of v.topology x) v
-
-  -- keeps it too
-  wants_graph : (keep : Option Way) (v : TopoView C) (x : ℕ) → (raise_wants keep v x).topology ≡ v.topology
-  wants_graph None v x = refl
-  wants_graph (Some way) v x =
-      fold_graph (λ (c : Consumer). c.number) (λ (g : Topology C). consumers_of g x) (raise_want way (made_at v x))
-      (λ w c. refl) (consumers_of v.topology x) v
 
   -- at a geom whose consumers and providers are the same in both graphs
   geom_over : (u : Topology C) (keep : Option Way) (v : TopoView C) (x : ℕ)
@@ -100,12 +86,6 @@ module _ {C : Type 0} where
       (wants_over u keep v x consumers)
       ∙ ap (λ w. with_geom_scratch w x no_scratch)
       (fold_over u (finish_provider keep) (provider_over u keep) (providers_of v.topology x) (raise_wants keep v x))
-
-  -- it keeps the graph
-  geom_graph : (keep : Option Way) (v : TopoView C) (x : ℕ) → (finish_geom keep v x).topology ≡ v.topology
-  geom_graph keep v x =
-      fold_graph (λ (y : Provider). y.number) (λ (g : Topology C). providers_of g x) (finish_provider keep)
-      (provider_graph keep) (providers_of v.topology x) (raise_wants keep v x) ∙ wants_graph keep v x
 
   -- so over an order
   pub order_over : (t u : Topology C) (keep : Option Way) (xs : List ℕ) (v : TopoView C) → v.topology ≡ t

@@ -1,7 +1,7 @@
 -- A consumer that has joined: the counts are told, and what follows for the mesh.
-use Rattle.std.specs.Prelude.{◌≡◌, ℕ, ◌==◌, Bool, true, false, fold, Option, Some, None, IsOk, IsSome, IsSomeAnd, Contains, unwrap_or, if◌then◌else◌}
+use Rattle.std.specs.Prelude.{◌≡◌, ℕ, ◌==◌, Bool, true, false, fold, Option, Some, None, IsOk, IsSomeAnd, Contains, unwrap_or, if◌then◌else◌}
 use Rattle.std.specs.Option.{option_map_or}
-use Rattle.std.proofs.Common.{refl, sym, ◌∙◌, ap, subst, inl, inr}
+use Rattle.std.proofs.Common.{refl, sym, ◌∙◌, ap, inl, inr}
 use Rattle.geo_base.specs.declared.request.Counts.{Counts}
 use Rattle.geo_model.specs.Words.{is_granted_kind}
 use Rattle.geo_model.specs.Topology.{Topology, Geom, Provider, Consumer, geom_at, provider_at, consumer_at, attach}
@@ -12,8 +12,6 @@ use Rattle.geo_slots.specs.Slots.{value_at}
 use Rattle.geo_mesh.specs.declared.records.Scratch.{Scratch}
 use Rattle.geo_mesh.specs.Topo.{TopoView, no_scratch, with_topology, with_want}
 use Rattle.geo_mesh.specs.Graph.{IsSoundGraph}
-use Rattle.geo_laws_graph.specs.LookupLaws.{AttachedIsFound}
-use Rattle.geo_laws_graph.proofs.Found.{attached-found}
 use Rattle.geo_laws_graph.proofs.Lists.{map-changed}
 use Rattle.geo_laws_counts.specs.CountWords.{DemandStays}
 use Rattle.geo_laws_counts.proofs.LimitFacts.{all_of}
@@ -182,8 +180,3 @@ module _ {C : Type 0} (t : TopoView C) (sound : IsSoundGraph t.topology) (cons :
   pub at_end_risen : noted (joined_view t cons p).risen
       ≡ risen (granted_by t) t.topology (granted_by t) (attach t.topology cons p)
   at_end_risen = joined_risen t sound cons counted p join fits.0 fits.1
-
-  -- and has the consumer
-  pub at_end_lives : IsSome (consumer_at (joined_view t cons p).topology cons)
-  at_end_lives =
-      subst (λ x. IsSome x) (sym (AttachedIsFound.here attached-found t.topology cons p loose.one loose.found)) refl

@@ -5,6 +5,7 @@ pub mod Trying
 pub mod Tried
 pub mod TryOut
 pub mod Walked
+pub mod Giving
 pub mod Clearing
 pub mod Judging
 pub mod Verdict
@@ -12,6 +13,7 @@ pub mod Decided
 pub mod Granting
 pub mod Allowing
 pub mod Coming
+pub mod Ready
 pub mod Keeping
 pub mod Granted
 pub mod GrantEnd
@@ -22,6 +24,7 @@ pub mod JoinDemand
 pub mod JoinVerdict
 pub mod JoinEnd
 pub mod Joined
+pub mod JoinTold
 pub mod NewJoiner
 pub mod Shut
 pub mod Gone

@@ -1,5 +1,5 @@
 -- The end of a demand: what is lost below comes out of the counts, once each.
-use Rattle.std.specs.Prelude.{◌≡◌, ◌≢◌, ℕ, ◌==◌, Bool, true, false, List, [], map, fold, Option, Some, None, IsSome, IsSomeAnd, IfSome, Contains, All, unwrap_or, if◌then◌else◌}
+use Rattle.std.specs.Prelude.{◌≡◌, ◌≢◌, ℕ, ◌==◌, Bool, true, false, List, [], map, fold, Option, Some, None, IsSome, IsSomeAnd, IfSome, Contains, unwrap_or, if◌then◌else◌, ◌≤◌}
 use Rattle.std.specs.Option.{option_map_or}
 use Rattle.std.proofs.Common.{refl, sym, ◌∙◌, ap, subst, arith, inl, inr, eq-eqb}
 use Rattle.std.proofs.Math.Bool.{not-and_self}
@@ -9,7 +9,7 @@ use Rattle.geo_base.specs.declared.request.Counts.{Counts}
 use Rattle.geo_model.specs.Words.{names_number, is_granted_kind}
 use Rattle.geo_model.specs.Topology.{Geom, Provider, Consumer, geom_at, provider_at, providers_of, attached_to}
 use Rattle.geo_model.specs.Opens.{with_grant}
-use Rattle.geo_model.specs.Demand.{no_counts, add_counts, sum_counts, have, want}
+use Rattle.geo_model.specs.Demand.{no_counts, add_counts, sum_counts, have, want, fallen}
 use Rattle.geo_slots.specs.Slots.{value_at}
 use Rattle.geo_mesh.specs.Topo.{TopoView, with_want}
 use Rattle.geo_mesh.specs.Graph.{IsSoundGraph}
@@ -27,18 +27,19 @@ use Rattle.geo_laws_counts.proofs.Openers.{wants_grant}
 use Rattle.geo_laws_counts.proofs.Raising.{Demands, grant_demands}
 use Rattle.geo_access.specs.declared.counts.Way.TheVariants.{Falls}
 use Rattle.geo_access.specs.declared.order.Order.{Order}
-use Rattle.geo_access.specs.Access.{granted_by, holds_grants, IsCounted, IsQuiet, IsPlaced, released_view, comes_to_zero}
-use Rattle.geo_access.specs.Tries.{shifted, had, Apart}
-use Rattle.geo_access.specs.Views.{order_of, have_at, finish_geom, IsTried}
+use Rattle.geo_access.specs.Access.{granted_by, holds_grants, IsCounted, IsQuiet, IsPlaced, released_view, comes_to_zero, IsHolder, place_of, noted, consumers_below}
+use Rattle.geo_access.specs.Tries.{shifted, had}
+use Rattle.geo_access.specs.Views.{order_of, have_at, finish_geom, IsTried, consumers_over}
 use Rattle.geo_access.proofs.Trying.{Tries, trying}
 use Rattle.geo_access.proofs.TryOut.{Spread}
 use Rattle.geo_access.proofs.Walked.{geoms_below, below_ordered, below_lives, below_covers, all_reached, first_below, first_tries, walked, tried_order, tried_view, order_apart}
 use Rattle.geo_access.proofs.Clearing.{link_outside, outside_gains}
-use Rattle.geo_access.proofs.Decided.{counted_told, provider_known, provider_stands, stored_have}
-use Rattle.geo_access.proofs.Granting.{Holder, place, numbers_are, one_only, one_number, one_filtered, others_stay, own_is}
+use Rattle.geo_access.proofs.Decided.{counted_told, provider_known, provider_stands, stored_have, steps_bound}
+use Rattle.geo_access.proofs.Granting.{Holder, place, numbers_are, one_only, one_number, one_filtered, others_stay, own_is, holder_is}
 use Rattle.geo_access.proofs.Keeping.{Cell, kept_cell, Kept, keep_all}
-use Rattle.geo_access.proofs.Granted.{tried_parts, want_of_number, want_number, parts_are, parts_end, part_at_most}
+use Rattle.geo_access.proofs.Granted.{tried_parts, want_of_number, want_number, parts_are, parts_end, part_at_most, new_counted, noted_is}
 use Rattle.geo_access.proofs.GrantEnd.{same_both}
+use Rattle.geo_laws_counts.proofs.Keeping.{exclusive_less, limit_less}
 
 -- what is left of what was, less what the smaller has less
 less_back : (a b : Counts) → IsAtMost a b → IsAtMost b greatest_counts → more_counts (cap (more_counts a b)) b ≡ a
@@ -154,20 +155,6 @@ module _ {C : Type 0} (t : TopoView C) (sound : IsSoundGraph t.topology) (counte
 
     pub release_order : order_of new o ≡ its_order
     release_order = tried_order t sound counted.clear p held Falls new o tried
-
-    -- the geoms of the order live
-    pub release_lives : All (λ x. IsSome (geom_at new.topology x)) (order_of new o)
-    release_lives =
-        subst (λ u. All (λ x. IsSome (geom_at u x)) (order_of new o)) (sym (ap (λ v. v.topology) new_is))
-        (subst (All (λ x. IsSome (geom_at t.topology x))) (sym release_order)
-        (all_of (λ x. IsSome (geom_at t.topology x)) its_order
-        (below_lives t sound counted.clear p tried.offer tried.found)))
-
-    -- and differ
-    pub release_apart : Apart (order_of new o)
-    release_apart =
-        subst Apart (sym release_order)
-        (order_apart t.topology its_order (below_ordered t sound counted.clear p tried.offer tried.found))
 
     -- what is kept
     all : Kept t sound Falls its_order (tried_parts t sound counted tries)
@@ -329,3 +316,46 @@ module _ {C : Type 0} (t : TopoView C) (sound : IsSoundGraph t.topology) (counte
         ∙ same_both (has_number its_order n) no_counts (tries.made n) no_counts (λ inside. refl)
         (λ away. end.others n (has_not its_order n away)))
         ∙ ap (λ rows. record (released_view t cons) { risen = rows }) (sym quiet.risen)
+
+-- the mesh in which the consumer holds nothing: all counts are kept, and the providers are noted whose write count fell
+-- to zero; and the steps are within the bound
+pub record IsReleased {C : Type 0} (t : TopoView C) (cons : ℕ) (new : TopoView C) (o : Order)
+    (last : TopoView C) : Type 0 where
+  pub is : last ≡ released_view t cons
+  pub counted : IsCounted last
+  pub notes : noted last.fallen
+      ≡ fallen (granted_by t) t.topology (with_grant (granted_by t) cons no_counts) t.topology
+  pub bound : consumers_over t.topology (order_of new o) ≤ consumers_below t.topology (place_of t.topology cons)
+
+-- so it is where the walk has ended
+pub release_stands : {C : Type 0} {t : TopoView C} {q : ℕ} {held : Counts} {new : TopoView C} {o : Order}
+    {last : TopoView C} (cons : ℕ) → IsTried t q held Falls new o → q ≡ place_of t.topology cons
+    → IsSoundGraph t.topology → IsCounted t → IsQuiet t → IsPlaced t.topology → IsHolder t.topology cons
+    → value_at t.wants cons ≡ Some held
+    → last ≡ with_want (fold (finish_geom (Some Falls)) new (order_of new o)) cons no_counts
+    → IsReleased t cons new o last
+release_stands {C} {t} {q} {held} {new} {o} {last} cons tried at sound counted quiet placed holds stored ends =
+    let released : ℕ → Counts = with_grant (granted_by t) cons no_counts in
+    let holder : Holder t.topology cons = holder_is t.topology cons holds in
+    let here : IsTried t (place_of t.topology cons) held Falls new o =
+    subst (λ n. IsTried t n held Falls new o) at tried in
+    let fall : AreAtMost released (granted_by t) = grants_fall t sound counted cons holder held stored in
+    let is : last ≡ released_view t cons =
+    ends ∙ release_end t sound counted cons holder held stored quiet placed new o here in
+    record {
+      is = is;
+      counted =
+          subst IsCounted (sym (is ∙ ap (λ rows. record (released_view t cons) { risen = rows }) quiet.risen))
+          (new_counted t sound counted cons holder.one holder.found holder.kind no_counts released
+          (others_stay t sound counted cons holder no_counts) (λ z. false)
+          (λ z. comes_to_zero (have (granted_by t) t.topology z.number) (have released t.topology z.number))
+          (exclusive_less released (granted_by t) fall t.topology counted.exclusive)
+          (limit_less released (granted_by t) fall t.topology counted.limit));
+      notes =
+          ap (λ (v : TopoView C). noted v.fallen) is
+          ∙ noted_is (λ (z : Provider). z.number)
+          (λ (z : Provider).
+          comes_to_zero (have (granted_by t) t.topology z.number) (have released t.topology z.number))
+          t.topology.providers;
+      bound = steps_bound t sound counted.clear (place_of t.topology cons) held Falls new o here;
+    }

@@ -31,7 +31,7 @@ use Rattle.geo_access.specs.declared.order.Order.{Order}
 use Rattle.geo_access.specs.Tries.{had, made_of}
 use Rattle.geo_access.specs.Access.{clear_scratches}
 use Rattle.geo_access.specs.Views.{Gathered, mark_at, gain_at, have_at, order_of, visit, weigh, gain_of, give, hand, spread_from, gathered_from, numbers_along}
-use Rattle.geo_access.proofs.Folding.{links_same, spread_marks}
+use Rattle.geo_access.proofs.Folding.{links_same, spread_marks, spread_graph}
 use Rattle.geo_access.proofs.Trying.{Tries, trying, trying-none, trying-mark, trying-gain, trying-geom, trying-provider, head_or, link_in, kept_order, order_tries, links_order, order_distinct}
 use Rattle.geo_access.proofs.Tried.{trying-same, under_lives, visit_is, made_gain, weigh_is}
 
@@ -56,6 +56,12 @@ pub spreads_order : {C : Type 0} (way : Way) (xs : List ℕ) (v : TopoView C) (o
     → order_of (fold (spread_from way) v xs) o ≡ order_of v o
 spreads_order way xs v o =
     links_same (mark_at v) (mark_at (fold (spread_from way) v xs)) o.count o.head (λ y there. spreads_mark way xs v y)
+
+-- and the graph
+pub spreads_graph : {C : Type 0} (way : Way) (xs : List ℕ) (v : TopoView C)
+    → (fold (spread_from way) v xs).topology ≡ v.topology
+spreads_graph way [] v = refl
+spreads_graph way (x ∷ xs) v = spreads_graph way xs (spread_from way v x) ∙ spread_graph way v x
 
 module _ {C : Type 0} (t : TopoView C) (sound : IsSoundGraph t.topology) where
   -- The order

@@ -1,5 +1,5 @@
 -- A demand that was tried, as the walk leaves the mesh.
-use Rattle.std.specs.Prelude.{◌≡◌, ℕ, zero, suc, ◌==◌, ◌<◌, ◌≤◌, Bool, true, false, List, [], ◌∷◌, length, flat_map, fold, Some, IsSome, IsSomeAnd, Contains, if◌then◌else◌}
+use Rattle.std.specs.Prelude.{◌≡◌, ℕ, zero, suc, ◌==◌, ◌<◌, ◌≤◌, Bool, true, false, List, [], ◌∷◌, length, flat_map, fold, Some, IsSome, IsSomeAnd, Contains, All, if◌then◌else◌}
 use Rattle.std.proofs.Common.{refl, sym, ◌∙◌, ap, subst, arith}
 use Rattle.std.proofs.lemmas.Bool.{eqb-true}
 use Rattle.geo_base.specs.declared.request.Counts.{Counts}
@@ -13,7 +13,7 @@ use Rattle.geo_mesh.specs.Topo.{TopoView}
 use Rattle.geo_mesh.specs.Graph.{IsSoundGraph}
 use Rattle.geo_laws_counts.proofs.Sums.{zero-add}
 use Rattle.geo_laws_counts.proofs.Members.{in_nothing, in_head, in_tail, in_flat_map}
-use Rattle.geo_laws_counts.proofs.LimitFacts.{of_filter}
+use Rattle.geo_laws_counts.proofs.LimitFacts.{of_filter, all_of}
 use Rattle.geo_laws_counts.proofs.Upward.{names_some}
 use Rattle.geo_laws_counts.specs.WalkWords.{has_number, IsOrder, order_from, cap, set_at, gain_without}
 use Rattle.geo_laws_counts.proofs.Reach.{below_self, below_closed, directly_under, under_of}
@@ -28,7 +28,7 @@ use Rattle.geo_access.specs.Views.{Gathered, gain_at, have_at, order_of, give, s
 use Rattle.geo_access.proofs.Walking.{offerer_lives}
 use Rattle.geo_access.proofs.Trying.{Tries, trying, trying-gain, trying-provider, order_tries}
 use Rattle.geo_access.proofs.Tried.{lives_positive}
-use Rattle.geo_access.proofs.TryOut.{the_order_is, the_order_lives, gathered_is, order_at, Spread, spread_all}
+use Rattle.geo_access.proofs.TryOut.{spreads_graph, the_order_is, the_order_lives, gathered_is, order_at, Spread, spread_all}
 
 -- the tries before any geom has handed down
 abbrev pub first_tries : ℕ → List ℕ → ℕ → Counts → Tries
@@ -217,3 +217,26 @@ module _ {C : Type 0} (t : TopoView C) (sound : IsSoundGraph t.topology) (clear 
       ∙ tried_order)
       ∙ ap (λ v. fold (spread_from way) v (geoms_below t sound clear p tried.offer tried.found))
       (given_is t sound clear p tried.offer tried.found add)
+
+  -- its graph is the mesh's
+  pub tried_graph : new.topology ≡ t.topology
+  tried_graph =
+      ap (λ (v : TopoView C). v.topology) tried.view
+      ∙ spreads_graph way (order_of (give add (gathered_from t tried.offer.geom).view p) o)
+      (give add (gathered_from t tried.offer.geom).view p)
+      ∙ given_graph t sound clear p tried.offer tried.found add
+
+  -- the geoms of the order live
+  pub tried_lives : All (λ x. IsSome (geom_at new.topology x)) (order_of new o)
+  tried_lives =
+      subst (λ u. All (λ x. IsSome (geom_at u x)) (order_of new o)) (sym tried_graph)
+      (subst (All (λ x. IsSome (geom_at t.topology x))) (sym tried_order)
+      (all_of (λ x. IsSome (geom_at t.topology x)) (geoms_below t sound clear p tried.offer tried.found)
+      (below_lives t sound clear p tried.offer tried.found)))
+
+  -- and differ
+  pub tried_apart : Apart (order_of new o)
+  tried_apart =
+      subst Apart (sym tried_order)
+      (order_apart t.topology (geoms_below t sound clear p tried.offer tried.found)
+      (below_ordered t sound clear p tried.offer tried.found))

@@ -9,6 +9,7 @@ use Rattle.geo_model.specs.Topology.{Topology, Provider, Consumer, geom_at, cons
 use Rattle.geo_model.specs.Graph.{AreNumbers}
 use Rattle.geo_mesh.specs.declared.records.ConsRec.{ConsRec}
 use Rattle.geo_mesh.specs.declared.records.ProvRec.{ProvRec}
+use Rattle.geo_mesh.specs.Topo.{TopoView}
 use Rattle.geo_mesh.specs.Cells.{consumer_seen, provider_seen}
 use Rattle.geo_mesh.specs.Graph.{IsSoundGraph}
 use Rattle.geo_laws_graph.specs.LookupLaws.{left_from, IsStep, WalksMeetAll}
@@ -16,7 +17,8 @@ use Rattle.geo_laws_graph.proofs.Walks.{walks-meet}
 use Rattle.geo_laws_counts.proofs.Members.{in_head}
 use Rattle.geo_laws_counts.proofs.LimitFacts.{of_filter}
 use Rattle.geo_laws_counts.proofs.Numbers.{found_of}
-use Rattle.geo_access.specs.Views.{IsNextConsumer, IsNextProvider, numbers_along}
+use Rattle.geo_access.specs.declared.order.Order.{Order}
+use Rattle.geo_access.specs.Views.{IsNextConsumer, IsNextProvider, numbers_along, mark_at, order_of}
 pub use Rattle.geo_base.proofs.FindLists.{find-Contains as found_in}
 
 -- the next item of a walk over a part of a list
@@ -136,7 +138,17 @@ offerer_lives t sound p x found =
     All-contains (λ (y : Provider). IsSome (geom_at t y.geom)) t.providers x sound.orderly.parts.offerers
     (find-Contains (λ (y : Provider). y.number == p) t.providers x found)
 
+-- so does that of one that is looked at
+pub seen_lives : {C : Type 0} (t : Topology C) → IsSoundGraph t → (p : ℕ) (x : ProvRec)
+    → provider_at t p ≡ Some (provider_seen p x) → IsSome (geom_at t x.geom)
+seen_lives t sound p x found = offerer_lives t sound p (provider_seen p x) found
+
 -- what holds of all of some links holds of the first
 pub first_link : (P : ℕ → Type 0) (next : ℕ → ℕ) (n x : ℕ) → (n ≡ 0 → ⊥) → All P (numbers_along next n x) → P x
 first_link P next zero x some all = absurd (some refl)
 first_link P next (suc n) x some all = All-head P x (numbers_along next n (next x)) all
+
+-- the first geom of an order lives where all of it do
+pub first_lives : {C : Type 0} (t : TopoView C) (o : Order) → (o.count ≡ 0 → ⊥)
+    → All (λ x. IsSome (geom_at t.topology x)) (order_of t o) → IsSome (geom_at t.topology o.head)
+first_lives t o some all = first_link (λ x. IsSome (geom_at t.topology x)) (mark_at t) o.count o.head some all

@@ -3,7 +3,7 @@ use Rattle.std.specs.Prelude.{fold}
 use Rattle.geo_model.specs.Topology.{Consumer, consumers_of}
 use Rattle.geo_model.specs.Rank.{rank}
 use Rattle.geo_mesh.specs.Cells.{consumer_seen}
-use Rattle.geo_access.specs.Views.{visit_under}
+use Rattle.geo_access.specs.Views.{Gathered, visit_under}
 use Rattle.geo_access.proofs.Folding.{fold_begin}
 use Rattle.geo_access.proofs.Gathering.{fresh_lower, visit_adds, visit_skips, gather_more, gather_whole, gathered_same}
 use Rattle.geo_access.proofs.order.+gather.Goals as goal
@@ -39,40 +39,36 @@ loop-id-preserved g t c =
       gathered = λ levels high.
           let there : rank c.loop-id.topo.topology c.args.geom ≤ suc levels =
           subst (λ u. rank u c.args.geom ≤ suc levels) graph high in
-          rw c.number-from.ensures
-          (elim c.match-fresh_under.branch [
+          let x : Consumer = consumer_seen c.in-Some.id-1-given.0.0.0 c.in-Some.id-1-given.0.0.1 in
+          let step : ◌≡◌ {A = Gathered g.row.C.Denot} (record {
+            view = c.match-fresh_under.topo;
+            order = c.match-fresh_under.order;
+          }) (visit_under levels (record { view = c.loop-id.topo; order = c.loop-id.order }) x) =
+          elim c.match-fresh_under.branch [
             | in-Some-fresh_under w ↦
                 let less : rank c.loop-id.topo.topology w.in-Some-fresh_under.under
                 < rank c.loop-id.topo.topology c.args.geom =
                 fresh_lower c.loop-id.topo c.args.geom _ _ _ w.in-Some-fresh_under.under
                 c.consumer_of.ensures.sound c.in-Some.ensures.next.left
                 (sym c.fresh_under.ensures.fresh ∙ w.in-Some-fresh_under.is) in
-                gather_more levels c.loop-id.topo c.loop-id.order c.match-fresh_under.topo
-                c.match-fresh_under.order c.args.geom _ _ _
-                (fold (visit_under levels) (record { view = c.args.topo.now; order = c.args.order.now })
-                (consumers_of c.args.topo.now.topology c.args.geom))
-                c.in-Some.ensures.next.left graph
-                (gathered_same c.match-fresh_under.topo w.gather.new.topo c.match-fresh_under.order
+                gathered_same c.match-fresh_under.topo w.gather.new.topo c.match-fresh_under.order
                 w.gather.new.order w.topo-is w.order-is
-                ∙ visit_adds levels c.loop-id.topo c.loop-id.order
-                (consumer_seen c.in-Some.id-1-given.0.0.0 c.in-Some.id-1-given.0.0.1)
-                w.in-Some-fresh_under.under (record { view = w.gather.new.topo; order = w.gather.new.order })
+                ∙ visit_adds levels c.loop-id.topo c.loop-id.order x w.in-Some-fresh_under.under
+                (record { view = w.gather.new.topo; order = w.gather.new.order })
                 (sym c.fresh_under.ensures.fresh ∙ w.in-Some-fresh_under.is)
-                (w.gather.ensures.gathered levels (omega arith)))
-                (c.loop-id.invariant.gathered levels there)
+                (w.gather.ensures.gathered levels (omega arith))
             | in_default-fresh_under w ↦
-                gather_more levels c.loop-id.topo c.loop-id.order c.match-fresh_under.topo
-                c.match-fresh_under.order c.args.geom _ _ _
-                (fold (visit_under levels) (record { view = c.args.topo.now; order = c.args.order.now })
-                (consumers_of c.args.topo.now.topology c.args.geom))
-                c.in-Some.ensures.next.left graph
-                (gathered_same c.match-fresh_under.topo c.loop-id.topo c.match-fresh_under.order c.loop-id.order
+                gathered_same c.match-fresh_under.topo c.loop-id.topo c.match-fresh_under.order c.loop-id.order
                 w.topo-is w.order-is
-                ∙ visit_skips levels c.loop-id.topo c.loop-id.order
-                (consumer_seen c.in-Some.id-1-given.0.0.0 c.in-Some.id-1-given.0.0.1)
-                (sym c.fresh_under.ensures.fresh ∙ w.in_default-fresh_under.is))
-                (c.loop-id.invariant.gathered levels there)
-          ]);
+                ∙ visit_skips levels c.loop-id.topo c.loop-id.order x
+                (sym c.fresh_under.ensures.fresh ∙ w.in_default-fresh_under.is)
+          ] in
+          rw c.number-from.ensures
+          (gather_more levels c.loop-id.topo c.loop-id.order c.match-fresh_under.topo
+          c.match-fresh_under.order c.args.geom _ _ _
+          (fold (visit_under levels) (record { view = c.args.topo.now; order = c.args.order.now })
+          (consumers_of c.args.topo.now.topology c.args.geom))
+          c.in-Some.ensures.next.left graph step (c.loop-id.invariant.gathered levels there));
     }
 
 pub returns-clause-gathered : goal.returns-clause-gathered
