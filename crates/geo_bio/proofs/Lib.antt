@@ -1,5 +1,6 @@
 pub mod ValueLemmas
 pub mod TableLemmas
+pub mod ChangeLemmas
 pub mod SplitLemmas
 pub mod GatherLemmas
 pub mod KeptLemmas

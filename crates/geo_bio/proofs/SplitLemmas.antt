@@ -9,12 +9,13 @@ use Rattle.std.specs.Option.{option_map, option_or, MatchOption, IfSome}
 use Rattle.geo_model.specs.declared.span.Piece.{Piece}
 use Rattle.geo_model.specs.declared.step.Owner.TheVariants as owners
 use Rattle.geo_model.specs.declared.step.Phase.TheVariants as phases
-use Rattle.geo_model.specs.World.{is_done, is_waiting, change_number}
-use Rattle.geo_bio.specs.BioTable.{with_phase}
+use Rattle.geo_model.specs.World.{is_done, is_down, is_waiting, change_number}
+use Rattle.geo_bio.specs.BioTable.{BioTableView, bio_among, has_phase, with_phase}
 use Rattle.geo_slots.specs.Slots.{SlotsView, IsRising, value_at, with_value, with_insert}
 use Rattle.geo_slots.proofs.RowLemmas.{IsRising-with_value, with_value_below, value_at_next}
 use Rattle.geo_bio.proofs.ValueLemmas.{value_at-with_value_same, value_at-with_value_other}
-use Rattle.geo_bio.proofs.TableLemmas.{family-with_value, family-none, seen_changed}
+use Rattle.geo_bio.proofs.TableLemmas.{family-with_value, family-none, seen_changed, bio_among-rows, down_facts}
+use Rattle.geo_bio.proofs.ChangeLemmas.{seen, in_phase}
 use Rattle.geo_bio.specs.declared.bio.Bio.{Bio}
 use Rattle.geo_bio.specs.Rows.{as_bio, seen_row, Child, child_of, family, FollowFrom, HasFamily, IsSplitInto, WaitsIn, IsTable}
 use Rattle.geo_bio.specs.Split.{child_for, children_for, waiting, with_all, numbered, split_into}
@@ -360,3 +361,50 @@ module _ (rows : List (ℕ × Bio)) (next n : ℕ) (x : Bio) (pieces : List Piec
         seen_rows = ap (map seen_row) split_is ∙ seen_split;
         grows = high ∙ ap (λ k. next + k) count;
       }
+
+-- What the public call leaves
+
+-- the children are as many as the pieces
+module _ (n : ℕ) (x : Bio) {items pieces : List Piece} {goals targets : List (ℕ × ℕ)} {children : List Bio}
+    (made : children ≡ children_for n x 0 items goals) (items_are : items ≡ pieces) (goals_are : goals ≡ targets)
+    (as_many : length targets ≡ length pieces) where
+  pub children_counted : length children ≡ length pieces
+  children_counted =
+      ap length made ∙ ap length (λ i. children_for n x 0 (items_are i) (goals_are i))
+      ∙ length-children_for n x 0 pieces targets as_many
+
+-- a bio was split, as contracts see it
+pub record IsStarted (v : BioTableView) (new : SlotsView Bio) (n : ℕ) (pieces : List Piece) (targets : List (ℕ × ℕ))
+    : Type 0 where
+  pub table : IsTable new.rows new.next
+  pub split : IfSome (bio_among v.bios n) (λ z. map seen_row new.rows
+      ≡ change_number n (with_phase phases.Waiting) v.bios ++ split_into v.next z 0 pieces targets)
+  pub grows : new.next ≡ v.next + length pieces
+
+-- the bio, which is Down, was asked for by its number and found, and room was made for its children
+module _ (s mid new : SlotsView Bio) {v : BioTableView} {m n : ℕ} {o : Option Bio} {x : Bio}
+    {items pieces : List Piece} {goals targets : List (ℕ × ℕ)} {children : List Bio} (view : seen s ≡ v)
+    (t : IsTable s.rows s.next) (same : m ≡ n) (got : o ≡ value_at s.rows m) (some : o ≡ Some x)
+    (down : has_phase is_down v.bios n ≡ true) (items_are : items ≡ pieces) (goals_are : goals ≡ targets)
+    (as_many : length targets ≡ length pieces) (few : length pieces < 2 ^ 32)
+    (made : children ≡ children_for n x 0 items goals) (roomed : mid ≡ record s { spare = mid.spare })
+    (rows_are : IfSome (value_at (mid.rows ++ numbered mid.next children) m) (λ z. new.rows
+    ≡ with_value (mid.rows ++ numbered mid.next children) m (waiting (length children) mid.next z)))
+    (grown : new.next ≡ mid.next + length children) where
+  pub started : IsStarted v new n pieces targets
+  started =
+      let there = in_phase is_down s view same down got x some in
+      let facts = down_facts x.phase there.1 in
+      let after = subst (λ k. IfSome (value_at (mid.rows ++ numbered mid.next children) k) (λ z. new.rows
+      ≡ with_value (mid.rows ++ numbered mid.next children) k (waiting (length children) mid.next z))) same rows_are in
+      let split = is_split s.rows s.next n x pieces targets t there.0 facts.0 facts.1 as_many few mid new mid.spare x
+      children roomed refl (made ∙ (λ i. children_for n x 0 (items_are i) (goals_are i))) after grown in
+      let among : bio_among (map seen_row s.rows) n ≡ Some (as_bio n x) =
+      bio_among-rows s.rows n ∙ ap (option_map (as_bio n)) there.0 in
+      subst (λ (w : BioTableView). IsStarted w new n pieces targets) view (record {
+        table = split.table;
+        split = subst (λ p. IfSome p (λ z. map seen_row new.rows
+            ≡ change_number n (with_phase phases.Waiting) (map seen_row s.rows)
+            ++ split_into s.next z 0 pieces targets)) (sym among) split.seen_rows;
+        grows = split.grows;
+      })

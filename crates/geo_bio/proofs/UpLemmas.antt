@@ -1,5 +1,5 @@
 -- A bio goes up: what becomes of the rows, and what contracts see of it.
-use Rattle.std.proofs.Common.{◌≡◌, ◌≢◌, ◌⊎◌, ℕ, ◌+◌, ◌^◌, ◌<◌, ◌≤◌, List, [], ◌∷◌, map, filter, length, not, ◌==◌, Bool, true, false, Option, Some, Result, Ok, Err, sym, refl, ap, ◌∙◌, subst, inl, inr, arith, IfOk, OnOk, OnErr, IfSome}
+use Rattle.std.proofs.Common.{◌≡◌, ◌≢◌, ◌⊎◌, ℕ, ◌+◌, ◌^◌, ◌<◌, ◌≤◌, List, [], ◌∷◌, map, filter, length, not, ◌==◌, true, false, Option, Some, Result, Ok, Err, sym, refl, ap, ◌∙◌, subst, inl, inr, arith, IfOk, OnOk, OnErr, IfSome}
 use Rattle.std.proofs.lemmas.Bool.{cases_eq, eq-eqb, ne_eqb}
 use Rattle.std.proofs.lemmas.Result.{on_ok_weaker, on_err_weaker}
 use Rattle.std.specs.List.{cons_option}
@@ -15,11 +15,12 @@ use Rattle.geo_bio.specs.declared.bio.Bio.{Bio}
 use Rattle.geo_bio.specs.declared.bio.Held.{Held}
 use Rattle.geo_bio.specs.declared.bio.Risen.{Risen}
 use Rattle.geo_bio.specs.declared.bio.Risen.TheVariants as risen
-use Rattle.geo_bio.specs.BioTable.{bio_among, has_phase, with_phase}
+use Rattle.geo_bio.specs.BioTable.{BioTableView, bio_among, has_phase, with_phase}
 use Rattle.geo_bio.specs.Rows.{as_bio, seen_row, at_phase, up_holding, Child, family, FollowFrom, IsTable}
 use Rattle.geo_bio.specs.Gather.{without_all, counted, held_from, changed_at, is_last, rows_up}
 use Rattle.geo_bio.specs.Up.{resolved, are_in, after_up, told_of_up}
 use Rattle.geo_bio.proofs.TableLemmas.{bio_among-rows}
+use Rattle.geo_bio.proofs.ChangeLemmas.{seen, in_phase}
 use Rattle.geo_bio.proofs.KeptLemmas.{value_at-filter, table_without_root}
 use Rattle.geo_bio.proofs.FamilyLemmas.{IsChildUp, done_rows, not_waiting, parent_done, split, fewer, are_in-last, are_in-other, counted_rows, seen_counted, table_counted}
 use Rattle.geo_bio.proofs.CompleteLemmas.{standing, kid, stranger, gone, no_child, complete_rows, table_complete, completed_is}
@@ -168,70 +169,85 @@ either_answer : {T E : Type 0} (r : Result T E) (P Q : Type 0) → OnOk r P → 
 either_answer (Ok v) P Q ok err = inl ok
 either_answer (Err e) P Q ok err = inr err
 
--- the phase of a bio that is there
-pub phase_there : (test : Phase → Bool) (rows : List (ℕ × Bio)) (n : ℕ) (x : Bio) → value_at rows n ≡ Some x
-    → has_phase test (map seen_row rows) n ≡ true → test x.phase ≡ true
-phase_there test rows n x found e =
-    sym (ap (λ o. option_map_or (λ (y : BioOf Held). test y.phase) o false) (bio_among-rows rows n
-    ∙ ap (option_map (as_bio n)) found)) ∙ e
+-- what became of a bio that went up, as contracts see it
+pub record IsRaised {E : Type 0} (log : ℕ → Option (List ℕ)) (v : BioTableView) (new : SlotsView Bio) (n : ℕ)
+    (r : Result Risen E) : Type 0 where
+  pub table : IsTable new.rows new.next
+  pub told : IfSome (bio_among v.bios n) (λ z. IfOk r (λ w. w ≡ told_of_up log v.bios z z.owner))
+  pub rises : IfSome (bio_among v.bios n) (λ z. OnOk r (map seen_row new.rows ≡ after_up log v.bios z z.owner))
+  pub bios_stay : OnErr r (map seen_row new.rows ≡ v.bios)
+  pub next_stays : new.next ≡ v.next
+  pub room_stays : new.spare ≡ v.spare
 
-module _ (log : ℕ → Option (List ℕ)) (old new : SlotsView Bio) (n p k : ℕ) (x : Bio)
-    (t : IsTable old.rows old.next) (found : value_at old.rows n ≡ Some x) (up : is_up x.phase ≡ true)
+-- the bio that is up, which was asked for by its number
+pub record IsGot (s : SlotsView Bio) (v : BioTableView) (m n : ℕ) (x : Bio) : Type 0 where
+  pub view : seen s ≡ v
+  pub table : IsTable s.rows s.next
+  pub same : m ≡ n
+  pub found : value_at s.rows n ≡ Some x
+  pub up : is_up x.phase ≡ true
+
+-- it was found
+module _ (s : SlotsView Bio) {v : BioTableView} {m n : ℕ} {o : Option Bio} {x : Bio} (view : seen s ≡ v)
+    (table : IsTable s.rows s.next) (same : m ≡ n) (got : o ≡ value_at s.rows m) (some : o ≡ Some x)
+    (is : has_phase is_up v.bios n ≡ true) where
+  pub up_got : IsGot s v m n x
+  up_got =
+      let there = in_phase is_up s view same is got x some in
+      record { view = view; table = table; same = same; found = there.0; up = there.1 }
+
+-- A child goes up
+
+module _ {old : SlotsView Bio} {v : BioTableView} {m n p k : ℕ} {x : Bio} (got : IsGot old v m n x)
     (owner : x.owner ≡ owners.Child p k) where
+  -- its parent waits for it
   its_parent : (y : Bio) × IsChildUp old.rows n p k x y
-  its_parent = child_up old.rows old.next n p k x t found up owner
+  its_parent = child_up old.rows old.next n p k x got.table got.found got.up owner
 
-  pub apart : p ≢ n
-  apart = let w = its_parent in not_waiting old.rows old.next n p k x w.0 t w.1 p w.0 w.1.parent w.1.waits
+  -- it isn't its own parent
+  pub apart : p ≢ m
+  apart = λ same.
+      let w = its_parent in
+      not_waiting old.rows old.next n p k x w.0 got.table w.1 p w.0 w.1.parent w.1.waits (same ∙ got.same)
 
+  -- one more can be counted in the parent
   pub counts : IfSome (value_at old.rows p) (λ y. y.finished + 1 < 2 ^ 32)
   counts =
       let w = its_parent in
-      let less = fewer old.rows old.next n p k x w.0 t w.1 in
-      let s = split old.rows old.next n p k x w.0 t w.1 in
+      let less = fewer old.rows old.next n p k x w.0 got.table w.1 in
+      let s = split old.rows old.next n p k x w.0 got.table w.1 in
       subst (λ o. IfSome o (λ (y : Bio). y.finished + 1 < 2 ^ 32)) (sym w.1.parent) (omega (arith, less, s.few))
 
+  -- and the numbers of its children are below the next one
   pub follow : old.next < 2 ^ 64 → IfSome (value_at old.rows p) (λ y. y.first_child + y.children < 2 ^ 64)
   follow bound =
       let w = its_parent in
-      let below = children_below old.rows old.next n p k x w.0 t w.1 in
+      let below = children_below old.rows old.next n p k x w.0 got.table w.1 in
       subst (λ o. IfSome o (λ (y : Bio). y.first_child + y.children < 2 ^ 64)) (sym w.1.parent)
       (omega (arith, below, bound))
 
-  module _ {E : Type 0} (r : Result Risen E)
+  module _ {E : Type 0} (log : ℕ → Option (List ℕ)) (new : SlotsView Bio) (r : Result Risen E)
       (told : IfSome (value_at old.rows p) (λ y. IfOk r (λ z. z ≡ risen.InParent p (is_last y))))
       (rises : IfSome (value_at old.rows p)
-      (λ y. OnOk r (new ≡ record old { rows = rows_up log old.rows n p y })))
+      (λ y. OnOk r (new ≡ record old { rows = rows_up log old.rows m p y })))
       (stays : OnErr r (new ≡ old)) where
     among : bio_among (map seen_row old.rows) n ≡ Some (as_bio n x)
-    among = bio_among-rows old.rows n ∙ ap (option_map (as_bio n)) found
+    among = bio_among-rows old.rows n ∙ ap (option_map (as_bio n)) got.found
 
     rises_there : OnOk r (new ≡ record old { rows = rows_up log old.rows n p its_parent.0 })
     rises_there =
-        subst (λ o. IfSome o (λ y. OnOk r (new ≡ record old { rows = rows_up log old.rows n p y })))
-        its_parent.1.parent rises
+        subst (λ l. OnOk r (new ≡ record old { rows = rows_up log old.rows l p its_parent.0 })) got.same
+        (subst (λ o. IfSome o (λ y. OnOk r (new ≡ record old { rows = rows_up log old.rows m p y })))
+        its_parent.1.parent rises)
 
     what_became : (new ≡ record old { rows = rows_up log old.rows n p its_parent.0 }) ⊎ (new ≡ old)
     what_became = either_answer r _ _ rises_there stays
 
-    risen_rows : IsRisen old.rows old.next n p k x its_parent.0 t its_parent.1 log
+    risen_rows : IsRisen old.rows old.next n p k x its_parent.0 got.table its_parent.1 log
         (rows_up log old.rows n p its_parent.0)
-    risen_rows = is_risen old.rows old.next n p k x its_parent.0 t its_parent.1 log
+    risen_rows = is_risen old.rows old.next n p k x its_parent.0 got.table its_parent.1 log
 
-    pub table_after_child : IsTable new.rows new.next
-    table_after_child =
-        elim what_became [
-          | inl e ↦ subst (λ s. IsTable s.rows s.next) (sym e) risen_rows.table
-          | inr e ↦ subst (λ s. IsTable s.rows s.next) (sym e) t
-        ]
-
-    pub next_after_child : new.next ≡ old.next
-    next_after_child = elim what_became [ inl e ↦ ap (λ s. s.next) e | inr e ↦ ap (λ s. s.next) e ]
-
-    pub spare_after_child : new.spare ≡ old.spare
-    spare_after_child = elim what_became [ inl e ↦ ap (λ s. s.spare) e | inr e ↦ ap (λ s. s.spare) e ]
-
-    pub told_after_child : IfSome (bio_among (map seen_row old.rows) n)
+    told_after_child : IfSome (bio_among (map seen_row old.rows) n)
         (λ z. IfOk r (λ v. v ≡ told_of_up log (map seen_row old.rows) z z.owner))
     told_after_child =
         let there = subst (λ o. IfSome o (λ y. IfOk r (λ z. z ≡ risen.InParent p (is_last y))))
@@ -242,7 +258,7 @@ module _ (log : ℕ → Option (List ℕ)) (old new : SlotsView Bio) (n p k : �
         subst (λ o. IfSome o (λ z. IfOk r (λ v. v ≡ told_of_up log (map seen_row old.rows) z z.owner))) (sym among)
         (subst (λ w. IfOk r (λ v. v ≡ w)) e there)
 
-    pub rises_after_child : IfSome (bio_among (map seen_row old.rows) n)
+    rises_after_child : IfSome (bio_among (map seen_row old.rows) n)
         (λ z. OnOk r (map seen_row new.rows ≡ after_up log (map seen_row old.rows) z z.owner))
     rises_after_child =
         let e : map seen_row (rows_up log old.rows n p its_parent.0)
@@ -252,45 +268,73 @@ module _ (log : ℕ → Option (List ℕ)) (old new : SlotsView Bio) (n p k : �
         (λ z. OnOk r (map seen_row new.rows ≡ after_up log (map seen_row old.rows) z z.owner))) (sym among)
         (on_ok_weaker r (λ became. ap (λ (s : SlotsView Bio). map seen_row s.rows) became ∙ e) rises_there)
 
-module _ {E : Type 0} (log : ℕ → Option (List ℕ)) (old new : SlotsView Bio) (n : ℕ) (x : Bio)
-    (t : IsTable old.rows old.next) (found : value_at old.rows n ≡ Some x) (up : is_up x.phase ≡ true)
-    (root : is_root x.owner ≡ true) (r : Result Risen E)
-    (told : IfSome (value_at old.rows n) (λ y. IfOk r (λ z. z ≡ risen.Root (resolved log y.held))))
-    (gone : OnOk r (new ≡ record old { rows = without old.rows n })) (stays : OnErr r (new ≡ old)) where
+    -- so that is what became of a child
+    pub raised_child : IsRaised log v new n r
+    raised_child =
+        subst (λ (w : BioTableView). IsRaised log w new n r) got.view (record {
+          table =
+              elim what_became [
+                | inl e ↦ subst (λ s. IsTable s.rows s.next) (sym e) risen_rows.table
+                | inr e ↦ subst (λ s. IsTable s.rows s.next) (sym e) got.table
+              ];
+          told = told_after_child;
+          rises = rises_after_child;
+          bios_stay = on_err_weaker r (λ same. ap (λ (s : SlotsView Bio). map seen_row s.rows) same) stays;
+          next_stays = elim what_became [ inl e ↦ ap (λ s. s.next) e | inr e ↦ ap (λ s. s.next) e ];
+          room_stays = elim what_became [ inl e ↦ ap (λ s. s.spare) e | inr e ↦ ap (λ s. s.spare) e ];
+        })
+
+-- A root goes up
+
+module _ {old : SlotsView Bio} {v : BioTableView} {m n : ℕ} {x : Bio} (got : IsGot old v m n x)
+    (other : (p k : ℕ) → x.owner ≡ owners.Child p k → ⊥) {E : Type 0} (log : ℕ → Option (List ℕ))
+    (new : SlotsView Bio) (r : Result Risen E)
+    (told : IfSome (value_at old.rows m) (λ y. IfOk r (λ z. z ≡ risen.Root (resolved log y.held))))
+    (gone : OnOk r (new ≡ record old { rows = without old.rows m })) (stays : OnErr r (new ≡ old)) where
+  -- it is a root, since it is no child
+  is_a_root : is_root x.owner ≡ true
+  is_a_root = root_unless_child x.owner other
+
   among_roots : bio_among (map seen_row old.rows) n ≡ Some (as_bio n x)
-  among_roots = bio_among-rows old.rows n ∙ ap (option_map (as_bio n)) found
+  among_roots = bio_among-rows old.rows n ∙ ap (option_map (as_bio n)) got.found
+
+  -- its row is gone
+  root_gone : OnOk r (new ≡ record old { rows = without old.rows n })
+  root_gone = subst (λ l. OnOk r (new ≡ record old { rows = without old.rows l })) got.same gone
 
   root_became : (new ≡ record old { rows = without old.rows n }) ⊎ (new ≡ old)
-  root_became = either_answer r _ _ gone stays
+  root_became = either_answer r _ _ root_gone stays
 
-  pub table_after_root : IsTable new.rows new.next
-  table_after_root =
-      elim root_became [
-        | inl e ↦ subst (λ s. IsTable s.rows s.next) (sym e)
-            (table_without_root old.rows old.next n x t found root (up_facts x.phase up).1)
-        | inr e ↦ subst (λ s. IsTable s.rows s.next) (sym e) t
-      ]
-
-  pub next_after_root : new.next ≡ old.next
-  next_after_root = elim root_became [ inl e ↦ ap (λ s. s.next) e | inr e ↦ ap (λ s. s.next) e ]
-
-  pub spare_after_root : new.spare ≡ old.spare
-  spare_after_root = elim root_became [ inl e ↦ ap (λ s. s.spare) e | inr e ↦ ap (λ s. s.spare) e ]
-
-  pub told_after_root : IfSome (bio_among (map seen_row old.rows) n)
+  told_after_root : IfSome (bio_among (map seen_row old.rows) n)
       (λ z. IfOk r (λ v. v ≡ told_of_up log (map seen_row old.rows) z z.owner))
   told_after_root =
-      let there = subst (λ o. IfSome o (λ y. IfOk r (λ z. z ≡ risen.Root (resolved log y.held)))) found told in
-      let e = told_root log (map seen_row old.rows) (as_bio n x) x.owner root in
+      let there = subst (λ o. IfSome o (λ y. IfOk r (λ z. z ≡ risen.Root (resolved log y.held))))
+      (ap (value_at old.rows) got.same ∙ got.found) told in
+      let e = told_root log (map seen_row old.rows) (as_bio n x) x.owner is_a_root in
       subst (λ o. IfSome o (λ z. IfOk r (λ v. v ≡ told_of_up log (map seen_row old.rows) z z.owner)))
       (sym among_roots) (subst (λ w. IfOk r (λ v. v ≡ w)) (sym e) there)
 
-  pub rises_after_root : IfSome (bio_among (map seen_row old.rows) n)
+  rises_after_root : IfSome (bio_among (map seen_row old.rows) n)
       (λ z. OnOk r (map seen_row new.rows ≡ after_up log (map seen_row old.rows) z z.owner))
   rises_after_root =
-      let e = after_root log old.rows n (as_bio n x) x.owner refl root in
+      let e = after_root log old.rows n (as_bio n x) x.owner refl is_a_root in
       subst (λ o. IfSome o (λ z. OnOk r (map seen_row new.rows ≡ after_up log (map seen_row old.rows) z z.owner)))
-      (sym among_roots) (on_ok_weaker r (λ became. ap (λ (s : SlotsView Bio). map seen_row s.rows) became ∙ e) gone)
+      (sym among_roots)
+      (on_ok_weaker r (λ became. ap (λ (s : SlotsView Bio). map seen_row s.rows) became ∙ e) root_gone)
 
-  pub err_after_root : OnErr r (map seen_row new.rows ≡ map seen_row old.rows)
-  err_after_root = on_err_weaker r (λ same. ap (λ (s : SlotsView Bio). map seen_row s.rows) same) stays
+  -- so that is what became of a root
+  pub raised_root : IsRaised log v new n r
+  raised_root =
+      subst (λ (w : BioTableView). IsRaised log w new n r) got.view (record {
+        table =
+            elim root_became [
+              | inl e ↦ subst (λ s. IsTable s.rows s.next) (sym e)
+                  (table_without_root old.rows old.next n x got.table got.found is_a_root (up_facts x.phase got.up).1)
+              | inr e ↦ subst (λ s. IsTable s.rows s.next) (sym e) got.table
+            ];
+        told = told_after_root;
+        rises = rises_after_root;
+        bios_stay = on_err_weaker r (λ same. ap (λ (s : SlotsView Bio). map seen_row s.rows) same) stays;
+        next_stays = elim root_became [ inl e ↦ ap (λ s. s.next) e | inr e ↦ ap (λ s. s.next) e ];
+        room_stays = elim root_became [ inl e ↦ ap (λ s. s.spare) e | inr e ↦ ap (λ s. s.spare) e ];
+      })
