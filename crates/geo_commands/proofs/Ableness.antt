@@ -34,7 +34,7 @@ module _ (s : State) (firm : IsFirm s) (sound : IsSoundGraph s.topo.topology) (g
 
   -- the geom is found
   pub able-geom : geom_at s.topo.topology g.geom ≡ Some able.named.concat.geom
-  able-geom = named-geom s.topo.topology sound.orderly.order g b able.named
+  able-geom = named-geom sound.orderly.order able.named
 
   pub able-found : geom_at s.topo.topology g.geom ≡ None → ⊥
   able-found none = let no : Some able.named.concat.geom ≡ None = sym able-geom ∙ none in absurd (cc)
@@ -51,7 +51,7 @@ module _ (s : State) (firm : IsFirm s) (sound : IsSoundGraph s.topo.topology) (g
       let valid = able-valid in
       subst (λ k. CanGrow k b.size) (sym (able-config y found))
       (subst (CanGrow able.named.concat.geom.config) (sym (ap (λ (x : Below). x.size) able.named.below_is))
-      (can-grow w able.named.concat firm.1.1 (named-stands s.topo.topology sound.orderly.order g b able.named)
+      (can-grow w able.named.concat firm.1.1 (named-stands sound.orderly.order able.named)
       able.named.provider.size valid.few valid.limited))
 
   -- and gets it

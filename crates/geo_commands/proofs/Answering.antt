@@ -35,48 +35,52 @@ record IsGrowing (t : Topology Config) (name : List ℕ) (growing : Growing) : T
   grows : growing_concat t name ≡ Some concat
   is : growing ≡ growing_seen concat
 
-growing-of : (t : Topology Config) (name : List ℕ) (growing : Growing)
+growing-of : (t : Topology Config) (name : List ℕ) {growing : Growing}
     → Some growing ≡ option_map growing_seen (growing_concat t name) → IsGrowing t name growing
-growing-of t name growing told = by (growing_concat t name) refl told
+growing-of t name {growing} told = by (growing_concat t name) refl told
   where
     by : (o : Option GrowingConcat) → growing_concat t name ≡ o → Some growing ≡ option_map growing_seen o
         → IsGrowing t name growing
     by None e never = absurd (cc)
     by (Some x) e is = record { concat = x; grows = e; is = cc }
 
+-- the provider has the number that its name is found by
+number-of-name : (t : Topology Config) (prov : List ℕ) {below : Below}
+    → Some below ≡ option_map (below_seen t) (provider_named t prov) → find_provider t prov ≡ Some below.prov
+number-of-name t prov {below} told =
+    let at = below-of t prov told in
+    let n = through (provider_at t) (find_provider t prov) at.p at.named in
+    n.is
+    ∙ ap (λ m. Some m)
+    (sym (ap (λ (y : Below). y.prov) at.is
+    ∙ number_found (λ (y : Provider). y.number) t.providers n.first at.p n.then))
+
 -- the concat and the provider that an append names
 pub record IsAsked (t : Topology Config) (name prov : List ℕ) (growing : Growing) (below : Below) : Type 0 where
   pub named : AreNamed t growing below
   pub grows : growing_concat t name ≡ Some named.concat
   pub found : provider_named t prov ≡ Some named.provider
-  pub number : find_provider t prov ≡ Some below.prov
 
-pub asked : (s : State) → IsFirm s → (name prov : List ℕ) (growing : Growing) (below : Below)
+pub asked : (s : State) → IsFirm s → (name prov : List ℕ) {growing : Growing} {below : Below}
     → Some growing ≡ option_map growing_seen (growing_concat s.topo.topology name)
     → Some below ≡ option_map (below_seen s.topo.topology) (provider_named s.topo.topology prov)
     → IsAsked s.topo.topology name prov growing below
-asked s firm name prov growing below grown told =
+asked s firm name prov grown told =
     let t : Topology Config = s.topo.topology in
-    let x = growing-of t name growing grown in
-    let at = below-of t prov below told in
-    let n = through (provider_at t) (find_provider t prov) at.p at.named in
+    let x = growing-of t name grown in
+    let at = below-of t prov told in
     record {
       named = record {
         name = name;
         concat = x.concat;
         provider = at.p;
         grows = x.grows;
-        found = below-number s firm prov below at;
+        found = below-number s firm at;
         growing_is = x.is;
         below_is = at.is;
       };
       grows = x.grows;
       found = at.named;
-      number =
-          n.is
-          ∙ ap (λ m. Some m)
-          (sym (ap (λ (y : Below). y.prov) at.is
-          ∙ number_found (λ (y : Provider). y.number) t.providers n.first at.p n.then));
     }
 
 -- Answers
@@ -85,7 +89,7 @@ module _ (s new : State) (line : ℕ) (o : Outcome) (actors : List (List LineCom
   abbrev w : World
   w = world actors log s
 
-  module _ (name prov : List ℕ) (growing : Growing) (below : Below)
+  module _ {name prov : List ℕ} {growing : Growing} {below : Below}
       (a : IsAsked s.topo.topology name prov growing below) where
     -- what was found is tested
     tested : do_append w line (growing_concat w.topology name) (found_provider w prov)
@@ -131,16 +135,16 @@ module _ (s new : State) (line : ℕ) (o : Outcome) (actors : List (List LineCom
       append-done told is =
           answered (is ∙ ap (λ z. (append_joined w line a.named.concat a.named.provider z).1) (sym told))
 
-module _ (s : State) (name prov : List ℕ) (growing : Growing) (below : Below)
-    (a : IsAsked s.topo.topology name prov growing below) where
-  -- an append that no test is against can be tried
-  pub append-able : ((actors : List (List LineCommand)) (log : List Entry)
-      → None ≡ first_error (append_tests (world actors log s) a.named.concat a.named.provider))
-      → IsAble s growing below
-  append-able none = record { named = a.named; free = λ actors log. sym (none actors log) }
+-- an append that no test is against can be tried
+pub append-able : (s : State) {name prov : List ℕ} {growing : Growing} {below : Below}
+    (a : IsAsked s.topo.topology name prov growing below) → ((actors : List (List LineCommand)) (log : List Entry)
+    → None ≡ first_error (append_tests (world actors log s) a.named.concat a.named.provider)) → IsAble s growing below
+append-able s a none = record { named = a.named; free = λ actors log. sym (none actors log) }
 
-  -- its steps are those below the provider of the name
-  pub append-bound : (old new : ℕ) → new ≤ old + (consumers_below s.topo.topology below.prov + 2)
-      → new ≤ old + option_map_or (λ p. consumers_below s.topo.topology p + 2) (find_provider s.topo.topology prov) 0
-  append-bound old new most =
-      subst (λ x. new ≤ old + option_map_or (λ p. consumers_below s.topo.topology p + 2) x 0) (sym a.number) most
+-- its steps are those below the provider of the name
+pub append-bound : (t : Topology Config) (prov : List ℕ) {below : Below}
+    → Some below ≡ option_map (below_seen t) (provider_named t prov) → (old new : ℕ)
+    → new ≤ old + (consumers_below t below.prov + 2)
+    → new ≤ old + option_map_or (λ p. consumers_below t p + 2) (find_provider t prov) 0
+append-bound t prov told old new most =
+    subst (λ x. new ≤ old + option_map_or (λ p. consumers_below t p + 2) x 0) (sym (number-of-name t prov told)) most

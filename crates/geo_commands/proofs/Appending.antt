@@ -70,6 +70,15 @@ module _ (t : Topology Config) (geom : ℕ) where
       (one_more (λ (c : Consumer). list_any
       (λ q. option_map_or (λ (y : Provider). y.geom == c.geom) (provider_at t q) false) (below t p)))
 
+-- with it at most one more consumer is below a provider, which is one step more
+pub comer_bound : (t m : TopoView Config) (geom prov : ℕ) → IsButForRoom m (with_consumer t geom) → (old new : ℕ)
+    → new ≤ old + (consumers_below m.topology prov + 1) → new ≤ old + (consumers_below t.topology prov + 2)
+comer_bound t m geom prov added old new most =
+    let more : consumers_below m.topology prov ≤ consumers_below t.topology prov + 1 =
+    subst (λ (v : TopoView Config). consumers_below v.topology prov ≤ consumers_below t.topology prov + 1) (sym added)
+    (loose_counted t.topology geom prov) in
+    omega (arith, most, more)
+
 -- what holds of something that is there holds if it is there
 if_there : {X : Type 0} (P : X → Type 0) (o : Option X) → IsSomeAnd o P → IfSome o P
 if_there P None never = tt
@@ -101,12 +110,6 @@ module _ (t m : TopoView Config) (geom prov cons : ℕ) (sound : IsSoundGraph t.
       (sym (gone ∙ ap (λ (v : TopoView Config). without_consumer v cons) same ∙ ap (without_consumer m) number))
       ((refused_consumers_go {C = Config}).loose t m geom
       (record { sound = sound; counted = counted; unknown = unknown; comes = added }))
-
-  -- at most one more consumer is below the provider
-  pub comer_below : consumers_below m.topology prov ≤ consumers_below t.topology prov + 1
-  comer_below =
-      subst (λ (v : TopoView Config). consumers_below v.topology prov ≤ consumers_below t.topology prov + 1) (sym added)
-      (loose_counted t.topology geom prov)
 
   -- what refuses it
   pub comer_refusal : join_refusal (granted_by m) m.topology cons prov ≡ new_refusal t geom prov

@@ -1,6 +1,6 @@
 -- What a concat and a stripe ask, where nothing refuses them.
-use Rattle.std.specs.Prelude.{◌≡◌, ℕ, zero, suc, ◌+◌, ◌-◌, ◌*◌, ◌/◌, ◌%◌, ◌≤◌, ◌==◌, nat_le, nat_lt, Bool, true, false, not, ◌||◌, List, [], ◌∷◌, ◌++◌, length, map, filter_map, sum, Option, Some, None, All, is_none, option_and_then, if◌then◌else◌}
-use Rattle.std.specs.List.{list_any, range_with_len, AllByRecursion}
+use Rattle.std.specs.Prelude.{◌≡◌, ℕ, zero, suc, ◌+◌, ◌-◌, ◌*◌, ◌/◌, ◌≤◌, ◌==◌, nat_le, Bool, true, false, List, [], ◌∷◌, ◌++◌, length, map, filter_map, Option, Some, None, Result, All, OnOk, option_and_then, if◌then◌else◌}
+use Rattle.std.specs.List.{range_with_len, AllByRecursion}
 use Rattle.std.proofs.Common.{refl, sym, ◌∙◌, ap, subst, arith, inl}
 use Rattle.std.proofs.lemmas.Bool.{and_from, le-leb}
 use Rattle.std.proofs.lemmas.List.{length-map}
@@ -9,19 +9,18 @@ use Rattle.std.proofs.lemmas.List.FromFn.{length-map-range_with_len, map-range_w
 use Rattle.geo_base.specs.Sectors.{IsSectorSize}
 use Rattle.geo_base.specs.declared.errno.Errno.{Errno}
 use Rattle.geo_base.specs.declared.kind.Kind.{Kind}
-use Rattle.geo_base.specs.declared.kind.Kind.TheVariants as kinds
-use Rattle.geo_base.specs.declared.limits.TheConstants.{MAX_COMPONENTS, MAX_MEDIA_BYTES, MAX_STRIPE_BYTES}
+use Rattle.geo_base.specs.declared.limits.TheConstants.{MAX_COMPONENTS, MAX_MEDIA_BYTES}
 use Rattle.geo_model.specs.declared.command.LineCommand.{LineCommand}
 use Rattle.geo_model.specs.declared.step.Entry.{Entry}
 use Rattle.geo_model.specs.declared.step.Outcome.{Outcome}
 use Rattle.geo_model.specs.declared.step.Outcome.TheVariants as outcomes
 use Rattle.geo_model.specs.declared.step.Reply.TheVariants as replies
-use Rattle.geo_model.specs.Words.{first_error}
-use Rattle.geo_model.specs.Names.{concat_name, stripe_name}
+use Rattle.geo_model.specs.Words.{first_error, is_granted_kind}
 use Rattle.geo_model.specs.Topology.{Topology, Provider, provider_at, find_provider, is_name_taken}
-use Rattle.geo_model.specs.World.{World, Config, Concat, Stripe}
+use Rattle.geo_model.specs.World.{World, Config}
+use Rattle.geo_model.specs.Place.{disk_of}
 use Rattle.geo_model.specs.Acceptance.{is_size, joined_size, smallest}
-use Rattle.geo_model.specs.GeomCommands.{concat_config, found_providers, is_invalid_stripe, joined_tests, new_places, sector_of, stripe_config, with_made, do_concat, do_stripe}
+use Rattle.geo_model.specs.GeomCommands.{found_providers, joined_tests, new_places, sector_of, with_made}
 use Rattle.geo_model.specs.HandleCommands.{answer}
 use Rattle.geo_model.specs.Fitting.{Firm}
 use Rattle.geo_class.specs.Assembly.{allowed_size}
@@ -29,23 +28,26 @@ use Rattle.geo_class.specs.Places.{ArePlaces, IsStriped}
 use Rattle.geo_laws_graph.proofs.Members.{find-Contains}
 use Rattle.geo_laws_making.proofs.Joined.{concats_stay, stripes_stay}
 use Rattle.geo_laws_making.proofs.NewPlaces.{whole_sizes}
-use Rattle.geo_model.specs.WorldEvents.{with_queued}
 use Rattle.geo_mesh.specs.Topo.{is_provider_size}
-use Rattle.geo_requests.specs.Making.{queued}
+use Rattle.geo_requests.specs.NewGeom.{NewGeom}
+use Rattle.geo_requests.specs.Offer.{Offer}
 use Rattle.geo_requests.specs.Standing.{CanStandOn}
 use Rattle.geo_state.specs.declared.state.State.{State}
 use Rattle.geo_state.specs.Steps.{IsFirm}
 use Rattle.geo_state.specs.World.{world}
+use Rattle.geo_commands.specs.declared.assemblies.Assembly.{Assembly}
+use Rattle.geo_commands.specs.declared.assemblies.Assembly.TheVariants as assemblies
 use Rattle.geo_commands.specs.declared.below.Below.{Below}
-use Rattle.geo_commands.specs.Below.{below_seen, is_bad_stripe, sector_below}
-use Rattle.geo_commands.specs.Makes.{built}
+use Rattle.geo_commands.specs.Assemblies.{AreAllFound, CanAssemble, assembly_config, assembly_geom, assembly_kind, assembly_name, assembly_refusal, assembly_size, config_of_all, do_assembly, has_bad_strips}
+use Rattle.geo_commands.specs.Below.{below_seen, sector_below}
+use Rattle.geo_commands.specs.Makes.{IsBuilt}
 use Rattle.geo_commands.proofs.Joining.{sector_is}
-use Rattle.geo_commands.proofs.Commanded.{JoinFits, join-fits, joined_answer, joined-done, made-size, named-found, seen-of}
+use Rattle.geo_commands.proofs.Commanded.{JoinFits, join-fits, joined-done, joined-refused, made-size, named-found, seen-of}
 
 -- Sizes
 
 -- a size that is told is it
-pub told-size : (n m : ℕ) → allowed_size n ≡ Some m → m ≡ n
+told-size : (n m : ℕ) → allowed_size n ≡ Some m → m ≡ n
 told-size n m told = by (is_size n) told
   where
     by : (b : Bool) → (if b then Some n else None) ≡ Some m → m ≡ n
@@ -53,7 +55,7 @@ told-size n m told = by (is_size n) told
     by false never = absurd (cc)
 
 -- one that a provider may have is told
-pub size-told : (n : ℕ) → 1 ≤ n → n ≤ MAX_MEDIA_BYTES → allowed_size n ≡ None → ⊥
+size-told : (n : ℕ) → 1 ≤ n → n ≤ MAX_MEDIA_BYTES → allowed_size n ≡ None → ⊥
 size-told n some limited none =
     let fits : is_size n ≡ true =
     and_from (nat_le 1 n) (nat_le n MAX_MEDIA_BYTES) (le-leb 1 n some) (le-leb n MAX_MEDIA_BYTES limited) in
@@ -88,43 +90,169 @@ place-more first number items now place past so_far pushed is =
     ∙ sym (map-range_with_len_more (λ c. Some c) first (number - first) number (omega (arith, past)))
     ∙ ap (λ n. map (λ c. Some c) (range_with_len first n)) (omega (arith, past))
 
+-- What tells a concat from a stripe
+
+-- neither is of DEV or TASTE
+pub assembly-ungranted : (a : Assembly) → is_granted_kind (assembly_kind a) ≡ false
+assembly-ungranted assemblies.Concat = refl
+assembly-ungranted (assemblies.Stripe stripe) = refl
+
+-- nor stands for a disk
+pub assembly-diskless : (a : Assembly) (places : List (Option ℕ)) (sizes : List ℕ)
+    → disk_of (assembly_config a places sizes) ≡ None
+assembly-diskless assemblies.Concat places sizes = refl
+assembly-diskless (assemblies.Stripe stripe) places sizes = refl
+
+-- the size is that of the configuration, wherever the components are
+assembly-joined : (a : Assembly) (places : List (Option ℕ)) (sizes : List ℕ)
+    → joined_size (assembly_config a places sizes) ≡ assembly_size a sizes
+assembly-joined assemblies.Concat places sizes = refl
+assembly-joined (assemblies.Stripe stripe) places sizes = refl
+
+-- strips of a size that a provider may have
+pub assembly-striped : (a : Assembly) (stripe : ℕ) (sizes : List ℕ) → a ≡ assemblies.Stripe stripe
+    → 1 ≤ assembly_size a sizes → assembly_size a sizes ≤ MAX_MEDIA_BYTES → IsStriped stripe sizes
+assembly-striped a stripe sizes is some limited =
+    let bytes : 1 ≤ assembly_size (assemblies.Stripe stripe) sizes = subst (λ x. 1 ≤ assembly_size x sizes) is some in
+    record {
+      some_byte =
+          let strip = some-strips (length sizes) (smallest sizes) stripe bytes in omega (arith, strip);
+      fits = subst (λ x. assembly_size x sizes ≤ MAX_MEDIA_BYTES) is limited;
+    }
+
 -- What was found
 
-module _ (t : Topology Config) (ps : List Provider) (below : List Below) (is : below ≡ map (below_seen t) ps) where
-  -- their sizes
-  pub below-sizes : map (λ (x : Below). x.size) below ≡ whole_sizes ps
-  below-sizes = ap (map (λ (x : Below). x.size)) is
+-- as many sizes as providers, and as many consumers
+pub below-placed : {t : Topology Config} {assembly : Assembly} {below : List Below} {sizes : List ℕ} {offer : Offer}
+    → CanAssemble t assembly below sizes offer → {places : List (Option ℕ)} → (first : ℕ)
+    → places ≡ map (λ n. Some n) (range_with_len first (length below)) → ArePlaces places sizes
+below-placed {below = below} can first places_are =
+    let sizes_count = ap (λ (ns : List ℕ). length ns) can.read ∙ length-map below (λ (x : Below). x.size) in
+    record {
+      alike =
+          ap (λ (cs : List (Option ℕ)). length cs) places_are
+          ∙ length-map-range_with_len (λ n. Some n) first (length below) ∙ sym sizes_count;
+      few = subst (λ n. n ≤ MAX_COMPONENTS) (sym sizes_count) can.few;
+    }
+
+-- what is made of these consumers and sizes is made of what was found
+pub assembly-built : {A E : Type 0} (r : Result A E) (s new : State) (name : List ℕ) {assembly : Assembly}
+    {below : List Below} {sizes over : List ℕ} {offer : Offer} {places : List (Option ℕ)} {kind : Kind}
+    {config : Config} → CanAssemble s.topo.topology assembly below sizes offer
+    → places ≡ map (λ n. Some n) (range_with_len s.topo.topology.next_consumer (length below))
+    → config ≡ assembly_config assembly places sizes → kind ≡ assembly_kind assembly
+    → over ≡ map (λ (x : Below). x.prov) below
+    → OnOk r (IsBuilt s new (record { kind = kind; name = name; config = config }) over offer)
+    → OnOk r (IsBuilt s new (assembly_geom s.topo.topology assembly name below) (map (λ (x : Below). x.prov) below)
+    offer)
+assembly-built r s new name {assembly} {below} {sizes} {over} {offer} {places} {kind} {config} can places_are config_is
+    kind_is over_is made =
+    let made_of : config ≡ (assembly_geom s.topo.topology assembly name below).config =
+    config_is ∙ ap (λ (cs : List (Option ℕ)). assembly_config assembly cs sizes) places_are
+    ∙ ap (assembly_config assembly (map (λ n. Some n) (range_with_len s.topo.topology.next_consumer (length below))))
+    can.read in
+    let geom : NewGeom = record { kind = kind; name = name; config = config } in
+    let geom_is : geom ≡ assembly_geom s.topo.topology assembly name below =
+    λ i. record { kind = kind_is i; name = name; config = made_of i } in
+    subst (λ (ns : List ℕ). OnOk r (IsBuilt s new (assembly_geom s.topo.topology assembly name below) ns offer)) over_is
+    (subst (λ (g : NewGeom). OnOk r (IsBuilt s new g over offer)) geom_is made)
+
+-- the providers of the names
+module _ {t : Topology Config} {names : List (List ℕ)} {below : List Below} (found : AreAllFound t names below) where
+  abbrev ps : List Provider
+  ps = found_providers t names
+
+  -- the sizes of the providers
+  all-sizes : map (λ (x : Below). x.size) below ≡ whole_sizes ps
+  all-sizes = ap (map (λ (x : Below). x.size)) found.is
       ∙ seen-of t (λ (x : Below). x.size) (λ (p : Provider). p.size) (λ p. refl) ps
 
   -- their numbers
-  pub below-provs : map (λ (x : Below). x.prov) below ≡ map (λ (p : Provider). p.number) ps
-  below-provs = ap (map (λ (x : Below). x.prov)) is
+  all-numbers : map (λ (x : Below). x.prov) below ≡ map (λ (p : Provider). p.number) ps
+  all-numbers = ap (map (λ (x : Below). x.prov)) found.is
       ∙ seen-of t (λ (x : Below). x.prov) (λ (p : Provider). p.number) (λ p. refl) ps
 
   -- the sector size of the first
-  pub below-sector : sector_below below ≡ sector_of ps
-  below-sector = ap sector_below is ∙ sector_is t ps
+  all-sector : sector_below below ≡ sector_of ps
+  all-sector = ap sector_below found.is ∙ sector_is t ps
 
   -- as many
-  pub below-count : length below ≡ length ps
-  below-count = ap (λ (xs : List Below). length xs) is ∙ length-map ps (below_seen t)
+  all-count : length below ≡ length ps
+  all-count = ap (λ (xs : List Below). length xs) found.is ∙ length-map ps (below_seen t)
 
-  -- whether a stripe size is bad
-  pub below-stripe : (stripe : ℕ) → is_bad_stripe stripe below ≡ is_invalid_stripe stripe ps
-  below-stripe stripe = ap (λ n. not (stripe % n == 0) || nat_lt MAX_STRIPE_BYTES stripe) below-sector
+  -- at most 16
+  all-few : length below ≤ MAX_COMPONENTS
+  all-few =
+      let fewer = few-found (λ (name : List ℕ). option_and_then (provider_at t) (find_provider t name)) names in
+      let named = found.few in
+      let most : length ps ≤ MAX_COMPONENTS = omega (arith, fewer, named) in
+      subst (λ n. n ≤ MAX_COMPONENTS) (sym all-count) most
 
-  -- the consumers of its components
-  pub below-places : map (λ c. Some c) (range_with_len t.next_consumer (length below)) ≡ new_places t ps
-  below-places = ap (λ n. map (λ c. Some c) (range_with_len t.next_consumer n)) below-count
+  -- so are their sizes
+  pub all-few-sizes : (sizes : List ℕ) → sizes ≡ map (λ (x : Below). x.size) below → length sizes ≤ MAX_COMPONENTS
+  all-few-sizes sizes is =
+      subst (λ n. n ≤ MAX_COMPONENTS)
+      (sym (ap (λ (ns : List ℕ). length ns) is ∙ length-map below (λ (x : Below). x.size))) all-few
+
+  -- the geom of an assembly of them
+  all-geom : (assembly : Assembly) (name : List ℕ) → assembly_geom t assembly name below
+      ≡ record { kind = assembly_kind assembly; name = name; config = config_of_all t assembly ps }
+  all-geom assembly name = λ i. record { kind = assembly_kind assembly; name = name; config = config_is i }
+    where
+      config_is : (assembly_geom t assembly name below).config ≡ config_of_all t assembly ps
+      config_is =
+          ap (λ n. assembly_config assembly (map (λ c. Some c) (range_with_len t.next_consumer n))
+          (map (λ (x : Below). x.size) below)) all-count
+          ∙ ap (assembly_config assembly (new_places t ps)) all-sizes
+
+  -- the size of one
+  all-joined : (assembly : Assembly) (size : Option ℕ)
+      → size ≡ allowed_size (assembly_size assembly (map (λ (x : Below). x.size) below))
+      → size ≡ allowed_size (joined_size (config_of_all t assembly ps))
+  all-joined assembly size is =
+      is ∙ ap (λ (ns : List ℕ). allowed_size (assembly_size assembly ns)) all-sizes
+      ∙ ap (λ n. allowed_size n) (sym (assembly-joined assembly (new_places t ps) (whole_sizes ps)))
+
+  -- what is against one
+  pub all-refusal : (assembly : Assembly) (name : List ℕ) (wanted : ℕ) {full : List ℕ} {size : Option ℕ} {bad : Bool}
+      {refusal : Option Errno} → full ≡ assembly_name assembly name
+      → bad ≡ has_bad_strips assembly (sector_below below)
+      → ((config : Config) (qs : List Provider) → below ≡ map (below_seen t) qs
+      → size ≡ allowed_size (joined_size config) → refusal ≡ first_error (joined_tests t full config wanted qs bad))
+      → size ≡ allowed_size (assembly_size assembly (map (λ (x : Below). x.size) below))
+      → refusal ≡ assembly_refusal t assembly name wanted ps
+  all-refusal assembly name wanted {full} {size} {bad} full_is bad_is told size_is =
+      let config : Config = config_of_all t assembly ps in
+      told config ps found.is (all-joined assembly size size_is)
+      ∙ ap (λ n. first_error (joined_tests t n config wanted ps bad)) full_is
+      ∙ ap (λ b. first_error (joined_tests t (assembly_name assembly name) config wanted ps b))
+      (bad_is ∙ ap (λ n. has_bad_strips assembly n) all-sector)
+
+-- What was read of it
+
+-- the size of an assembly of what was found, and what is against it, in the words of the model
+pub record IsJudged (t : Topology Config) (assembly : Assembly) (name : List ℕ) (names : List (List ℕ))
+    (size : Option ℕ) (refusal : Option Errno) : Type 0 where
+  pub size_is : size ≡ allowed_size (joined_size (config_of_all t assembly (found_providers t names)))
+  pub refusal_is : refusal ≡ assembly_refusal t assembly name (length names) (found_providers t names)
+
+-- both, from what the body of the command asked
+pub judged : {t : Topology Config} (assembly : Assembly) (name : List ℕ) {names : List (List ℕ)} {below : List Below}
+    {sizes : List ℕ} {size : Option ℕ} {refusal : Option Errno} → AreAllFound t names below
+    → sizes ≡ map (λ (x : Below). x.size) below → size ≡ allowed_size (assembly_size assembly sizes)
+    → ((found_names : List (List ℕ)) → AreAllFound t found_names below
+    → size ≡ allowed_size (assembly_size assembly (map (λ (x : Below). x.size) below))
+    → refusal ≡ assembly_refusal t assembly name (length names) (found_providers t found_names))
+    → IsJudged t assembly name names size refusal
+judged assembly name {names} {below} {sizes} {size} found sizes_are size_is told =
+    let read : size ≡ allowed_size (assembly_size assembly (map (λ (x : Below). x.size) below)) =
+    size_is ∙ ap (λ (ns : List ℕ). allowed_size (assembly_size assembly ns)) sizes_are in
+    record { size_is = all-joined found assembly size read; refusal_is = told names found read }
 
 -- What stands
 
--- a concat or a stripe that nothing refuses: what its provider stands on, its name is free, and it has a size
-pub record CanAssemble (w : World) (ps : List Provider) (full : List ℕ) (config : Config) : Type 0 where
-  pub fits : JoinFits w ps full config
-  pub size : is_provider_size (joined_size config) (sector_of ps) ≡ true
-
-module _ (s : State) (firm : IsFirm s) (names : List (List ℕ)) (few : length names ≤ MAX_COMPONENTS) where
+module _ (s : State) (firm : IsFirm s) {names : List (List ℕ)} {below : List Below}
+    (found : AreAllFound s.topo.topology names below) where
   -- the world, its graph, and the providers of the names
   abbrev w : World
   w = world firm.1.0 firm.0 s
@@ -132,183 +260,109 @@ module _ (s : State) (firm : IsFirm s) (names : List (List ℕ)) (few : length n
   abbrev t : Topology Config
   t = s.topo.topology
 
-  abbrev ps : List Provider
-  ps = found_providers t names
-
-  -- at most 16
-  pub few-named : length ps ≤ MAX_COMPONENTS
-  few-named =
-      let fewer = few-found (λ (name : List ℕ). option_and_then (provider_at t) (find_provider t name)) names in
-      omega (arith, fewer, few)
-
-  -- so are their sizes
-  pub sizes-few : length (whole_sizes ps) ≤ MAX_COMPONENTS
-  sizes-few = subst (λ n. n ≤ MAX_COMPONENTS) (sym (length-map ps (λ (p : Provider). p.size))) few-named
+  abbrev qs : List Provider
+  qs = found_providers t names
 
   -- the sector size of the first is one
-  pub found-sector : IsSectorSize (sector_of ps)
-  found-sector = by ps (named-found w names)
+  pub all-sector-fits : IsSectorSize (sector_below below)
+  all-sector-fits = subst IsSectorSize (sym (all-sector found)) (by qs (named-found w names))
     where
-      by : (qs : List Provider) → AllByRecursion (λ (p : Provider). provider_at t p.number ≡ Some p) qs
-          → IsSectorSize (sector_of qs)
-      by [] found = inl refl
-      by (q ∷ qs) found =
-          All-contains (λ (x : Provider). IsSectorSize x.sector) t.providers q firm.1.1.fitting.sectors
-          (find-Contains (λ (x : Provider). x.number == q.number) t.providers q found.0)
+      by : (ys : List Provider) → AllByRecursion (λ (p : Provider). provider_at t p.number ≡ Some p) ys
+          → IsSectorSize (sector_of ys)
+      by [] found_so = inl refl
+      by (y ∷ ys) found_so =
+          All-contains (λ (x : Provider). IsSectorSize x.sector) t.providers y firm.1.1.fitting.sectors
+          (find-Contains (λ (x : Provider). x.number == y.number) t.providers y found_so.0)
 
-  -- a concat that nothing refuses
-  pub concat-fits : (name : List ℕ)
-      → None ≡ first_error (joined_tests t (concat_name name) (concat_config t ps) (length names) ps false)
-      → CanAssemble w ps (concat_name name) (concat_config t ps)
-  concat-fits name none =
-      let config : Config = concat_config t ps in
-      let made : World =
-      with_made w kinds.Concat name config ps (concat_name name) (joined_size config) (sector_of ps) in
-      let stays : Firm (do_concat w 0 name (length names) ps).0 = concats_stay.concat w 0 name names few firm.1.1 in
-      record {
-        fits = join-fits w ps (concat_name name) config (length names) false (named-found w names) none;
-        size =
-            made-size w kinds.Concat name config ps (concat_name name) (joined_size config) (sector_of ps)
-            (subst (λ e. Firm (answer w 0 e made).0) (sym none) stays);
-      }
+  -- the world stays firm
+  stays-firm : (assembly : Assembly) (name : List ℕ) → 1 ≤ assembly_size assembly (whole_sizes qs)
+      → Firm (do_assembly w 0 assembly name (length names) qs).0
+  stays-firm assemblies.Concat name some = concats_stay.concat w 0 name names found.few firm.1.1
+  stays-firm (assemblies.Stripe stripe) name some =
+      stripes_stay.stripe w 0 name stripe names
+      (some-strips (length (whole_sizes qs)) (smallest (whole_sizes qs)) stripe some) found.few firm.1.1
 
-  -- a stripe that nothing refuses
-  pub stripe-fits : (name : List ℕ) (stripe : ℕ)
-      → None ≡ first_error (joined_tests t (stripe_name name) (stripe_config t stripe ps) (length names) ps
-      (is_invalid_stripe stripe ps))
-      → CanAssemble w ps (stripe_name name) (stripe_config t stripe ps)
-  stripe-fits name stripe none =
-      let config : Config = stripe_config t stripe ps in
-      let made : World =
-      with_made w kinds.Stripe name config ps (stripe_name name) (joined_size config) (sector_of ps) in
-      let fits : JoinFits w ps (stripe_name name) config =
-      join-fits w ps (stripe_name name) config (length names) (is_invalid_stripe stripe ps) (named-found w names)
-      none in
-      let some : 1 ≤ stripe =
-      some-strips (length (whole_sizes ps)) (smallest (whole_sizes ps)) stripe fits.some in
-      let stays : Firm (do_stripe w 0 name stripe (length names) ps).0 =
-      stripes_stay.stripe w 0 name stripe names some few firm.1.1 in
-      record {
-        fits = fits;
-        size =
-            made-size w kinds.Stripe name config ps (stripe_name name) (joined_size config) (sector_of ps)
-            (subst (λ e. Firm (answer w 0 e made).0) (sym none) stays);
-      }
+  module _ {assembly : Assembly} {name : List ℕ} {size : Option ℕ} {refusal : Option Errno}
+      (judgement : IsJudged t assembly name names size refusal) where
+    -- the name of the provider, and the configuration
+    abbrev full : List ℕ
+    full = assembly_name assembly name
 
-  -- The places of their consumers
+    abbrev config : Config
+    config = config_of_all t assembly qs
 
-  module _ (consumers : List (Option ℕ)) (sizes : List ℕ) (places_are : consumers ≡ new_places t ps)
-      (sizes_are : sizes ≡ whole_sizes ps) where
-    -- each has its size
-    pub placed : ArePlaces consumers sizes
-    placed = record {
-      alike =
-          ap (λ (cs : List (Option ℕ)). length cs) places_are
-          ∙ length-map-range_with_len (λ c. Some c) t.next_consumer (length ps)
-          ∙ sym (ap (λ (ns : List ℕ). length ns) sizes_are ∙ length-map ps (λ (p : Provider). p.size));
-      few = subst (λ n. n ≤ MAX_COMPONENTS)
-          (sym (ap (λ (ns : List ℕ). length ns) sizes_are ∙ length-map ps (λ (p : Provider). p.size))) few-named;
-    }
+    -- where it is refused
+    pub assembly-refused : (e : Errno) → refusal ≡ Some e → (line : ℕ) (o : Outcome)
+        → (actors : List (List LineCommand)) (log : List Entry) → o ≡ outcomes.Replied line (replies.Refused e)
+        → do_assembly (world actors log s) line assembly name (length names) qs ≡ (world actors log s, o)
+    assembly-refused e told line o actors log is =
+        joined-refused s s line o actors log (assembly_kind assembly) name full config (length names) qs
+        (has_bad_strips assembly (sector_of qs)) e (sym told ∙ judgement.refusal_is) is
 
-    -- a concat that fits
-    pub concat-placed : (full : List ℕ) → CanAssemble w ps full (concat_config t ps)
-        → list_any is_none consumers ≡ false → sum sizes ≤ MAX_MEDIA_BYTES
-    concat-placed full can none_free =
-        subst (λ (ns : List ℕ). sum ns ≤ MAX_MEDIA_BYTES) (sym sizes_are) can.fits.limited
+    -- where nothing is against it
+    module _ (none : refusal ≡ None) where
+      -- so the model finds nothing, and it fits
+      free : None ≡ assembly_refusal t assembly name (length names) qs
+      free = sym none ∙ judgement.refusal_is
 
-    -- a stripe that fits
-    pub stripe-placed : (full : List ℕ) (stripe : ℕ) → CanAssemble w ps full (stripe_config t stripe ps)
-        → list_any is_none consumers ≡ false → IsStriped stripe sizes
-    stripe-placed full stripe can none_free =
-        subst (IsStriped stripe) (sym sizes_are) (record {
-          some_byte =
-              let some = some-strips (length (whole_sizes ps)) (smallest (whole_sizes ps)) stripe can.fits.some in
-              omega (arith, some);
-          fits = can.fits.limited;
-        })
+      fits : JoinFits w qs full config
+      fits = join-fits w qs full config (length names) (has_bad_strips assembly (sector_of qs)) (named-found w names)
+          free
 
-    -- the configurations
-    pub concat-is : (config : Config) → config ≡ Concat None consumers sizes → config ≡ concat_config t ps
-    concat-is config is =
-        is ∙ ap (λ (cs : List (Option ℕ)). Concat None cs sizes) places_are
-        ∙ ap (Concat None (new_places t ps)) sizes_are
+      -- its size is that of a provider
+      provider-sized : is_provider_size (joined_size config) (sector_of qs) ≡ true
+      provider-sized =
+          let made : World =
+          with_made w (assembly_kind assembly) name config qs full (joined_size config) (sector_of qs) in
+          let some : 1 ≤ assembly_size assembly (whole_sizes qs) =
+          subst (λ n. 1 ≤ n) (assembly-joined assembly (new_places t qs) (whole_sizes qs)) fits.some in
+          made-size w (assembly_kind assembly) name config qs full (joined_size config) (sector_of qs)
+          (subst (λ e. Firm (answer w 0 e made).0) (sym free) (stays-firm assembly name some))
 
-    pub stripe-is : (config : Config) (stripe : ℕ) → config ≡ Stripe None stripe consumers sizes
-        → config ≡ stripe_config t stripe ps
-    stripe-is config stripe is =
-        is ∙ ap (λ (cs : List (Option ℕ)). Stripe None stripe cs sizes) places_are
-        ∙ ap (Stripe None stripe (new_places t ps)) sizes_are
+      -- there is one
+      pub size-there : size ≡ None → ⊥
+      size-there gone =
+          size-told (joined_size config) fits.some fits.limited (sym judgement.size_is ∙ gone)
 
-  -- The answers
+      module _ {named : List ℕ} {bytes sector : ℕ} (told : size ≡ Some bytes) (named_so : named ≡ full)
+          (sector_so : sector ≡ sector_below below) where
+        -- the provider as it is offered
+        abbrev offer : Offer
+        offer = record { name = named; size = bytes; sector = sector }
 
-  module _ (below : List Below) (found : below ≡ map (below_seen t) ps) (name full : List ℕ) (size : Option ℕ)
-      (sizes : List ℕ) (sizes_are : sizes ≡ map (λ (x : Below). x.size) below) (r : Option Errno) where
-    -- what refuses a concat
-    pub concat-told : full ≡ concat_name name → size ≡ allowed_size (sum sizes)
-        → ((config : Config) (qs : List Provider) → below ≡ map (below_seen t) qs → size
-        ≡ allowed_size (joined_size config)
-        → r ≡ first_error (joined_tests t full config (length names) qs false))
-        → r ≡ first_error (joined_tests t (concat_name name) (concat_config t ps) (length names) ps false)
-    concat-told full_is size_is told =
-        told (concat_config t ps) ps found
-        (size_is ∙ ap (λ (ns : List ℕ). allowed_size (sum ns)) (sizes_are ∙ below-sizes t ps below found))
-        ∙ ap (λ n. first_error (joined_tests t n (concat_config t ps) (length names) ps false)) full_is
+        -- it is that of the model
+        offer-is : offer ≡ record { name = full; size = joined_size config; sector = sector_of qs }
+        offer-is = λ i. record {
+          name = named_so i;
+          size = (told-size (joined_size config) bytes (sym judgement.size_is ∙ told)) i;
+          sector = (sector_so ∙ all-sector found) i;
+        }
 
-    -- what refuses a stripe
-    pub stripe-told : (stripe : ℕ) (bad : Bool) → full ≡ stripe_name name
-        → size ≡ allowed_size (length sizes * ((smallest sizes / stripe) * stripe)) → bad ≡ is_bad_stripe stripe below
-        → ((config : Config) (qs : List Provider) → below ≡ map (below_seen t) qs → size
-        ≡ allowed_size (joined_size config)
-        → r ≡ first_error (joined_tests t full config (length names) qs bad))
-        → r ≡ first_error (joined_tests t (stripe_name name) (stripe_config t stripe ps) (length names) ps
-        (is_invalid_stripe stripe ps))
-    stripe-told stripe bad full_is size_is bad_is told =
-        told (stripe_config t stripe ps) ps found
-        (size_is ∙ ap (λ (ns : List ℕ). allowed_size (length ns * ((smallest ns / stripe) * stripe)))
-        (sizes_are ∙ below-sizes t ps below found))
-        ∙ ap (λ n. first_error (joined_tests t n (stripe_config t stripe ps) (length names) ps bad)) full_is
-        ∙ ap (λ b. first_error (joined_tests t (stripe_name name) (stripe_config t stripe ps) (length names) ps b))
-        (bad_is ∙ below-stripe t ps below found stripe)
+        -- so the assembly can be made
+        pub can-assemble : (sizes : List ℕ) → sizes ≡ map (λ (x : Below). x.size) below
+            → CanAssemble t assembly below sizes offer
+        can-assemble sizes sizes_are =
+            let whole : joined_size config ≡ assembly_size assembly sizes =
+            assembly-joined assembly (new_places t qs) (whole_sizes qs)
+            ∙ ap (λ (ns : List ℕ). assembly_size assembly ns) (sym (sizes_are ∙ all-sizes found)) in
+            record {
+              read = sizes_are;
+              few = all-few found;
+              some = subst (λ n. 1 ≤ n) whole fits.some;
+              limited = subst (λ n. n ≤ MAX_MEDIA_BYTES) whole fits.limited;
+              stands = subst (All (CanStandOn t)) (sym (all-numbers found)) fits.stands;
+              sized = subst (λ (x : Offer). is_provider_size x.size x.sector ≡ true) (sym offer-is) provider-sized;
+              free = subst (λ (x : Offer). is_name_taken t x.name ≡ false) (sym offer-is) fits.free;
+            }
 
-  -- What is made
-
-  module _ (below : List Below) (found : below ≡ map (below_seen t) ps) (full wanted_name : List ℕ) (config : Config)
-      (can : CanAssemble w ps wanted_name config) (full_is : full ≡ wanted_name) (size sector : ℕ)
-      (told : allowed_size (joined_size config) ≡ Some size) (sector_told : sector ≡ sector_below below) (over : List ℕ)
-      (over_is : over ≡ map (λ (x : Below). x.prov) below) where
-    -- it can stand on what is below
-    pub join-stands : All (CanStandOn t) over
-    join-stands = subst (All (CanStandOn t)) (sym (over_is ∙ below-provs t ps below found)) can.fits.stands
-
-    -- its size is that of a provider
-    pub join-sized : is_provider_size size sector ≡ true
-    join-sized =
-        subst (λ n. is_provider_size n sector ≡ true) (sym (told-size (joined_size config) size told))
-        (subst (λ m. is_provider_size (joined_size config) m ≡ true)
-        (sym (sector_told ∙ below-sector t ps below found)) can.size)
-
-    -- its name is free
-    pub join-free : is_name_taken t full ≡ false
-    join-free = subst (λ n. is_name_taken t n ≡ false) (sym full_is) can.fits.free
-
-    -- so it is made
-    pub join-made : (kind : Kind) (name : List ℕ) (made_of : Config) → made_of ≡ config → (bad : Bool) (new : State)
-        (line : ℕ) (o : Outcome) (actors : List (List LineCommand)) (log : List Entry)
-        → world actors log new ≡ with_queued (world actors log s) (queued (built s
-        (record { kind = kind; name = name; config = made_of }) over
-        (record { name = full; size = size; sector = sector })))
-        → o ≡ outcomes.Replied line replies.Ok
-        → None ≡ first_error (joined_tests t wanted_name config (length names) ps bad)
-        → joined_answer s new line o actors log kind name wanted_name config (length names) ps bad
-        ≡ (world actors log new, o)
-    join-made kind name made_of made_is bad new line o actors log made is none =
-        joined-done s new line o actors log kind name wanted_name config (length names) ps bad
-        (record { kind = kind; name = name; config = made_of }) over
-        (record { name = full; size = size; sector = sector })
-        (λ i. record { kind = kind; name = name; config = made_is i })
-        (λ i. record {
-          name = full_is i;
-          size = (told-size (joined_size config) size told) i;
-          sector = (sector_told ∙ below-sector t ps below found) i;
-        })
-        (over_is ∙ below-provs t ps below found) made is none
+        -- and where it is, the command is done
+        pub assembly-done : (new : State)
+            → IsBuilt s new (assembly_geom t assembly name below) (map (λ (x : Below). x.prov) below) offer
+            → (line : ℕ) (o : Outcome) (actors : List (List LineCommand)) (log : List Entry)
+            → o ≡ outcomes.Replied line replies.Ok
+            → do_assembly (world actors log s) line assembly name (length names) qs ≡ (world actors log new, o)
+        assembly-done new made line o actors log is =
+            joined-done s new line o actors log (assembly_kind assembly) name full config (length names) qs
+            (has_bad_strips assembly (sector_of qs)) (assembly_geom t assembly name below)
+            (map (λ (x : Below). x.prov) below) offer (all-geom found assembly name) offer-is (all-numbers found)
+            (made actors log) is free

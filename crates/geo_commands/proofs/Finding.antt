@@ -1,11 +1,12 @@
 -- Disks of the header by their names, and the geoms that stand for them.
-use Rattle.std.specs.Prelude.{◌≡◌, ℕ, suc, ◌+◌, ◌==◌, Bool, true, false, not, ◌&&◌, cond, List, [], ◌∷◌, map, find, Option, Some, None, AllPairs, IfSome, is_some, slice_get, if◌then◌else◌}
+use Rattle.std.specs.Prelude.{◌≡◌, ℕ, suc, ◌+◌, ◌<◌, ◌==◌, Bool, true, false, not, ◌&&◌, cond, List, [], ◌∷◌, length, map, find, Option, Some, None, AllPairs, IfSome, is_some, slice_get, if◌then◌else◌}
 use Rattle.std.specs.List.{AllByRecursion, enumerate_from, list_any, position_from}
 use Rattle.std.specs.Option.{option_map, option_map_or}
-use Rattle.std.proofs.Common.{refl, sym, ◌∙◌, ap, subst, arith}
+use Rattle.std.proofs.Common.{get_or, refl, sym, ◌∙◌, ap, subst, arith}
 use Rattle.std.proofs.lemmas.Bool.{eqb-true, ne_eqb}
 use Rattle.std.proofs.lemmas.Iterator.Adapters.{position_from-zero}
 use Rattle.std.proofs.lemmas.List.Elements.{recursion_from_All}
+use Rattle.std.proofs.lemmas.Option.{slice_get_read}
 use Rattle.geo_base.proofs.AllLists.{pairs_head, pairs_tail}
 use Rattle.geo_model.proofs.RefusalLemmas.{none_refused}
 use Rattle.geo_base.specs.declared.errno.Errno.{Errno}
@@ -91,7 +92,7 @@ pub record IsDiskNamed (s : State) (name : List ℕ) (disk : ℕ) : Type 0 where
   pub found : (actors : List (List LineCommand)) (log : List Entry)
       → found_disk (world actors log s) name ≡ Some (item_at disk seat)
 
-pub disk-found : (s : State) (name : List ℕ) (disk : ℕ) → disk_named s.disks.items name ≡ Some disk
+disk-found : (s : State) (name : List ℕ) (disk : ℕ) → disk_named s.disks.items name ≡ Some disk
     → IsDiskNamed s name disk
 disk-found s name disk is =
     let f : IsFoundFrom name 0 s.disks.items disk =
@@ -103,10 +104,37 @@ disk-found s name disk is =
       found = λ actors log. f.found;
     }
 
-pub no-disk : (s : State) (name : List ℕ) → disk_named s.disks.items name ≡ None
+no-disk : (s : State) (name : List ℕ) → disk_named s.disks.items name ≡ None
     → (actors : List (List LineCommand)) (log : List Entry) → found_disk (world actors log s) name ≡ None
 no-disk s name none actors log =
     none-from name 0 s.disks.items (sym (position_from-zero (has_name name) s.disks.items) ∙ none)
+
+-- a disk that was looked up in the seats as they are read
+pub disk-read : (s : State) (name : List ℕ) {seats : List DiskSeat} {read : Option ℕ} {disk : ℕ}
+    → seats ≡ s.disks.items → read ≡ disk_named seats name → read ≡ Some disk → IsDiskNamed s name disk
+disk-read s name {seats} {read} {disk} seats_are read_so is =
+    disk-found s name disk
+    (ap (λ (xs : List DiskSeat). disk_named xs name) (sym seats_are) ∙ sym read_so ∙ is)
+
+-- or isn't among them
+pub disk-unread : (s : State) (name : List ℕ) {seats : List DiskSeat} {read : Option ℕ}
+    → seats ≡ s.disks.items → read ≡ disk_named seats name → read ≡ None
+    → (actors : List (List LineCommand)) (log : List Entry) → found_disk (world actors log s) name ≡ None
+disk-unread s name seats_are read_so is =
+    no-disk s name (ap (λ (xs : List DiskSeat). disk_named xs name) (sym seats_are) ∙ sym read_so ∙ is)
+
+-- what is told of the seat of a disk, if there is one, holds of the one that was found
+pub seat-fact : {s : State} {name : List ℕ} {disk : ℕ} (named : IsDiskNamed s name disk) (P : DiskSeat → Type 0)
+    → IfSome (slice_get s.disks.items disk) P → P named.seat
+seat-fact named P fact = subst (λ o. IfSome o P) named.at fact
+
+-- so what is told to be against its insert is
+pub seat-refusal : {s : State} {name : List ℕ} {disk : ℕ} (named : IsDiskNamed s name disk) (told : Option Errno)
+    → IfSome (slice_get s.disks.items disk)
+    (λ seat. told ≡ first_error (insert_tests s.topo.topology (item_at disk seat)))
+    → told ≡ first_error (insert_tests s.topo.topology (item_at disk named.seat))
+seat-refusal {s} {name} {disk} named told fact =
+    seat-fact named (λ seat. told ≡ first_error (insert_tests s.topo.topology (item_at disk seat))) fact
 
 -- The geom of a disk
 
@@ -280,7 +308,7 @@ module _ (s : State) (kept : Holds s) (disk : ℕ) (seat : DiskSeat) (at : slice
       ∙ ap (refusal_by (list_any (is_geom_of_disk disk) s.topo.topology.geoms)) (sym taken)
 
   -- so for the one seat of the disk
-  pub refusal-told : (a b : Bool) → is_some seat.geom ≡ a → is_name_taken s.topo.topology seat.name ≡ b
+  refusal-told : (a b : Bool) → is_some seat.geom ≡ a → is_name_taken s.topo.topology seat.name ≡ b
       → IfSome (slice_get s.disks.items disk) (λ x. refusal_by a b
       ≡ first_error (insert_tests s.topo.topology (item_at disk x)))
   refusal-told a b stands taken =
@@ -293,3 +321,13 @@ module _ (s : State) (kept : Holds s) (disk : ℕ) (seat : DiskSeat) (at : slice
       seat-absent s kept disk seat at
       (none_refused (list_any (is_geom_of_disk disk) s.topo.topology.geoms) EBUSY
       ((is_name_taken s.topo.topology seat.name, EEXIST) ∷ []) none).0
+
+-- so for the seat that was read at its place
+pub refusal-at : (s : State) → Holds s → (disk : ℕ) (seat : DiskSeat) → disk < length s.disks.items
+    → seat ≡ get_or s.disks.items disk seat → (a b : Bool) → is_some seat.geom ≡ a
+    → is_name_taken s.topo.topology seat.name ≡ b
+    → IfSome (slice_get s.disks.items disk) (λ x. first_error ((a, EBUSY) ∷ (b, EEXIST) ∷ [])
+    ≡ first_error (insert_tests s.topo.topology (item_at disk x)))
+refusal-at s kept disk seat there is =
+    refusal-told s kept disk seat
+    (slice_get_read s.disks.items (length s.disks.items) disk seat refl there is)

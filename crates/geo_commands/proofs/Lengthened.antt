@@ -331,7 +331,7 @@ module _ (s : State) (kept : Holds s) (firm : IsFirm s) (sound : IsSoundGraph s.
     (size_is : size ≡ able.named.concat.provider.size + able.named.provider.size) where
   -- the concat stands
   standing : IsStanding s.topo.topology able.named.concat
-  standing = named-stands s.topo.topology sound.orderly.order g b able.named
+  standing = named-stands sound.orderly.order able.named
 
   -- its consumer joined the provider
   joined_so : HasJoined s.topo able.named.concat.geom.number able.named.provider.number j.topo

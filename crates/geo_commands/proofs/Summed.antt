@@ -17,7 +17,7 @@ module _ (s : State) (firm : IsFirm s) (sound : IsSoundGraph s.topo.topology) (g
     (able : IsAble s g b) where
   -- the provider is found
   offer_found : provider_at s.topo.topology g.prov ≡ Some able.named.concat.provider
-  offer_found = named-offer s.topo.topology sound.orderly.order g b able.named
+  offer_found = named-offer sound.orderly.order able.named
 
   pub offer_there : provider_at s.topo.topology g.prov ≡ None → ⊥
   offer_there none =

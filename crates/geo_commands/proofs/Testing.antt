@@ -12,7 +12,7 @@ use Rattle.geo_commands.specs.declared.below.Below.{Below}
 use Rattle.geo_commands.specs.declared.names.Growing.{Growing}
 use Rattle.geo_commands.specs.Appends.{AreNamed, is_misfit}
 
-module _ (t : Topology Config) (order : IsInOrder t) (g : Growing) (b : Below) (n : AreNamed t g b) where
+module _ {t : Topology Config} (order : IsInOrder t) {g : Growing} {b : Below} (n : AreNamed t g b) where
   -- the concat stands
   pub named-stands : IsStanding t n.concat
   named-stands = growing_stands t n.name n.concat order n.grows
@@ -25,11 +25,11 @@ module _ (t : Topology Config) (order : IsInOrder t) (g : Growing) (b : Below) (
   named-offer = ap (λ (x : Growing). provider_at t x.prov) n.growing_is ∙ named-stands.found.provider
 
   -- so the tests read them
-  pub invalid-told : (a f m : Bool) → a ≡ option_map_or (λ (y : Geom Config). y.automatic) (geom_at t g.geom) false
+  pub invalid-told : {a f m : Bool} → a ≡ option_map_or (λ (y : Geom Config). y.automatic) (geom_at t g.geom) false
       → f ≡ nat_le MAX_COMPONENTS (length (consumers_of t g.geom))
       → m ≡ option_map_or (is_misfit b.sector b.size) (provider_at t g.prov) false
       → (a || (f || m)) ≡ is_invalid_append t n.concat n.provider
-  invalid-told a f m automatic full misfit =
+  invalid-told {a} {f} {m} automatic full misfit =
       ap (λ z. z || (f || m))
       (automatic ∙ ap (λ o. option_map_or (λ (y : Geom Config). y.automatic) o false) named-geom)
       ∙ ap (λ z. n.concat.geom.automatic || (z || m))

@@ -5,5 +5,6 @@ pub mod Disks
 pub mod Makes
 pub mod Above
 pub mod Appends
+pub mod Assemblies
 pub mod Lines
 pub mod Owed

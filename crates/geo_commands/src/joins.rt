@@ -1,29 +1,23 @@
 //! Concats and stripes over providers that a command names (gconcat(8), gstripe(8)).
-ghost use Rattle.std.specs.Prelude.{ℕ, ◌≡◌, ◌++◌, ◌≤◌, ◌<◌, ◌^◌, true, false, length, List, map, All, None, Some, IfOk, OnOk, OnErr, IsTrue};
+ghost use Rattle.std.specs.Prelude.{◌≡◌, ◌≤◌, ◌<◌, ◌^◌, length, List, map, Some, IfOk, OnOk, OnErr, IsTrue};
 ghost use Rattle.std.specs.List.{range_with_len};
-ghost use Rattle.geo_base.specs.Name.{is_name, is_short_name};
-ghost use Rattle.geo_model.specs.declared.command.LineCommand.{LineCommand};
+ghost use Rattle.geo_base.specs.Name.{is_short_name};
 ghost use Rattle.geo_model.specs.declared.step.Entry.{Entry};
-ghost use Rattle.geo_model.specs.Words.{is_granted_kind};
-ghost use Rattle.geo_model.specs.Topology.{is_name_taken};
-ghost use Rattle.geo_model.specs.Place.{disk_of};
-ghost use Rattle.geo_model.specs.WorldEvents.{with_queued};
 ghost use Rattle.geo_model.specs.GeomCommands.{do_concat, do_stripe, found_providers};
-ghost use Rattle.geo_mesh.specs.Topo.{is_provider_size};
-ghost use Rattle.geo_requests.specs.Making.{queued};
-ghost use Rattle.geo_requests.specs.Standing.{CanStandOn};
 ghost use Rattle.geo_state.specs.Holds.{Holds};
 ghost use Rattle.geo_state.specs.Steps.{Does, IsFirm, SameWorld};
-ghost use Rattle.geo_state.specs.World.{HasBytes, world};
-ghost use Rattle.geo_commands.specs.Below.{below_seen};
-ghost use Rattle.geo_commands.specs.Makes.{built};
+ghost use Rattle.geo_state.specs.World.{HasBytes};
+ghost use Rattle.geo_commands.specs.Assemblies.{AreAllFound, CanAssemble, assembly_geom, do_assembly};
+ghost use Rattle.geo_commands.specs.Makes.{IsBuilt};
 
+use crate::assemblies::{
+    Assembly, assembly_config, assembly_kind, assembly_name, assembly_refusal, assembly_size,
+};
 use crate::below::{Below, all_named, sector_below};
 use crate::makes::make;
-use crate::refusals::{is_bad_stripe, joined_refusal};
 use crate::reply::{done, refused};
-use geo_base::{ConsId, Kind, MAX_COMPONENTS, Name, NoMemory, ProvId};
-use geo_class::{Config, concat_size, stripe_size};
+use geo_base::{ConsId, MAX_COMPONENTS, Name, NoMemory, ProvId};
+use geo_class::Config;
 use geo_mesh::Topo;
 use geo_model::Outcome;
 use geo_requests::{NewGeom, Offer};
@@ -52,7 +46,7 @@ pub fn concat(
     ensures logged { (log : List Entry) → HasBytes log state.old → HasBytes log state.new }
 {
     let below = all_named(alloc, &state.topo, provs)?;
-    concat_over(alloc, state, line, name, provs, &below)
+    join_over(alloc, state, line, Assembly::Concat, name, provs, &below)
 }
 
 /// A stripe over the providers of the names, in order, in strips of `stripe` bytes; its provider has as many whole
@@ -79,14 +73,16 @@ pub fn stripe(
     ensures logged { (log : List Entry) → HasBytes log state.old → HasBytes log state.new }
 {
     let below = all_named(alloc, &state.topo, provs)?;
-    stripe_over(alloc, state, line, name, stripe as u32, provs, &below)
+    let assembly = Assembly::Stripe(stripe as u32);
+    join_over(alloc, state, line, assembly, name, provs, &below)
 }
 
-// A concat over the providers that were found for the names.
-fn concat_over(
+// An assembly of the providers that were found for the names.
+fn join_over(
     alloc: Global,
     state: &mut State,
     line: u32,
+    assembly: Assembly,
     name: &Name,
     provs: &[Name],
     below: &[Below],
@@ -94,110 +90,59 @@ fn concat_over(
     requires kept { Holds state.old }
     requires firm { IsFirm state.old }
     requires short { IsTrue (is_short_name name.now) }
-    requires few { length provs.now ≤ MAX_COMPONENTS }
-    requires found { below.now ≡ map (below_seen state.old.topo.topology)
-        (found_providers state.old.topo.topology provs.now) }
+    requires found { AreAllFound state.old.topo.topology provs.now below.now }
     ensures does { (log : List Entry) → IfOk result (λ o.
-        Does (λ w. do_concat w line name.now (length provs.now) (found_providers w.topology provs.now)) log
+        Does (λ w. do_assembly w line assembly name.now (length provs.now) (found_providers w.topology provs.now)) log
         state.old state.new o) }
     ensures same { OnErr result (SameWorld state.old state.new) }
     ensures kept { Holds state.new }
     ensures traffic { state.new.traffic ≡ state.old.traffic }
 {
     let sizes = sizes_of(alloc, below)?;
-    let size = concat_size(&sizes);
-    let full = joined_name(b"concat/", name);
-    if let Some(errno) = joined_refusal(&state.topo, &full, below, provs.len(), size, false) {
+    let size = assembly_size(assembly, &sizes);
+    if let Some(errno) = assembly_refusal(&state.topo, assembly, name, below, provs.len(), size) {
         return Ok(refused(line, errno));
     }
     let Some(size) = size else { unreachable!() };
-    let places = new_places(alloc, &state.topo, below.len())?;
-    let over = provs_of(alloc, below)?;
+    let full = assembly_name(assembly, name);
     let sector = sector_below(below);
-    let config = Config::concat(None, places, sizes, sector);
-    let geom = NewGeom {
-        kind: Kind::Concat,
-        name: *name,
-        config,
-    };
     let offer = Offer {
         name: full,
         size,
         sector,
     };
-    make_over(state, geom, over, &offer)?;
+    assemble(alloc, state, assembly, name, below, sizes, &offer)?;
     Ok(done(line))
 }
 
-// A stripe over the providers that were found for the names.
-fn stripe_over(
+// Makes an assembly that nothing is against.
+fn assemble(
     alloc: Global,
     state: &mut State,
-    line: u32,
+    assembly: Assembly,
     name: &Name,
-    stripe: u32,
-    provs: &[Name],
     below: &[Below],
-) -> Result<Outcome, NoMemory>
-    requires kept { Holds state.old }
-    requires firm { IsFirm state.old }
-    requires short { IsTrue (is_short_name name.now) }
-    requires few { length provs.now ≤ MAX_COMPONENTS }
-    requires found { below.now ≡ map (below_seen state.old.topo.topology)
-        (found_providers state.old.topo.topology provs.now) }
-    ensures does { (log : List Entry) → IfOk result (λ o.
-        Does (λ w. do_stripe w line name.now stripe (length provs.now) (found_providers w.topology provs.now)) log
-        state.old state.new o) }
-    ensures same { OnErr result (SameWorld state.old state.new) }
-    ensures kept { Holds state.new }
-    ensures traffic { state.new.traffic ≡ state.old.traffic }
-{
-    let sizes = sizes_of(alloc, below)?;
-    let size = stripe_size(stripe, &sizes);
-    let is_bad = is_bad_stripe(u64::from(stripe), below);
-    let full = joined_name(b"stripe/", name);
-    if let Some(errno) = joined_refusal(&state.topo, &full, below, provs.len(), size, is_bad) {
-        return Ok(refused(line, errno));
-    }
-    let Some(size) = size else { unreachable!() };
-    let places = new_places(alloc, &state.topo, below.len())?;
-    let over = provs_of(alloc, below)?;
-    let sector = sector_below(below);
-    let config = Config::stripe(None, stripe, places, sizes, sector);
-    let geom = NewGeom {
-        kind: Kind::Stripe,
-        name: *name,
-        config,
-    };
-    let offer = Offer {
-        name: full,
-        size,
-        sector,
-    };
-    make_over(state, geom, over, &offer)?;
-    Ok(done(line))
-}
-
-// Makes the geom over the providers of a list.
-fn make_over(
-    state: &mut State,
-    geom: NewGeom,
-    over: Vec<ProvId>,
+    sizes: Vec<u64>,
     offer: &Offer,
 ) -> Result<(), NoMemory>
     requires kept { Holds state.old }
     requires firm { IsFirm state.old }
-    requires kind { is_granted_kind geom.kind ≡ false }
-    requires no_disk { disk_of geom.config ≡ None }
-    requires stands { All (CanStandOn state.old.topo.topology) over.items }
-    requires size { is_provider_size offer.now.size offer.now.sector ≡ true }
-    requires free { is_name_taken state.old.topo.topology offer.now.name ≡ false }
-    ensures made { OnOk result ((actors : List (List LineCommand)) (log : List Entry) → world actors log state.new
-        ≡ with_queued (world actors log state.old) (queued (built state.old geom over.items offer.now))) }
+    requires can { CanAssemble state.old.topo.topology assembly below.now sizes.items offer.now }
+    ensures made { OnOk result (IsBuilt state.old state.new
+        (assembly_geom state.old.topo.topology assembly name.now below.now) (map (λ x. x.prov) below.now) offer.now) }
     ensures same { OnErr result (SameWorld state.old state.new) }
     ensures kept { Holds state.new }
     ensures traffic { state.new.traffic ≡ state.old.traffic }
 {
+    let places = new_places(alloc, &state.topo, below.len())?;
+    let over = provs_of(alloc, below)?;
+    let config = assembly_config(assembly, places, sizes, offer.sector);
+    let kind = assembly_kind(assembly);
+    let geom = NewGeom {
+        kind,
+        name: *name,
+        config,
+    };
     make(state, geom, &over, offer)
 }
 
@@ -235,20 +180,4 @@ fn new_places(
         places.push(Some(ConsId::new(number)))?;
     }
     Ok(places)
-}
-
-// The name of the provider of an assembly: these bytes before the name of its geom.
-fn joined_name(head: &[u8], name: &Name) -> Name
-    requires head { is_name head.now ≡ true }
-    requires small { length head.now ≤ 8 }
-    requires short { IsTrue (is_short_name name.now) }
-    ensures { result ≡ head.now ++ name.now }
-{
-    let Ok(front) = Name::new(head) else {
-        unreachable!()
-    };
-    let Ok(full) = front.with_tail(name.bytes()) else {
-        unreachable!()
-    };
-    full
 }

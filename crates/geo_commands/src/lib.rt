@@ -31,6 +31,7 @@
 
 mod above;
 mod appends;
+mod assemblies;
 mod below;
 mod decisions;
 mod destroys;

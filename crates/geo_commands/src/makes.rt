@@ -1,18 +1,13 @@
 //! Geoms that come with a provider of theirs (g_new_geomf, g_new_providerf).
-ghost use Rattle.std.specs.Prelude.{ℕ, ◌≡◌, List, true, false, None, All, IfOk, OnOk, OnErr};
-ghost use Rattle.geo_model.specs.declared.command.LineCommand.{LineCommand};
-ghost use Rattle.geo_model.specs.declared.step.Entry.{Entry};
+ghost use Rattle.std.specs.Prelude.{◌≡◌, true, false, None, All, IfOk, OnOk, OnErr};
 ghost use Rattle.geo_model.specs.Words.{is_granted_kind};
 ghost use Rattle.geo_model.specs.Topology.{is_name_taken};
 ghost use Rattle.geo_model.specs.Place.{disk_of};
-ghost use Rattle.geo_model.specs.WorldEvents.{with_queued};
 ghost use Rattle.geo_mesh.specs.Topo.{is_provider_size};
-ghost use Rattle.geo_requests.specs.Making.{queued};
 ghost use Rattle.geo_requests.specs.Standing.{CanStandOn};
-ghost use Rattle.geo_state.specs.World.{world};
 ghost use Rattle.geo_state.specs.Holds.{Holds};
 ghost use Rattle.geo_state.specs.Steps.{IsFirm, SameWorld};
-ghost use Rattle.geo_commands.specs.Makes.{HasGrown, built};
+ghost use Rattle.geo_commands.specs.Makes.{HasGrown, IsBuilt};
 
 use crate::names::look;
 use geo_base::{GeomId, NoMemory, ProvId};
@@ -63,8 +58,7 @@ pub fn make(
     requires stands { All (CanStandOn state.old.topo.topology) below.now }
     requires size { is_provider_size offer.now.size offer.now.sector ≡ true }
     requires free { is_name_taken state.old.topo.topology offer.now.name ≡ false }
-    ensures made { OnOk result ((actors : List (List LineCommand)) (log : List Entry) → world actors log state.new
-        ≡ with_queued (world actors log state.old) (queued (built state.old geom below.now offer.now))) }
+    ensures made { OnOk result (IsBuilt state.old state.new geom below.now offer.now) }
     ensures same { OnErr result (SameWorld state.old state.new) }
     ensures kept { Holds state.new }
     ensures traffic { state.new.traffic ≡ state.old.traffic }

@@ -1,8 +1,6 @@
-use Rattle.std.proofs.Common.{List, ap, sym, ◌∙◌}
-use Rattle.geo_state.specs.declared.state.DiskSeat.{DiskSeat}
+use Rattle.std.proofs.Common.{sym, ◌∙◌}
 use Rattle.geo_state.specs.declared.state.State.{State}
-use Rattle.geo_commands.specs.Disks.{disk_named}
-use Rattle.geo_commands.proofs.Finding.{disk-found, no-disk}
+use Rattle.geo_commands.proofs.Finding.{disk-read, disk-unread}
 use Rattle.geo_commands.proofs.Withered.{found-lives, none-of, number-of, pull-absent, pull-done, pull-unknown}
 use Rattle.geo_commands.proofs.destroys.pull.Goals as goal
 
@@ -10,15 +8,13 @@ pub returns-in_default-clause-does : goal.returns-in_default-clause-does
 returns-in_default-clause-does c = λ log actors.
     let s : State = c.args.state.now in
     pull-unknown s s c.args.line c.refused.result actors log c.args.name.now
-    (no-disk s c.args.name.now (ap (λ (xs : List DiskSeat). disk_named xs c.args.name.now) (sym c.deref.ensures.value)
-    ∙ sym c.disk_named.ensures ∙ c.in_default.is) actors log) c.refused.ensures
+    (disk-unread s c.args.name.now c.deref.ensures.value c.disk_named.ensures c.in_default.is actors log)
+    c.refused.ensures
 
 pub returns-in_default-standing_geom-clause-does : goal.returns-in_default-standing_geom-clause-does
 returns-in_default-standing_geom-clause-does c = λ log actors.
     let s : State = c.args.state.now in
-    let named = disk-found s c.args.name.now c.in-Some.disk
-    (ap (λ (xs : List DiskSeat). disk_named xs c.args.name.now) (sym c.deref.ensures.value)
-    ∙ sym c.disk_named.ensures ∙ c.in-Some.is) in
+    let named = disk-read s c.args.name.now c.deref.ensures.value c.disk_named.ensures c.in-Some.is in
     pull-absent s s c.args.line c.refused-in_default-standing_geom.result actors log c.args.name.now _
     (named.found actors log) (none-of _ (sym c.in_default-standing_geom.is ∙ c.standing_geom.ensures))
     c.refused-in_default-standing_geom.ensures
@@ -32,9 +28,7 @@ wither_geom-requires-clause-lives c =
 pub returns-clause-does : goal.returns-clause-does
 returns-clause-does c = λ log actors.
     let s : State = c.args.state.now in
-    let named = disk-found s c.args.name.now c.in-Some.disk
-    (ap (λ (xs : List DiskSeat). disk_named xs c.args.name.now) (sym c.deref.ensures.value)
-    ∙ sym c.disk_named.ensures ∙ c.in-Some.is) in
+    let named = disk-read s c.args.name.now c.deref.ensures.value c.disk_named.ensures c.in-Some.is in
     pull-done s c.wither_geom.new.state c.args.line c.done.result actors log c.args.name.now _
     (named.found actors log) c.in-Some-standing_geom.geom
     (number-of _ c.in-Some-standing_geom.geom (sym c.in-Some-standing_geom.is ∙ c.standing_geom.ensures))

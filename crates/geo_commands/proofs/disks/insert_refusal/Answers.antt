@@ -1,30 +1,23 @@
 use Rattle.std.specs.Prelude.{true, false}
 use Rattle.std.proofs.Common.{sym, ◌∙◌, refl}
-use Rattle.std.proofs.lemmas.Option.{slice_get_read}
 use Rattle.geo_model.specs.Topology.{is_name_taken}
-use Rattle.geo_commands.proofs.Finding.{refusal-told}
+use Rattle.geo_commands.proofs.Finding.{refusal-at}
 use Rattle.geo_commands.proofs.disks.insert_refusal.Goals as goal
 
 pub returns-then-is_some : goal.returns-then-is_some
 returns-then-is_some c =
-    let s = c.args.state.now in
-    let seat = c.index-seat.result.now in
-    refusal-told s c.requires.kept c.args.disk seat
-    (slice_get_read s.disks.items _ c.args.disk seat refl c.requires.there c.index-seat.ensures)
-    true (is_name_taken s.topo.topology seat.name) (sym c.is_some.ensures ∙ c.if-is_some.true) refl
+    refusal-at c.args.state.now c.requires.kept c.args.disk c.index-seat.result.now c.requires.there
+    c.index-seat.ensures true (is_name_taken c.args.state.now.topo.topology c.index-seat.result.now.name)
+    (sym c.is_some.ensures ∙ c.if-is_some.true) refl
 
 pub returns-then-is_name_taken : goal.returns-then-is_name_taken
 returns-then-is_name_taken c =
-    let s = c.args.state.now in
-    let seat = c.index-seat.result.now in
-    refusal-told s c.requires.kept c.args.disk seat
-    (slice_get_read s.disks.items _ c.args.disk seat refl c.requires.there c.index-seat.ensures)
-    false true (sym c.is_some.ensures ∙ c.if-is_some.false) (sym c.is_name_taken.ensures ∙ c.if-is_name_taken.true)
+    refusal-at c.args.state.now c.requires.kept c.args.disk c.index-seat.result.now c.requires.there
+    c.index-seat.ensures false true (sym c.is_some.ensures ∙ c.if-is_some.false)
+    (sym c.is_name_taken.ensures ∙ c.if-is_name_taken.true)
 
 pub returns : goal.returns
 returns c =
-    let s = c.args.state.now in
-    let seat = c.index-seat.result.now in
-    refusal-told s c.requires.kept c.args.disk seat
-    (slice_get_read s.disks.items _ c.args.disk seat refl c.requires.there c.index-seat.ensures)
-    false false (sym c.is_some.ensures ∙ c.if-is_some.false) (sym c.is_name_taken.ensures ∙ c.if-is_name_taken.false)
+    refusal-at c.args.state.now c.requires.kept c.args.disk c.index-seat.result.now c.requires.there
+    c.index-seat.ensures false false (sym c.is_some.ensures ∙ c.if-is_some.false)
+    (sym c.is_name_taken.ensures ∙ c.if-is_name_taken.false)

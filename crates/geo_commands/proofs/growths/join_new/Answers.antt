@@ -1,6 +1,6 @@
 use Rattle.std.specs.Prelude.{Some}
-use Rattle.std.proofs.Common.{ap, sym, ◌∙◌, arith}
-use Rattle.geo_commands.proofs.Appending.{comer_below, comer_counted, comer_free, comer_joined, comer_loose, comer_refusal, comer_used}
+use Rattle.std.proofs.Common.{ap, sym, ◌∙◌}
+use Rattle.geo_commands.proofs.Appending.{comer_bound, comer_counted, comer_free, comer_joined, comer_loose, comer_refusal, comer_used}
 use Rattle.geo_commands.proofs.growths.join_new.Goals as goal
 
 pub join-requires-clause-counted : goal.join-requires-clause-counted
@@ -33,11 +33,8 @@ returns-in-Err-clause-refused g c = λ some.
 
 pub returns-in-Err-clause-bound : goal.returns-in-Err-clause-bound
 returns-in-Err-clause-bound g c =
-    let most = c.join.ensures.bound in
-    let more = comer_below c.args.topo.now c.new_consumer.new.self c.args.geom c.args.prov c.in_ok-cons.cons
-    c.look.ensures
-    c.requires.counted c.requires.unknown c.in_ok-cons.ensures.added c.in_ok-cons.ensures.number in
-    omega (arith, most, more)
+    comer_bound c.args.topo.now c.new_consumer.new.self c.args.geom c.args.prov c.in_ok-cons.ensures.added
+    c.args.steps.now c.join.new.steps c.join.ensures.bound
 
 pub returns-clause-answer : goal.returns-clause-answer
 returns-clause-answer g c =
@@ -53,8 +50,5 @@ returns-clause-joined g c = λ none.
 
 pub returns-clause-bound : goal.returns-clause-bound
 returns-clause-bound g c =
-    let most = c.join.ensures.bound in
-    let more = comer_below c.args.topo.now c.new_consumer.new.self c.args.geom c.args.prov c.in_ok-cons.cons
-    c.look.ensures
-    c.requires.counted c.requires.unknown c.in_ok-cons.ensures.added c.in_ok-cons.ensures.number in
-    omega (arith, most, more)
+    comer_bound c.args.topo.now c.new_consumer.new.self c.args.geom c.args.prov c.in_ok-cons.ensures.added
+    c.args.steps.now c.join.new.steps c.join.ensures.bound

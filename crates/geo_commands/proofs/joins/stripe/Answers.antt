@@ -1,5 +1,8 @@
 use Rattle.std.proofs.Common.{◌∙◌}
 use Rattle.geo_commands.proofs.joins.stripe.Goals as goal
 
-pub stripe_over-requires-clause-found : goal.stripe_over-requires-clause-found
-stripe_over-requires-clause-found c = c.deref.ensures.value ∙ c.in_ok-below.ensures
+pub join_over-requires-clause-found : goal.join_over-requires-clause-found
+join_over-requires-clause-found c = record {
+  few = c.requires.few;
+  is = c.deref.ensures.value ∙ c.in_ok-below.ensures;
+}

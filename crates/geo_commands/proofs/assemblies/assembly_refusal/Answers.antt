@@ -1,0 +1,7 @@
+use Rattle.geo_commands.proofs.Assembled.{all-refusal}
+use Rattle.geo_commands.proofs.assemblies.assembly_refusal.Goals as goal
+
+pub returns : goal.returns
+returns c = λ names found size_is.
+    all-refusal found c.args.assembly c.args.name.now c.args.wanted c.assembly_name-full.ensures
+    c.has_bad_strips-is_bad.ensures c.joined_refusal.ensures size_is
