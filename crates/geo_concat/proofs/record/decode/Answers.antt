@@ -1,8 +1,10 @@
-use Rattle.std.proofs.Common.{◌≡◌, ℕ, true, false, List, [], ◌∷◌, refl, sym, ◌∙◌, Ok, Result}
+use Rattle.std.proofs.Common.{◌≡◌, ℕ, true, false, List, [], ◌∷◌, ◌++◌, refl, sym, ◌∙◌, Ok, Result}
 use Rattle.std.proofs.lemmas.Result.{err_from_is_err_and}
 use Rattle.geo_base.specs.declared.decline.DeclineCause.{DeclineCause}
 use Rattle.geo_model.specs.declared.class.ConcatRecord.{ConcatRecord}
-use Rattle.geo_model.specs.Records.{concat_magic, place_test, record_name, u16_at, u32_at}
+use Rattle.geo_model.specs.Words.{first_error, unless}
+use Rattle.geo_model.specs.Records.{concat_magic, head_tests, place_test, record_name, u16_at, u32_at}
+use Rattle.geo_record.specs.Head.{head_name}
 use Rattle.geo_record.proofs.AnswerLemmas.{head_name-ok, is_place-tested, unless-behind, unless-declined, unless-place_declined, unless-place_passed}
 use Rattle.geo_concat.proofs.record.decode.Goals as goal
 
@@ -18,6 +20,15 @@ same_record : (name n : List ℕ) (id i place p count k : ℕ) → name ≡ n �
 same_record name n id i place p count k same_name same_id same_place same_count =
     rw (same_name, ← same_id, ← same_place, ← same_count) refl
 
+-- behind a head that was decoded the place decides
+behind_head : (bytes : List ℕ) {name : List ℕ} → Ok name ≡ head_name concat_magic 1 bytes
+    → unless (first_error (head_tests concat_magic 1 bytes
+    ++ (place_test (u16_at bytes 40) (u16_at bytes 42) ∷ []))) (read_record bytes)
+    ≡ unless (first_error (place_test (u16_at bytes 40) (u16_at bytes 42) ∷ [])) (read_record bytes)
+behind_head bytes found =
+    unless-behind concat_magic 1 bytes (place_test (u16_at bytes 40) (u16_at bytes 42) ∷ []) (read_record bytes)
+    (head_name-ok concat_magic 1 bytes _ found).0
+
 pub returns-in_err-name : goal.returns-in_err-name
 returns-in_err-name c =
     let same = err_from_is_err_and c.from_residual.result c.from_residual.ensures.1 in
@@ -28,13 +39,10 @@ returns-in_err-name c =
 
 pub returns-then-not-is_place : goal.returns-then-not-is_place
 returns-then-not-is_place c =
-    let head = head_name-ok concat_magic 1 c.args.sector.now c.in_ok-name.name c.in_ok-name.ensures in
     let none = is_place-tested c.u16_at-place.result c.u16_at-count.result (u16_at c.args.sector.now 40)
     (u16_at c.args.sector.now 42) c.is_place.result false
     c.u16_at-place.ensures c.u16_at-count.ensures c.is_place.ensures c.if-not-is_place.true in
-    sym (unless-behind concat_magic 1 c.args.sector.now
-    (place_test (u16_at c.args.sector.now 40) (u16_at c.args.sector.now 42) ∷ [])
-    (read_record c.args.sector.now) head.0
+    sym (behind_head c.args.sector.now c.in_ok-name.ensures
     ∙ unless-place_declined (u16_at c.args.sector.now 40) (u16_at c.args.sector.now 42) []
     (read_record c.args.sector.now) none)
 
@@ -44,9 +52,7 @@ returns c =
     let one = is_place-tested c.u16_at-place.result c.u16_at-count.result (u16_at c.args.sector.now 40)
     (u16_at c.args.sector.now 42) c.is_place.result true
     c.u16_at-place.ensures c.u16_at-count.ensures c.is_place.ensures c.if-not-is_place.false in
-    sym (unless-behind concat_magic 1 c.args.sector.now
-    (place_test (u16_at c.args.sector.now 40) (u16_at c.args.sector.now 42) ∷ [])
-    (read_record c.args.sector.now) head.0
+    sym (behind_head c.args.sector.now c.in_ok-name.ensures
     ∙ unless-place_passed (u16_at c.args.sector.now 40) (u16_at c.args.sector.now 42) []
     (read_record c.args.sector.now) one
     ∙ same_record (record_name c.args.sector.now) c.in_ok-name.name (u32_at c.args.sector.now 36) c.u32_at.result
