@@ -17,22 +17,14 @@ unwrap-at-requires c =
 
 pub returns-clause-here : goal.returns-clause-here
 returns-clause-here c =
-    rw (
-      c.into_parts-bytes.ensures.bytes,
-      c.into_parts-bytes.ensures.fails,
-      c.into_parts-bytes.ensures.calls,
-      c.into_parts-bytes.ensures.part,
-    )
+    let parts = c.into_parts-bytes.ensures in
+    rw (parts.bytes, parts.fails, parts.calls, parts.part)
     (named-set_same (λ (x : Slot). x.name) c.args.name.now c.args.slots.now.items c.unwrap-at.result
     (kept_slot c.args.name.now c.args.disk) (place c) refl)
 
 pub returns-clause-others : goal.returns-clause-others
 returns-clause-others c other apart =
-    rw (
-      c.into_parts-bytes.ensures.bytes,
-      c.into_parts-bytes.ensures.fails,
-      c.into_parts-bytes.ensures.calls,
-      c.into_parts-bytes.ensures.part,
-    )
+    let parts = c.into_parts-bytes.ensures in
+    rw (parts.bytes, parts.fails, parts.calls, parts.part)
     (named-set_other (λ (x : Slot). x.name) c.args.name.now other c.args.slots.now.items c.unwrap-at.result
     (kept_slot c.args.name.now c.args.disk) (place c) refl apart)

@@ -1,6 +1,5 @@
 use Rattle.std.proofs.Common.{◌≡◌, ℕ, ◌+◌, ◌-◌, ◌*◌, ◌/◌, length, refl, arith, sym, ◌∙◌, ap}
 use Rattle.std.proofs.Math.Nat.{mul_comm}
-use Rattle.geo_base.specs.Sectors.{sectors_of}
 use Rattle.geo_disk.specs.Disk.{AreSectors}
 use Rattle.geo_disk.specs.Memory.{Memory}
 use Rattle.geo_disk.proofs.SectorLemmas.{bytes_between-sectors_of, sectors_length}
@@ -11,10 +10,8 @@ asked : (c : goal.After-len)
     → AreSectors c.self.inside.sector (length c.self.inside.bytes / c.self.inside.sector) c.args.first
     (length c.args.out.now)
 asked c =
-    let size : c.self.inside.sector ≡ c.args.self.now.sector =
-    ap (λ (m : Memory). m.sector) c.self.view_is in
-    let held : sectors_of c.self.inside.sector c.self.inside.bytes ≡ c.args.self.now.sectors =
-    ap (λ (m : Memory). m.sectors) c.self.view_is in
+    let size = ap (λ (m : Memory). m.sector) c.self.view_is in
+    let held = ap (λ (m : Memory). m.sectors) c.self.view_is in
     rw (← sectors_length c.self.inside.sector c.self.inside.bytes, held, size) c.requires
 
 pub byte_place-from-requires-clause-sectors : goal.byte_place-from-requires-clause-sectors
@@ -22,10 +19,8 @@ byte_place-from-requires-clause-sectors c = rw c.len.ensures (asked c)
 
 pub returns-clause-read : goal.returns-clause-read
 returns-clause-read c =
-    let size : c.self.inside.sector ≡ c.args.self.now.sector =
-    ap (λ (m : Memory). m.sector) c.self.view_is in
-    let held : sectors_of c.self.inside.sector c.self.inside.bytes ≡ c.args.self.now.sectors =
-    ap (λ (m : Memory). m.sectors) c.self.view_is in
+    let size = ap (λ (m : Memory). m.sector) c.self.view_is in
+    let held = ap (λ (m : Memory). m.sectors) c.self.view_is in
     let count : ℕ = length c.args.out.now / c.self.inside.sector in
     let asked_now : AreSectors c.self.inside.sector (length c.self.inside.bytes / c.self.inside.sector)
     c.args.first (length c.args.out.now) =
