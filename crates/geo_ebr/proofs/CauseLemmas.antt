@@ -84,11 +84,11 @@ module _ (sectors : ℕ) (visited : List ℕ) (parts : List (Option EbrPart)) (b
         → nat_le sectors (next_link bytes) ≡ true → against ≡ Some causes.Far
     against-far on back far = against-is ∙ (rw (signed, second, on, back, far) refl)
 
-    pub against-long : leads_on bytes ≡ true → is_back visited (next_link bytes) ≡ false
-        → nat_le sectors (next_link bytes) ≡ false → nat_le MAX_LINKS (length visited) ≡ true
+    pub against-long : nat_le MAX_LINKS (length visited) ≡ true → leads_on bytes ≡ true
+        → is_back visited (next_link bytes) ≡ false → nat_le sectors (next_link bytes) ≡ false
         → against ≡ Some causes.Long
-    against-long on back far long = against-is ∙ (rw (signed, second, on, back, far, long) refl)
+    against-long long on back far = against-is ∙ (rw (signed, second, on, back, far, long) refl)
 
-    pub against-none : leads_on bytes ≡ true → is_back visited (next_link bytes) ≡ false
-        → nat_le sectors (next_link bytes) ≡ false → nat_le MAX_LINKS (length visited) ≡ false → against ≡ None
-    against-none on back far long = against-is ∙ (rw (signed, second, on, back, far, long) refl)
+    pub against-none : nat_le MAX_LINKS (length visited) ≡ false → leads_on bytes ≡ true
+        → is_back visited (next_link bytes) ≡ false → nat_le sectors (next_link bytes) ≡ false → against ≡ None
+    against-none long on back far = against-is ∙ (rw (signed, second, on, back, far, long) refl)

@@ -33,14 +33,14 @@ pub returns-then-visited-ge-MAX_LINKS : goal.returns-then-visited-ge-MAX_LINKS
 returns-then-visited-ge-MAX_LINKS c =
     sym (against-long c.args.sectors c.args.visited.now c.args.parts.now c.args.sector.now c.requires.alike
     (sym c.has_signature.ensures ∙ c.if-not-has_signature.false) (sym c.is_link.ensures ∙ c.if-not-is_link.false)
+    (le-leb MAX_LINKS (length c.args.visited.now) c.if-visited-ge-MAX_LINKS.true)
     (sym c.leads_on.ensures ∙ c.if-not-leads_on.false) (sym c.leads_back.ensures ∙ c.if-leads_back.false)
-    (sym c.leads_past.ensures ∙ c.if-leads_past.false)
-    (le-leb MAX_LINKS (length c.args.visited.now) c.if-visited-ge-MAX_LINKS.true))
+    (sym c.leads_past.ensures ∙ c.if-leads_past.false))
 
 pub returns : goal.returns
 returns c =
     sym (against-none c.args.sectors c.args.visited.now c.args.parts.now c.args.sector.now c.requires.alike
     (sym c.has_signature.ensures ∙ c.if-not-has_signature.false) (sym c.is_link.ensures ∙ c.if-not-is_link.false)
+    (lt-leb MAX_LINKS (length c.args.visited.now) c.if-visited-ge-MAX_LINKS.false)
     (sym c.leads_on.ensures ∙ c.if-not-leads_on.false) (sym c.leads_back.ensures ∙ c.if-leads_back.false)
-    (sym c.leads_past.ensures ∙ c.if-leads_past.false)
-    (lt-leb MAX_LINKS (length c.args.visited.now) c.if-visited-ge-MAX_LINKS.false))
+    (sym c.leads_past.ensures ∙ c.if-leads_past.false))
