@@ -369,6 +369,47 @@ pub no_keys : (keys : List ℕ) → is_none_of keys ≡ true → keys ≡ []
 no_keys [] none = refl
 no_keys (k ∷ ks) none = absurd (let bad : ⊥ = cc in bad)
 
+-- What a key that was taken leaves, by what its call tells
+
+module _ (keys new : List ℕ) (flush : Bool) (later : List (ℕ × Place)) (last bio first : ℕ)
+    (are : AreLists keys flush later last) (small : bio < 2 ^ 64) {n : ℕ} (key : n ≡ first * 2 ^ 64 + bio)
+    (took : new ≡ remove_key (is_at (nat_cmp n)) keys) {b : Bool} (was : b ≡ is_kept n keys) (yes : b ≡ true) where
+  -- its key was there
+  had : is_kept (first * 2 ^ 64 + bio) keys ≡ true
+  had = ap (λ (k : ℕ). is_kept k keys) (sym key) ∙ sym was ∙ yes
+
+  -- and is gone
+  goes : new ≡ remove_key (is_at (nat_cmp (first * 2 ^ 64 + bio))) keys
+  goes = took ∙ ap (λ (k : ℕ). remove_key (is_at (nat_cmp k)) keys) key
+
+  -- the others wait
+  pub take_waits : all_waiting new flush later ≡ without bio (all_waiting keys flush later)
+  take_waits =
+      ap (λ (ks : List ℕ). all_waiting ks flush later) goes ∙ taken_waits keys flush later last bio first are small had
+
+  -- where some keys are left the lists are kept
+  pub take_lists : is_none_of new ≡ false → AreLists new flush later last
+  take_lists some =
+      subst (λ (ks : List ℕ). AreLists ks flush later last) (sym goes)
+      (lists_taken keys flush later last bio first are small had (ap is_none_of (sym goes) ∙ some))
+
+  module _ (none : is_none_of new ≡ true) where
+    -- no key is left
+    empty : remove_key (is_at (nat_cmp (first * 2 ^ 64 + bio))) keys ≡ []
+    empty = sym goes ∙ no_keys new none
+
+    -- the later ones rise
+    pub rest_rises : Rises 0 (all_waiting [] flush later)
+    rest_rises =
+        subst (λ (ks : List ℕ). Rises 0 (all_waiting ks flush later)) empty
+        (taken_rises keys flush later last bio first are small had)
+
+    -- and are all that waits
+    pub rest_waits : all_waiting [] flush later ≡ without bio (all_waiting keys flush later)
+    rest_waits =
+        sym (ap (λ (ks : List ℕ). all_waiting ks flush later) empty)
+        ∙ taken_waits keys flush later last bio first are small had
+
 -- Whether all have smaller numbers
 
 -- where the last has

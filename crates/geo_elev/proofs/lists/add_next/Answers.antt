@@ -8,16 +8,15 @@ use Rattle.geo_elev.proofs.lists.add_next.Goals as goal
 pub returns-clause-lists : goal.returns-clause-lists
 returns-clause-lists c =
     let m = c.args.lists.now in
-    let did = put_next m.front.keys m.flush m.later.items m.last (one_at c.args.bio c.args.place) c.requires.lists
-    c.ranges.bio.fits c.requires.below c.requires.joins in
     subst (λ (ks : List ℕ). AreLists ks c.args.place.flush m.later.items c.args.bio)
-    (sym (c.in_ok-add_key.ensures ∙ ap (λ (n : ℕ). insert_key nat_cmp m.front.keys n) c.key.ensures)) did.lists
+    (sym (c.in_ok-add_key.ensures ∙ ap (λ (n : ℕ). insert_key nat_cmp m.front.keys n) c.key.ensures))
+    (put_next m.front.keys m.flush m.later.items m.last (one_at c.args.bio c.args.place) c.requires.lists
+    c.ranges.bio.fits c.requires.below c.requires.joins).lists
 
 pub returns-clause-put : goal.returns-clause-put
 returns-clause-put c =
     let m = c.args.lists.now in
-    let did = put_next m.front.keys m.flush m.later.items m.last (one_at c.args.bio c.args.place) c.requires.lists
-    c.ranges.bio.fits c.requires.below c.requires.joins in
     ap (λ (ks : List ℕ). all_waiting ks c.args.place.flush m.later.items)
     (c.in_ok-add_key.ensures ∙ ap (λ (n : ℕ). insert_key nat_cmp m.front.keys n) c.key.ensures)
-    ∙ did.put
+    ∙ (put_next m.front.keys m.flush m.later.items m.last (one_at c.args.bio c.args.place) c.requires.lists
+    c.ranges.bio.fits c.requires.below c.requires.joins).put
