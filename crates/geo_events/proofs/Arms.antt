@@ -1,5 +1,5 @@
 -- Each of what a step of the taste may come to.
-use Rattle.std.specs.Prelude.{◌≡◌, ℕ, ◌+◌, ◌-◌, ◌*◌, ◌≤◌, false, List, length, Option, Some, None, IsSome, IsSomeAnd}
+use Rattle.std.specs.Prelude.{◌≡◌, ℕ, ◌+◌, ◌-◌, ◌*◌, ◌≤◌, false, List, length, Option, Some, None, IsSome, IsSomeAnd, IfSome}
 use Rattle.std.proofs.Common.{refl, sym, ◌∙◌, ap, subst}
 use Rattle.geo_base.specs.declared.limits.TheConstants.{MAX_LINKS}
 use Rattle.geo_model.specs.declared.class.Judged.{Judged}
@@ -12,6 +12,7 @@ use Rattle.geo_model.specs.Topology.{consumer_at, provider_at}
 use Rattle.geo_model.specs.Demand.{one_read}
 use Rattle.geo_model.specs.World.{World, Config, Taste, is_read_out}
 use Rattle.geo_model.specs.Step.{judge_next}
+use Rattle.geo_access.specs.Access.{consumers_below}
 use Rattle.geo_event.specs.EventQueue.{Queued}
 use Rattle.geo_handles.specs.Handles.{holding_handle}
 use Rattle.geo_slots.specs.Slots.{value_at}
@@ -32,57 +33,80 @@ use Rattle.geo_events.proofs.Tasted.{nobodys, none-out, taster-at}
 use Rattle.geo_events.proofs.Deciding.{taste-idle}
 use Rattle.geo_events.proofs.Judged.{Ready, may-judge, next-taste, judged-makes, next-kept, read-kept, made-kept, came-first, came-all, ended-kept, ended-mesh}
 
--- a step came to this, with the mesh, the queue and the taste after it
+-- a step came to this, with the mesh, the queue and the taste after it, from a state that was ready for it
 pub record Stepped (s : State) (a : Taste) (u : TopoView Config) (q : Queued) (z : Taste) (j : Judged) : Type 0 where
+  pub ready : Ready s a
   pub judged : IsJudged (both s.topo s.queue) a u q z j
   pub settled : IsKnownWith j (MayJudge (both s.topo s.queue) a) (IsTasteSettled u)
   pub tasting : IsKnownWith j (MayJudge (both s.topo s.queue) a) (IsTasteOf u z)
   pub spare : s.queue.spare ≤ q.spare + MAX_LINKS
 
--- where nothing is against a Judge the state is ready for it
-pub ready-of : (s : State) → Holds s → IsFirm s → IsAgainst judge_next s None → (a : Taste) → s.taste ≡ Some a
-    → IsSoundGraph s.topo.topology → 3 * length s.topo.topology.providers + 128 ≤ s.queue.spare → Ready s a
-ready-of s kept firm due a is sound room = record {
-  kept = kept;
-  firm = firm;
-  is = is;
-  idle = taste-idle s kept due a is;
-  sound = sound;
-  room = room;
-}
+-- a step that ran leaves this state, which keeps all, and is the world's
+pub record Leaves (old new : State) : Type 0 where
+  pub kept : Holds new
+  pub made : (log : List Entry) → Makes judge_next log old new outcomes.Ran
 
-module _ (s : State) (a : Taste) (ready : Ready s a) (u : TopoView Config) (q : Queued) (z : Taste) where
-  -- what a step came to, by another name for it
-  pub stepped : (j k : Judged) → j ≡ k → IsJudged (both s.topo s.queue) a u q z j
-      → IsKnownWith j (MayJudge (both s.topo s.queue) a) (IsTasteSettled u)
-      → IsKnownWith j (MayJudge (both s.topo s.queue) a) (IsTasteOf u z) → s.queue.spare ≤ q.spare + MAX_LINKS
-      → Stepped s a u q z k
-  stepped j k same judged settled tasting spare =
-      subst (Stepped s a u q z) same
-      (record { judged = judged; settled = settled; tasting = tasting; spare = spare })
+-- nothing is against a Judge, and the taste was taken out of the state
+module _ {s : State} {a : Taste} {o : Option Taste} (kept : Holds s) (firm : IsFirm s)
+    (due : IsAgainst judge_next s None) (taken : o ≡ s.taste) (some : o ≡ Some a)
+    (sound : IsSoundGraph s.topo.topology) (room : 3 * length s.topo.topology.providers + 128 ≤ s.queue.spare) where
+  -- so the state was ready for a step
+  pub ready-of : Ready s a
+  ready-of = record {
+    kept = kept;
+    firm = firm;
+    is = sym taken ∙ some;
+    idle = taste-idle s kept due a (sym taken ∙ some);
+    sound = sound;
+    room = room;
+  }
 
+  module _ {u : TopoView Config} {q : Queued} {z : Taste} {j k : Judged} (same : j ≡ k)
+      (judged : IsJudged (both s.topo s.queue) a u q z j)
+      (settled : IsKnownWith j (MayJudge (both s.topo s.queue) a) (IsTasteSettled u))
+      (tasting : IsKnownWith j (MayJudge (both s.topo s.queue) a) (IsTasteOf u z))
+      (spare : s.queue.spare ≤ q.spare + MAX_LINKS) where
+    -- and what the step came to, by another name for it
+    pub stepped : Stepped s a u q z k
+    stepped =
+        subst (Stepped s a u q z) same (record {
+          ready = ready-of;
+          judged = judged;
+          settled = settled;
+          tasting = tasting;
+          spare = spare;
+        })
+
+-- however a step ends, it took few turns, by the taste that was taken out of the state
+module _ (s : State) (before after : ℕ) {a : Taste} {o : Option Taste} (taken : o ≡ s.taste) (some : o ≡ Some a) where
+  pub few-turns : after ≤ before + consumers_below s.topo.topology a.provider
+      → IfSome s.taste (λ x. after ≤ before + consumers_below s.topo.topology x.provider)
+  few-turns few =
+      subst (λ (x : Option Taste). IfSome x (λ y. after ≤ before + consumers_below s.topo.topology y.provider))
+      (sym some ∙ taken) few
+
+-- what a step came to, by the taste, the mesh and the queue after it
+module _ {s : State} {a : Taste} {u : TopoView Config} {q : Queued} {z : Taste} where
   -- The taste goes on
 
   module _ (step : Stepped s a u q z Next) where
-    -- all is kept
-    pub next-holds : Holds (record s { topo = u; queue = q; taste = Some z })
-    next-holds =
-        next-kept s a ready u q z step.spare step.settled step.judged.mesh.mesh
-        (next-taste s a ready u q z Next step.judged).out
-
-    -- and the step is the world's
-    pub next-made : (log : List Entry)
-        → Makes judge_next log s (record s { topo = u; queue = q; taste = Some z }) outcomes.Ran
-    next-made log =
-        judged-makes s a ready u q z Next step.judged (record s { topo = u; queue = q; taste = Some z })
-        outcomes.Ran log (λ actors. refl)
+    -- all is kept, and the step is the world's
+    pub next : Leaves s (record s { topo = u; queue = q; taste = Some z })
+    next = record {
+      kept =
+          next-kept s a step.ready u q z step.spare step.settled step.judged.mesh.mesh
+          (next-taste s a step.ready u q z Next step.judged).out;
+      made =
+          λ log. judged-makes s a step.ready u q z Next step.judged (record s { topo = u; queue = q; taste = Some z })
+          outcomes.Ran log (λ actors. refl);
+    }
 
   -- A read is granted
 
-  module _ (sector : ℕ) (step : Stepped s a u q z (Read sector)) where
+  module _ {sector : ℕ} (step : Stepped s a u q z (Read sector)) where
     -- the taste then
     after : IsNextTaste s.topo.topology a z (Read sector)
-    after = next-taste s a ready u q z (Read sector) step.judged
+    after = next-taste s a step.ready u q z (Read sector) step.judged
 
     -- the mesh with the grant
     mesh : IsButForRoom u (with_granted s.topo a.consumer one_read)
@@ -91,7 +115,7 @@ module _ (s : State) (a : Taste) (ready : Ready s a) (u : TopoView Config) (q : 
     -- all is kept
     pub read-holds : Holds (record s { topo = u; queue = q; taste = Some z })
     read-holds =
-        read-kept s a ready u q z step.spare step.settled mesh after.consumer after.out
+        read-kept s a step.ready u q z step.spare step.settled mesh after.consumer after.out
 
     -- its consumer lives, and no handle has it
     pub read-through : (o : Option Taste) → IsNoHandles (record s { topo = u; queue = q; taste = o }) z.consumer
@@ -99,10 +123,11 @@ module _ (s : State) (a : Taste) (ready : Ready s a) (u : TopoView Config) (q : 
       lives =
           subst (λ n. IsSome (consumer_at u.topology n)) (sym after.consumer)
           (subst (λ (v : TopoView Config). IsSome (consumer_at v.topology a.consumer)) (sym mesh)
-          (subst (λ x. IsSome x) (sym (taster-at s ready.kept ready.firm a ready.is ready.sound)) refl));
+          (subst (λ x. IsSome x)
+          (sym (taster-at s step.ready.kept step.ready.firm a step.ready.is step.ready.sound)) refl));
       nobodys =
           ap (holding_handle s.handles.handles) after.consumer
-          ∙ nobodys s ready.kept ready.firm a ready.is ready.sound;
+          ∙ nobodys s step.ready.kept step.ready.firm a step.ready.is step.ready.sound;
     }
 
     -- nothing is out through it
@@ -110,7 +135,7 @@ module _ (s : State) (a : Taste) (ready : Ready s a) (u : TopoView Config) (q : 
     read-idle =
         ap (value_at u.active) after.consumer
         ∙ ap (λ (v : TopoView Config). value_at v.active a.consumer) mesh
-        ∙ none-out s ready.kept ready.firm a ready.is ready.sound ready.idle
+        ∙ none-out s step.ready.kept step.ready.firm a step.ready.is step.ready.sound step.ready.idle
 
     -- the sector is one of the provider
     pub read-inside : (o : Option Taste) → HasSector (record s { topo = u; queue = q; taste = o }) z sector
@@ -124,7 +149,7 @@ module _ (s : State) (a : Taste) (ready : Ready s a) (u : TopoView Config) (q : 
         → HasSubmitted (record s { topo = u; queue = q; taste = o }) new z sector → (log : List Entry)
         → Makes judge_next log s new out
     read-made o new out told submitted log =
-        judged-makes s a ready u q z (Read sector) step.judged new out log
+        judged-makes s a step.ready u q z (Read sector) step.judged new out log
         (λ actors. sym (λ i. let r : World × Outcome = (submitted actors log i, told i) in r))
 
   -- Something is made of the provider
@@ -132,20 +157,20 @@ module _ (s : State) (a : Taste) (ready : Ready s a) (u : TopoView Config) (q : 
   module _ (step : Stepped s a u q z Made) where
     -- what can be made is made
     made : IsSomeAnd (making (both s.topo s.queue) a) (AreBoth u q)
-    made = step.judged.mesh (may-judge s a ready)
+    made = step.judged.mesh (may-judge s a step.ready)
 
     -- the mesh is settled
     settled : IsTasteSettled u
-    settled = step.settled (may-judge s a ready)
+    settled = step.settled (may-judge s a step.ready)
 
     -- providers that came have numbers from the next one on
     pub made-first : s.topo.topology.next_provider ≤ u.topology.next_provider
-    made-first = came-first s a ready u q z step.spare settled made
+    made-first = came-first s a step.ready u q z step.spare settled made
 
     -- with them all are counted
     pub made-all : s.providers + (u.topology.next_provider - s.topo.topology.next_provider)
         ≡ length u.topology.providers
-    made-all = came-all s a ready u q z step.spare settled made
+    made-all = came-all s a step.ready u q z step.spare settled made
 
     -- all is kept
     pub made-holds : Holds (record s {
@@ -155,14 +180,14 @@ module _ (s : State) (a : Taste) (ready : Ready s a) (u : TopoView Config) (q : 
       providers = s.providers + (u.topology.next_provider - s.topo.topology.next_provider);
     })
     made-holds =
-        made-kept s a ready u q z step.spare settled made
-        (next-taste s a ready u q z Made step.judged).out
+        made-kept s a step.ready u q z step.spare settled made
+        (next-taste s a step.ready u q z Made step.judged).out
 
     -- and the step is the world's
     pub made-made : (n : ℕ) (log : List Entry)
         → Makes judge_next log s (record s { topo = u; queue = q; taste = Some z; providers = n }) outcomes.Ran
     made-made n log =
-        judged-makes s a ready u q z Made step.judged
+        judged-makes s a step.ready u q z Made step.judged
         (record s { topo = u; queue = q; taste = Some z; providers = n }) outcomes.Ran log (λ actors. refl)
 
   -- The taste ends
@@ -170,7 +195,7 @@ module _ (s : State) (a : Taste) (ready : Ready s a) (u : TopoView Config) (q : 
   module _ (step : Stepped s a u q z Ended) where
     -- the taste then
     over : IsNextTaste s.topo.topology a z Ended
-    over = next-taste s a ready u q z Ended step.judged
+    over = next-taste s a step.ready u q z Ended step.judged
 
     -- no read of it is out
     pub ended-idle : is_read_out z.asked ≡ false
@@ -181,25 +206,25 @@ module _ (s : State) (a : Taste) (ready : Ready s a) (u : TopoView Config) (q : 
     ended-out =
         ap (value_at u.active) over.consumer
         ∙ ap (λ (v : TopoView Config). value_at v.active a.consumer) step.judged.mesh.mesh
-        ∙ none-out s ready.kept ready.firm a ready.is ready.sound ready.idle
+        ∙ none-out s step.ready.kept step.ready.firm a step.ready.is step.ready.sound step.ready.idle
 
-    module _ (v : TopoView Config) (gone : v ≡ without_consumer u z.consumer) (settled : IsTasteSettled v)
-        (o : Option Taste) (none : o ≡ None) where
+    module _ {v : TopoView Config} {o : Option Taste} (gone : v ≡ without_consumer u z.consumer)
+        (settled : IsTasteSettled v) (none : o ≡ None) where
       -- all is kept
-      pub ended-holds : Holds (record s { topo = v; queue = q; taste = o })
+      ended-holds : Holds (record s { topo = v; queue = q; taste = o })
       ended-holds =
           subst (λ (x : Option Taste). Holds (record s { topo = v; queue = q; taste = x })) (sym none)
-          (ended-kept s a ready u q z step.spare step.judged.mesh.mesh (over.ended refl)
+          (ended-kept s a step.ready u q z step.spare step.judged.mesh.mesh (over.ended refl)
           step.tasting v gone settled)
 
       -- and the step is the world's
-      pub ended-made : (log : List Entry)
+      ended-made : (log : List Entry)
           → Makes judge_next log s (record s { topo = v; queue = q; taste = o }) outcomes.Ran
       ended-made log =
           let graph : IsButForRoom v (without_consumer s.topo a.consumer) =
-          ended-mesh s a ready u q z step.spare step.judged.mesh.mesh (over.ended refl)
+          ended-mesh s a step.ready u q z step.spare step.judged.mesh.mesh (over.ended refl)
           step.tasting v gone settled in
-          judged-makes s a ready u q z Ended step.judged (record s { topo = v; queue = q; taste = o })
+          judged-makes s a step.ready u q z Ended step.judged (record s { topo = v; queue = q; taste = o })
           outcomes.Ran log
           (λ actors.
           ap (λ (x : Taste). let r : World × Outcome = (
@@ -233,9 +258,13 @@ module _ (s : State) (a : Taste) (ready : Ready s a) (u : TopoView Config) (q : 
             outcomes.Ran,
           ) in r) (sym none))
 
+      -- once its consumer is gone
+      pub ended : Leaves s (record s { topo = v; queue = q; taste = o })
+      ended = record { kept = ended-holds; made = ended-made }
+
   -- Memory is wanting
 
-  module _ (same : AreBoth u q (both s.topo s.queue)) (still : z ≡ a) (settled : IsTasteSettled u)
+  module _ (ready : Ready s a) (same : AreBoth u q (both s.topo s.queue)) (still : z ≡ a) (settled : IsTasteSettled u)
       (spare : s.queue.spare ≤ q.spare + MAX_LINKS) where
     -- all is kept
     pub refused-holds : Holds (record s { topo = u; queue = q; taste = Some z })

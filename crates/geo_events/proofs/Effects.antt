@@ -134,6 +134,14 @@ module _ (s : State) (kept : Holds s) where
       ap (with_queued (without_head (world actors log s)))
       (same (granted_in (world actors log s)) (stored-in actors log))
 
+-- a Resize of a queue without its head
+pub resized-from : (s : State) (q : Queued) → q ≡ headless s.queue → (u : TopoView Config) (v : Queued) (p : ℕ)
+    → ((granted : ℕ → Counts) → AreStored granted s.topo → queued u v ≡ resize granted (queued s.topo q) p)
+    → (granted : ℕ → Counts) → AreStored granted s.topo
+    → queued u v ≡ resize granted (queued s.topo (headless s.queue)) p
+resized-from s q is u v p resized granted stored =
+    resized granted stored ∙ ap (λ (r : Queued). resize granted (queued s.topo r) p) is
+
 -- handles that become dead one after another
 kills : (w : World) (cs : List ℕ) → fold kill_handle w cs ≡ record w { handles = fold killed w.handles cs }
 kills w [] = refl

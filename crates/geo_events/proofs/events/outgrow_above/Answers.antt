@@ -1,12 +1,9 @@
-use Rattle.std.proofs.Common.{ap, ◌∙◌}
 use Rattle.std.specs.Prelude.{◌+◌}
 use Rattle.geo_model.specs.declared.step.Event.TheVariants as heads
-use Rattle.geo_model.specs.Events.{resize}
-use Rattle.geo_event.specs.EventQueue.{Queued}
-use Rattle.geo_life.specs.Life.{queued, sound_providers}
+use Rattle.geo_life.specs.Life.{sound_providers}
 use Rattle.geo_life.proofs.Spared.{handles_are_spared}
 use Rattle.geo_state.specs.World.{world}
-use Rattle.geo_events.proofs.Effects.{head-there, rest-of, owed-one, room-for, room-after, resize-kept, resize-done}
+use Rattle.geo_events.proofs.Effects.{head-there, rest-of, owed-one, room-for, room-after, resize-kept, resize-done, resized-from}
 use Rattle.geo_events.proofs.events.outgrow_above.Goals as goal
 
 pub drop_head-requires : goal.drop_head-requires
@@ -25,9 +22,8 @@ resize-requires-clause-room c =
 pub returns-clause-made : goal.returns-clause-made
 returns-clause-made c =
     resize-done c.args.state.now c.requires.kept c.resize.new.topo c.resize.new.queue c.args.prov
-    (λ granted stored.
-    c.resize.ensures.resized granted stored
-    ∙ ap (λ (r : Queued). resize granted (queued c.args.state.now.topo r) c.args.prov) c.drop_head.ensures)
+    (resized-from c.args.state.now c.drop_head.new.self c.drop_head.ensures c.resize.new.topo c.resize.new.queue
+    c.args.prov c.resize.ensures.resized)
 
 pub returns-clause-kept : goal.returns-clause-kept
 returns-clause-kept c =
@@ -38,6 +34,5 @@ returns-clause-kept c =
     (owed-one c.args.state.now c.drop_head.new.self c.drop_head.ensures c.resize.new.topo c.resize.new.queue
     c.resize.ensures.owed)
     c.args.prov
-    (λ granted stored.
-    c.resize.ensures.resized granted stored
-    ∙ ap (λ (r : Queued). resize granted (queued c.args.state.now.topo r) c.args.prov) c.drop_head.ensures)
+    (resized-from c.args.state.now c.drop_head.new.self c.drop_head.ensures c.resize.new.topo c.resize.new.queue
+    c.args.prov c.resize.ensures.resized)
