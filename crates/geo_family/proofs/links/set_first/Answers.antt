@@ -1,12 +1,11 @@
-use Rattle.std.proofs.Common.{◌≡◌, None, refl, sym, ◌∙◌}
+use Rattle.std.proofs.Common.{refl, sym, ◌∙◌}
 use Rattle.geo_family.proofs.LinkLemmas.{with_value-change, change_at-absent, is_none}
 use Rattle.geo_family.proofs.links.set_first.Goals as goal
 
 pub returns-in-Some : goal.returns-in-Some
 returns-in-Some c =
-    let none : c.args.before ≡ None = is_none c.args.before (sym c.is_some.ensures ∙ c.if-is_some.false) in
     rw (
-      none,
+      is_none c.args.before (sym c.is_some.ensures ∙ c.if-is_some.false),
       with_value-change c.args.parent (λ e. record e { first = c.args.to }) c.in-Some.end.now
           (record c.in-Some.end.now { first = c.args.to }) refl 1 c.args.ends.now.next c.args.ends.now.rows
           c.get_mut.ensures.rising (rw c.in-Some.is at c.get_mut.ensures.value),
@@ -14,9 +13,8 @@ returns-in-Some c =
 
 pub returns-in_default : goal.returns-in_default
 returns-in_default c =
-    let none : c.args.before ≡ None = is_none c.args.before (sym c.is_some.ensures ∙ c.if-is_some.false) in
     rw (
-      none,
+      is_none c.args.before (sym c.is_some.ensures ∙ c.if-is_some.false),
       change_at-absent c.args.parent (λ e. record e { first = c.args.to }) c.args.ends.now.rows
           (rw c.in_default.is at c.get_mut.ensures.value),
     ) refl
