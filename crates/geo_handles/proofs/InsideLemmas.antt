@@ -10,14 +10,15 @@ use Rattle.geo_model.specs.Words.{same_name, names_number, change_where}
 use Rattle.geo_model.specs.World.{Handle}
 use Rattle.geo_slots.specs.Slots.{SlotsView, IsRising, value_at, with_insert, with_value, without}
 use Rattle.geo_slots.proofs.RowLemmas.{IsRising-push, IsRising-without, IsRising-with_value, value_at_next, find-items, filter-items, without_absent, value_at-set, value_at-kept, value_at-last, value_at-other, value_at-without, value_at-gone}
-use Rattle.geo_family.specs.Family.{is_parent}
+use Rattle.geo_family.specs.Family.{FamilyView, is_parent}
 use Rattle.geo_handles.specs.declared.key.Key.{Key}
 use Rattle.geo_handles.specs.declared.records.HandleRec.{HandleRec}
 use Rattle.geo_handles.specs.declared.handles.Inside.{Inside}
 use Rattle.geo_handles.specs.Keys.{key_named, same_key, is_key, name_key, consumer_key, number_of_key, number_of_consumer, IsFinder}
-use Rattle.geo_handles.specs.Handles.{handle_at, named_handle, holding_handle, closed, is_at, HoldsAlone}
-use Rattle.geo_handles.specs.Inside.{handle_row, handle_key, IsInside}
+use Rattle.geo_handles.specs.Handles.{HandlesView, handle_at, named_handle, holding_handle, closed, is_at, HoldsAlone}
+use Rattle.geo_handles.specs.Inside.{handle_row, handle_key, ready_row, handles_of, IsInside}
 use Rattle.geo_handles.proofs.FinderLemmas.{keys-test, consumers-test, finds, finder-same, finder-add, finder-drop}
+use Rattle.geo_handles.proofs.NumberLemmas.{ready-without}
 use Rattle.geo_handles.proofs.RowLemmas.{all-rows, all-items, length-without, IsOf, find-one, change-none, change-one}
 
 -- a number that has a key has a value
@@ -137,6 +138,24 @@ module _ (n : Inside) (is : IsInside n) where
       seen : (o : Option HandleRec) → IsSome (option_map (λ v. handle_row (k, v)) o) → IsSome o
       seen None never = never
       seen (Some v) there = refl
+
+-- a change of the handle of a consumer: what stood under its number, and the table after it
+pub record ChangesHeld (n : Inside) (new : SlotsView HandleRec) (c k : ℕ)
+    (change : HandleRec → HandleRec) : Type 0 where
+  pub value : HandleRec
+  pub has : number_of_consumer n.consumers c ≡ Some k
+  pub there : value_at n.table.rows k ≡ Some value
+  pub table : new ≡ record n.table { rows = with_value n.table.rows k (change value) }
+
+-- the number that a consumer has is changed, where it has one
+pub changes-held : (n : Inside) → IsInside n → (c k : ℕ) (new : SlotsView HandleRec) (change : HandleRec → HandleRec)
+    → Some k ≡ number_of_consumer n.consumers c
+    → MatchOption (value_at n.table.rows k) (new ≡ n.table)
+    (λ y. new ≡ record n.table { rows = with_value n.table.rows k (change y) })
+    → ChangesHeld n new c k change
+changes-held n is c k new change found so =
+    let x = some_of (value_at n.table.rows k) (held-there n is c k (sym found)) in
+    record { value = x.0; has = sym found; there = x.1; table = changed n.table new k change x.0 x.1 so }
 
 -- Changes
 
@@ -392,6 +411,26 @@ module _ (n m : Inside) (is : IsInside n) where
 pub rows-closed : (k : ℕ) (rows : List (ℕ × HandleRec))
     → map handle_row (without rows k) ≡ closed (map handle_row rows) k
 rows-closed k rows = sym (filter-items handle_row (λ h. h.number) (λ row. refl) k rows)
+
+-- without a number, whether a handle had it or not
+pub removed-view : (n : Inside) (v : HandlesView) (k id room : ℕ) (table : SlotsView HandleRec) (ready : FamilyView)
+    → handles_of n ≡ v → k ≡ id → table ≡ record n.table { rows = without n.table.rows k }
+    → ready ≡ record n.ready { children = without n.ready.children k }
+    → ◌≡◌ {A = HandlesView} (record {
+      handles = map handle_row table.rows;
+      next = table.next;
+      ready = map ready_row ready.children;
+      room = room;
+    }) (record v { handles = closed v.handles id; ready = without v.ready id; room = room })
+removed-view n v k id room table ready seen same table_is ready_is =
+    rw (
+      ← seen,
+      table_is,
+      ready_is,
+      same,
+      ready-without id n.ready.children,
+      rows-closed id n.table.rows,
+    ) refl
 
 module _ (n : Inside) (is : IsInside n) (c : ℕ) where
   -- a change where the consumer has no number changes nothing

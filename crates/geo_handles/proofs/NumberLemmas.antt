@@ -1,11 +1,11 @@
 -- Numbers that can be reaped, over the family that keeps them.
-use Rattle.std.specs.Prelude.{◌≡◌, ℕ, ◌==◌, nat_le, Bool, true, false, List, [], ◌∷◌, ◌++◌, Option, None, map}
+use Rattle.std.specs.Prelude.{◌≡◌, ℕ, ◌==◌, nat_le, Bool, true, false, List, [], ◌∷◌, ◌++◌, Option, Some, None, map}
 use Rattle.std.proofs.Common.{refl, sym, arith}
 use Rattle.std.proofs.lemmas.Bool.{le-leb}
 use Rattle.std.proofs.lemmas.List.{map-append}
 use Rattle.geo_slots.specs.Slots.{with_value, without}
-use Rattle.geo_slots.proofs.RowLemmas.{filter-items}
-use Rattle.geo_family.specs.Family.{names, first_child}
+use Rattle.geo_slots.proofs.RowLemmas.{filter-items, with_value-twice}
+use Rattle.geo_family.specs.Family.{FamilyView, names, first_child}
 use Rattle.geo_handles.specs.Handles.{first_ready}
 use Rattle.geo_handles.specs.Inside.{ready_row}
 
@@ -29,6 +29,13 @@ ready-set n o (row ∷ rows) = at (row.0 == n) refl (ready-set n o rows) where
       → map ready_row (with_value (row ∷ rows) n o) ≡ with_value (map ready_row (row ∷ rows)) n (names o 1)
   at true e rest = rw (e, rest) refl
   at false e rest = rw (e, rest) refl
+
+-- a number that was taken off and put below parent 1 is there
+pub relinked : (old between new : FamilyView) (k id : ℕ)
+    → between ≡ record old { children = with_value old.children k None }
+    → new ≡ record between { children = with_value between.children k (Some 1) } → k ≡ id
+    → new ≡ record old { children = with_value old.children id (Some 1) }
+relinked old between new k id off on same = rw (on, off, same, with_value-twice id None (Some 1) old.children) refl
 
 -- the first child of parent 1 is the first number that is noted
 pub first-ready : (rows : List (ℕ × Option ℕ)) → first_child rows 1 0 ≡ first_ready (map ready_row rows)

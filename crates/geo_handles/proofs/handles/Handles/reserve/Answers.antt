@@ -4,39 +4,15 @@ use Rattle.geo_handles.proofs.handles.Handles.reserve.Goals as goal
 
 pub invariant_of-self-in_err-reserve-3 : goal.invariant_of-self-in_err-reserve-3
 invariant_of-self-in_err-reserve-3 c =
-    inside-reserved c.self.inside.inside
-    (record {
-      names = c.reserve.new.self;
-      consumers = c.reserve-2.new.self;
-      table = c.reserve-3.new.self;
-      ready = c.self.inside.inside.ready;
-      live = c.self.inside.inside.live;
-    })
-    c.self.invariant c.reserve.ensures.entries.2 c.reserve-2.ensures.entries.2 c.reserve-3.ensures.values_stay refl
-    refl
+    inside-reserved c.self.inside.inside _ c.self.invariant c.reserve.ensures.entries.2 c.reserve-2.ensures.entries.2
+    c.reserve-3.ensures.values_stay refl refl
 
 pub invariant_of-self-in_err-reserve-4 : goal.invariant_of-self-in_err-reserve-4
 invariant_of-self-in_err-reserve-4 c =
-    inside-reserved c.self.inside.inside
-    (record {
-      names = c.reserve.new.self;
-      consumers = c.reserve-2.new.self;
-      table = c.reserve-3.new.self;
-      ready = c.reserve-4.new.self;
-      live = c.self.inside.inside.live;
-    })
-    c.self.invariant c.reserve.ensures.entries.2 c.reserve-2.ensures.entries.2 c.reserve-3.ensures.values_stay
-    c.reserve-4.ensures.same refl
+    inside-reserved c.self.inside.inside _ c.self.invariant c.reserve.ensures.entries.2 c.reserve-2.ensures.entries.2
+    c.reserve-3.ensures.values_stay c.reserve-4.ensures.same refl
 
 pub invariant_of-self-2 : goal.invariant_of-self-2
 invariant_of-self-2 c =
-    inside-reserved c.self.inside.inside
-    (record {
-      names = c.reserve.new.self;
-      consumers = c.reserve-2.new.self;
-      table = c.reserve-3.new.self;
-      ready = c.reserve-4.new.self;
-      live = c.self.inside.inside.live;
-    })
-    c.self.invariant c.reserve.ensures.entries.2 c.reserve-2.ensures.entries.2 c.reserve-3.ensures.values_stay
-    c.reserve-4.ensures.same refl
+    inside-reserved c.self.inside.inside _ c.self.invariant c.reserve.ensures.entries.2 c.reserve-2.ensures.entries.2
+    c.reserve-3.ensures.values_stay c.reserve-4.ensures.same refl

@@ -1,7 +1,7 @@
 use Rattle.std.specs.Prelude.{Some, None}
 use Rattle.std.proofs.Common.{refl}
-use Rattle.geo_slots.proofs.RowLemmas.{value_at-set, with_value-twice}
-use Rattle.geo_handles.proofs.NumberLemmas.{ready-set}
+use Rattle.geo_slots.proofs.RowLemmas.{value_at-set}
+use Rattle.geo_handles.proofs.NumberLemmas.{ready-set, relinked}
 use Rattle.geo_handles.proofs.InsideLemmas.{inside-noted, noted-there}
 use Rattle.geo_handles.proofs.handles.Handles.set_ready.Goals as goal
 
@@ -13,35 +13,14 @@ link-requires-clause-free c =
 
 pub invariant_of-self : goal.invariant_of-self
 invariant_of-self c =
-    inside-noted c.self.inside.inside
-    (record {
-      names = c.self.inside.inside.names;
-      consumers = c.self.inside.inside.consumers;
-      table = c.self.inside.inside.table;
-      ready = c.link.new.self;
-      live = c.self.inside.inside.live;
-    })
-    c.self.invariant refl refl refl refl c.args.id (Some 1)
+    inside-noted c.self.inside.inside _ c.self.invariant refl refl refl refl c.args.id (Some 1)
     (noted-there c.self.inside.inside c.self.invariant c.args.id (rw (← c.self.view_is) at c.requires))
-    (rw (
-      c.link.ensures,
-      c.unlink.ensures,
-      c.number-number.ensures,
-      with_value-twice c.args.id None (Some 1)
-          c.self.inside.inside.ready.children,
-    ) refl)
+    (relinked c.self.inside.inside.ready c.unlink.new.self c.link.new.self c.number-number.result c.args.id
+    c.unlink.ensures c.link.ensures c.number-number.ensures)
 
 pub invariant_of-self-else-ready : goal.invariant_of-self-else-ready
 invariant_of-self-else-ready c =
-    inside-noted c.self.inside.inside
-    (record {
-      names = c.self.inside.inside.names;
-      consumers = c.self.inside.inside.consumers;
-      table = c.self.inside.inside.table;
-      ready = c.unlink.new.self;
-      live = c.self.inside.inside.live;
-    })
-    c.self.invariant refl refl refl refl c.args.id None
+    inside-noted c.self.inside.inside _ c.self.invariant refl refl refl refl c.args.id None
     (noted-there c.self.inside.inside c.self.invariant c.args.id (rw (← c.self.view_is) at c.requires))
     (rw (c.unlink.ensures, c.number-number.ensures) refl)
 
@@ -49,10 +28,8 @@ pub returns-then-ready : goal.returns-then-ready
 returns-then-ready c =
     rw (
       ← c.self.view_is,
-      c.link.ensures,
-      c.unlink.ensures,
-      c.number-number.ensures,
-      with_value-twice c.args.id None (Some 1) c.self.inside.inside.ready.children,
+      relinked c.self.inside.inside.ready c.unlink.new.self c.link.new.self c.number-number.result c.args.id
+          c.unlink.ensures c.link.ensures c.number-number.ensures,
       ready-set c.args.id (Some 1) c.self.inside.inside.ready.children,
       c.if-ready.true,
     ) refl
