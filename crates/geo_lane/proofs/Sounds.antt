@@ -22,6 +22,10 @@ begins_now v w t = let last : Sent = sent w in let P : Sent → Type 0 = λ z. I
     subst P (at_last v.ended last last) (t.ended (length v.ended) last (let long =
     length-append v.ended (last ∷ []) in omega arith))
 
+-- what is told of a view is told of the same view
+pub told_of : (v w : View) → v ≡ w → (items : List Ticket) × Tells w items → (items : List Ticket) × Tells v items
+told_of v w same told = (told.0, subst (λ (z : View). Tells z told.0) (sym same) told.1)
+
 module _ (sender split put_so_far : ℕ) (v : View) (s : IsSound sender split put_so_far v) where
   -- the view, as contracts see it
   pub view_is : v ≡ a_view true sender split v.put v.taken v.ended
