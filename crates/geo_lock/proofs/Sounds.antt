@@ -108,24 +108,31 @@ module _ {L B E O R : Type 0} (log : L → List E) (seat_of : E → ℕ) (is_no_
   }
   makes seats answer p q longer own saw has (Err e) grew answers = tt
 
--- what a refusal tells the pass, which has q: it adds nothing, it is the state's, and it isn't want of memory where
--- the state's test says so
-module _ {L B E O R : Type 0} (log : L → List E) (seat_of : E → ℕ) (is_no_memory : R
-    → Bool) (number : ℕ) (x y : L) where
-  pub unmade : (p q : PassView B E) → entries_with_seat seat_of number (log x) ≡ p.own
-      → q.own ≡ entries_with_seat seat_of number (log y) → (res : Result O R) → IfErr res (λ _. y ≡ x)
-      → IfErr res (λ _. q.own ≡ p.own)
-  unmade p q own has (Ok o) same = tt
-  unmade p q own has (Err e) same = has ∙ (ap (λ (z : L). entries_with_seat seat_of number (log z)) same ∙ own)
+-- what a refusal tells the pass: it adds nothing, it is the state's, and it isn't want of memory where the state's
+-- test says so
+module _ {L E O R : Type 0} (log : L → List E) (seat_of : E → ℕ) (is_no_memory : R → Bool) (number : ℕ) (x y : L) where
+  pub unmade : (before after : List E) → entries_with_seat seat_of number (log x) ≡ before
+      → after ≡ entries_with_seat seat_of number (log y) → (res : Result O R) → IfErr res (λ _. y ≡ x)
+      → IfErr res (λ _. after ≡ before)
+  unmade before after own has (Ok o) same = tt
+  unmade before after own has (Err e) same =
+      has ∙ (ap (λ (z : L). entries_with_seat seat_of number (log z)) same ∙ own)
 
-  pub refused : (answer : List E → Result O R) (q : PassView B E) → q.seen ≡ log y → (res : Result O R)
+  pub refused : (answer : List E → Result O R) (seen : List E) → seen ≡ log y → (res : Result O R)
       → IfErr res (λ _. y ≡ x) → (lacks_memory is_no_memory res ≡ false → res ≡ answer (log x))
-      → IfErr res (λ e. is_no_memory e ≡ false → Err e ≡ answer q.seen)
-  refused answer q saw (Ok o) same answers = tt
-  refused answer q saw (Err e) same answers = λ w. answers w ∙ ap answer (sym (saw ∙ ap log same))
+      → IfErr res (λ e. is_no_memory e ≡ false → Err e ≡ answer seen)
+  refused answer seen saw (Ok o) same answers = tt
+  refused answer seen saw (Err e) same answers = λ w. answers w ∙ ap answer (sym (saw ∙ ap log same))
 
-  pub sure : (takes_no_memory : List E → Bool) (q : PassView B E) → q.seen ≡ log y → (res : Result O R)
+  pub sure : (takes_no_memory : List E → Bool) (seen : List E) → seen ≡ log y → (res : Result O R)
       → IfErr res (λ _. y ≡ x) → (takes_no_memory (log x) ≡ true → lacks_memory is_no_memory res ≡ false)
-      → IfErr res (λ e. takes_no_memory q.seen ≡ true → is_no_memory e ≡ false)
-  sure takes_no_memory q saw (Ok o) same never = tt
-  sure takes_no_memory q saw (Err e) same never = λ t. never (ap takes_no_memory (sym (saw ∙ ap log same)) ∙ t)
+      → IfErr res (λ e. takes_no_memory seen ≡ true → is_no_memory e ≡ false)
+  sure takes_no_memory seen saw (Ok o) same never = tt
+  sure takes_no_memory seen saw (Err e) same never = λ t. never (ap takes_no_memory (sym (saw ∙ ap log same)) ∙ t)
+
+-- out of turn, a pass has its own entries of the log
+pub own_after : {S B E : Type 0} (seat_of : E → ℕ) (log : List E) (number : ℕ) (held left : Me S (View B E))
+    → left ≡ (out_of_turn seat_of held.0 log, []) → first_number held.0.claims ≡ number
+    → own_of left.0.claims ≡ entries_with_seat seat_of number log
+own_after {S} {B} {E} seat_of log number held left turned first =
+    ap (λ (z : Me S (View B E)). own_of z.0.claims) turned ∙ ap (λ (k : ℕ). entries_with_seat seat_of k log) first

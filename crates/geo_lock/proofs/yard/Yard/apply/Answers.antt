@@ -5,7 +5,7 @@ use Rattle.geo_lock.specs.Logged.{entries_with_seat, Grows}
 use Rattle.geo_lock.specs.View.{out_of_turn, first_number}
 use Rattle.geo_lock.specs.Pass.{own_of}
 use Rattle.geo_lock.proofs.Prefixes.{prefix_trans}
-use Rattle.geo_lock.proofs.Sounds.{claims_are, start_is, turned_sound, grown, makes, unmade, refused, sure}
+use Rattle.geo_lock.proofs.Sounds.{claims_are, start_is, turned_sound, grown, makes, unmade, refused, sure, own_after}
 use Rattle.geo_lock.proofs.yard.Yard.apply.Goals as goal
 
 pub enter-word-requires-clause-rests : goal.enter-word-requires-clause-rests
@@ -57,9 +57,8 @@ returns-clause-made g c = let m = c.apply_as-result.ensures in let f = c.enter-w
     (subst (λ p. entries_with_seat g.L.Logged.seat_of p.number (g.L.Logged.log c.enter-word.result.1) ≡ p.own)
     c.pass.view_is (f.own _ (ap (λ z. get_elem? z 0) claims)))
     (ap (λ z. z.0.seen) c.leave.ensures.turn)
-    (ap (λ z. own_of z.0.claims) c.leave.ensures.turn
-    ∙ ap (λ k. entries_with_seat g.L.Logged.seat_of k (g.L.Logged.log c.apply_as-result.new.self))
-    (ap (λ z. first_number z.0.claims) c.enter-word.ensures.turn ∙ (ap first_number claims ∙ n)))
+    (own_after g.L.Logged.seat_of (g.L.Logged.log c.apply_as-result.new.self) _ c.enter-word.new.seat.me _
+    c.leave.ensures.turn (ap (λ z. first_number z.0.claims) c.enter-word.ensures.turn ∙ (ap first_number claims ∙ n)))
     c.apply_as-result.result
     (subst (λ k. IfOk c.apply_as-result.result (λ o. g.L.Logged.log c.apply_as-result.new.self
     ≡ g.L.Logged.log c.enter-word.result.1 ++ g.L.Logged.entry k c.args.step o ∷ [])) n m.ok)
@@ -69,20 +68,11 @@ pub returns-clause-unmade : goal.returns-clause-unmade
 returns-clause-unmade g c = let f = c.enter-word.ensures.found in let n = ap (λ p. p.number) c.pass.view_is in
     let claims = claims_are g.L.Logged.lawful g.L.Logged.seat_of _ _ _ _ c.pass.invariant.1 in
     unmade g.L.Logged.log g.L.Logged.seat_of g.L.Logged.is_no_memory c.args.pass.now.number c.enter-word.result.1
-    c.apply_as-result.new.self c.args.pass.now
-    record {
-      yard = c.leave.new.seat.table_id;
-      start = c.leave.new.seat.me.0.start;
-      number = c.pass.inside.number;
-      seen = c.leave.new.seat.me.0.seen;
-      own = own_of c.leave.new.seat.me.0.claims;
-      made = c.pass.inside.made;
-    }
+    c.apply_as-result.new.self c.args.pass.now.own (own_of c.leave.new.seat.me.0.claims)
     (subst (λ p. entries_with_seat g.L.Logged.seat_of p.number (g.L.Logged.log c.enter-word.result.1) ≡ p.own)
     c.pass.view_is (f.own _ (ap (λ z. get_elem? z 0) claims)))
-    (ap (λ z. own_of z.0.claims) c.leave.ensures.turn
-    ∙ ap (λ k. entries_with_seat g.L.Logged.seat_of k (g.L.Logged.log c.apply_as-result.new.self))
-    (ap (λ z. first_number z.0.claims) c.enter-word.ensures.turn ∙ (ap first_number claims ∙ n)))
+    (own_after g.L.Logged.seat_of (g.L.Logged.log c.apply_as-result.new.self) _ c.enter-word.new.seat.me _
+    c.leave.ensures.turn (ap (λ z. first_number z.0.claims) c.enter-word.ensures.turn ∙ (ap first_number claims ∙ n)))
     c.apply_as-result.result c.apply_as-result.ensures.err
 
 pub returns-clause-refused : goal.returns-clause-refused
@@ -92,15 +82,7 @@ returns-clause-refused g c = let m = c.apply_as-result.ensures in let n = ap (λ
     refused g.L.Logged.log g.L.Logged.seat_of g.L.Logged.is_no_memory c.args.pass.now.number c.enter-word.result.1
     c.apply_as-result.new.self
     (λ h. g.L.Logged.answer c.args.self.now.start h c.args.pass.now.number c.args.step)
-    record {
-      yard = c.leave.new.seat.table_id;
-      start = c.leave.new.seat.me.0.start;
-      number = c.pass.inside.number;
-      seen = c.leave.new.seat.me.0.seen;
-      own = own_of c.leave.new.seat.me.0.claims;
-      made = c.pass.inside.made;
-    }
-    (ap (λ z. z.0.seen) c.leave.ensures.turn)
+    c.leave.new.seat.me.0.seen (ap (λ z. z.0.seen) c.leave.ensures.turn)
     c.apply_as-result.result m.err
     (λ w. m.answer w ∙ (λ i. g.L.Logged.answer (same i) (g.L.Logged.log c.enter-word.result.1) (n i) c.args.step))
 
@@ -111,15 +93,7 @@ returns-clause-sure g c = let m = c.apply_as-result.ensures in let n = ap (λ p.
     sure g.L.Logged.log g.L.Logged.seat_of g.L.Logged.is_no_memory c.args.pass.now.number c.enter-word.result.1
     c.apply_as-result.new.self
     (λ h. g.L.Logged.takes_no_memory c.args.self.now.start h c.args.pass.now.number c.args.step)
-    record {
-      yard = c.leave.new.seat.table_id;
-      start = c.leave.new.seat.me.0.start;
-      number = c.pass.inside.number;
-      seen = c.leave.new.seat.me.0.seen;
-      own = own_of c.leave.new.seat.me.0.claims;
-      made = c.pass.inside.made;
-    }
-    (ap (λ z. z.0.seen) c.leave.ensures.turn)
+    c.leave.new.seat.me.0.seen (ap (λ z. z.0.seen) c.leave.ensures.turn)
     c.apply_as-result.result m.err
     (λ t. m.sure
     ((λ i. g.L.Logged.takes_no_memory (same i) (g.L.Logged.log c.enter-word.result.1) (n i) c.args.step) ∙ t))
