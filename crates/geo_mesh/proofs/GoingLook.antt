@@ -4,6 +4,8 @@ use Rattle.std.specs.List.{list_any}
 use Rattle.std.proofs.Common.{refl, sym, ◌∙◌, ap, subst, arith}
 use Rattle.std.proofs.lemmas.Bool.{le-leb, ne_eqb}
 use Rattle.geo_model.specs.Graph.{AreNumbers}
+use Rattle.geo_model.specs.Topology.{Provider, Consumer, providers_of, consumers_of}
+use Rattle.geo_family.specs.Family.{first_child}
 use Rattle.geo_slots.specs.Slots.{IsRising, value_at, with_value}
 use Rattle.geo_laws_graph.specs.LookupLaws.{left_from, IsStep, WalksMeetAll}
 use Rattle.geo_laws_graph.proofs.Walks.{walks-meet}
@@ -11,9 +13,11 @@ use Rattle.geo_mesh.specs.declared.records.GeomCell.{GeomCell}
 use Rattle.geo_mesh.specs.declared.tables.Tables.{Tables}
 use Rattle.geo_mesh.specs.Rows.{passes}
 use Rattle.geo_mesh.specs.Notes.{withering_of}
-use Rattle.geo_mesh.specs.Cells.{topo_view}
+use Rattle.geo_mesh.specs.Cells.{graph, topo_view}
+use Rattle.geo_mesh.specs.Index.{IsIndexed}
 use Rattle.geo_mesh.specs.Going.{is_free, is_free_in}
 use Rattle.geo_mesh.specs.Whole.{IsWhole, IsWholeBut}
+use Rattle.geo_mesh.proofs.IndexLemmas.{offered_first, owned_first}
 use Rattle.geo_mesh.proofs.NoteLemmas.{set_mark}
 use Rattle.geo_mesh.proofs.RankFirst.{kin-of}
 use Rattle.geo_mesh.proofs.GoingLemmas.{under-each}
@@ -133,3 +137,21 @@ told_none None true e = refl
 told_none None false never = absurd (cc)
 told_none (Some x) true never = absurd (cc)
 told_none (Some x) false e = refl
+
+module _ {C : Type 0} (t : Tables C) (indexed : IsIndexed (graph t) t.edges.index) (geom : ℕ) (first : Option ℕ)
+    (none : Bool) (told_of : is_some first ≡ not none) where
+  -- the index finds no provider of the geom just where it has none
+  pub offers-none : first ≡ first_child t.edges.index.offered.children geom 0
+      → none ≡ (length (providers_of (graph t) geom) == 0)
+  offers-none is =
+      told_none first none told_of
+      ∙ ap is_none (is ∙ offered_first (graph t) t.edges.index indexed geom 0)
+      ∙ none-first (λ (x : Provider). x.number) (providers_of (graph t) geom)
+
+  -- and no consumer where it has none
+  pub owns-none : first ≡ first_child t.edges.index.owned.children geom 0
+      → none ≡ (length (consumers_of (graph t) geom) == 0)
+  owns-none is =
+      told_none first none told_of
+      ∙ ap is_none (is ∙ owned_first (graph t) t.edges.index indexed geom 0)
+      ∙ none-first (λ (x : Consumer). x.number) (consumers_of (graph t) geom)

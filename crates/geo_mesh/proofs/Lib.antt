@@ -1,6 +1,7 @@
 pub mod RowLemmas
 pub mod MarkLemmas
 pub mod ViewLemmas
+pub mod SeenLemmas
 pub mod WalkLemmas
 pub mod Orderly
 pub mod FirstGraph
@@ -17,10 +18,12 @@ pub mod RankWalk
 pub mod RankFirst
 pub mod RankKept
 pub mod RankMesh
+pub mod RankSteps
 pub mod RankSwitch
 pub mod GoingLemmas
 pub mod GoingRows
 pub mod GoingLook
 pub mod WholeLemmas
 pub mod WholeParts
+pub mod Attaching
 pub mod GraphLemmas

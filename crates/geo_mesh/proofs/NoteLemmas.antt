@@ -221,6 +221,10 @@ notes-bare {C} n gs ns ps same are =
       };
     }
 
+-- notes that aren't touched
+pub unnoted : (n : Notes) → IsSameNotes n n
+unnoted n = record { risen = refl; fallen = refl; going = refl; named = refl }
+
 -- notes with other room, where that is enough
 pub notes-reserved : {C : Type 0} (n m : Notes) (gs : SlotsView (GeomCell C)) (ps : SlotsView ProvCell) (g p : ℕ)
     → IsSameNotes n m → HaveNoteRoom g p m

@@ -4,7 +4,7 @@ use Rattle.std.specs.Prelude.{◌≡◌, ◌⊎◌, ℕ, ◌+◌, ◌-◌, ◌<�
 use Rattle.std.proofs.Common.{refl, sym, ap, inl, inr, arith}
 use Rattle.std.proofs.lemmas.Bool.{cases_eq, le-leb, leb-true}
 use Rattle.geo_model.specs.Words.{largest}
-use Rattle.geo_mesh.specs.Mending.{IsAmong, above, ExceedsThoseBelow, StandsAbove, Lifted, Lowered, Joined}
+use Rattle.geo_mesh.specs.Mending.{IsAmong, above, ExceedsThoseBelow, StandsAbove, Lifted, Lowered, Joined, IsJoinable}
 
 -- a number is in a list or isn't
 pub among_or_not : (ms : List ℕ) (n : ℕ) → IsAmong ms n ⊎ (IsAmong ms n → ⊥)
@@ -285,6 +285,13 @@ module _ (below : ℕ → List ℕ) (f : ℕ → ℕ) where
               let there : r g ≡ above joined r g = omega (arith, local g, one.here, enough_all g, graph.here r) in
               rw same there
           at x (inr differs) = omega (arith, lifted-low x differs, enough_all x, graph.others r x differs)
+
+        -- so that one may be put below
+        pub lifted-joinable : least ≤ r g → r q ≡ f q → IsJoinable below g q r
+        lifted-joinable raised kept = record {
+          apart = λ stands. loops-lifted raised stands kept;
+          local = λ joined graph. lifted-joined joined graph raised kept;
+        }
 
 module _ (apart joined : ℕ → List ℕ) (g q : ℕ) (graph : Joined apart joined g q) (f : ℕ → ℕ) (local : (x : ℕ)
     → f x ≡ above joined f x) where

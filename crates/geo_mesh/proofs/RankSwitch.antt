@@ -46,6 +46,20 @@ mesh-kept {C} gs ns edges live mesh same kept =
           (rw classes mesh.standing.owned);
     }
 
+-- a geom that stands just above another in rank is a later one
+pub above-later : {C : Type 0} (gs : SlotsView (GeomCell C)) (edges : Edges) (live : ℕ) → HaveRanks gs edges live
+    → (under upper : ℕ) {low high : ℕ} → low ≡ stored gs under → high ≡ stored gs upper → low + 1 ≡ high
+    → is_dev_or_taste upper ≡ false
+above-later gs edges live mesh under upper low_is high_is just_above = pick (is_dev_or_taste upper) refl where
+  pick : (b : Bool) → is_dev_or_taste upper ≡ b → is_dev_or_taste upper ≡ false
+  pick false e = e
+  pick true e =
+      let alone : stored gs upper ≡ 1 + largest (map (stored gs) []) =
+      subst (λ ms. stored gs upper ≡ 1 + largest (map (stored gs) ms)) (ranked_below-first edges upper e)
+      (mesh.standing.local upper) in
+      let first : stored gs upper ≡ 1 = alone in
+      absurd (omega (arith, mesh.standing.local under))
+
 module _ {C : Type 0} (gs : SlotsView (GeomCell C)) (edges : Edges) (live : ℕ) (mesh : HaveRanks gs edges live)
     (n p : ℕ) (v : ConsCell) (rising : IsRising 1 edges.consumers.rows edges.consumers.next) (at : Some v
     ≡ value_at edges.consumers.rows n) where
@@ -85,18 +99,6 @@ module _ {C : Type 0} (gs : SlotsView (GeomCell C)) (edges : Edges) (live : ℕ)
       mesh-consumer gs edges live n mesh v (put o) rising at
       (ap (λ (o : Option ℕ). (v.consumer.geom, o)) (footing-first v.consumer.geom o first
       ∙ sym (footing-first v.consumer.geom v.consumer.prov first)))
-
-  -- a geom that stands just above another in rank is a later one
-  pub off-later : stored gs (owner edges p) + 1 ≡ stored gs v.consumer.geom → is_dev_or_taste v.consumer.geom ≡ false
-  off-later above_it = pick (is_dev_or_taste v.consumer.geom) refl where
-    pick : (b : Bool) → is_dev_or_taste v.consumer.geom ≡ b → is_dev_or_taste v.consumer.geom ≡ false
-    pick false e = e
-    pick true e =
-        let alone : stored gs v.consumer.geom ≡ 1 + largest (map (stored gs) []) =
-        subst (λ ms. stored gs v.consumer.geom ≡ 1 + largest (map (stored gs) ms))
-        (ranked_below-first edges v.consumer.geom e) (mesh.standing.local v.consumer.geom) in
-        let low : stored gs v.consumer.geom ≡ 1 = alone in
-        absurd (omega (arith, mesh.standing.local (owner edges p)))
 
   module _ (is : v.consumer.prov ≡ Some p) (later : is_dev_or_taste v.consumer.geom ≡ false) where
     -- the provider to which it is attached is there

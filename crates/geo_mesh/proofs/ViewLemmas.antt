@@ -1,5 +1,5 @@
 -- The mesh that the rows stand for, after a change of one row.
-use Rattle.std.specs.Prelude.{◌≡◌, ℕ, ◌+◌, ◌-◌, ◌==◌, nat_le, Bool, true, false, ◌&&◌, List, [], ◌∷◌, Option, Some, None, IsSome, map, find, filter, option_map, is_some, suc, ◌<◌, length, if◌then◌else◌}
+use Rattle.std.specs.Prelude.{◌≡◌, ℕ, ◌+◌, ◌-◌, ◌≤◌, ◌==◌, nat_le, min, max, Bool, true, false, ◌&&◌, List, [], ◌∷◌, Option, Some, None, IsSome, map, find, filter, option_map, is_some, suc, ◌<◌, length, if◌then◌else◌}
 use Rattle.std.specs.List.{last_or, list_any}
 use Rattle.std.specs.Option.{option_or}
 use Rattle.std.proofs.Common.{arith, ap, ◌∙◌, subst, refl, sym}
@@ -24,7 +24,7 @@ use Rattle.geo_mesh.specs.declared.tables.Edges.{Edges}
 use Rattle.geo_mesh.specs.declared.tables.Tables.{Tables}
 use Rattle.geo_mesh.specs.Whole.{IsRoomier}
 use Rattle.geo_mesh.specs.Rows.{row_with, passes}
-use Rattle.geo_mesh.specs.Topo.{no_counts, no_scratch, first_geom, first_provider, first_consumer, with_provider, with_consumer, with_topology, with_want, with_have, with_notes, with_active, with_geom_scratch, with_provider_scratch, with_consumer_scratch, without_geom, without_provider, without_consumer, IsButForRoom}
+use Rattle.geo_mesh.specs.Topo.{TopoView, Room, no_counts, no_scratch, first_geom, first_provider, first_consumer, with_provider, with_consumer, with_topology, with_want, with_have, with_notes, with_active, with_geom_scratch, with_provider_scratch, with_consumer_scratch, without_geom, without_provider, without_consumer, IsButForRoom}
 use Rattle.geo_mesh.proofs.RowLemmas.{OnlyValue, only_value, map-with_value, map-with_value_same, rows_with-with_value, rows_with-change_at, map-without, find-map}
 use Rattle.geo_mesh.proofs.WalkLemmas.{first-map}
 
@@ -640,3 +640,47 @@ count-with_value {C} n v rows live counted =
 -- more room shows in the room alone
 pub roomier-view : {C : Type 0} (t u : Tables C) → IsRoomier t u → IsButForRoom (topo_view u) (topo_view t)
 roomier-view t u is = rw (is.geoms, is.providers, is.consumers) refl
+
+module _ {C : Type 0} (t u : Tables C) {v : TopoView C} (seen : topo_view t ≡ v) (roomier : IsRoomier t u) where
+  -- so the graph is the same
+  pub roomier-graph : graph u ≡ v.topology
+  roomier-graph = ap (λ w. w.topology) (roomier-view t u roomier) ∙ ap (λ w. w.topology) seen
+
+  -- where no more providers and consumers were asked for, the room for them is the same
+  pub room-geoms : (n : ℕ) → u.edges.providers.spare ≤ max t.edges.providers.spare 0
+      → u.edges.consumers.spare ≤ max t.edges.consumers.spare 0
+      → ◌≡◌ {A = Room} (record {
+        geoms = n;
+        providers = u.edges.providers.spare;
+        consumers = u.edges.consumers.spare;
+      }) (record v.room { geoms = n })
+  room-geoms n providers_most consumers_most =
+      let providers : u.edges.providers.spare ≡ t.edges.providers.spare = omega (arith, roomier.providers_stay) in
+      let consumers : u.edges.consumers.spare ≡ t.edges.consumers.spare = omega (arith, roomier.consumers_stay) in
+      rw (← seen, providers, consumers) refl
+
+  -- where no more geoms and consumers were
+  pub room-providers : (n : ℕ) → u.geoms.spare ≤ max t.geoms.spare 0
+      → u.edges.consumers.spare ≤ max t.edges.consumers.spare 0
+      → ◌≡◌ {A = Room} (record {
+        geoms = min u.geoms.spare (4294967294 - u.live);
+        providers = n;
+        consumers = u.edges.consumers.spare;
+      }) (record v.room { providers = n })
+  room-providers n geoms_most consumers_most =
+      let geoms : u.geoms.spare ≡ t.geoms.spare = omega (arith, roomier.geoms_stay) in
+      let consumers : u.edges.consumers.spare ≡ t.edges.consumers.spare = omega (arith, roomier.consumers_stay) in
+      rw (← seen, roomier.live, geoms, consumers) refl
+
+  -- where no more geoms and providers were
+  pub room-consumers : (n : ℕ) → u.geoms.spare ≤ max t.geoms.spare 0
+      → u.edges.providers.spare ≤ max t.edges.providers.spare 0
+      → ◌≡◌ {A = Room} (record {
+        geoms = min u.geoms.spare (4294967294 - u.live);
+        providers = u.edges.providers.spare;
+        consumers = n;
+      }) (record v.room { consumers = n })
+  room-consumers n geoms_most providers_most =
+      let geoms : u.geoms.spare ≡ t.geoms.spare = omega (arith, roomier.geoms_stay) in
+      let providers : u.edges.providers.spare ≡ t.edges.providers.spare = omega (arith, roomier.providers_stay) in
+      rw (← seen, roomier.live, geoms, providers) refl

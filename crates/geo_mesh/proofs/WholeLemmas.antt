@@ -1,5 +1,5 @@
 -- What a mesh keeps as a whole, after each call.
-use Rattle.std.specs.Prelude.{◌≡◌, ℕ, ◌==◌, Bool, true, Some, map}
+use Rattle.std.specs.Prelude.{◌≡◌, ℕ, ◌==◌, ◌≤◌, max, Bool, true, Some, map}
 use Rattle.std.proofs.Common.{refl, sym, ◌∙◌, ap, subst}
 use Rattle.std.proofs.lemmas.Bool.{ne_eqb}
 use Rattle.geo_slots.specs.Slots.{IsRising, value_at, with_value}
@@ -13,11 +13,11 @@ use Rattle.geo_mesh.specs.declared.tables.Tables.{Tables}
 use Rattle.geo_mesh.specs.Topo.{is_provider_size}
 use Rattle.geo_mesh.specs.Graph.{IsOrderly}
 use Rattle.geo_mesh.specs.Cells.{graph, geom_row, provider_row, consumer_row, with_geom_cell, with_provider_cell, with_consumer_cell}
-use Rattle.geo_mesh.specs.Index.{IsIndexed, HaveRoom}
-use Rattle.geo_mesh.specs.Names.{AreNames, HaveNameRoom, RetiresName}
+use Rattle.geo_mesh.specs.Index.{IsIndexed, HaveRoom, with_rooms}
+use Rattle.geo_mesh.specs.Names.{AreNames, HaveNameRoom, SameNames, RetiresName}
 use Rattle.geo_mesh.specs.declared.tables.Notes.{Notes}
-use Rattle.geo_mesh.specs.Notes.{AreNotes, HaveNoteRoom}
-use Rattle.geo_mesh.proofs.NoteLemmas.{notes-reserved, notes-geom_kept, notes-provider_kept}
+use Rattle.geo_mesh.specs.Notes.{AreNotes, HaveNoteRoom, IsSameNotes}
+use Rattle.geo_mesh.proofs.NoteLemmas.{notes-reserved, note_room_for, notes-geom_kept, notes-provider_kept}
 use Rattle.geo_mesh.specs.Mesh.{IsMesh}
 use Rattle.geo_mesh.specs.Ranks.{HaveRanks, footing}
 use Rattle.geo_mesh.specs.Going.{AreGoing, AreGoingBut, is_idle_cell, is_free_in, going_rows}
@@ -27,7 +27,7 @@ use Rattle.geo_mesh.proofs.IndexLemmas.{indexed-rooms, indexed-geom, indexed-pro
 use Rattle.geo_mesh.proofs.NamesKept.{names-same, names-changed}
 use Rattle.geo_mesh.proofs.ViewLemmas.{count-with_value, set_error-view}
 use Rattle.geo_mesh.proofs.Orderly.{orderly-geom, orderly-provider, orderly-set_marks}
-use Rattle.geo_mesh.proofs.MeshLemmas.{found_provider, names-errored}
+use Rattle.geo_mesh.proofs.MeshLemmas.{room_for, name_room_for, found_provider, names-errored}
 use Rattle.geo_mesh.proofs.GoingLemmas.{free-provider_cell, free-consumer_kept, free-consumer_cell}
 use Rattle.geo_mesh.proofs.GoingRows.{going-free, going-cell, going-withers, free_once}
 use Rattle.geo_mesh.proofs.RankMesh as ranks
@@ -67,6 +67,26 @@ module _ {C : Type 0} (t : Tables C) (stands : IsStanding t) where
   pub with_going_but : (geom : ℕ) → AreGoingBut geom t → IsWholeBut geom t
   with_going_but geom going =
       record { tables = stands.tables; ranks = stands.ranks; graph = stands.graph; going = going }
+
+-- the tables with other room in each of their parts, of which the rows have no less
+pub roomier : {C : Type 0} {t u : Tables C} → u.geoms ≡ record t.geoms { spare = u.geoms.spare }
+    → u.edges.providers ≡ record t.edges.providers { spare = u.edges.providers.spare }
+    → u.edges.consumers ≡ record t.edges.consumers { spare = u.edges.consumers.spare } → u.live ≡ t.live
+    → u.edges.index ≡ with_rooms t.edges.index u.edges.index → SameNames t.names u.names → IsSameNotes t.notes u.notes
+    → t.geoms.spare ≤ u.geoms.spare → t.edges.providers.spare ≤ u.edges.providers.spare
+    → t.edges.consumers.spare ≤ u.edges.consumers.spare → IsRoomier t u
+roomier geoms providers consumers live index names notes geoms_stay providers_stay consumers_stay = record {
+  geoms = geoms;
+  providers = providers;
+  consumers = consumers;
+  live = live;
+  index = index;
+  names = names;
+  notes = notes;
+  geoms_stay = geoms_stay;
+  providers_stay = providers_stay;
+  consumers_stay = consumers_stay;
+}
 
 module _ {C : Type 0} (t : Tables C) (whole : IsWhole t) where
   -- more room changes nothing else
@@ -108,6 +128,26 @@ module _ {C : Type 0} (t : Tables C) (whole : IsWhole t) where
         graph = whole.graph;
         going = ap (λ m. m.rows) is.notes.going ∙ whole.going;
       })
+
+  -- so where no more room was made than what was asked for, and index, names and notes have room for that, beside what
+  -- they had room for
+  pub whole-grown : (u : Tables C) (geoms providers consumers : ℕ) → IsRoomier t u
+      → u.geoms.spare ≤ max t.geoms.spare geoms → u.edges.providers.spare ≤ max t.edges.providers.spare providers
+      → u.edges.consumers.spare ≤ max t.edges.consumers.spare consumers
+      → ((g p c : ℕ) → HaveRoom g p c t.edges.index → HaveRoom g p c u.edges.index)
+      → HaveRoom geoms providers consumers u.edges.index
+      → ((p : ℕ) → HaveNameRoom p t.names → HaveNameRoom p u.names) → HaveNameRoom providers u.names
+      → ((g p : ℕ) → HaveNoteRoom g p t.notes → HaveNoteRoom g p u.notes) → HaveNoteRoom geoms providers u.notes
+      → IsWhole u
+  whole-grown u geoms providers consumers is most_g most_p most_c stays room names_stay name_room notes_stay note_room =
+      whole-reserved u is
+      (room_for t.geoms.spare t.edges.providers.spare t.edges.consumers.spare geoms providers consumers
+      u.geoms.spare u.edges.providers.spare u.edges.consumers.spare u.edges.index
+      (stays t.geoms.spare t.edges.providers.spare t.edges.consumers.spare whole.tables.room) room most_g most_p most_c)
+      (name_room_for t.edges.providers.spare providers u.edges.providers.spare u.names
+      (names_stay t.edges.providers.spare whole.tables.names_room) name_room most_p)
+      (note_room_for t.geoms.spare t.edges.providers.spare geoms providers u.geoms.spare u.edges.providers.spare
+      u.notes (notes_stay t.geoms.spare t.edges.providers.spare whole.tables.notes.room) note_room most_g most_p)
 
   -- the marks stay where the same is free
   pub same-going : (new : ℕ → Bool) → ((g : ℕ) → new g ≡ is_free_in t g)

@@ -7,33 +7,29 @@ use Rattle.geo_mesh.proofs.named.first_of.Goals as goal
 
 pub returns-then-is_of_class : goal.returns-then-is_of_class
 returns-then-is_of_class g c =
-    let is =
-    named-by c.args.kind c.args.name.now c.loop-geom.at c.in-Some.geom c.args.geoms.now.next c.args.names.now.rows
-    c.args.geoms.now.rows c.requires c.is_of_class.ensures.rising c.in-Some.ensures in
+    let is = named-by c.args.kind c.args.name.now c.loop-geom.at c.in-Some.geom c.args.geoms.now.next
+    c.args.names.now.rows c.args.geoms.now.rows c.requires c.is_of_class.ensures.rising c.in-Some.ensures in
     let class : is_of_class c.args.kind is.cell ≡ true =
     ap (passes (is_of_class c.args.kind)) (sym is.there) ∙ sym c.is_of_class.ensures.class ∙ c.if-is_of_class.true in
     sym (c.loop-geom.invariant.same ∙ is.here class)
 
 pub overflow_add-at : goal.overflow_add-at
 overflow_add-at g c =
-    let is =
-    named-by c.args.kind c.args.name.now c.loop-geom.at c.in-Some.geom c.args.geoms.now.next c.args.names.now.rows
-    c.args.geoms.now.rows c.requires c.is_of_class.ensures.rising c.in-Some.ensures in
+    let is = named-by c.args.kind c.args.name.now c.loop-geom.at c.in-Some.geom c.args.geoms.now.next
+    c.args.names.now.rows c.args.geoms.now.rows c.requires c.is_of_class.ensures.rising c.in-Some.ensures in
     let few : c.in-Some.geom + 1 < 2 ^ 64 = omega (arith, is.known, c.is_of_class.ensures.bound) in
     search rules
 
 pub loop-geom-smaller : goal.loop-geom-smaller
 loop-geom-smaller g c =
-    let is =
-    named-by c.args.kind c.args.name.now c.loop-geom.at c.in-Some.geom c.args.geoms.now.next c.args.names.now.rows
-    c.args.geoms.now.rows c.requires c.is_of_class.ensures.rising c.in-Some.ensures in
+    let is = named-by c.args.kind c.args.name.now c.loop-geom.at c.in-Some.geom c.args.geoms.now.next
+    c.args.names.now.rows c.args.geoms.now.rows c.requires c.is_of_class.ensures.rising c.in-Some.ensures in
     omega (arith, is.known, is.past)
 
 pub loop-geom-preserved : goal.loop-geom-preserved
 loop-geom-preserved g c =
-    let is =
-    named-by c.args.kind c.args.name.now c.loop-geom.at c.in-Some.geom c.args.geoms.now.next c.args.names.now.rows
-    c.args.geoms.now.rows c.requires c.is_of_class.ensures.rising c.in-Some.ensures in
+    let is = named-by c.args.kind c.args.name.now c.loop-geom.at c.in-Some.geom c.args.geoms.now.next
+    c.args.names.now.rows c.args.geoms.now.rows c.requires c.is_of_class.ensures.rising c.in-Some.ensures in
     let class : is_of_class c.args.kind is.cell ≡ false =
     ap (passes (is_of_class c.args.kind)) (sym is.there) ∙ sym c.is_of_class.ensures.class ∙ c.if-is_of_class.false in
     record { same = c.loop-geom.invariant.same ∙ is.behind class }

@@ -1,12 +1,13 @@
-use Rattle.std.proofs.Common.{◌≡◌, ℕ, ◌+◌, ◌<◌, ◌≤◌, ◌^◌, true, length, refl, ap, subst, ◌∙◌, arith, rules}
+use Rattle.std.proofs.Common.{◌≡◌, ℕ, ◌+◌, ◌<◌, ◌≤◌, ◌^◌, true, length, refl, subst, ◌∙◌, arith, rules}
 use Rattle.geo_slots.specs.Slots.{value_at}
 use Rattle.geo_mesh.specs.Rows.{passes}
-use Rattle.geo_mesh.specs.Mending.{IsAmong, height, Lifted}
-use Rattle.geo_mesh.specs.Ranks.{kinds, bare, offers, ranked_links, stored, ranked_below, owner, user, is_offered, is_attached, IsFirst}
+use Rattle.geo_mesh.specs.Mending.{height, Lifted}
+use Rattle.geo_mesh.specs.Ranks.{kinds, offers, ranked_links, stored, ranked_below, owner, user, highest_raise, is_high, is_offered, is_attached, IsFirst}
 use Rattle.geo_mesh.proofs.RankMend.{lifted-none, lifted-more, lifted-above, lifted-whole}
 use Rattle.geo_mesh.proofs.RankHeights.{height-most}
 use Rattle.geo_mesh.proofs.RankRows.{kinds-bare}
-use Rattle.geo_mesh.proofs.RankWalk.{walkable-bare, offered-is, owner-is, user-above, above-user, user-lives, walk-more}
+use Rattle.geo_mesh.proofs.RankWalk.{user-above, above-user, walk-more}
+use Rattle.geo_mesh.proofs.RankSteps.{at-provider, at-consumer, first-owned}
 use Rattle.geo_mesh.proofs.ranks.+raise.Goals as goal
 
 pub raise-loop-prov-init : goal.raise-loop-prov-init
@@ -25,32 +26,22 @@ raise-overflow_add-least g t c =
     let few : c.args.least ≤ 2 ^ 34 = omega (arith, c.requires.fits, c.requires.walkable.few) in
     search rules
 
+-- a provider's height is that of its geom, so the measure falls by one
 pub raise-raise_attached-high-requires : goal.raise-raise_attached-high-requires
 raise-raise_attached-high-requires g t c κs within =
-    let first : IsFirst (is_offered c.args.geom) (offers c.args.edges.now).rows c.args.edges.now.providers.next
-    c.loop-prov.at c.in-Some.prov = c.in-Some.ensures in
-    let own : owner c.args.edges.now c.in-Some.prov ≡ c.args.geom =
-    owner-is c.args.edges.now c.args.geom c.in-Some.prov first.passing in
-    let same : bare c.loop-prov.geoms ≡ bare c.args.geoms.now = c.loop-prov.invariant.same ∙ c.lift-high.ensures.same in
-    let classes : kinds c.loop-prov.geoms ≡ kinds c.args.geoms.now =
-    kinds-bare c.args.geoms.now c.loop-prov.geoms same in
-    let most : height (ranked_below c.args.edges.now) (length (kinds c.args.geoms.now)) c.args.geom
-    ≤ length (kinds c.args.geoms.now) + 1 =
-    height-most (ranked_below c.args.edges.now) (length (kinds c.args.geoms.now)) c.args.geom in
-    let tall : height (ranked_below c.args.edges.now) (length (kinds c.loop-prov.geoms))
-    (owner c.args.edges.now c.in-Some.prov)
-    ≡ height (ranked_below c.args.edges.now) (length (kinds c.args.geoms.now)) c.args.geom =
-    rw (own, classes) refl in
-    let count : length (kinds c.loop-prov.geoms) ≡ length (kinds c.args.geoms.now) = ap length classes in
+    let step = at-provider c.args.geoms.now c.loop-prov.geoms c.args.edges.now
+    (c.loop-prov.invariant.same ∙ c.lift-high.ensures.same) c.requires.walkable c.args.geom c.in-Some.prov
+    c.loop-prov.at c.in-Some.ensures in
+    let own = first-owned c.args.edges.now c.args.geom c.in-Some.prov c.loop-prov.at c.in-Some.ensures in
     let raised : c.args.least ≤ stored c.loop-prov.geoms (owner c.args.edges.now c.in-Some.prov) =
     rw own (omega (arith, c.lift-high.ensures.here, c.loop-prov.invariant.lifted.grows c.args.geom)) in (
       omega (arith, c.decreases),
       (
         λ a there. within a there,
         (
-          walkable-bare c.args.geoms.now c.loop-prov.geoms c.args.edges.now same c.requires.walkable,
+          step.walkable,
           (
-            rw (offered-is c.args.geom (value_at (offers c.args.edges.now).rows c.in-Some.prov) first.passing) refl,
+            step.lives,
             (
               omega arith,
               (
@@ -66,10 +57,7 @@ raise-raise_attached-high-requires g t c κs within =
 
 pub raise-loop-prov-preserved : goal.raise-loop-prov-preserved
 raise-loop-prov-preserved g t c =
-    let first : IsFirst (is_offered c.args.geom) (offers c.args.edges.now).rows c.args.edges.now.providers.next
-    c.loop-prov.at c.in-Some.prov = c.in-Some.ensures in
-    let own : owner c.args.edges.now c.in-Some.prov ≡ c.args.geom =
-    owner-is c.args.edges.now c.args.geom c.in-Some.prov first.passing in
+    let own = first-owned c.args.edges.now c.args.geom c.in-Some.prov c.loop-prov.at c.in-Some.ensures in
     let now : Lifted (ranked_below c.args.edges.now) c.args.geom 0 (stored c.loop-prov.geoms)
     (stored c.raise_attached-high.new.geoms) =
     subst (λ o. Lifted (ranked_below c.args.edges.now) o 0 (stored c.loop-prov.geoms)
@@ -84,7 +72,7 @@ raise-loop-prov-preserved g t c =
           walk-more (is_offered c.args.geom) (offers c.args.edges.now).rows c.args.edges.now.providers.next
           c.loop-prov.at c.in-Some.prov
           (λ q. passes (is_attached q) (value_at (ranked_links c.args.edges.now).rows m) ≡ true
-          → c.args.least + 1 ≤ stored c.raise_attached-high.new.geoms (user c.args.edges.now m)) first
+          → c.args.least + 1 ≤ stored c.raise_attached-high.new.geoms (user c.args.edges.now m)) c.in-Some.ensures
           (λ q low offered attached. omega (
             arith,
             c.loop-prov.invariant.passed q m low offered attached,
@@ -110,56 +98,23 @@ pub raise-returns-clause-high : goal.raise-returns-clause-high
 raise-returns-clause-high g t c =
     rw (← kinds-bare c.args.geoms.now c.lift-high.new.geoms c.lift-high.ensures.same) c.loop-prov.invariant.high
 
+-- the geom of a consumer stands above the provider's, so it has fewer levels above it
 pub raise_attached-raise-high-requires : goal.raise_attached-raise-high-requires
 raise_attached-raise-high-requires g t c κs within =
-    let first : IsFirst (is_attached c.args.prov) (ranked_links c.args.edges.now).rows
-    c.args.edges.now.consumers.next c.loop-cons.at c.in-Some.cons = c.in-Some.ensures in
-    let classes : kinds c.loop-cons.geoms ≡ kinds c.args.geoms.now =
-    kinds-bare c.args.geoms.now c.loop-cons.geoms c.loop-cons.invariant.same in
-    let walkable =
-    walkable-bare c.args.geoms.now c.loop-cons.geoms c.args.edges.now c.loop-cons.invariant.same
-    c.requires.walkable in
-    let count : length (kinds c.loop-cons.geoms) ≡ length (kinds c.args.geoms.now) = ap length classes in
-    let near : IsAmong (ranked_below c.args.edges.now (user c.args.edges.now c.in-Some.cons))
-    (owner c.args.edges.now c.args.prov) =
-    user-above c.args.edges.now c.args.prov c.in-Some.cons c.requires.lives first.passing in
-    let climbs : height (ranked_below c.args.edges.now) (length (kinds c.args.geoms.now))
-    (owner c.args.edges.now c.args.prov)
-    < height (ranked_below c.args.edges.now) (length (kinds c.args.geoms.now))
-    (user c.args.edges.now c.in-Some.cons) =
-    c.requires.walkable.climbs (user c.args.edges.now c.in-Some.cons)
-    (owner c.args.edges.now c.args.prov) near in
-    let most : height (ranked_below c.args.edges.now) (length (kinds c.args.geoms.now))
-    (user c.args.edges.now c.in-Some.cons) ≤ length (kinds c.args.geoms.now) + 1 =
-    height-most (ranked_below c.args.edges.now) (length (kinds c.args.geoms.now))
-    (user c.args.edges.now c.in-Some.cons) in
-    let tall : height (ranked_below c.args.edges.now) (length (kinds c.loop-cons.geoms)) c.user.result
-    ≡ height (ranked_below c.args.edges.now) (length (kinds c.args.geoms.now))
-    (user c.args.edges.now c.in-Some.cons) = rw (c.user.ensures, classes) refl in (
-      omega (arith, c.decreases),
-      (
-        λ a there. within a there,
-        (
-          walkable,
-          (
-            rw c.user.ensures (user-lives c.args.edges.now (kinds c.loop-cons.geoms) c.args.prov c.in-Some.cons
-                walkable first.passing),
-            (
-              omega (arith, c.requires.fits),
-              (rw classes c.loop-cons.invariant.high),
-            ),
-          ),
-        ),
-      ),
-    )
+    let step = at-consumer c.args.geoms.now c.loop-cons.geoms c.args.edges.now c.loop-cons.invariant.same
+    c.requires.walkable c.args.prov c.in-Some.cons c.loop-cons.at c.user.result c.requires.lives c.in-Some.ensures
+    c.user.ensures in
+    let fits : c.args.least ≤ highest_raise c.loop-cons.geoms c.args.edges.now c.user.result =
+    omega (arith, c.requires.fits) in
+    let high : c.loop-cons.high ≡ is_high (kinds c.loop-cons.geoms) (stored c.loop-cons.geoms) =
+    rw (kinds-bare c.args.geoms.now c.loop-cons.geoms c.loop-cons.invariant.same) c.loop-cons.invariant.high in
+    (omega (arith, c.decreases), ((λ a there. within a there), (step.walkable, (step.lives, (fits, high)))))
 
 pub raise_attached-loop-cons-preserved : goal.raise_attached-loop-cons-preserved
 raise_attached-loop-cons-preserved g t c =
     let first : IsFirst (is_attached c.args.prov) (ranked_links c.args.edges.now).rows
     c.args.edges.now.consumers.next c.loop-cons.at c.in-Some.cons = c.in-Some.ensures in
-    let near : IsAmong (ranked_below c.args.edges.now (user c.args.edges.now c.in-Some.cons))
-    (owner c.args.edges.now c.args.prov) =
-    user-above c.args.edges.now c.args.prov c.in-Some.cons c.requires.lives first.passing in
+    let near = user-above c.args.edges.now c.args.prov c.in-Some.cons c.requires.lives first.passing in
     let low : c.args.least ≤ stored c.loop-cons.geoms (owner c.args.edges.now c.args.prov) + 1 =
     omega (arith, c.requires.low, c.loop-cons.invariant.lifted.grows (owner c.args.edges.now c.args.prov)) in
     let one : Lifted (ranked_below c.args.edges.now) (user c.args.edges.now c.in-Some.cons) c.args.least

@@ -2,20 +2,16 @@ use Rattle.std.proofs.Common.{◌≡◌, ℕ, ◌<◌, ◌≤◌, map, true, ari
 use Rattle.geo_model.specs.Words.{largest}
 use Rattle.geo_slots.specs.Slots.{value_at}
 use Rattle.geo_mesh.specs.Rows.{passes}
-use Rattle.geo_mesh.specs.Ranks.{offers, links, stored, below, belongs, rank_under, links_of, IsFirst}
-use Rattle.geo_mesh.proofs.RankRows.{rising-with, rank_under-most, under-most}
+use Rattle.geo_mesh.specs.Ranks.{offers, links, stored, below, belongs, rank_under, links_of}
+use Rattle.geo_mesh.proofs.RankRows.{rising-with, under-most}
 use Rattle.geo_mesh.proofs.RankWalk.{walk-more}
+use Rattle.geo_mesh.proofs.RankSteps.{under-first}
 use Rattle.geo_mesh.proofs.ranks.highest_below.Goals as goal
 
 pub returns-then-highest-most : goal.returns-then-highest-most
 returns-then-highest-most g c =
-    let first : IsFirst (belongs c.args.geom) (links c.args.edges.now).rows c.args.edges.now.consumers.next
-    c.loop-cons.at c.in-Some.cons = c.in-Some.ensures in
-    let here : rank_under (stored c.args.geoms.now) (offers c.args.edges.now).rows
-    (value_at (links c.args.edges.now).rows c.in-Some.cons)
-    ≤ largest (map (stored c.args.geoms.now) (below c.args.edges.now c.args.geom)) =
-    rank_under-most (stored c.args.geoms.now) (offers c.args.edges.now).rows (links c.args.edges.now).rows
-    c.args.geom c.in-Some.cons first.passing in
+    let here = under-first c.args.geoms.now c.args.edges.now c.args.geom c.in-Some.cons c.loop-cons.at
+    c.in-Some.ensures in
     omega (
       arith,
       c.loop-cons.invariant.most,
@@ -27,20 +23,15 @@ returns-then-highest-most g c =
 
 pub loop-cons-preserved : goal.loop-cons-preserved
 loop-cons-preserved g c =
-    let first : IsFirst (belongs c.args.geom) (links c.args.edges.now).rows c.args.edges.now.consumers.next
-    c.loop-cons.at c.in-Some.cons = c.in-Some.ensures in
-    let here : rank_under (stored c.args.geoms.now) (offers c.args.edges.now).rows
-    (value_at (links c.args.edges.now).rows c.in-Some.cons)
-    ≤ largest (map (stored c.args.geoms.now) (below c.args.edges.now c.args.geom)) =
-    rank_under-most (stored c.args.geoms.now) (offers c.args.edges.now).rows (links c.args.edges.now).rows
-    c.args.geom c.in-Some.cons first.passing in
+    let here = under-first c.args.geoms.now c.args.edges.now c.args.geom c.in-Some.cons c.loop-cons.at
+    c.in-Some.ensures in
     record {
       most = omega (arith, c.loop-cons.invariant.most, c.max-highest.ensures, c.rank_below.ensures);
       covers =
           walk-more (belongs c.args.geom) (links c.args.edges.now).rows c.args.edges.now.consumers.next
           c.loop-cons.at c.in-Some.cons
           (λ m. rank_under (stored c.args.geoms.now) (offers c.args.edges.now).rows
-          (value_at (links c.args.edges.now).rows m) ≤ c.max-highest.result) first
+          (value_at (links c.args.edges.now).rows m) ≤ c.max-highest.result) c.in-Some.ensures
           (λ m low there. omega (arith, c.loop-cons.invariant.covers m low there, c.max-highest.ensures))
           (omega (arith, c.max-highest.ensures, c.rank_below.ensures));
     }

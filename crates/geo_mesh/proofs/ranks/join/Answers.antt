@@ -1,9 +1,10 @@
 use Rattle.std.proofs.Common.{◌≡◌, ◌+◌, ◌≤◌, ◌^◌, length, sym, ◌∙◌, arith, rules}
 use Rattle.geo_mesh.specs.Ranks.{kinds, stored, ranked_below}
-use Rattle.geo_mesh.proofs.RankMend.{lifted-enough, lifted-undone, lifted-loops, loops-lifted, lifted-joined}
+use Rattle.geo_mesh.proofs.RankMend.{lifted-enough, lifted-undone, lifted-loops}
 use Rattle.geo_mesh.proofs.RankRows.{kinds-bare}
 use Rattle.geo_mesh.proofs.RankWalk.{walkable-bare}
 use Rattle.geo_mesh.proofs.RankMesh.{stored-bound, stored-unique}
+use Rattle.geo_mesh.proofs.RankSteps.{raised-joinable}
 use Rattle.geo_mesh.proofs.ranks.join.Goals as goal
 
 pub overflow_add-rank : goal.overflow_add-rank
@@ -62,23 +63,14 @@ lower-requires-then-high-clause-enough g c =
     (stored c.raise-high.new.geoms) c.raise-high.ensures.lifted (λ x. omega (arith, c.requires.local x))
 
 pub returns-then-high-clause-refused : goal.returns-then-high-clause-refused
-returns-then-high-clause-refused g c =
-    let asked : c.stored-rank.result + 1 ≡ stored c.args.geoms.now c.args.under + 1 =
-    omega (arith, c.stored-rank.ensures) in
-    let kept : stored c.raise-high.new.geoms c.args.under ≡ stored c.args.geoms.now c.args.under =
-    sym c.stored.ensures ∙ c.if-stored-rank.false ∙ c.stored-rank.ensures in (
-      c.raise-high.new.geoms,
-      c.raise-high.ensures.same,
-      record {
-        apart = λ stands. loops-lifted (ranked_below c.args.edges.now) (stored c.args.geoms.now) c.args.upper
-            (c.stored-rank.result + 1) (stored c.raise-high.new.geoms) c.raise-high.ensures.lifted c.requires.local
-            c.args.under asked (omega (arith, c.raise-high.ensures.raised)) stands kept;
-        local = λ joined graph. lifted-joined (ranked_below c.args.edges.now) (stored c.args.geoms.now)
-            c.args.upper (c.stored-rank.result + 1) (stored c.raise-high.new.geoms) c.raise-high.ensures.lifted
-            c.requires.local c.args.under asked joined graph (omega (arith, c.raise-high.ensures.raised)) kept;
-      },
-      sym c.raise-high.ensures.high ∙ c.if-high.true,
-    )
+returns-then-high-clause-refused g c = (
+  c.raise-high.new.geoms,
+  c.raise-high.ensures.same,
+  raised-joinable c.args.geoms.now c.raise-high.new.geoms c.args.edges.now c.args.upper c.args.under
+      c.stored-rank.ensures c.stored.ensures c.if-stored-rank.false c.requires.local c.raise-high.ensures.lifted
+      c.raise-high.ensures.raised,
+  sym c.raise-high.ensures.high ∙ c.if-high.true,
+)
 
 pub returns-then-high-clause-kept : goal.returns-then-high-clause-kept
 returns-then-high-clause-kept g c =
@@ -90,15 +82,6 @@ returns-then-high-clause-kept g c =
 
 pub returns-clause-joined : goal.returns-clause-joined
 returns-clause-joined g c =
-    let asked : c.stored-rank.result + 1 ≡ stored c.args.geoms.now c.args.under + 1 =
-    omega (arith, c.stored-rank.ensures) in
-    let kept : stored c.raise-high.new.geoms c.args.under ≡ stored c.args.geoms.now c.args.under =
-    sym c.stored.ensures ∙ c.if-stored-rank.false ∙ c.stored-rank.ensures in
-    record {
-      apart = λ stands. loops-lifted (ranked_below c.args.edges.now) (stored c.args.geoms.now) c.args.upper
-          (c.stored-rank.result + 1) (stored c.raise-high.new.geoms) c.raise-high.ensures.lifted c.requires.local
-          c.args.under asked (omega (arith, c.raise-high.ensures.raised)) stands kept;
-      local = λ joined graph. lifted-joined (ranked_below c.args.edges.now) (stored c.args.geoms.now) c.args.upper
-          (c.stored-rank.result + 1) (stored c.raise-high.new.geoms) c.raise-high.ensures.lifted c.requires.local
-          c.args.under asked joined graph (omega (arith, c.raise-high.ensures.raised)) kept;
-    }
+    raised-joinable c.args.geoms.now c.raise-high.new.geoms c.args.edges.now c.args.upper c.args.under
+    c.stored-rank.ensures c.stored.ensures c.if-stored-rank.false c.requires.local c.raise-high.ensures.lifted
+    c.raise-high.ensures.raised

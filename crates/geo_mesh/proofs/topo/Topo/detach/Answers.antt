@@ -1,14 +1,13 @@
-use Rattle.std.proofs.Common.{◌≡◌, ◌≤◌, ◌+◌, false, None, refl, subst, ◌∙◌, ap, arith, rules, sym}
+use Rattle.std.proofs.Common.{◌≡◌, ◌≤◌, false, None, refl, subst, ◌∙◌, ap, arith, rules, sym}
 use Rattle.geo_mesh.specs.Cells.{graph, put_consumer}
 use Rattle.geo_mesh.specs.Index.{detached_index}
 use Rattle.geo_mesh.specs.Graph.{IsOrderly}
-use Rattle.geo_mesh.specs.Mending.{above}
-use Rattle.geo_mesh.specs.Ranks.{stored, owner, ranked_below, is_dev_or_taste}
+use Rattle.geo_mesh.specs.Ranks.{stored, is_dev_or_taste}
 use Rattle.geo_mesh.proofs.MeshLemmas.{mesh-detached}
 use Rattle.geo_mesh.proofs.Orderly.{orderly-detach}
 use Rattle.geo_mesh.proofs.RankFirst.{kin-of}
 use Rattle.geo_mesh.proofs.RankMesh.{view-bare, mesh-few}
-use Rattle.geo_mesh.proofs.RankSwitch.{bound-at, user-stands, off-later, off-enough, off-walkable, off-lowered, off-stays}
+use Rattle.geo_mesh.proofs.RankSwitch.{bound-at, user-stands, above-later, off-enough, off-walkable, off-lowered, off-stays}
 use Rattle.geo_mesh.proofs.ViewLemmas.{detach-view}
 use Rattle.geo_mesh.proofs.WholeParts.{whole-detached}
 use Rattle.geo_mesh.proofs.topo.Topo.detach.Goals.{then-stored, else-stored}
@@ -30,16 +29,14 @@ overflow_add-stored g c =
     let fits : c.stored.result ≤ 4294967295 = omega (arith, c.stored.ensures) in
     search rules
 
+pub lower-requires-clause-later : goal.lower-requires-clause-later
+lower-requires-clause-later g c =
+    above-later c.self.inside.tables.geoms c.self.inside.tables.edges c.self.inside.tables.live c.self.invariant.ranks
+    c.owner-under.result c.number-upper.result c.stored.ensures c.stored-2.ensures c.if-stored.true
+
 pub lower-requires-clause-walkable : goal.lower-requires-clause-walkable
 lower-requires-clause-walkable g c =
-    let just_above : stored c.self.inside.tables.geoms (owner c.self.inside.tables.edges c.in-Some.prov) + 1
-    ≡ stored c.self.inside.tables.geoms c.consumer_mut-cell.result.now.consumer.geom =
-    rw (c.stored.ensures, c.stored-2.ensures, c.owner-under.ensures, c.number-2.ensures, c.number-upper.ensures) at
-    c.if-stored.true in
-    let later : is_dev_or_taste c.consumer_mut-cell.result.now.consumer.geom ≡ false =
-    off-later c.self.inside.tables.geoms c.self.inside.tables.edges c.self.inside.tables.live
-    c.self.invariant.ranks c.args.cons c.in-Some.prov c.consumer_mut-cell.result.now
-    c.consumer_mut-cell.ensures.rising (sym c.consumer_mut-cell.ensures.cell) just_above in
+    let later = subst (λ x. is_dev_or_taste x ≡ false) c.number-upper.ensures (lower-requires-clause-later g c) in
     let indexed =
     (mesh-detached c.self.inside.tables c.self.invariant.tables c.args.cons c.consumer_mut-cell.result.now
     c.consumer_mut-cell.ensures.rising c.consumer_mut-cell.ensures.cell).indexed in
@@ -63,28 +60,9 @@ lower-requires-clause-lives g c =
     c.self.invariant.ranks c.args.cons c.in-Some.prov c.consumer_mut-cell.result.now
     c.consumer_mut-cell.ensures.rising (sym c.consumer_mut-cell.ensures.cell))
 
-pub lower-requires-clause-later : goal.lower-requires-clause-later
-lower-requires-clause-later g c =
-    let just_above : stored c.self.inside.tables.geoms (owner c.self.inside.tables.edges c.in-Some.prov) + 1
-    ≡ stored c.self.inside.tables.geoms c.consumer_mut-cell.result.now.consumer.geom =
-    rw (c.stored.ensures, c.stored-2.ensures, c.owner-under.ensures, c.number-2.ensures, c.number-upper.ensures) at
-    c.if-stored.true in
-    let later : is_dev_or_taste c.consumer_mut-cell.result.now.consumer.geom ≡ false =
-    off-later c.self.inside.tables.geoms c.self.inside.tables.edges c.self.inside.tables.live
-    c.self.invariant.ranks c.args.cons c.in-Some.prov c.consumer_mut-cell.result.now
-    c.consumer_mut-cell.ensures.rising (sym c.consumer_mut-cell.ensures.cell) just_above in
-    rw c.number-upper.ensures later
-
 pub lower-requires-clause-enough : goal.lower-requires-clause-enough
 lower-requires-clause-enough g c =
-    let just_above : stored c.self.inside.tables.geoms (owner c.self.inside.tables.edges c.in-Some.prov) + 1
-    ≡ stored c.self.inside.tables.geoms c.consumer_mut-cell.result.now.consumer.geom =
-    rw (c.stored.ensures, c.stored-2.ensures, c.owner-under.ensures, c.number-2.ensures, c.number-upper.ensures) at
-    c.if-stored.true in
-    let later : is_dev_or_taste c.consumer_mut-cell.result.now.consumer.geom ≡ false =
-    off-later c.self.inside.tables.geoms c.self.inside.tables.edges c.self.inside.tables.live
-    c.self.invariant.ranks c.args.cons c.in-Some.prov c.consumer_mut-cell.result.now
-    c.consumer_mut-cell.ensures.rising (sym c.consumer_mut-cell.ensures.cell) just_above in
+    let later = subst (λ x. is_dev_or_taste x ≡ false) c.number-upper.ensures (lower-requires-clause-later g c) in
     off-enough c.self.inside.tables.geoms c.self.inside.tables.edges c.self.inside.tables.live
     c.self.invariant.ranks c.args.cons c.in-Some.prov c.consumer_mut-cell.result.now
     c.consumer_mut-cell.ensures.rising (sym c.consumer_mut-cell.ensures.cell) c.in-Some.is later
@@ -93,27 +71,11 @@ pub look_again-requires : goal.look_again-requires
 look_again-requires g c =
     elim c.if-stored.branch [
       | then-stored w ↦
-          (let just_above : stored c.self.inside.tables.geoms (owner c.self.inside.tables.edges c.in-Some.prov) + 1
-          ≡ stored c.self.inside.tables.geoms c.consumer_mut-cell.result.now.consumer.geom =
-          rw (
-            c.stored.ensures,
-            c.stored-2.ensures,
-            c.owner-under.ensures,
-            c.number-2.ensures,
-            c.number-upper.ensures,
-          ) at w.if-stored.true in
-          let later : is_dev_or_taste c.consumer_mut-cell.result.now.consumer.geom ≡ false =
-          off-later c.self.inside.tables.geoms c.self.inside.tables.edges c.self.inside.tables.live
-          c.self.invariant.ranks c.args.cons c.in-Some.prov c.consumer_mut-cell.result.now
-          c.consumer_mut-cell.ensures.rising (sym c.consumer_mut-cell.ensures.cell) just_above in
-          let low = subst (λ x. stored w.lower.new.geoms x
-          ≤ above (ranked_below
-          (put_consumer c.self.inside.tables.edges c.args.cons
-          (record c.consumer_mut-cell.result.now {
-            consumer =
-                record c.consumer_mut-cell.result.now.consumer { prov = None };
-          }))) (stored w.lower.new.geoms)
-          x) c.number-upper.ensures w.lower.ensures.low in
+          (let later = subst (λ x. is_dev_or_taste x ≡ false) c.number-upper.ensures
+          (above-later c.self.inside.tables.geoms c.self.inside.tables.edges c.self.inside.tables.live
+          c.self.invariant.ranks c.owner-under.result c.number-upper.result c.stored.ensures c.stored-2.ensures
+          w.if-stored.true) in
+          let low = rw c.number-upper.ensures at w.lower.ensures.low in
           rw (w.self-inside-is, c.owner-under.ensures, c.number-2.ensures, c.detach.ensures, c.number.ensures)
           (whole-detached c.self.inside.tables c.self.invariant c.args.cons c.consumer_mut-cell.result.now
           c.consumer_mut-cell.ensures.rising c.consumer_mut-cell.ensures.cell w.lower.new.geoms w.lower.ensures.same

@@ -1,35 +1,27 @@
-use Rattle.std.proofs.Common.{◌≡◌, ◌-◌, refl, sym, ap, subst, ◌∙◌, arith, IsSome}
+use Rattle.std.proofs.Common.{◌≡◌, ◌-◌, refl, sym, ap, subst, ◌∙◌, IsSome}
 use Rattle.geo_model.specs.Topology.{geom_at}
 use Rattle.geo_mesh.specs.Topo.{Room, IsButForRoom, with_consumer}
 use Rattle.geo_mesh.specs.Cells.{graph, topo_view}
 use Rattle.geo_mesh.proofs.IndexLemmas.{owned_parent}
-use Rattle.geo_mesh.proofs.ViewLemmas.{with_consumer-view, roomier-view}
+use Rattle.geo_mesh.proofs.ViewLemmas.{with_consumer-view, roomier-view, roomier-graph, room-consumers}
 use Rattle.geo_mesh.proofs.WholeParts.{whole-new_consumer}
 use Rattle.geo_mesh.proofs.topo.Topo.new_consumer.Goals as goal
 
 pub returns-in_err-reserve-clause-other_room : goal.returns-in_err-reserve-clause-other_room
 returns-in_err-reserve-clause-other_room g c =
-    let geoms : c.reserve.new.self.geoms.spare ≡ c.self.inside.tables.geoms.spare =
-    omega (arith, c.reserve.ensures.same, c.reserve.ensures.geoms_most) in
-    let providers : c.reserve.new.self.edges.providers.spare ≡ c.self.inside.tables.edges.providers.spare =
-    omega (arith, c.reserve.ensures.same, c.reserve.ensures.providers_most) in
-    rw (← c.self.view_is, c.reserve.ensures.same.live, geoms, providers) refl
+    room-consumers c.self.inside.tables c.reserve.new.self c.self.view_is c.reserve.ensures.same _
+    c.reserve.ensures.geoms_most c.reserve.ensures.providers_most
 
 pub returns-clause-other_room : goal.returns-clause-other_room
 returns-clause-other_room g c =
-    let geoms : c.reserve.new.self.geoms.spare ≡ c.self.inside.tables.geoms.spare =
-    omega (arith, c.reserve.ensures.same, c.reserve.ensures.geoms_most) in
-    let providers : c.reserve.new.self.edges.providers.spare ≡ c.self.inside.tables.edges.providers.spare =
-    omega (arith, c.reserve.ensures.same, c.reserve.ensures.providers_most) in
     subst (λ (r : Room). r ≡ record c.args.self.now.room { consumers = r.consumers })
     (sym (ap (λ v. v.room) c.look_again.ensures.same))
-    (rw (← c.self.view_is, c.reserve.ensures.same.live, geoms, providers) refl)
+    (room-consumers c.self.inside.tables c.reserve.new.self c.self.view_is c.reserve.ensures.same _
+    c.reserve.ensures.geoms_most c.reserve.ensures.providers_most)
 
 pub add_consumer-requires-clause-geom : goal.add_consumer-requires-clause-geom
 add_consumer-requires-clause-geom g c =
-    let graph_is : graph c.reserve.new.self ≡ c.args.self.now.topology =
-    ap (λ v. v.topology) (roomier-view c.self.inside.tables c.reserve.new.self c.reserve.ensures.same)
-    ∙ ap (λ v. v.topology) c.self.view_is in
+    let graph_is = roomier-graph c.self.inside.tables c.reserve.new.self c.self.view_is c.reserve.ensures.same in
     rw c.number.ensures
     (owned_parent (graph c.reserve.new.self) c.reserve.new.self.edges.index
     c.reserve.ensures.whole.tables.indexed c.args.geom
@@ -37,9 +29,7 @@ add_consumer-requires-clause-geom g c =
 
 pub look_again-requires : goal.look_again-requires
 look_again-requires g c =
-    let graph_is : graph c.reserve.new.self ≡ c.args.self.now.topology =
-    ap (λ v. v.topology) (roomier-view c.self.inside.tables c.reserve.new.self c.reserve.ensures.same)
-    ∙ ap (λ v. v.topology) c.self.view_is in
+    let graph_is = roomier-graph c.self.inside.tables c.reserve.new.self c.self.view_is c.reserve.ensures.same in
     rw (c.insert-number.ensures.inserted, c.add_consumer.ensures, c.number.ensures, c.number-2.ensures)
     (whole-new_consumer c.reserve.new.self c.reserve.ensures.whole _ refl refl
     (subst (λ g. IsSome (geom_at g c.args.geom)) (sym graph_is) c.requires)

@@ -1,23 +1,18 @@
-use Rattle.std.proofs.Common.{◌≡◌, refl, arith}
+use Rattle.std.proofs.Common.{refl, arith}
 use Rattle.geo_mesh.specs.Cells.{made_cell}
+use Rattle.geo_mesh.proofs.ViewLemmas.{room-geoms}
 use Rattle.geo_mesh.proofs.WholeParts.{whole-new_geom}
 use Rattle.geo_mesh.proofs.topo.Topo.new_geom.Goals as goal
 
 pub returns-in_err-reserve-clause-other_room : goal.returns-in_err-reserve-clause-other_room
 returns-in_err-reserve-clause-other_room g c =
-    let providers : c.reserve.new.self.edges.providers.spare ≡ c.self.inside.tables.edges.providers.spare =
-    omega (arith, c.reserve.ensures.same, c.reserve.ensures.providers_most) in
-    let consumers : c.reserve.new.self.edges.consumers.spare ≡ c.self.inside.tables.edges.consumers.spare =
-    omega (arith, c.reserve.ensures.same, c.reserve.ensures.consumers_most) in
-    rw (← c.self.view_is, c.reserve.ensures.same.live, providers, consumers) refl
+    room-geoms c.self.inside.tables c.reserve.new.self c.self.view_is c.reserve.ensures.same _
+    c.reserve.ensures.providers_most c.reserve.ensures.consumers_most
 
 pub returns-clause-other_room : goal.returns-clause-other_room
 returns-clause-other_room g c =
-    let providers : c.reserve.new.self.edges.providers.spare ≡ c.self.inside.tables.edges.providers.spare =
-    omega (arith, c.reserve.ensures.same, c.reserve.ensures.providers_most) in
-    let consumers : c.reserve.new.self.edges.consumers.spare ≡ c.self.inside.tables.edges.consumers.spare =
-    omega (arith, c.reserve.ensures.same, c.reserve.ensures.consumers_most) in
-    rw (← c.self.view_is, c.reserve.ensures.same.live, providers, consumers) refl
+    room-geoms c.self.inside.tables c.reserve.new.self c.self.view_is c.reserve.ensures.same _
+    c.reserve.ensures.providers_most c.reserve.ensures.consumers_most
 
 pub invariant_of-self-2 : goal.invariant_of-self-2
 invariant_of-self-2 g c =

@@ -1,4 +1,4 @@
-use Rattle.std.proofs.Common.{◌≡◌, ℕ, ◌-◌, List, false, find, map, None, refl, sym, ap, subst, ◌∙◌, arith, IsSome}
+use Rattle.std.proofs.Common.{◌≡◌, ℕ, ◌-◌, List, false, find, map, None, refl, sym, ap, subst, ◌∙◌, IsSome}
 use Rattle.geo_model.specs.Topology.{geom_at, is_name_taken, is_withering}
 use Rattle.geo_slots.specs.Slots.{IsRising}
 use Rattle.geo_mesh.specs.declared.records.ProvCell.{ProvCell}
@@ -6,7 +6,7 @@ use Rattle.geo_mesh.specs.Topo.{with_provider, no_counts, no_scratch}
 use Rattle.geo_mesh.specs.Cells.{graph, topo_view, provider_row}
 use Rattle.geo_mesh.specs.Names.{AddsName, is_sound_named}
 use Rattle.geo_mesh.proofs.IndexLemmas.{offered_parent}
-use Rattle.geo_mesh.proofs.ViewLemmas.{with_provider-view, roomier-view, is_withering-rows}
+use Rattle.geo_mesh.proofs.ViewLemmas.{with_provider-view, roomier-view, roomier-graph, room-providers, is_withering-rows}
 use Rattle.geo_laws_graph.proofs.Numbered.{find-none}
 use Rattle.geo_mesh.proofs.RankFirst.{geoms-rise}
 use Rattle.geo_mesh.proofs.GoingLook.{settled}
@@ -31,25 +31,17 @@ made_provider geom name size sector = record {
 
 pub returns-in_err-reserve-clause-other_room : goal.returns-in_err-reserve-clause-other_room
 returns-in_err-reserve-clause-other_room g c =
-    let geoms : c.reserve.new.self.geoms.spare ≡ c.self.inside.tables.geoms.spare =
-    omega (arith, c.reserve.ensures.same, c.reserve.ensures.geoms_most) in
-    let consumers : c.reserve.new.self.edges.consumers.spare ≡ c.self.inside.tables.edges.consumers.spare =
-    omega (arith, c.reserve.ensures.same, c.reserve.ensures.consumers_most) in
-    rw (← c.self.view_is, c.reserve.ensures.same.live, geoms, consumers) refl
+    room-providers c.self.inside.tables c.reserve.new.self c.self.view_is c.reserve.ensures.same _
+    c.reserve.ensures.geoms_most c.reserve.ensures.consumers_most
 
 pub returns-clause-other_room : goal.returns-clause-other_room
 returns-clause-other_room g c =
-    let geoms : c.reserve.new.self.geoms.spare ≡ c.self.inside.tables.geoms.spare =
-    omega (arith, c.reserve.ensures.same, c.reserve.ensures.geoms_most) in
-    let consumers : c.reserve.new.self.edges.consumers.spare ≡ c.self.inside.tables.edges.consumers.spare =
-    omega (arith, c.reserve.ensures.same, c.reserve.ensures.consumers_most) in
-    rw (← c.self.view_is, c.reserve.ensures.same.live, geoms, consumers) refl
+    room-providers c.self.inside.tables c.reserve.new.self c.self.view_is c.reserve.ensures.same _
+    c.reserve.ensures.geoms_most c.reserve.ensures.consumers_most
 
 pub add_provider-requires-clause-geom : goal.add_provider-requires-clause-geom
 add_provider-requires-clause-geom g c =
-    let graph_is : graph c.reserve.new.self ≡ c.args.self.now.topology =
-    ap (λ v. v.topology) (roomier-view c.self.inside.tables c.reserve.new.self c.reserve.ensures.same)
-    ∙ ap (λ v. v.topology) c.self.view_is in
+    let graph_is = roomier-graph c.self.inside.tables c.reserve.new.self c.self.view_is c.reserve.ensures.same in
     rw c.number.ensures
     (offered_parent (graph c.reserve.new.self) c.reserve.new.self.edges.index
     c.reserve.ensures.whole.tables.indexed c.args.geom
@@ -57,9 +49,7 @@ add_provider-requires-clause-geom g c =
 
 pub invariant_of-self-2 : goal.invariant_of-self-2
 invariant_of-self-2 g c =
-    let graph_is : graph c.reserve.new.self ≡ c.args.self.now.topology =
-    ap (λ v. v.topology) (roomier-view c.self.inside.tables c.reserve.new.self c.reserve.ensures.same)
-    ∙ ap (λ v. v.topology) c.self.view_is in
+    let graph_is = roomier-graph c.self.inside.tables c.reserve.new.self c.self.view_is c.reserve.ensures.same in
     let free : find (is_sound_named c.args.name) (map provider_row c.reserve.new.self.edges.providers.rows) ≡ None =
     find-none (is_sound_named c.args.name) (map provider_row c.reserve.new.self.edges.providers.rows)
     (subst (λ g. is_name_taken g c.args.name ≡ false) (sym graph_is) c.requires.free) in
