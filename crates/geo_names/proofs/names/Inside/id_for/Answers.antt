@@ -9,11 +9,7 @@ returns-clause-inside c =
     let updates =
     on_ok c.insert.result (c.insert.ensures.succeeds (omega (arith, c.requires.room))) c.insert.ensures.updates in
     let none : id_of c.args.self.now c.args.name.now ≡ None = sym c.in_default.ensures.value in
-    inside-opened c.args.self.now (record {
-      ids = c.insert.new.self;
-      texts = c.insert-id.new.self;
-      alike = c.add_parent.new.self;
-    }) c.requires.inside c.args.name.now none c.insert-id.ensures.rising
+    inside-opened c.args.self.now _ c.requires.inside c.args.name.now none c.insert-id.ensures.rising
     c.insert-id.ensures.inserted
     (ap (λ v. v.parents) c.add_parent.ensures.added) (ap (λ v. v.next_parent) c.add_parent.ensures.added)
     (ap (λ v. v.children) c.add_parent.ensures.added)
