@@ -322,6 +322,25 @@ module _ {C : Type 0} (t : TopoView C) (sound : IsSoundGraph t.topology) (counte
         ∙ ap (λ (v : TopoView C). risen (granted_by v) v.topology
         (with_grant (granted_by v) t.topology.next_consumer add) v.topology) attached
 
+    -- it was granted, and rises were noted
+    module _ (quiet : IsQuiet t) (q : Queued) (k : TopoView C) (granted : k ≡ granted_view m cons add)
+        (counted_then : IsCounted k) (rose : noted k.risen
+        ≡ risen (granted_by m) m.topology (with_grant (granted_by m) cons add) m.topology) where
+      -- there is room for what is announced
+      pub comer_room : length t.topology.providers ≤ q.spare → notes k.risen ≤ q.spare
+      comer_room =
+          come_room t sound counted p m.room add quiet q k (comer_granted k granted) counted_then
+          (comer_rose (noted k.risen) rose)
+
+      -- once that is announced, it has come
+      pub comer_came : (new : TopoView C) (queue : Queued)
+          → ((G : ℕ → Counts) → AreStored G k → queued new queue ≡ announce_risen G (noted k.risen) (queued k q))
+          → RestStays (without_rises k) q new queue → queue.spare + notes k.risen ≡ q.spare
+          → CountsStay (without_rises k) new → HasCome t q p add new queue
+      comer_came =
+          has_come t sound counted p m.room add quiet q k (comer_granted k granted) counted_then
+          (comer_rose (noted k.risen) rose)
+
 -- A consumer that goes
 
 module _ {C : Type 0} (t : TopoView C) (counted : IsCounted t) (c : ℕ) (holder : IsHolder t.topology c) where

@@ -133,12 +133,24 @@ module _ (s : State) (kept : Holds s) (firm : IsFirm s) where
             v h cons kept firm.1 there its.2.0 its.2.1 (goer-of s.topo s.queue cons u q gone)
             (gone-settled s.topo s.queue cons u q gone kept.room) by_number
 
-      -- a reap
-      module _ (is : v ≡ record s.handles {
-        handles = released hs cons;
-        ready = with_value s.handles.ready id false;
-        room = v.room;
-      }) where
+      -- a reap: the handle let go of its consumer, and is to be reaped no more
+      module _ (mid : HandlesView) (let_go : mid ≡ record s.handles { handles = released hs cons; room = mid.room })
+          (set : v ≡ record mid { ready = with_value mid.ready id false }) where
+        -- the handles then
+        is : v ≡ record s.handles {
+          handles = released hs cons;
+          ready = with_value s.handles.ready id false;
+          room = v.room;
+        }
+        is =
+            set
+            ∙ ap (λ (x : HandlesView). record x { ready = with_value x.ready id false }) let_go
+            ∙ ap (λ r. record s.handles {
+              handles = released hs cons;
+              ready = with_value s.handles.ready id false;
+              room = r;
+            }) (sym (ap (λ (x : HandlesView). x.room) set))
+
         pub reap-made : IfSome (handle_at hs id) (λ h.
             (actors : List (List LineCommand)) (log : List Entry)
             → world actors log (record s { topo = u; queue = q; handles = v }) ≡ reap (world actors log s) h)

@@ -3,8 +3,7 @@ use Rattle.geo_opens.proofs.Stepping.{close-found, close-told, close-busy, close
 use Rattle.geo_opens.proofs.closes.close.Goals as goal
 
 pub returns-then-is_out-clause-made : goal.returns-then-is_out-clause-made
-returns-then-is_out-clause-made g c =
-    λ log actors.
+returns-then-is_out-clause-made g c log actors =
     let f = close-found c.args.state.now c.requires.kept c.requires.firm c.args.line c.args.actor c.args.name.now
     c.by_name.result c.in-Some.id c.by_name.ensures.number c.by_name.ensures.handle c.in-Some.is in
     close-busy c.args.state.now c.requires.kept c.requires.firm c.args.line c.args.actor c.args.name.now c.in-Some.id
@@ -15,8 +14,7 @@ returns-then-is_out-clause-made g c =
     c.refused-then-is_out.result c.refused-then-is_out.ensures actors log
 
 pub returns-clause-made : goal.returns-clause-made
-returns-clause-made g c =
-    λ log actors.
+returns-clause-made g c log actors =
     let f = close-found c.args.state.now c.requires.kept c.requires.firm c.args.line c.args.actor c.args.name.now
     c.by_name.result c.in-Some.id c.by_name.ensures.number c.by_name.ensures.handle c.in-Some.is in
     close-done c.args.state.now c.requires.kept c.requires.firm c.args.line c.args.actor c.args.name.now c.in-Some.id

@@ -1,10 +1,9 @@
 use Rattle.std.proofs.Common.{sym, ◌∙◌, arith, subst}
 use Rattle.geo_life.specs.Life.{IsDevMade}
 use Rattle.geo_mesh.specs.Topo.{TopoView}
-use Rattle.geo_access.specs.Access.{noted}
 use Rattle.geo_laws_graph.proofs.Members.{has}
 use Rattle.geo_model.specs.Topology.{provider_at}
-use Rattle.geo_opens.proofs.Holding.{comer_counted, comer_quiet, comer_placed, comer_holder, comer_nothing, comer_below, comer_allowed, comer_granted, comer_rose, come_room, has_come}
+use Rattle.geo_opens.proofs.Holding.{comer_counted, comer_holder, comer_nothing, comer_below, comer_allowed, comer_room, comer_came}
 use Rattle.geo_opens.proofs.holders.take_in.Goals as goal
 
 pub grant-requires-clause-counted : goal.grant-requires-clause-counted
@@ -32,27 +31,18 @@ unreachable-requires g c =
 
 pub announce_risen-requires-clause-room : goal.announce_risen-requires-clause-room
 announce_risen-requires-clause-room g c =
-    come_room c.args.topo.now c.in_ok-cons.ensures.sound c.requires.counted c.args.prov c.attach_new.new.topo.room
-    c.args.add c.requires.quiet c.args.queue.now c.grant.new.topo
-    (comer_granted c.args.topo.now c.in_ok-cons.ensures.sound c.requires.counted c.args.prov c.attach_new.new.topo
-    c.in_ok-cons.ensures.attached c.in_ok-cons.cons c.in_ok-cons.ensures.number c.args.add c.grant.new.topo
-    c.in-Ok.ensures.granted) c.in-Ok.ensures.counted
-    (comer_rose c.args.topo.now c.in_ok-cons.ensures.sound c.requires.counted c.args.prov c.attach_new.new.topo
-    c.in_ok-cons.ensures.attached c.in_ok-cons.cons c.in_ok-cons.ensures.number c.args.add
-    (noted c.grant.new.topo.risen) c.in-Ok.ensures.risen) c.requires.room
+    comer_room c.args.topo.now c.in_ok-cons.ensures.sound c.requires.counted c.args.prov c.attach_new.new.topo
+    c.in_ok-cons.ensures.attached c.in_ok-cons.cons c.in_ok-cons.ensures.number c.args.add c.requires.quiet
+    c.args.queue.now c.grant.new.topo c.in-Ok.ensures.granted c.in-Ok.ensures.counted c.in-Ok.ensures.risen
+    c.requires.room
 
 pub returns-clause-came : goal.returns-clause-came
 returns-clause-came g c =
-    has_come c.args.topo.now c.in_ok-cons.ensures.sound c.requires.counted c.args.prov c.attach_new.new.topo.room
-    c.args.add c.requires.quiet c.args.queue.now c.grant.new.topo
-    (comer_granted c.args.topo.now c.in_ok-cons.ensures.sound c.requires.counted c.args.prov c.attach_new.new.topo
-    c.in_ok-cons.ensures.attached c.in_ok-cons.cons c.in_ok-cons.ensures.number c.args.add c.grant.new.topo
-    c.in-Ok.ensures.granted) c.in-Ok.ensures.counted
-    (comer_rose c.args.topo.now c.in_ok-cons.ensures.sound c.requires.counted c.args.prov c.attach_new.new.topo
-    c.in_ok-cons.ensures.attached c.in_ok-cons.cons c.in_ok-cons.ensures.number c.args.add
-    (noted c.grant.new.topo.risen) c.in-Ok.ensures.risen) c.announce_risen.new.topo c.announce_risen.new.queue
-    c.announce_risen.ensures.announced c.announce_risen.ensures.rest c.announce_risen.ensures.room
-    c.announce_risen.ensures.kept
+    comer_came c.args.topo.now c.in_ok-cons.ensures.sound c.requires.counted c.args.prov c.attach_new.new.topo
+    c.in_ok-cons.ensures.attached c.in_ok-cons.cons c.in_ok-cons.ensures.number c.args.add c.requires.quiet
+    c.args.queue.now c.grant.new.topo c.in-Ok.ensures.granted c.in-Ok.ensures.counted c.in-Ok.ensures.risen
+    c.announce_risen.new.topo c.announce_risen.new.queue c.announce_risen.ensures.announced
+    c.announce_risen.ensures.rest c.announce_risen.ensures.room c.announce_risen.ensures.kept
 
 pub returns-clause-bound : goal.returns-clause-bound
 returns-clause-bound g c =

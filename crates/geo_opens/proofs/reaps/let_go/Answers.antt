@@ -1,7 +1,6 @@
-use Rattle.std.specs.Prelude.{◌≡◌, false, IsSome}
-use Rattle.std.proofs.Common.{sym, ap, ◌∙◌, subst}
-use Rattle.geo_slots.specs.Slots.{with_value}
-use Rattle.geo_handles.specs.Handles.{HandlesView, handle_at, released}
+use Rattle.std.specs.Prelude.{IsSome}
+use Rattle.std.proofs.Common.{sym, subst}
+use Rattle.geo_handles.specs.Handles.{HandlesView, handle_at}
 use Rattle.geo_opens.proofs.Going.{written-room}
 use Rattle.geo_opens.proofs.Stepping.{step-placed, step-holder, step-idle, step-there, reap-made, reap-kept}
 use Rattle.geo_state.proofs.KeptLemmas.{kept_with_handles}
@@ -29,40 +28,12 @@ give_back-requires-clause-room g c = written-room c.args.state.now c.requires.ke
 
 pub returns-clause-made : goal.returns-clause-made
 returns-clause-made g c =
-    let old : HandlesView = c.args.state.now.handles in
-    let mid : HandlesView = c.release.new.self in
-    let new : HandlesView = c.set_ready.new.self in
-    let is : new ≡ record old {
-      handles = released old.handles c.args.cons;
-      ready = with_value old.ready c.args.id false;
-      room = new.room;
-    } =
-    c.set_ready.ensures
-    ∙ ap (λ (v : HandlesView). record v { ready = with_value v.ready c.args.id false }) c.release.ensures.released
-    ∙ ap (λ r. record old {
-      handles = released old.handles c.args.cons;
-      ready = with_value old.ready c.args.id false;
-      room = r;
-    }) (sym (ap (λ (v : HandlesView). v.room) c.set_ready.ensures)) in
     reap-made c.args.state.now c.requires.kept c.requires.firm c.args.id c.args.cons c.requires.idle
-    c.look.ensures.sound c.give_back.new.topo c.give_back.new.queue new c.give_back.ensures.gone is
+    c.look.ensures.sound c.give_back.new.topo c.give_back.new.queue c.set_ready.new.self c.give_back.ensures.gone
+    c.release.new.self c.release.ensures.released c.set_ready.ensures
 
 pub returns-clause-kept : goal.returns-clause-kept
 returns-clause-kept g c =
-    let old : HandlesView = c.args.state.now.handles in
-    let mid : HandlesView = c.release.new.self in
-    let new : HandlesView = c.set_ready.new.self in
-    let is : new ≡ record old {
-      handles = released old.handles c.args.cons;
-      ready = with_value old.ready c.args.id false;
-      room = new.room;
-    } =
-    c.set_ready.ensures
-    ∙ ap (λ (v : HandlesView). record v { ready = with_value v.ready c.args.id false }) c.release.ensures.released
-    ∙ ap (λ r. record old {
-      handles = released old.handles c.args.cons;
-      ready = with_value old.ready c.args.id false;
-      room = r;
-    }) (sym (ap (λ (v : HandlesView). v.room) c.set_ready.ensures)) in
     reap-kept c.args.state.now c.requires.kept c.requires.firm c.args.id c.args.cons c.requires.idle
-    c.look.ensures.sound c.give_back.new.topo c.give_back.new.queue new c.give_back.ensures.gone is kept_with_handles
+    c.look.ensures.sound c.give_back.new.topo c.give_back.new.queue c.set_ready.new.self c.give_back.ensures.gone
+    c.release.new.self c.release.ensures.released c.set_ready.ensures kept_with_handles
