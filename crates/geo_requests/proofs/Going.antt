@@ -10,7 +10,7 @@ use Rattle.geo_model.specs.declared.step.Entry.{Entry}
 use Rattle.geo_model.specs.declared.step.Outcome.{Outcome}
 use Rattle.geo_model.specs.Topology.{Topology, note_started}
 use Rattle.geo_model.specs.World.{World, BioOf, Config, bio_at, is_down}
-use Rattle.geo_model.specs.Bios.{PieceTarget, Way, Splits, Passes, way_of}
+use Rattle.geo_model.specs.Bios.{PieceTarget, Way, Fails, Splits, Passes, way_of}
 use Rattle.geo_model.specs.Step.{start_of}
 use Rattle.geo_bio.specs.declared.bio.Held.{Held}
 use Rattle.geo_bio.specs.BioTable.{bio_among, has_phase}
@@ -171,3 +171,33 @@ module _ (s : State) (b : ℕ) (A : BioOf Held → Type 0) (K : Type 0) where
           → IfSome o (λ x. A x × K) → K
       by None never facts = absurd cc
       by (Some x) down facts = facts.1
+
+-- A way on which a start is counted
+
+module _ (s : State) (b geom : ℕ) (facts : IfSome (bio_among s.traffic.bios b)
+    (λ x. (way_of s.topo.topology x ≡ Fails geom) × CanCount s.topo.topology geom)) where
+  -- a request fails at the geom
+  pub fails_there : IfSome (bio_among s.traffic.bios b) (λ x. way_of s.topo.topology x ≡ Fails geom)
+  fails_there =
+      first_fact s b (λ (x : BioOf Held). way_of s.topo.topology x ≡ Fails geom) (CanCount s.topo.topology geom) facts
+
+  -- and can be counted there
+  pub fails_counted : IsTrue (has_phase is_down s.traffic.bios b) → CanCount s.topo.topology geom
+  fails_counted down =
+      second_fact s b (λ (x : BioOf Held). way_of s.topo.topology x ≡ Fails geom) (CanCount s.topo.topology geom) down
+      facts
+
+module _ (s : State) (b : ℕ) (cut : Cut) (geom : ℕ) (facts : IfSome (bio_among s.traffic.bios b)
+    (λ x. GoesBy s.topo.topology cut (Passes geom) (way_of s.topo.topology x) × CanCount s.topo.topology geom)) where
+  -- a request passes the geom in pieces
+  pub passes_there : IfSome (bio_among s.traffic.bios b)
+      (λ x. GoesBy s.topo.topology cut (Passes geom) (way_of s.topo.topology x))
+  passes_there =
+      first_fact s b (λ (x : BioOf Held). GoesBy s.topo.topology cut (Passes geom) (way_of s.topo.topology x))
+      (CanCount s.topo.topology geom) facts
+
+  -- and can be counted there
+  pub passes_counted : IsTrue (has_phase is_down s.traffic.bios b) → CanCount s.topo.topology geom
+  passes_counted down =
+      second_fact s b (λ (x : BioOf Held). GoesBy s.topo.topology cut (Passes geom) (way_of s.topo.topology x))
+      (CanCount s.topo.topology geom) down facts

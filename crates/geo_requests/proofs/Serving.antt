@@ -380,3 +380,36 @@ deliver_bios s new b place errno got log is at failed =
 pub some_disk : (o : Option ℕ) → None ≡ o → IsSome o → ⊥
 some_disk None is some = cc
 some_disk (Some n) is some = cc
+
+-- What a Deliver leaves, by the calls
+
+module _ (s new : State) (firm : IsFirm s) (b seat disk place : ℕ) (errno : Option Errno) (got : DeviceResult)
+    (log : List Entry) (none : IsAgainst (λ v. deliver_of v seat got (bio_at v b)) s None)
+    (goes : option_and_then (λ (x : BioOf Held). disk_at s.topo.topology x.target) (bio_among s.traffic.bios b)
+    ≡ Some disk) (logged : HasBytes log s) (only : OnlyBios s new)
+    (is : new.traffic ≡ record s.traffic { bios = change_number b (delivered place errno) s.traffic.bios })
+    (at_end : place ≡ length log) (failed : errno ≡ errno_of got) where
+  -- the bio that is delivered
+  delivering : DeliversAt s b disk got
+  delivering = delivers_at s firm b seat got none disk goes
+
+  -- the bios then
+  bios_are : new.traffic.bios ≡ change_number b (delivered (length log) (errno_of got)) s.traffic.bios
+  bios_are = deliver_bios s new b place errno got log is at_end failed
+
+  -- no number was given out
+  next_stays : new.traffic.next ≡ s.traffic.next
+  next_stays = ap (λ (v : BioTableView). v.next) is
+
+  -- the step is the world's
+  pub delivery_made : (e : Entry) → e.step ≡ steps.Deliver b got → (actors : List (List LineCommand))
+      → deliver_of (world actors log s) seat got (bio_at (world actors log s) b)
+      ≡ Ok (world actors (log ++ e ∷ []) new, outcomes.Delivered)
+  delivery_made e step actors =
+      makes_delivered s new b seat delivering.bio delivering.found got log logged only bios_are next_stays firm e step
+      delivering.fits none actors
+
+  -- and the bytes that bios name are in the log
+  pub delivery_logged : (e : Entry) → HasBytes (log ++ e ∷ []) new
+  delivery_logged =
+      logged_delivered s new b seat delivering.bio delivering.found got log logged only bios_are next_stays

@@ -1,9 +1,5 @@
-use Rattle.std.proofs.Common.{◌≡◌}
-use Rattle.geo_model.specs.World.{BioOf}
-use Rattle.geo_model.specs.Bios.{Bounces, Fails, Sends, Splits, Passes, way_of}
-use Rattle.geo_bio.specs.declared.bio.Held.{Held}
-use Rattle.geo_requests.specs.Ways.{CanCount, GoesBy}
-use Rattle.geo_requests.proofs.Going.{went_at_once, went_by, split_well, pass_well, first_fact, second_fact}
+use Rattle.geo_model.specs.Bios.{Bounces, Fails, Sends, Splits, Passes}
+use Rattle.geo_requests.proofs.Going.{went_at_once, went_by, split_well, pass_well, fails_there, fails_counted, passes_there, passes_counted}
 use Rattle.geo_requests.proofs.starts.go.Goals as goal
 
 pub returns-in-Bounces-clause-started : goal.returns-in-Bounces-clause-started
@@ -13,17 +9,12 @@ returns-in-Bounces-clause-started c =
 
 pub fail_at-requires-clause-count : goal.fail_at-requires-clause-count
 fail_at-requires-clause-count c =
-    second_fact c.args.state.now c.args.bio
-    (λ (x : BioOf Held). way_of c.args.state.now.topo.topology x ≡ Fails c.in-Fails.geom)
-    (CanCount c.args.state.now.topo.topology c.in-Fails.geom) c.requires.down
-    (rw c.in-Fails.is at c.requires.way)
+    fails_counted c.args.state.now c.args.bio c.in-Fails.geom (rw c.in-Fails.is at c.requires.way) c.requires.down
 
 pub returns-in-Fails-clause-started : goal.returns-in-Fails-clause-started
 returns-in-Fails-clause-started c =
     went_at_once c.args.state.now c.fail_at.new.state c.args.bio (Fails c.in-Fails.geom) c.fail_at.result
-    (first_fact c.args.state.now c.args.bio
-    (λ (x : BioOf Held). way_of c.args.state.now.topo.topology x ≡ Fails c.in-Fails.geom)
-    (CanCount c.args.state.now.topo.topology c.in-Fails.geom) (rw c.in-Fails.is at c.requires.way))
+    (fails_there c.args.state.now c.args.bio c.in-Fails.geom (rw c.in-Fails.is at c.requires.way))
     c.fail_at.ensures.started
 
 pub returns-in-Sends-clause-started : goal.returns-in-Sends-clause-started
@@ -35,13 +26,7 @@ pub split_by-requires : goal.split_by-requires
 split_by-requires c =
     let well = split_well c.args.state.now c.requires.firm c.args.bio c.requires.down c.in-Splits.cut
     (rw c.in-Splits.is at c.requires.way) in
-    record {
-      kept = c.requires.kept;
-      down = c.requires.down;
-      some = well.some;
-      same_number = well.same_number;
-      through = well.through;
-    }
+    assumption (c.requires, well)
 
 pub returns-in-Splits-clause-started : goal.returns-in-Splits-clause-started
 returns-in-Splits-clause-started c =
@@ -50,30 +35,16 @@ returns-in-Splits-clause-started c =
 
 pub pass_by-requires : goal.pass_by-requires
 pass_by-requires c =
-    let goes = first_fact c.args.state.now c.args.bio
-    (λ (x : BioOf Held). GoesBy c.args.state.now.topo.topology c.in-Passes.cut (Passes c.in-Passes.geom)
-    (way_of c.args.state.now.topo.topology x))
-    (CanCount c.args.state.now.topo.topology c.in-Passes.geom) (rw c.in-Passes.is at c.requires.way) in
+    let goes = passes_there c.args.state.now c.args.bio c.in-Passes.cut c.in-Passes.geom
+    (rw c.in-Passes.is at c.requires.way) in
+    let count = passes_counted c.args.state.now c.args.bio c.in-Passes.cut c.in-Passes.geom
+    (rw c.in-Passes.is at c.requires.way) c.requires.down in
     let well = pass_well c.args.state.now c.requires.firm c.args.bio c.requires.down c.in-Passes.cut c.in-Passes.geom
     goes in
-    record {
-      kept = c.requires.kept;
-      down = c.requires.down;
-      count = second_fact c.args.state.now c.args.bio
-          (λ (x : BioOf Held). GoesBy c.args.state.now.topo.topology c.in-Passes.cut (Passes c.in-Passes.geom)
-          (way_of c.args.state.now.topo.topology x))
-          (CanCount c.args.state.now.topo.topology c.in-Passes.geom) c.requires.down
-          (rw c.in-Passes.is at c.requires.way);
-      some = well.some;
-      same_number = well.same_number;
-      through = well.through;
-    }
+    assumption (c.requires, count, well)
 
 pub returns-in-Passes-clause-started : goal.returns-in-Passes-clause-started
 returns-in-Passes-clause-started c =
     went_by c.args.state.now c.pass_by.new.state c.args.bio c.in-Passes.cut (Passes c.in-Passes.geom) c.pass_by.result
-    (first_fact c.args.state.now c.args.bio
-    (λ (x : BioOf Held). GoesBy c.args.state.now.topo.topology c.in-Passes.cut (Passes c.in-Passes.geom)
-    (way_of c.args.state.now.topo.topology x))
-    (CanCount c.args.state.now.topo.topology c.in-Passes.geom) (rw c.in-Passes.is at c.requires.way))
+    (passes_there c.args.state.now c.args.bio c.in-Passes.cut c.in-Passes.geom (rw c.in-Passes.is at c.requires.way))
     c.pass_by.ensures.started

@@ -1,5 +1,5 @@
-use Rattle.std.proofs.Common.{◌≡◌, ◌∙◌, sym, subst, None, false, IfOk}
-use Rattle.geo_model.specs.Topology.{is_errored, provider_at}
+use Rattle.std.proofs.Common.{◌≡◌, ◌∙◌, sym, subst, None, IfOk}
+use Rattle.geo_model.specs.Topology.{provider_at}
 use Rattle.geo_model.specs.Bios.{Way}
 use Rattle.geo_bio.specs.Rows.{as_bio}
 use Rattle.geo_mesh.specs.Cells.{geom_seen, provider_seen}
@@ -30,17 +30,15 @@ way_at-requires-clause-cut c no_disk moves =
 pub returns-in-Some-geom : goal.returns-in-Some-geom
 returns-in-Some-geom c =
     let t = c.args.topo.now.topology in
-    let fine : is_errored t c.args.bio.now.to ≡ false =
-    errored_found t c.provider.ensures.sound.orderly.order c.args.bio.now.to _ c.in-Some.ensures.provider
-    ∙ c.if-prov.false in
     subst (λ (way : Way). IfOk c.way_at.result (λ own. IsModelWay t own way))
-    (sym (way_there t (as_bio 0 c.args.bio.now) _ _ fine c.in-Some.ensures.provider c.in-Some-geom.ensures.geom))
+    (sym (way_there t (as_bio 0 c.args.bio.now) _ _
+    (errored_found t c.provider.ensures.sound.orderly.order c.args.bio.now.to _ c.in-Some.ensures.provider
+    ∙ c.if-prov.false) c.in-Some.ensures.provider c.in-Some-geom.ensures.geom))
     c.way_at.ensures
 
 pub returns-in-None : goal.returns-in-None
 returns-in-None c =
     let t = c.args.topo.now.topology in
-    let fine : is_errored t c.args.bio.now.to ≡ false =
-    errored_found t c.provider.ensures.sound.orderly.order c.args.bio.now.to _ c.in-Some.ensures.provider
-    ∙ c.if-prov.false in
-    way_bare t (as_bio 0 c.args.bio.now) _ fine c.in-Some.ensures.provider c.in-None.ensures.geom
+    way_bare t (as_bio 0 c.args.bio.now) _
+    (errored_found t c.provider.ensures.sound.orderly.order c.args.bio.now.to _ c.in-Some.ensures.provider
+    ∙ c.if-prov.false) c.in-Some.ensures.provider c.in-None.ensures.geom
