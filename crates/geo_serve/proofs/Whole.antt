@@ -18,7 +18,7 @@ are_sectors sector count first n bytes some inside is = record {
 }
 
 -- a room that was cut to some sectors has their bytes
-pub cut_length : (count sector size : ℕ) (room cut lent : List ℕ) → lent ≡ cut → cut ≡ take (count * size) room
-    → size ≡ sector → count * sector ≤ length room → length lent ≡ count * sector
-cut_length count sector size room cut lent is cuts same short =
+pub cut_length : (count : ℕ) (room : List ℕ) {sector size : ℕ} {cut lent : List ℕ} → lent ≡ cut
+    → cut ≡ take (count * size) room → size ≡ sector → count * sector ≤ length room → length lent ≡ count * sector
+cut_length count room {sector = sector} is cuts same short =
     ap length (is ∙ cuts ∙ ap (λ s. take (count * s) room) same) ∙ length-take-le (count * sector) room short

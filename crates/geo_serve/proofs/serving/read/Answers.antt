@@ -1,4 +1,4 @@
-use Rattle.std.proofs.Common.{◌≡◌, ℕ, ◌*◌, ◌/◌, ◌≤◌, length, arith, rules, ◌∙◌, ap}
+use Rattle.std.proofs.Common.{◌≡◌, ℕ, ◌*◌, ◌/◌, length, arith, rules, ◌∙◌, ap}
 use Rattle.geo_disk.proofs.SectorLemmas.{written_over-all}
 use Rattle.geo_disk.specs.Drive.{view_by}
 use Rattle.geo_base.specs.Written.{written_over}
@@ -8,26 +8,21 @@ use Rattle.geo_serve.proofs.serving.read.Goals as goal
 
 pub read-requires : goal.read-requires
 read-requires g c =
-    let sector : ℕ = (view_by g.D.Disk.view c.args.disk.now).sector in
-    let short : c.args.request.now.count * sector ≤ length c.args.room =
-    c.requires.room (ap is_read c.requires.cmd) in
-    are_sectors sector (view_by g.D.Disk.view c.args.disk.now).count _ c.args.request.now.count
-    (length c.bytes_mut.result.now) c.requires.can.some_size (omega (arith, c.requires.can.inside))
-    (cut_length c.args.request.now.count sector c.sector_size.result c.args.room c.cut.new.self c.bytes_mut.result.now
-    c.bytes_mut.ensures.value c.cut.ensures c.sector_size.ensures short)
+    let lent = cut_length c.args.request.now.count c.args.room c.bytes_mut.ensures.value c.cut.ensures
+    c.sector_size.ensures (c.requires.room (ap is_read c.requires.cmd)) in
+    are_sectors (view_by g.D.Disk.view c.args.disk.now).sector (view_by g.D.Disk.view c.args.disk.now).count _
+    c.args.request.now.count (length c.bytes_mut.result.now) c.requires.can.some_size
+    (omega (arith, c.requires.can.inside)) lent
 
 pub returns-in-Ok : goal.returns-in-Ok
 returns-in-Ok g c =
-    let sector : ℕ = (view_by g.D.Disk.view c.args.disk.now).sector in
-    let short : c.args.request.now.count * sector ≤ length c.args.room =
-    c.requires.room (ap is_read c.requires.cmd) in
-    let lent : length c.bytes_mut.result.now ≡ c.args.request.now.count * sector =
-    cut_length c.args.request.now.count sector c.sector_size.result c.args.room c.cut.new.self c.bytes_mut.result.now
-    c.bytes_mut.ensures.value c.cut.ensures c.sector_size.ensures short in
+    let lent = cut_length c.args.request.now.count c.args.room c.bytes_mut.ensures.value c.cut.ensures
+    c.sector_size.ensures (c.requires.room (ap is_read c.requires.cmd)) in
     let long : length c.read.new.out ≡ length c.cut.new.self =
     c.read.auto.out ∙ ap length c.bytes_mut.ensures.value in
     let all : written_over c.cut.new.self c.read.new.out ≡ c.read.new.out =
     written_over-all c.cut.new.self c.read.new.out long in
+    let sector : ℕ = (view_by g.D.Disk.view c.args.disk.now).sector in
     let bytes : length c.read.new.out ≡ c.args.request.now.count * sector = c.read.auto.out ∙ lent in
     let many : length c.read.new.out / sector ≡ c.args.request.now.count =
     sectors_in sector c.args.request.now.count (length c.read.new.out) c.requires.can.some_size bytes in
@@ -35,12 +30,9 @@ returns-in-Ok g c =
 
 pub returns-in-Err : goal.returns-in-Err
 returns-in-Err g c =
+    let lent = cut_length c.args.request.now.count c.args.room c.bytes_mut.ensures.value c.cut.ensures
+    c.sector_size.ensures (c.requires.room (ap is_read c.requires.cmd)) in
     let sector : ℕ = (view_by g.D.Disk.view c.args.disk.now).sector in
-    let short : c.args.request.now.count * sector ≤ length c.args.room =
-    c.requires.room (ap is_read c.requires.cmd) in
-    let lent : length c.bytes_mut.result.now ≡ c.args.request.now.count * sector =
-    cut_length c.args.request.now.count sector c.sector_size.result c.args.room c.cut.new.self c.bytes_mut.result.now
-    c.bytes_mut.ensures.value c.cut.ensures c.sector_size.ensures short in
     let many : length c.bytes_mut.result.now / sector ≡ c.args.request.now.count =
     sectors_in sector c.args.request.now.count (length c.bytes_mut.result.now) c.requires.can.some_size lent in
     search rules
