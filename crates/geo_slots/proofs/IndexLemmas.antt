@@ -14,7 +14,7 @@ use Rattle.std.specs.Ordering.{nat_cmp}
 use Rattle.std.proofs.lemmas.List.Sums.{sum_by-set}
 use Rattle.slab.proofs.SlabLemmas.{ContainsKey-within}
 use Rattle.slab.specs.Slab.{Slab, get, slab_len, Updates, HasRoomFor, SameValues, with_value as slab_with_value}
-use Rattle.geo_slots.specs.Slots.{IsRising, value_at, first_from, with_value, without}
+use Rattle.geo_slots.specs.Slots.{SlotsView, IsRising, value_at, first_from, with_value, without}
 use Rattle.geo_slots.proofs.RowLemmas.{IsRising_ends, IsRising_from, IsRising-push, with_value_below, without_below}
 use Rattle.geo_slots.specs.Index.{keyed, reserved, key_at, has_row, with_key, keyed_number, first_key_from, NoneHas, KeysAreApart, row_of, rows_of, AreHeld, IsIndex}
 
@@ -336,6 +336,12 @@ module _ {T : Type 0} where
 
 -- What the invariant says of the rows
 
+-- this is what a table has under a number, and its numbers rise and fit
+pub record Shows {T : Type 0} (v : SlotsView T) (n : ℕ) (o : Option T) : Type 0 where
+  pub value : o ≡ value_at v.rows n
+  pub rising : IsRising 1 v.rows v.next
+  pub bound : v.next < 2 ^ 64
+
 module _ {T : Type 0} (index : List (ℕ × Option ℕ)) (values : Slab T) (next spare : ℕ) where
   -- the value of a number is the value of its key
   pub value_of_key : (n : ℕ) → IsIndex index values next spare
@@ -490,6 +496,17 @@ module _ {T : Type 0} (index : List (ℕ × Option ℕ)) (values : Slab T) (next
   pub value_held : (n key : ℕ) → IsIndex index values next spare → key_at n index ≡ Some key
       → (t : T) × (get values key ≡ Some t)
   value_held n key i found = held_key key n i.live i.held (key_live n key i found)
+
+  -- a table shows under a number what the number's key has
+  pub shows : (n : ℕ) (v : SlotsView T) (key : Option ℕ) → IsIndex index values next spare
+      → ◌≡◌ {A = SlotsView T} (record { rows = rows_of values index; next = next; spare = spare }) v
+      → key ≡ key_at n index → Shows v n (option_and_then (get values) key)
+  shows n v key i seen found =
+      subst (λ w. Shows w n (option_and_then (get values) key)) seen (record {
+        value = rw found (value_of_key n i);
+        rising = rising_rows i;
+        bound = omega (arith, i.numbers);
+      })
 
 -- another value takes no room
 pub HasRoomFor-with_value : {T : Type 0} → (values : Slab T) (key spare : ℕ) (w : T)

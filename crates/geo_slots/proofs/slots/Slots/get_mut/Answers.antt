@@ -1,10 +1,10 @@
-use Rattle.std.proofs.Common.{◌<◌, ◌^◌, arith, subst, ◌≡◌, Some, is_some, refl, ap, sym, ◌∙◌, inr}
+use Rattle.std.proofs.Common.{◌≡◌, Some, None, is_some, ap, sym, ◌∙◌, inr}
 use borrow.Follows.Closed.{read_of}
 use Rattle.std.specs.Option.{ghost_name_of}
 use Rattle.slab.proofs.SlabLemmas.{Updates-with_value}
 use Rattle.geo_slots.specs.Slots.{with_value}
 use Rattle.geo_slots.specs.Index.{key_at}
-use Rattle.geo_slots.proofs.IndexLemmas.{value_of_key, rising_rows, rows_with_value, index_with_value, value_held, HasRoomFor-with_value}
+use Rattle.geo_slots.proofs.IndexLemmas.{shows, rows_with_value, index_with_value, value_held, HasRoomFor-with_value}
 use Rattle.geo_slots.proofs.slots.Slots.get_mut.Goals as goal
 
 pub invariant_of-self-lent : goal.invariant_of-self-lent
@@ -25,7 +25,8 @@ returns-in-Some g c =
     let found : key_at c.args.number c.self.inside.index.entries ≡ Some c.in-Some.key = sym c.key_of.ensures
     ∙ c.in-Some.is in
     let held = value_held _ _ _ _ c.args.number _ c.self.invariant found in
-    let value = value_of_key _ _ _ _ c.args.number c.self.invariant in
+    let seen = shows _ _ _ _ c.args.number c.args.self.now (Some c.in-Some.key) c.self.invariant c.self.view_is
+    (sym found) in
     let rows = λ (w : g.row.T.Denot). rows_with_value _ _ _ _ _ c.args.number _ w c.self.invariant found
     (Updates-with_value c.self.inside.values c.in-Some.key w (ap is_some held.1)) in (
       (λ i. read_of (ghost_name_of c.get_mut.result)
@@ -37,20 +38,14 @@ returns-in-Some g c =
           }) (c.self.view_is i)),
       record {
         writes_back = tt;
-        value = rw (← c.self.view_is, ← value, ← c.key_of.ensures, c.in-Some.is) c.get_mut.ensures.value;
-        rising = rw (← c.self.view_is) (rising_rows _ _ _ _ c.self.invariant);
-        bound = subst (λ v. v.next < 2 ^ 64) c.self.view_is (omega (arith, c.self.invariant.numbers));
+        value = c.get_mut.ensures.value ∙ seen.value;
+        rising = seen.rising;
+        bound = seen.bound;
       },
     )
 
 pub returns-in-None : goal.returns-in-None
 returns-in-None g c =
-    let value = value_of_key _ _ _ _ c.args.number c.self.invariant in (
-      ap inr c.self.view_is,
-      record {
-        writes_back = tt;
-        value = rw (← c.self.view_is, ← value, ← c.key_of.ensures, c.in-None.is) refl;
-        rising = rw (← c.self.view_is) (rising_rows _ _ _ _ c.self.invariant);
-        bound = subst (λ v. v.next < 2 ^ 64) c.self.view_is (omega (arith, c.self.invariant.numbers));
-      },
-    )
+    let seen = shows _ _ _ _ c.args.number c.args.self.now None c.self.invariant c.self.view_is
+    (sym c.in-None.is ∙ c.key_of.ensures) in
+    (ap inr c.self.view_is, record { writes_back = tt; value = seen.value; rising = seen.rising; bound = seen.bound })
