@@ -5,12 +5,13 @@ use Rattle.std.proofs.Common.{refl, sym, ◌∙◌, ap, subst, arith}
 use Rattle.std.proofs.lemmas.Bool.{eqb-true}
 use Rattle.std.proofs.lemmas.List.{map-append}
 use Rattle.geo_base.proofs.AllLists.{all_weaker}
+use Rattle.geo_base.proofs.Options.{at-found}
 use Rattle.geo_model.specs.declared.span.Piece.{Piece}
 use Rattle.geo_model.specs.declared.step.Phase.TheVariants as phases
 use Rattle.geo_model.specs.Graph.{AreNumbers}
 use Rattle.geo_model.specs.World.{BioOf, Config, change_number, is_down}
 use Rattle.geo_bio.specs.declared.bio.Held.{Held}
-use Rattle.geo_bio.specs.BioTable.{has_phase, with_phase}
+use Rattle.geo_bio.specs.BioTable.{BioTableView, bio_among, has_phase, with_phase}
 use Rattle.geo_bio.specs.Split.{split_into}
 use Rattle.geo_slots.specs.Slots.{value_at}
 use Rattle.geo_mesh.specs.Rows.{change_at}
@@ -95,6 +96,46 @@ module _ (s new : State) (next b : ℕ) (x : BioOf Held) (pieces : List Piece) (
       (all_weaker (λ (z : ℕ × ℕ). IsNoHandles s z.0) (λ z. holding_handle s.handles.handles z.0 ≡ None)
       (λ z of. of.nobodys) targets through) (kept-of s h)))
       h
+
+-- The table split the request, and then the mesh noted the children
+
+module _ (s : State) (v : BioTableView) (u : TopoView Config) (b : ℕ) (pieces : List Piece)
+    (targets : List (ℕ × ℕ)) {pairs : List (ℕ × ℕ)}
+    (are : AreNumbers (map (λ (y : BioOf Held). y.number) s.traffic.bios) s.traffic.next)
+    (down : IsTrue (has_phase is_down s.traffic.bios b)) (same : length targets ≡ length pieces)
+    (through : AllByRecursion (λ (z : ℕ × ℕ). IsNoHandles s z.0) targets)
+    (split : IfSome (bio_among s.traffic.bios b) (λ (x : BioOf Held). v.bios
+    ≡ change_number b (with_phase phases.Waiting) s.traffic.bios ++ split_into s.traffic.next x 0 pieces targets))
+    (noted : u ≡ all_out s.topo pairs) (pairs_are : pairs ≡ targets) where
+  abbrev after : State
+  after = record s { traffic = v; topo = u }
+
+  -- the request
+  request : InPhase is_down s.traffic.bios b
+  request = in-phase is_down s.traffic.bios s.traffic.next b are down
+
+  -- what became of it
+  bios_are : v.bios ≡ change_number b (with_phase phases.Waiting) s.traffic.bios
+      ++ split_into s.traffic.next request.bio 0 pieces targets
+  bios_are =
+      at-found (bio_among s.traffic.bios b) (λ (x : BioOf Held). v.bios
+      ≡ change_number b (with_phase phases.Waiting) s.traffic.bios ++ split_into s.traffic.next x 0 pieces targets)
+      request.bio request.found split
+
+  after_is : after ≡ record s { traffic = v; topo = all_out s.topo targets }
+  after_is =
+      ap (λ (t : TopoView Config). let z : State = record s { traffic = v; topo = t } in z)
+      (noted ∙ ap (all_out s.topo) pairs_are)
+
+  -- nothing but requests changed
+  pub split-only : OnlyBios s after
+  split-only =
+      only-split s after s.traffic.next b request.bio pieces targets are down same through bios_are after_is
+
+  -- all is kept
+  pub split-kept : Holds s → Holds after
+  split-kept =
+      holds-split s after s.traffic.next b request.bio pieces targets are down same through bios_are after_is
 
 -- What can be counted
 

@@ -34,3 +34,4 @@ pub mod PhaseLemmas
 pub mod CursorLemmas
 pub mod CountLemmas
 pub mod RiseLemmas
+pub mod TrafficLemmas

@@ -12,7 +12,7 @@ use Rattle.geo_model.specs.World.{BioOf, change_number, is_down, is_sent, is_bus
 use Rattle.geo_model.specs.Bios.{up_with, disk_at}
 use Rattle.geo_bio.specs.declared.bio.Held.{Held}
 use Rattle.geo_bio.specs.declared.bio.Held.TheVariants as held
-use Rattle.geo_bio.specs.BioTable.{bio_among, has_phase, with_phase, delivered}
+use Rattle.geo_bio.specs.BioTable.{BioTableView, bio_among, has_phase, with_phase, delivered}
 use Rattle.geo_state.specs.declared.state.State.{State}
 use Rattle.geo_state.specs.declared.state.DiskSeat.{DiskSeat}
 use Rattle.geo_state.specs.Trips.{Trip, trip_of, trips, busy_at}
@@ -75,8 +75,19 @@ answered-seen : (place : ℕ) (errno : Option Errno) (x : BioOf Held) → is_bus
 answered-seen place errno x busy =
     ap (λ d. let z : Trip = record (trip_of x) { done = d; busy = false } in z) (sym (busy-is x.phase busy))
 
-module _ (s new : State) (next b disk : ℕ) (are : AreNumbers (map (λ (x : BioOf Held). x.number) s.traffic.bios) next)
-    (goes : GoesTo s b disk) (is : new ≡ record s { traffic = new.traffic; disks = new.disks }) (h : Holds s) where
+module _ (s new : State) (v : BioTableView) (next b disk : ℕ)
+    (are : AreNumbers (map (λ (x : BioOf Held). x.number) s.traffic.bios) next)
+    (goes : GoesTo s b disk) (set : new ≡ record s { traffic = v; disks = new.disks }) (h : Holds s) where
+  -- the requests are those of the table
+  from_table : new.traffic ≡ v
+  from_table = ap (λ (z : State). z.traffic) set
+
+  -- and the other parts stay
+  is : new ≡ record s { traffic = new.traffic; disks = new.disks }
+  is =
+      set
+      ∙ ap (λ (w : BioTableView). let z : State = record s { traffic = w; disks = new.disks } in z) (sym from_table)
+
   -- where the bio goes
   there : (test : Phase → Bool) → (at : InPhase test s.traffic.bios b)
       → disk_at s.topo.topology (trip_of at.bio).target ≡ Some disk
@@ -86,14 +97,14 @@ module _ (s new : State) (next b disk : ℕ) (are : AreNumbers (map (λ (x : Bio
 
   -- it is taken
   pub holds-taken : (seat : ℕ) → IsTrue (has_phase is_sent s.traffic.bios b) → IsFree s disk
-      → new.traffic.bios ≡ change_number b (with_phase (phases.Busy seat)) s.traffic.bios
+      → v ≡ record s.traffic { bios = change_number b (with_phase (phases.Busy seat)) s.traffic.bios }
       → new.disks.items ≡ with_busy_at s.disks.items disk (Some b) → Holds new
-  holds-taken seat sent free bios disks =
+  holds-taken seat sent free turned disks =
       let at : InPhase is_sent s.traffic.bios b = in-phase is_sent s.traffic.bios next b are sent in
       let xs : List Trip = trips s.traffic.bios in
       let ys : List Trip = change_where (λ (z : Trip). z.number == b) (λ z. record z { busy = true }) xs in
       let seen : trips new.traffic.bios ≡ ys =
-      ap trips bios
+      ap (λ (w : BioTableView). trips w.bios) (from_table ∙ turned)
       ∙ trips-changed b (with_phase (phases.Busy seat)) (λ z. record z { busy = true }) s.traffic.bios
       (around-all (λ (x : BioOf Held). x.number) b at.bio s.traffic.bios at.alone
       (λ x. trip_of (with_phase (phases.Busy seat) x) ≡ (let z : Trip = record (trip_of x) { busy = true } in z))
@@ -122,14 +133,14 @@ module _ (s new : State) (next b disk : ℕ) (are : AreNumbers (map (λ (x : Bio
 
   -- its disk has answered
   pub holds-answered : (place : ℕ) (errno : Option Errno) → IsTrue (has_phase is_busy s.traffic.bios b)
-      → IsAloneAt s b disk → new.traffic.bios ≡ change_number b (delivered place errno) s.traffic.bios
+      → IsAloneAt s b disk → v ≡ record s.traffic { bios = change_number b (delivered place errno) s.traffic.bios }
       → new.disks.items ≡ with_busy_at s.disks.items disk None → Holds new
-  holds-answered place errno busy alone bios disks =
+  holds-answered place errno busy alone turned disks =
       let at : InPhase is_busy s.traffic.bios b = in-phase is_busy s.traffic.bios next b are busy in
       let xs : List Trip = trips s.traffic.bios in
       let ys : List Trip = change_where (λ (z : Trip). z.number == b) (λ z. record z { busy = false }) xs in
       let seen : trips new.traffic.bios ≡ ys =
-      ap trips bios
+      ap (λ (w : BioTableView). trips w.bios) (from_table ∙ turned)
       ∙ trips-changed b (delivered place errno) (λ z. record z { busy = false }) s.traffic.bios
       (around-all (λ (x : BioOf Held). x.number) b at.bio s.traffic.bios at.alone
       (λ x. trip_of (delivered place errno x) ≡ (let z : Trip = record (trip_of x) { busy = false } in z))

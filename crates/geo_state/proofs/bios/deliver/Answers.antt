@@ -1,27 +1,14 @@
-use Rattle.std.proofs.Common.{sym, ap, ◌∙◌, ◌≡◌}
-use Rattle.geo_bio.specs.BioTable.{BioTableView}
-use Rattle.geo_state.specs.declared.state.State.{State}
 use Rattle.geo_state.proofs.Turns.{holds-answered, only-taken}
 use Rattle.geo_state.proofs.bios.deliver.Goals as goal
 
 pub returns-clause-only : goal.returns-clause-only
 returns-clause-only c =
-    let s : State = c.args.state.now in
-    let new : State = c.set_busy.new.state in
-    let t : new.traffic ≡ c.deliver.new.self = ap (λ (z : State). z.traffic) c.set_busy.ensures.rest in
-    let is = c.set_busy.ensures.rest
-    ∙ ap (λ (v : BioTableView). let z : State = record s { traffic = v; disks = new.disks } in z) (sym t) in
-    only-taken s new s.traffic.next c.args.bio c.args.disk c.get.ensures.in_order.numbers c.requires.goes is
-    c.requires.kept _ c.set_busy.ensures.seat
+    only-taken c.args.state.now c.set_busy.new.state c.deliver.new.self c.args.state.now.traffic.next c.args.bio
+    c.args.disk c.get.ensures.in_order.numbers c.requires.goes c.set_busy.ensures.rest c.requires.kept _
+    c.set_busy.ensures.seat
 
 pub returns-clause-kept : goal.returns-clause-kept
 returns-clause-kept c =
-    let s : State = c.args.state.now in
-    let new : State = c.set_busy.new.state in
-    let t : new.traffic ≡ c.deliver.new.self = ap (λ (z : State). z.traffic) c.set_busy.ensures.rest in
-    let is = c.set_busy.ensures.rest
-    ∙ ap (λ (v : BioTableView). let z : State = record s { traffic = v; disks = new.disks } in z) (sym t) in
-    holds-answered s new s.traffic.next c.args.bio c.args.disk c.get.ensures.in_order.numbers c.requires.goes is
-    c.requires.kept c.args.place c.args.errno c.requires.busy c.requires.alone
-    (ap (λ (v : BioTableView). v.bios) t ∙ ap (λ (v : BioTableView). v.bios) c.deliver.ensures)
-    c.set_busy.ensures.seat
+    holds-answered c.args.state.now c.set_busy.new.state c.deliver.new.self c.args.state.now.traffic.next c.args.bio
+    c.args.disk c.get.ensures.in_order.numbers c.requires.goes c.set_busy.ensures.rest c.requires.kept
+    c.args.place c.args.errno c.requires.busy c.requires.alone c.deliver.ensures c.set_busy.ensures.seat

@@ -7,46 +7,43 @@ use Rattle.geo_state.proofs.cursor.without_one.Goals as goal
 pub overflow_sub-count : goal.overflow_sub-count
 overflow_sub-count c =
     let t = c.args.bios.now in
-    let test = is_due c.args.due in
-    let x = bio_in test t.bios c.args.bio c.requires.waits in
-    let less = count_left test t.bios c.args.bio x.0 (table_rises t c.get.ensures.in_order) x.1 x.2 c.args.cursor
-    c.requires.cursor in
+    let x = bio_in (is_due c.args.due) t.bios c.args.bio c.requires.waits in
+    let less = count_left (is_due c.args.due) t.bios c.args.bio x.0 (table_rises t c.get.ensures.in_order)
+    x.1 x.2 c.args.cursor c.requires.cursor in
     omega (arith, less)
 
 pub returns-then-ne-clause-cursor : goal.returns-then-ne-clause-cursor
 returns-then-ne-clause-cursor c =
     let t = c.args.bios.now in
-    let test = is_due c.args.due in
-    let x = bio_in test t.bios c.args.bio c.requires.waits in
-    left_other test t.bios c.args.bio x.0 (table_rises t c.get.ensures.in_order) x.1 x.2 c.args.cursor c.requires.cursor
+    let x = bio_in (is_due c.args.due) t.bios c.args.bio c.requires.waits in
+    left_other (is_due c.args.due) t.bios c.args.bio x.0 (table_rises t c.get.ensures.in_order) x.1 x.2
+    c.args.cursor c.requires.cursor
     (is_other c.args.cursor.first c.number-number.result c.args.bio c.number-number.ensures
     (sym c.ne.ensures ∙ c.if-ne.true))
 
 pub returns-then-count-eq0-clause-cursor : goal.returns-then-count-eq0-clause-cursor
 returns-then-count-eq0-clause-cursor c =
     let t = c.args.bios.now in
-    let test = is_due c.args.due in
-    let x = bio_in test t.bios c.args.bio c.requires.waits in
-    left_none test t.bios c.args.bio x.0 (table_rises t c.get.ensures.in_order) x.1 x.2 c.args.cursor c.requires.cursor
+    let x = bio_in (is_due c.args.due) t.bios c.args.bio c.requires.waits in
+    left_none (is_due c.args.due) t.bios c.args.bio x.0 (table_rises t c.get.ensures.in_order) x.1 x.2
+    c.args.cursor c.requires.cursor
     c.if-count-eq0.true
 
 pub overflow_add-number : goal.overflow_add-number
 overflow_add-number c =
     let t = c.args.bios.now in
-    let test = is_due c.args.due in
-    let x = bio_in test t.bios c.args.bio c.requires.waits in
+    let x = bio_in (is_due c.args.due) t.bios c.args.bio c.requires.waits in
     let below = number_below t c.get.ensures.in_order c.args.bio x.0 x.1 in
     omega (arith, below, c.get.ensures.bound, c.number-number.ensures)
 
 pub returns-clause-cursor : goal.returns-clause-cursor
 returns-clause-cursor c =
     let t = c.args.bios.now in
-    let test = is_due c.args.due in
-    let x = bio_in test t.bios c.args.bio c.requires.waits in
-    let left = left_first test t.bios c.args.bio x.0 (table_rises t c.get.ensures.in_order) x.1 x.2 c.args.cursor
-    c.requires.cursor
+    let x = bio_in (is_due c.args.due) t.bios c.args.bio c.requires.waits in
+    let left = left_first (is_due c.args.due) t.bios c.args.bio x.0 (table_rises t c.get.ensures.in_order)
+    x.1 x.2 c.args.cursor c.requires.cursor
     (is_same c.args.cursor.first c.number-number.result c.args.bio c.number-number.ensures
     (sym c.ne.ensures ∙ c.if-ne.false)) in
-    let first = c.next_due.ensures ∙ ap (λ n. first_from test t.bios (n + 1)) c.number-number.ensures in
-    subst (λ o. IsCursor test (others c.args.bio t.bios) (record { count = c.args.cursor.count - 1; first = o }))
-    (sym first) left
+    let first = c.next_due.ensures ∙ ap (λ n. first_from (is_due c.args.due) t.bios (n + 1)) c.number-number.ensures in
+    subst (λ o. IsCursor (is_due c.args.due) (others c.args.bio t.bios)
+    (record { count = c.args.cursor.count - 1; first = o })) (sym first) left

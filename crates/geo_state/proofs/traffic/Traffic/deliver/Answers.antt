@@ -1,25 +1,24 @@
-use Rattle.std.proofs.Common.{◌≡◌, ◌∙◌, true, sym, ap, refl, subst, arith}
+use Rattle.std.proofs.Common.{◌∙◌, ap, refl, arith}
 use Rattle.geo_model.specs.World.{is_busy, is_up}
-use Rattle.geo_bio.specs.BioTable.{BioTableView, has_phase, delivered}
+use Rattle.geo_bio.specs.BioTable.{BioTableView, delivered}
 use Rattle.geo_state.specs.Cursors.{with_one}
-use Rattle.geo_state.proofs.OrderLemmas.{table_rises, fewer_than_next, bio_in}
+use Rattle.geo_state.proofs.OrderLemmas.{table_rises, fewer_than_next}
 use Rattle.geo_state.proofs.CursorLemmas.{room_for_one}
 use Rattle.geo_state.proofs.CountLemmas.{busy_is, from_busy_up, some_busy}
+use Rattle.geo_state.proofs.TrafficLemmas.{bio_seen}
 use Rattle.geo_state.proofs.traffic.Traffic.deliver.Goals as goal
 
 pub overflow_sub-self : goal.overflow_sub-self
 overflow_sub-self c =
     let now = c.self.inside in
-    let x = bio_in is_busy now.bios.bios c.args.bio
-    (subst (λ (v : BioTableView). has_phase is_busy v.bios c.args.bio ≡ true) (sym c.self.view_is) c.requires) in
+    let x = bio_seen is_busy now.bios c.self.view_is c.args.bio c.requires in
     some_busy now.bios.bios c.args.bio x.0 (table_rises now.bios c.get.ensures.in_order) x.1 now.down now.sent now.up
     now.busy now.live c.self.invariant (delivered c.args.place c.args.errno) refl x.2 refl
 
 pub with_one-self-inside-requires : goal.with_one-self-inside-requires
 with_one-self-inside-requires c =
     let old = c.self.inside.bios in
-    let x = bio_in is_busy old.bios c.args.bio
-    (subst (λ (v : BioTableView). has_phase is_busy v.bios c.args.bio ≡ true) (sym c.self.view_is) c.requires) in
+    let x = bio_seen is_busy old c.self.view_is c.args.bio c.requires in
     let order = c.get.ensures.in_order in
     let room = room_for_one is_up old.bios c.args.bio x.0 (table_rises old order) x.1 (busy_is x.0.phase x.2).up in
     let few = fewer_than_next old order in
@@ -28,8 +27,7 @@ with_one-self-inside-requires c =
 pub invariant_of-self : goal.invariant_of-self
 invariant_of-self c =
     let now = c.self.inside in
-    let x = bio_in is_busy now.bios.bios c.args.bio
-    (subst (λ (v : BioTableView). has_phase is_busy v.bios c.args.bio ≡ true) (sym c.self.view_is) c.requires) in
+    let x = bio_seen is_busy now.bios c.self.view_is c.args.bio c.requires in
     let counted = from_busy_up now.bios.bios c.args.bio x.0 (table_rises now.bios c.get.ensures.in_order) x.1 now.down
     now.sent now.up now.busy now.live c.self.invariant (delivered c.args.place c.args.errno) refl x.2 refl in
     let bios = ap (λ (t : BioTableView). t.bios) c.deliver.ensures in

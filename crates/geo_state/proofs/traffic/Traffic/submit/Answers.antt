@@ -1,28 +1,25 @@
-use Rattle.std.proofs.Common.{◌∙◌, ◌∷◌, [], length, ap, refl, arith}
+use Rattle.std.proofs.Common.{◌∙◌, ◌∷◌, [], ap, refl, arith}
 use Rattle.geo_model.specs.Bios.{new_bio}
 use Rattle.geo_model.specs.World.{BioOf, is_down}
 use Rattle.geo_bio.specs.declared.bio.Held.{Held}
 use Rattle.geo_state.specs.Cursors.{with_last}
-use Rattle.geo_state.proofs.OrderLemmas.{fewer_than_next}
-use Rattle.std.proofs.lemmas.List.{length-append}
 use Rattle.std.proofs.lemmas.List.Sums.{count_by-le-length}
 use Rattle.geo_state.proofs.CountLemmas.{down_come}
+use Rattle.geo_state.proofs.TrafficLemmas.{fewer_with_one}
 use Rattle.geo_state.proofs.traffic.Traffic.submit.Goals as goal
 
 pub with_last-self-inside-requires : goal.with_last-self-inside-requires
 with_last-self-inside-requires c =
     let old = c.self.inside.bios in
-    let few = fewer_than_next c.submit.new.self c.get.ensures.in_order in
-    let all = ap length c.in_ok-bio.ensures.submitted ∙ length-append old.bios (_ ∷ []) in
+    let few = fewer_with_one old.bios _ c.submit.new.self c.get.ensures.in_order c.in_ok-bio.ensures.submitted in
     let some = count_by-le-length (λ (y : BioOf Held). is_down y.phase) old.bios in
-    omega (arith, few, all, some, c.get.ensures.bound, c.self.invariant.starts.count)
+    omega (arith, few, some, c.get.ensures.bound, c.self.invariant.starts.count)
 
 pub overflow_add-self : goal.overflow_add-self
 overflow_add-self c =
     let old = c.self.inside.bios in
-    let few = fewer_than_next c.submit.new.self c.get.ensures.in_order in
-    let all = ap length c.in_ok-bio.ensures.submitted ∙ length-append old.bios (_ ∷ []) in
-    omega (arith, few, all, c.get.ensures.bound, c.self.invariant.all)
+    let few = fewer_with_one old.bios _ c.submit.new.self c.get.ensures.in_order c.in_ok-bio.ensures.submitted in
+    omega (arith, few, c.get.ensures.bound, c.self.invariant.all)
 
 pub invariant_of-self-2 : goal.invariant_of-self-2
 invariant_of-self-2 c =
