@@ -1,5 +1,7 @@
-use Rattle.std.proofs.Common.{◌≡◌, ◌++◌, List, ℕ, length, refl, ap, ◌∙◌, arith, append_assoc}
+use Rattle.std.proofs.Common.{◌≡◌, ◌++◌, ◌≤◌, List, ℕ, length, take, true, refl, ap, ◌∙◌, arith, append_assoc}
 use Rattle.std.specs.Int.{to_le_bytes, w16, w32}
+use Rattle.geo_base.specs.Name.{is_short_name}
+use Rattle.geo_model.specs.declared.class.StripeRecord.{StripeRecord}
 use Rattle.geo_model.specs.Records.{padded, stripe_magic, record_head}
 use Rattle.geo_record.proofs.FieldLemmas.{free-behind, holds-behind, length-behind}
 use Rattle.geo_record.proofs.RecordLemmas.{length-head}
@@ -14,6 +16,22 @@ front name id place count = record_head stripe_magic 1 name ++
 regroup : (a b c d e : List ℕ) → (a ++ (b ++ (c ++ d))) ++ e ≡ a ++ (b ++ (c ++ (d ++ e)))
 regroup a b c d e = simp append_assoc
 
+-- once the component is written behind the head, both stand in the sector, and take 44 bytes
+front_stands : (size : ℕ) (part : StripeRecord) (head out : List ℕ) → is_short_name part.name ≡ true → 48 ≤ size
+    → head ≡ padded size (record_head stripe_magic 1 part.name)
+    → out ≡ padded (length head) (take 36 head
+    ++ (to_le_bytes w32 part.id ++ (to_le_bytes w16 part.place ++ to_le_bytes w16 part.count)))
+    → (out ≡ padded size (front part.name part.id part.place part.count))
+    × (length (front part.name part.id part.place part.count) ≡ 44)
+front_stands size part head out short room begins written =
+    let long = length-head stripe_magic 1 part.name refl short in (
+      holds-behind size 36 (record_head stripe_magic 1 part.name)
+          (to_le_bytes w32 part.id ++ (to_le_bytes w16 part.place ++ to_le_bytes w16 part.count)) head out begins long
+          (omega arith) written,
+      length-behind (record_head stripe_magic 1 part.name)
+          (to_le_bytes w32 part.id ++ (to_le_bytes w16 part.place ++ to_le_bytes w16 part.count)) 36 8 long refl,
+    )
+
 pub put_component-requires-clause-free : goal.put_component-requires-clause-free
 put_component-requires-clause-free c =
     free-behind (length c.args.out.now) 36 (record_head stripe_magic 1 c.args.part.now.name) c.encode_head.new.sector
@@ -22,36 +40,19 @@ put_component-requires-clause-free c =
 
 pub put_u32-requires-clause-free : goal.put_u32-requires-clause-free
 put_u32-requires-clause-free c =
-    let size : length (record_head stripe_magic 1 c.args.part.now.name)
-    ≡ 36 = length-head stripe_magic 1 c.args.part.now.name refl c.requires.short in
+    let stands = front_stands (length c.args.out.now) c.args.part.now c.encode_head.new.sector
+    c.put_component.new.sector c.requires.short c.requires.room c.encode_head.ensures c.put_component.ensures in
     free-behind (length c.args.out.now) 44
     (front c.args.part.now.name c.args.part.now.id c.args.part.now.place c.args.part.now.count)
-    c.put_component.new.sector
-    (holds-behind (length c.args.out.now) 36 (record_head stripe_magic 1 c.args.part.now.name)
-    (to_le_bytes w32 c.args.part.now.id ++
-    (to_le_bytes w16 c.args.part.now.place ++ to_le_bytes w16 c.args.part.now.count))
-    c.encode_head.new.sector c.put_component.new.sector c.encode_head.ensures size
-    (omega (arith, c.requires.room)) c.put_component.ensures)
-    (length-behind (record_head stripe_magic 1 c.args.part.now.name)
-    (to_le_bytes w32 c.args.part.now.id ++
-    (to_le_bytes w16 c.args.part.now.place ++ to_le_bytes w16 c.args.part.now.count)) 36 8 size refl)
-    (omega (arith, c.requires.room))
+    c.put_component.new.sector stands.0 stands.1 (omega (arith, c.requires.room))
 
 pub returns : goal.returns
 returns c =
-    let size : length (record_head stripe_magic 1 c.args.part.now.name)
-    ≡ 36 = length-head stripe_magic 1 c.args.part.now.name refl c.requires.short in
+    let stands = front_stands (length c.args.out.now) c.args.part.now c.encode_head.new.sector
+    c.put_component.new.sector c.requires.short c.requires.room c.encode_head.ensures c.put_component.ensures in
     holds-behind (length c.args.out.now) 44
     (front c.args.part.now.name c.args.part.now.id c.args.part.now.place c.args.part.now.count)
-    (to_le_bytes w32 c.args.part.now.stripe) c.put_component.new.sector c.put_u32.new.sector
-    (holds-behind (length c.args.out.now) 36 (record_head stripe_magic 1 c.args.part.now.name)
-    (to_le_bytes w32 c.args.part.now.id ++
-    (to_le_bytes w16 c.args.part.now.place ++ to_le_bytes w16 c.args.part.now.count))
-    c.encode_head.new.sector c.put_component.new.sector c.encode_head.ensures size
-    (omega (arith, c.requires.room)) c.put_component.ensures)
-    (length-behind (record_head stripe_magic 1 c.args.part.now.name)
-    (to_le_bytes w32 c.args.part.now.id ++
-    (to_le_bytes w16 c.args.part.now.place ++ to_le_bytes w16 c.args.part.now.count)) 36 8 size refl)
+    (to_le_bytes w32 c.args.part.now.stripe) c.put_component.new.sector c.put_u32.new.sector stands.0 stands.1
     (omega (arith, c.requires.room)) c.put_u32.ensures
     ∙ ap (padded (length c.args.out.now))
     (regroup (record_head stripe_magic 1 c.args.part.now.name) (to_le_bytes w32 c.args.part.now.id)
