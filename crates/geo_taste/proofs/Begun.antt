@@ -150,9 +150,13 @@ module _ {C : Type 0} (t : TopoView C) where
 
 -- Beginning
 
-module _ {C : Type 0} (t m : TopoView C) (sound : IsSoundGraph t.topology)
-    (made : m ≡ record (with_consumer t 2) { room = m.room }) (cons : ℕ)
+module _ {C : Type 0} (t m : TopoView C) (sound : IsSoundGraph t.topology) {geom : ℕ} (taste : geom ≡ 2)
+    (added : m ≡ record (with_consumer t geom) { room = m.room }) (cons : ℕ)
     (number : cons ≡ t.topology.next_consumer) where
+  -- the new consumer is of TASTE
+  made : m ≡ record (with_consumer t 2) { room = m.room }
+  made = added ∙ ap (λ n. record (with_consumer t n) { room = m.room }) taste
+
   -- the graph with the new consumer
   graph_is : m.topology ≡ add_consumer t.topology 2 None
   graph_is = ap (λ (v : TopoView C). v.topology) made

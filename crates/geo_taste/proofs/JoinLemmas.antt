@@ -12,6 +12,7 @@ use Rattle.geo_mesh.specs.Topo.{TopoView, with_geom, with_topology, IsButForRoom
 use Rattle.geo_event.specs.EventQueue.{Queued}
 use Rattle.geo_laws_graph.proofs.Members.{has}
 use Rattle.geo_laws_graph.proofs.Found.{config-found}
+use Rattle.geo_base.proofs.Options.{at-some, if-with}
 use Rattle.geo_laws_life.proofs.Found.{some-with, some-there, one-found}
 use Rattle.geo_taste.specs.declared.offer.Offer.{Offer}
 use Rattle.geo_taste.specs.declared.place.Plan.{Plan}
@@ -161,6 +162,52 @@ module _ (t : TopoView Config) (q : Queued) (p : Provider) (x : Member) where
     standing_no_bare can bare may =
         let never : true ≡ false = sym (standing_bare can may) ∙ bare in
         absurd (let none : ⊥ = cc in none)
+
+    module _ (geom : ℕ) (at : geom_at t.topology geom ≡ Some g)
+        (place : IsSomeAnd (geom_at t.topology geom) (λ (h : Geom Config). x.place < length (places_of h.config)))
+        (b : Bool) (told : b ≡ can_take t.topology p.sector g.config x.place) where
+      -- what was told is whether it can join
+      is_told : b ≡ can_join t.topology p g x.place
+      is_told =
+          can_join_is t.topology p g x.place b
+          (at-some (geom_at t.topology geom) (λ (h : Geom Config). x.place < length (places_of h.config)) g at place)
+          told
+
+      -- what is declined leaves all
+      declined : (MayJoin (both t q) p x g → joined_at (both t q) p x (Some g) ≡ None)
+          → IfSome (geom_at t.topology geom)
+          (λ h. IsAccepted Declined t q (both t q) (joined_at (both t q) p x (Some h)) (MayJoin (both t q) p x h))
+      declined none =
+          if-with (geom_at t.topology geom) _ g at (record { mesh = refl; events = refl }, none)
+
+      -- it is declined where it can't join
+      pub declines_full : b ≡ false → IfSome (geom_at t.topology geom)
+          (λ h. IsAccepted Declined t q (both t q) (joined_at (both t q) p x (Some h)) (MayJoin (both t q) p x h))
+      declines_full cannot = declined (λ may. standing_no (sym is_told ∙ cannot))
+
+      -- where the geom isn't bare
+      pub declines_filled : b ≡ true → is_bare t.topology g.number ≡ false → IfSome (geom_at t.topology geom)
+          (λ h. IsAccepted Declined t q (both t q) (joined_at (both t q) p x (Some h)) (MayJoin (both t q) p x h))
+      declines_filled can filled = declined (standing_no_bare (sym is_told ∙ can) filled)
+
+      module _ {n : ℕ} (less : n ≡ p.sector) {o : Option Plan}
+          (planned : o ≡ plan_of t.topology (p.size - n) p.sector g.config x.place x.name) where
+        -- the plan of its place
+        plan_is : o ≡ plan_of t.topology (p.size - p.sector) p.sector g.config x.place x.name
+        plan_is = planned ∙ ap (λ k. plan_of t.topology (p.size - k) p.sector g.config x.place x.name) less
+
+        -- where its place comes to nothing
+        pub declines_planless : b ≡ true → o ≡ None → IfSome (geom_at t.topology geom)
+            (λ h. IsAccepted Declined t q (both t q) (joined_at (both t q) p x (Some h)) (MayJoin (both t q) p x h))
+        declines_planless can none = declined (standing_no_plan (sym is_told ∙ can) (sym plan_is ∙ none))
+
+        -- else it takes its place
+        pub takes_place : (v : TopoView Config) (s : Queued) (plan : Plan) → b ≡ true → o ≡ Some plan
+            → AreBoth v s (with_plan (both t q) p.number g.number plan) → IfSome (geom_at t.topology geom)
+            (λ h. IsAccepted Made v s (both t q) (joined_at (both t q) p x (Some h)) (MayJoin (both t q) p x h))
+        takes_place v s plan can some taken =
+            if-with (geom_at t.topology geom) _ g at
+            (λ may. standing_joined v s plan (sym is_told ∙ can) (sym plan_is ∙ some) taken)
 
   -- In whichever
 

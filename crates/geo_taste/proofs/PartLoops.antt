@@ -3,6 +3,7 @@ use Rattle.std.specs.Prelude.{◌≡◌, ℕ, ◌+◌, ◌*◌, ◌<◌, ◌≤�
 use Rattle.std.specs.List.{AllByRecursion}
 use Rattle.std.proofs.Common.{refl, sym, ◌∙◌, ap, subst, arith, append_assoc, append-nil}
 use Rattle.std.proofs.Math.ListN.{drop_of_length-le}
+use Rattle.std.proofs.lemmas.List.{get_or_default}
 use Rattle.std.proofs.lemmas.List.Folds.{list_all-append}
 use Rattle.geo_base.proofs.PlaceLists.{first_left}
 use Rattle.geo_base.specs.Name.{is_name, name_of}
@@ -96,28 +97,32 @@ module _ {X : Type 0} (name : ℕ → List ℕ) (count : X → ℕ) (all : List 
         ∙ rw (far.named, is) refl in
         rw no refl
 
-  module _ (place i : ℕ) (items more : List NewSlice) (o : Option X) (named : Bool) (less : i < length all)
-      (is : o ≡ get_or all i o) (far : NamedSoFar place items (drop i all))
-      (placed : IsPlacePushed (name_of (name place)) (option_map count o) named items more) where
+  module _ (place i : ℕ) (items : List NewSlice) (less : i < length all)
+      (far : NamedSoFar place items (drop i all)) where
+    -- the one of the list
+    abbrev one : Option X
+    one = get_or all i None
+
     -- what was so far
-    now : NamedSoFar place items (o ∷ drop (i + 1) all)
-    now = subst (NamedSoFar place items) (first_left all i o less is) far
+    now : NamedSoFar place items (one ∷ drop (i + 1) all)
+    now =
+        subst (NamedSoFar place items) (first_left all i one less (get_or_default all i None one less)) far
 
-    -- one of the list
-    pub named_more : named ≡ true → NamedSoFar (place + 1) more (drop (i + 1) all)
-    named_more good = named_step place items more o (drop (i + 1) all) named now placed good
+    -- its place is one of those
+    pub named_place : place < length all
+    named_place =
+        let e : place + (1 + length (drop (i + 1) all)) ≡ length all = omega (arith, now.number) in
+        omega (arith, e)
 
-    -- one of the list that has no name
-    pub named_none : named ≡ false → None ≡ named_all (new_of name count 0 all)
-    named_none bad = named_no place items more o (drop (i + 1) all) named now placed bad
+    module _ (more : List NewSlice) (named : Bool)
+        (placed : IsPlacePushed (name_of (name place)) (option_map count one) named items more) where
+      -- it is named
+      pub named_more : named ≡ true → NamedSoFar (place + 1) more (drop (i + 1) all)
+      named_more good = named_step place items more one (drop (i + 1) all) named now placed good
 
-  -- a place is one of those
-  pub named_place : (place i : ℕ) (items : List NewSlice) (o : Option X) → i < length all → o ≡ get_or all i o
-      → NamedSoFar place items (drop i all) → place < length all
-  named_place place i items o less is far =
-      let now = subst (NamedSoFar place items) (first_left all i o less is) far in
-      let e : place + (1 + length (drop (i + 1) all)) ≡ length all = omega (arith, now.number) in
-      omega (arith, e)
+      -- or it has no name
+      pub named_none : named ≡ false → None ≡ named_all (new_of name count 0 all)
+      named_none bad = named_no place items more one (drop (i + 1) all) named now placed bad
 
   -- at the end
   pub named_end : (place : ℕ) (items : List NewSlice) (i : ℕ) → length all ≤ i → NamedSoFar place items (drop i all)

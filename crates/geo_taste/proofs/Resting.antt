@@ -1,7 +1,7 @@
 -- A taste whose read isn't out holds nothing, however far a class has been asked.
 use Rattle.std.specs.Prelude.{◌≡◌, ℕ, false, List, [], ◌∷◌, Option, Some, None, if◌then◌else◌}
 use Rattle.std.specs.Option.{option_map, option_map_or}
-use Rattle.std.proofs.Common.{refl, sym, ap, ◌∙◌}
+use Rattle.std.proofs.Common.{refl, sym, ap, ◌∙◌, subst}
 use Rattle.geo_base.specs.declared.kind.Kind.{Kind}
 use Rattle.geo_base.specs.declared.request.Counts.{Counts}
 use Rattle.geo_model.specs.declared.class.Facts.{Facts}
@@ -91,6 +91,15 @@ module _ (granted : ℕ → Counts) (s : Taste) (f : Facts) where
   weighed_rest (Some (Decline cause)) idle = back_rest (sector_back s.asked)
   weighed_rest (Some (More sector)) idle = back_rest (sector_back s.asked)
   weighed_rest (Some (Accept shape)) idle = record { consumer = refl; provider = refl; idle = idle }
+
+-- so its consumer is the taste's still, once what is back was weighed
+pub weighed_tasting : (granted : ℕ → Counts) (s : Taste) (f : Facts) (v : Option Verdict) (z : Taste)
+    → z ≡ weighed granted s f v → (t : TopoView Config) (kind : Kind) (got : BioResult) → s.asked ≡ ReadBack kind got
+    → IsTasteOf t s → IsTasteOf t z
+weighed_tasting granted s f v z same t kind got asked is =
+    let idle : is_read_out s.asked ≡ false = is_back s kind got asked in
+    subst (λ x. IsTasteOf t x) (sym same)
+    (rest_tasting t s (weighed granted s f v) idle (weighed_rest granted s f v idle) is)
 
 -- what accepts is back
 pub accepted_idle : (granted : ℕ → Counts) (s : Taste) (f : Facts) (v : Verdict)

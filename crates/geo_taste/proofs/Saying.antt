@@ -99,6 +99,14 @@ module _ (granted : ℕ → Counts) (q : QueuedTopology Config) (s : Taste) (p :
       ∙ ap (λ a. option_map_or (λ (x : Kind × List ℕ). after_verdict granted s x.0 x.1 f
       (verdict_on granted s x.0 x.1 f)) (sector_back a) (ended s)) asked)))
 
+  -- also where it was weighed by facts that are those of the provider
+  pub taken_told : (facts : Facts) → facts ≡ f → (got : BioResult) → s.asked ≡ ReadBack kind got
+      → (r v : Option Verdict) → r ≡ v → r ≡ verdict_back granted s facts → (z : Taste)
+      → z ≡ weighed granted s facts r → IsReadTaken granted q s p kind got z (said_of v)
+  taken_told facts known got asked r v is told z same =
+      taken got asked v (sym is ∙ told ∙ ap (verdict_back granted s) known) z
+      (same ∙ ap (λ x. weighed granted s x r) known ∙ ap (weighed granted s f) is)
+
 module _ (t : TopoView Config) (events : List Event) (s : Taste) where
   -- a taste that has ended
   pub step_ends : going t.topology s ≡ None

@@ -242,10 +242,19 @@ next_geom_of t keep from_number id sound e =
           (found_itself (λ (g : Geom Config). g.number) t.next_geom t.geoms step.item sound.orderly.order.geoms here);
     }
 
-module _ (t : Topology Config) (name : List ℕ) (empty : Config) (xs : List (Geom Config)) (from_number id : ℕ)
-    (next : IsNextGeom t xs from_number id)
-    (so_far : find (is_of_assembly name empty) (left_from (λ (g : Geom Config). g.number) from_number xs)
-    ≡ find (is_of_assembly name empty) xs) where
+module _ (t : Topology Config) (keep : Geom Config → Bool) (name : List ℕ) (empty : Config) (from_number id : ℕ)
+    (sound : IsSoundGraph t) (first : Some id ≡ first_geom (filter keep t.geoms) from_number)
+    (so_far : find (is_of_assembly name empty)
+    (left_from (λ (g : Geom Config). g.number) from_number (filter keep t.geoms))
+    ≡ find (is_of_assembly name empty) (filter keep t.geoms)) where
+  -- the geoms that are walked
+  abbrev xs : List (Geom Config)
+  xs = filter keep t.geoms
+
+  -- the next one
+  next : IsNextGeom t xs from_number id
+  next = next_geom_of t keep from_number id sound (sym first)
+
   -- the test at the number is that of the item
   at_item : option_map_or (is_of_assembly name empty) (geom_at t id) false ≡ is_of_assembly name empty next.item
   at_item = ap (λ o. option_map_or (is_of_assembly name empty) o false) next.at
@@ -266,10 +275,10 @@ module _ (t : Topology Config) (name : List ℕ) (empty : Config) (xs : List (Ge
       → Some id ≡ option_map (λ (g : Geom Config). g.number) (find (is_of_assembly name empty) xs)
   walk_found holds =
       let e : is_of_assembly name empty next.item ≡ true = sym at_item ∙ sym holds in
-      let first : find (is_of_assembly name empty)
+      let here : find (is_of_assembly name empty)
       (next.item ∷ left_from (λ (g : Geom Config). g.number) (id + 1) xs) ≡ Some next.item = rw e refl in
       let whole : Some next.item ≡ find (is_of_assembly name empty) xs =
-      sym first ∙ ap (find (is_of_assembly name empty)) (sym next.left) ∙ so_far in
+      sym here ∙ ap (find (is_of_assembly name empty)) (sym next.left) ∙ so_far in
       ap (λ n. Some n) (sym next.is) ∙ ap (option_map (λ (g : Geom Config). g.number)) whole
 
   -- and is of the assembly

@@ -1,4 +1,4 @@
-use Rattle.std.proofs.Common.{◌≡◌, Some, sym, ap, ◌∙◌, subst}
+use Rattle.std.proofs.Common.{Some, sym, ap, ◌∙◌}
 use Rattle.std.specs.Prelude.{option_map}
 use Rattle.geo_model.specs.Tasting.{facts_of}
 use Rattle.geo_model.specs.Topology.{provider_at}
@@ -11,9 +11,7 @@ returns-then-provider c =
     sym (ap (option_map (facts_of c.args.topo.now.topology))
     (going_errored c.args.topo.now.topology c.in_ok-provider.ensures.sound.orderly.order c.args.taste.now
     (provider_seen c.provider.result c.in_ok-provider.provider.now)
-    (subst (λ n. provider_at c.args.topo.now.topology n
-    ≡ Some (provider_seen c.provider.result c.in_ok-provider.provider.now)) c.provider.ensures
-    c.in_ok-provider.ensures.provider)
+    (sym (ap (provider_at c.args.topo.now.topology) c.provider.ensures) ∙ c.in_ok-provider.ensures.provider)
     c.if-provider.true))
 
 pub facts_of-requires : goal.facts_of-requires
@@ -27,7 +25,5 @@ returns c =
     ∙ sym (ap (option_map (facts_of c.args.topo.now.topology))
     (going_on c.args.topo.now.topology c.in_ok-provider.ensures.sound.orderly.order c.args.taste.now
     (provider_seen c.provider.result c.in_ok-provider.provider.now)
-    (subst (λ n. provider_at c.args.topo.now.topology n
-    ≡ Some (provider_seen c.provider.result c.in_ok-provider.provider.now)) c.provider.ensures
-    c.in_ok-provider.ensures.provider)
+    (sym (ap (provider_at c.args.topo.now.topology) c.provider.ensures) ∙ c.in_ok-provider.ensures.provider)
     c.if-provider.false (sym c.is_spoiled.ensures ∙ c.if-is_spoiled.false)))

@@ -1,46 +1,29 @@
-use Rattle.std.proofs.Common.{◌≡◌, ◌-◌, None, ◌∙◌, subst, sym}
-use Rattle.std.specs.Prelude.{Some, [], length, ◌<◌, IfSome}
-use Rattle.geo_base.proofs.Options.{if-with}
+use Rattle.std.proofs.Common.{◌≡◌, ◌∙◌, sym}
+use Rattle.std.specs.Prelude.{[], length, ◌<◌, IfSome}
 use Rattle.geo_model.specs.Acceptance.{places_of}
 use Rattle.geo_model.specs.Topology.{Geom, geom_at, providers_of}
 use Rattle.geo_laws_life.proofs.Found.{at-some}
 use Rattle.geo_mesh.specs.Cells.{geom_seen, provider_seen}
-use Rattle.geo_taste.specs.Members.{CanBeOffered, joined_name, member_of, plan_of}
+use Rattle.geo_taste.specs.Members.{CanBeOffered, joined_name, member_of}
 use Rattle.geo_taste.specs.Standing.{CanStandOn, MayOffer}
-use Rattle.geo_taste.proofs.JoinLemmas.{can_join_is, kept_taken, room_kept, standing_joined, standing_may_offer, standing_no, standing_no_bare, standing_no_plan}
+use Rattle.geo_taste.proofs.JoinLemmas.{declines_filled, declines_full, declines_planless, kept_taken, room_kept, standing_may_offer, takes_place}
 use Rattle.geo_taste.proofs.MemberLemmas.{plan_offers}
 use Rattle.geo_taste.proofs.StandingLemmas.{bare_of}
-use Rattle.geo_taste.proofs.TableLemmas.{is_no, is_yes, unchanged}
+use Rattle.geo_taste.proofs.TableLemmas.{is_no, is_yes}
 use Rattle.geo_taste.proofs.join.join_standing.Goals as goal
 
 pub returns-then-not-branch-clause-made : goal.returns-then-not-branch-clause-made
 returns-then-not-branch-clause-made c =
-    let t = c.args.topo.now.topology in
-    let p = provider_seen c.args.prov c.args.below.now in
-    let g = geom_seen c.args.geom c.in-Some.standing.now in
-    let inside = at-some (geom_at t c.args.geom)
-    (λ (x : Geom _). c.args.member.now.place < length (places_of x.config)) g c.in-Some.ensures.geom c.requires.place in
-    let cannot = is_no c.in_ok-can_join.field-0 _ (can_join_is t p g c.args.member.now.place
-    c.in_ok-can_join.field-0 inside c.in_ok-can_join.ensures) c.if-not-branch.true in
-    if-with (geom_at t c.args.geom) _ g c.in-Some.ensures.geom (
-      unchanged c.args.topo.now c.args.queue.now,
-      λ may. standing_no c.args.topo.now c.args.queue.now p (member_of c.args.member.now) g cannot,
-    )
+    declines_full c.args.topo.now c.args.queue.now (provider_seen c.args.prov c.args.below.now)
+    (member_of c.args.member.now) (geom_seen c.args.geom c.in-Some.standing.now) c.args.geom c.in-Some.ensures.geom
+    c.requires.place c.in_ok-can_join.field-0 c.in_ok-can_join.ensures c.if-not-branch.true
 
 pub returns-then-not-is_bare-clause-made : goal.returns-then-not-is_bare-clause-made
 returns-then-not-is_bare-clause-made c =
-    let t = c.args.topo.now.topology in
-    let p = provider_seen c.args.prov c.args.below.now in
-    let g = geom_seen c.args.geom c.in-Some.standing.now in
-    let inside = at-some (geom_at t c.args.geom)
-    (λ (x : Geom _). c.args.member.now.place < length (places_of x.config)) g c.in-Some.ensures.geom c.requires.place in
-    let can = is_yes c.in_ok-can_join.field-0 _ (can_join_is t p g c.args.member.now.place
-    c.in_ok-can_join.field-0 inside c.in_ok-can_join.ensures) c.if-not-branch.false in
-    if-with (geom_at t c.args.geom) _ g c.in-Some.ensures.geom (
-      unchanged c.args.topo.now c.args.queue.now,
-      λ may. standing_no_bare c.args.topo.now c.args.queue.now p (member_of c.args.member.now) g can
-          (is_no c.is_bare.result _ c.is_bare.ensures c.if-not-is_bare.true) may,
-    )
+    declines_filled c.args.topo.now c.args.queue.now (provider_seen c.args.prov c.args.below.now)
+    (member_of c.args.member.now) (geom_seen c.args.geom c.in-Some.standing.now) c.args.geom c.in-Some.ensures.geom
+    c.requires.place c.in_ok-can_join.field-0 c.in_ok-can_join.ensures c.if-not-branch.false
+    (is_no c.is_bare.result _ c.is_bare.ensures c.if-not-is_bare.true)
 
 pub place_plan-requires : goal.place_plan-requires
 place_plan-requires c =
@@ -50,20 +33,10 @@ place_plan-requires c =
 
 pub returns-in_default-2-clause-made : goal.returns-in_default-2-clause-made
 returns-in_default-2-clause-made c =
-    let t = c.args.topo.now.topology in
-    let p = provider_seen c.args.prov c.args.below.now in
-    let g = geom_seen c.args.geom c.in-Some.standing.now in
-    let inside = at-some (geom_at t c.args.geom)
-    (λ (x : Geom _). c.args.member.now.place < length (places_of x.config)) g c.in-Some.ensures.geom c.requires.place in
-    let can = is_yes c.in_ok-can_join.field-0 _ (can_join_is t p g c.args.member.now.place
-    c.in_ok-can_join.field-0 inside c.in_ok-can_join.ensures) c.if-not-branch.false in
-    let plan = subst (λ n. plan_of t (c.args.below.now.size - n) c.args.below.now.sector c.in-Some.standing.now.config
-    c.args.member.now.place (joined_name c.args.member.now.kind c.args.member.now.geom_name) ≡ None)
-    c.from.ensures (sym c.in_ok-plan.ensures ∙ c.in_default-2.is) in
-    if-with (geom_at t c.args.geom) _ g c.in-Some.ensures.geom (
-      unchanged c.args.topo.now c.args.queue.now,
-      standing_no_plan c.args.topo.now c.args.queue.now p (member_of c.args.member.now) g can plan,
-    )
+    declines_planless c.args.topo.now c.args.queue.now (provider_seen c.args.prov c.args.below.now)
+    (member_of c.args.member.now) (geom_seen c.args.geom c.in-Some.standing.now) c.args.geom c.in-Some.ensures.geom
+    c.requires.place c.in_ok-can_join.field-0 c.in_ok-can_join.ensures c.from.ensures c.in_ok-plan.ensures
+    c.if-not-branch.false c.in_default-2.is
 
 pub take_place-requires-clause-may : goal.take_place-requires-clause-may
 take_place-requires-clause-may c =
@@ -93,19 +66,10 @@ take_place-requires-clause-offer c =
 
 pub returns-clause-made : goal.returns-clause-made
 returns-clause-made c =
-    let t = c.args.topo.now.topology in
-    let p = provider_seen c.args.prov c.args.below.now in
-    let g = geom_seen c.args.geom c.in-Some.standing.now in
-    let inside = at-some (geom_at t c.args.geom)
-    (λ (x : Geom _). c.args.member.now.place < length (places_of x.config)) g c.in-Some.ensures.geom c.requires.place in
-    let can = is_yes c.in_ok-can_join.field-0 _ (can_join_is t p g c.args.member.now.place
-    c.in_ok-can_join.field-0 inside c.in_ok-can_join.ensures) c.if-not-branch.false in
-    let plan = subst (λ n. plan_of t (c.args.below.now.size - n) c.args.below.now.sector c.in-Some.standing.now.config
-    c.args.member.now.place (joined_name c.args.member.now.kind c.args.member.now.geom_name) ≡ Some c.in-Some-2.plan)
-    c.from.ensures (sym c.in_ok-plan.ensures ∙ c.in-Some-2.is) in
-    if-with (geom_at t c.args.geom) _ g c.in-Some.ensures.geom
-    (λ may. standing_joined c.args.topo.now c.args.queue.now p (member_of c.args.member.now) g c.take_place.new.topo
-    c.take_place.new.queue c.in-Some-2.plan can plan
+    takes_place c.args.topo.now c.args.queue.now (provider_seen c.args.prov c.args.below.now)
+    (member_of c.args.member.now) (geom_seen c.args.geom c.in-Some.standing.now) c.args.geom c.in-Some.ensures.geom
+    c.requires.place c.in_ok-can_join.field-0 c.in_ok-can_join.ensures c.from.ensures c.in_ok-plan.ensures
+    c.take_place.new.topo c.take_place.new.queue c.in-Some-2.plan c.if-not-branch.false c.in-Some-2.is
     (kept_taken c.args.topo.now c.reserve.new.self c.take_place.new.topo c.args.queue.now c.reserve-2.new.self
     c.take_place.new.queue c.args.prov c.args.geom c.in-Some-2.plan c.reserve.ensures.same
-    c.reserve-2.ensures.events_stay c.take_place.ensures.taken))
+    c.reserve-2.ensures.events_stay c.take_place.ensures.taken)

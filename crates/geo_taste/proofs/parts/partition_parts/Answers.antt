@@ -1,5 +1,4 @@
-use Rattle.std.proofs.Common.{None, arith, get_or}
-use Rattle.std.proofs.lemmas.List.{get_or_default}
+use Rattle.std.proofs.Common.{arith}
 use Rattle.geo_model.specs.Names.{logical_name}
 use Rattle.geo_taste.proofs.PartLoops.{named_begin, named_end, named_more, named_none, named_place}
 use Rattle.geo_taste.proofs.parts.partition_parts.Goals as goal
@@ -11,37 +10,23 @@ loop-part-init c =
 pub push_partition-requires : goal.push_partition-requires
 push_partition-requires c =
     let inside = named_place (logical_name c.args.below.now) (λ s. s.count) c.args.chain.now c.loop-part.place
-    c.loop-part.part-index c.loop-part.parts.items
-    (get_or c.args.chain.now c.loop-part.part-index None)
-    (omega (arith, c.told-chain, c.loop-part-test.true))
-    (get_or_default c.args.chain.now c.loop-part.part-index None (get_or c.args.chain.now c.loop-part.part-index None)
-    (omega (arith, c.told-chain, c.loop-part-test.true)))
+    c.loop-part.part-index c.loop-part.parts.items (omega (arith, c.told-chain, c.loop-part-test.true))
     c.loop-part.invariant in
     omega (arith, c.told-chain, inside)
 
 pub returns-then-not-branch-clause-named : goal.returns-then-not-branch-clause-named
 returns-then-not-branch-clause-named c =
     named_none (logical_name c.args.below.now) (λ s. s.count) c.args.chain.now c.loop-part.place
-    c.loop-part.part-index
-    c.loop-part.parts.items c.push_partition.new.parts.items
-    (get_or c.args.chain.now c.loop-part.part-index None)
-    c.in_ok-push_partition.field-0
-    (omega (arith, c.told-chain, c.loop-part-test.true))
-    (get_or_default c.args.chain.now c.loop-part.part-index None (get_or c.args.chain.now c.loop-part.part-index None)
-    (omega (arith, c.told-chain, c.loop-part-test.true)))
-    c.loop-part.invariant c.in_ok-push_partition.ensures c.if-not-branch.true
+    c.loop-part.part-index c.loop-part.parts.items (omega (arith, c.told-chain, c.loop-part-test.true))
+    c.loop-part.invariant c.push_partition.new.parts.items c.in_ok-push_partition.field-0
+    c.in_ok-push_partition.ensures c.if-not-branch.true
 
 pub loop-part-preserved : goal.loop-part-preserved
 loop-part-preserved c =
     named_more (logical_name c.args.below.now) (λ s. s.count) c.args.chain.now c.loop-part.place
-    c.loop-part.part-index
-    c.loop-part.parts.items c.push_partition.new.parts.items
-    (get_or c.args.chain.now c.loop-part.part-index None)
-    c.in_ok-push_partition.field-0
-    (omega (arith, c.told-chain, c.loop-part-test.true))
-    (get_or_default c.args.chain.now c.loop-part.part-index None (get_or c.args.chain.now c.loop-part.part-index None)
-    (omega (arith, c.told-chain, c.loop-part-test.true)))
-    c.loop-part.invariant c.in_ok-push_partition.ensures c.if-not-branch.false
+    c.loop-part.part-index c.loop-part.parts.items (omega (arith, c.told-chain, c.loop-part-test.true))
+    c.loop-part.invariant c.push_partition.new.parts.items c.in_ok-push_partition.field-0
+    c.in_ok-push_partition.ensures c.if-not-branch.false
 
 pub returns-clause-named : goal.returns-clause-named
 returns-clause-named c =

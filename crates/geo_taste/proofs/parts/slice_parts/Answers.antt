@@ -1,5 +1,4 @@
-use Rattle.std.proofs.Common.{None, arith, get_or}
-use Rattle.std.proofs.lemmas.List.{get_or_default}
+use Rattle.std.proofs.Common.{arith}
 use Rattle.geo_model.specs.Names.{slice_name}
 use Rattle.geo_taste.proofs.PartLoops.{named_begin, named_end, named_more, named_none, named_place}
 use Rattle.geo_taste.proofs.parts.slice_parts.Goals as goal
@@ -11,37 +10,23 @@ loop-slice-init c =
 pub push_slice-requires : goal.push_slice-requires
 push_slice-requires c =
     let inside = named_place (slice_name c.args.below.now) (λ s. s.count) c.args.slices.now c.loop-slice.place
-    c.loop-slice.slice-index c.loop-slice.parts.items
-    (get_or c.args.slices.now c.loop-slice.slice-index None)
-    (omega (arith, c.told-slices, c.loop-slice-test.true))
-    (get_or_default c.args.slices.now c.loop-slice.slice-index None (get_or c.args.slices.now c.loop-slice.slice-index
-    None) (omega (arith, c.told-slices, c.loop-slice-test.true)))
+    c.loop-slice.slice-index c.loop-slice.parts.items (omega (arith, c.told-slices, c.loop-slice-test.true))
     c.loop-slice.invariant in
     omega (arith, c.told-slices, inside)
 
 pub returns-then-not-branch-clause-named : goal.returns-then-not-branch-clause-named
 returns-then-not-branch-clause-named c =
     named_none (slice_name c.args.below.now) (λ s. s.count) c.args.slices.now c.loop-slice.place
-    c.loop-slice.slice-index
-    c.loop-slice.parts.items c.push_slice.new.parts.items
-    (get_or c.args.slices.now c.loop-slice.slice-index None)
-    c.in_ok-push_slice.field-0
-    (omega (arith, c.told-slices, c.loop-slice-test.true))
-    (get_or_default c.args.slices.now c.loop-slice.slice-index None (get_or c.args.slices.now c.loop-slice.slice-index
-    None) (omega (arith, c.told-slices, c.loop-slice-test.true)))
-    c.loop-slice.invariant c.in_ok-push_slice.ensures c.if-not-branch.true
+    c.loop-slice.slice-index c.loop-slice.parts.items (omega (arith, c.told-slices, c.loop-slice-test.true))
+    c.loop-slice.invariant c.push_slice.new.parts.items c.in_ok-push_slice.field-0
+    c.in_ok-push_slice.ensures c.if-not-branch.true
 
 pub loop-slice-preserved : goal.loop-slice-preserved
 loop-slice-preserved c =
     named_more (slice_name c.args.below.now) (λ s. s.count) c.args.slices.now c.loop-slice.place
-    c.loop-slice.slice-index
-    c.loop-slice.parts.items c.push_slice.new.parts.items
-    (get_or c.args.slices.now c.loop-slice.slice-index None)
-    c.in_ok-push_slice.field-0
-    (omega (arith, c.told-slices, c.loop-slice-test.true))
-    (get_or_default c.args.slices.now c.loop-slice.slice-index None (get_or c.args.slices.now c.loop-slice.slice-index
-    None) (omega (arith, c.told-slices, c.loop-slice-test.true)))
-    c.loop-slice.invariant c.in_ok-push_slice.ensures c.if-not-branch.false
+    c.loop-slice.slice-index c.loop-slice.parts.items (omega (arith, c.told-slices, c.loop-slice-test.true))
+    c.loop-slice.invariant c.push_slice.new.parts.items c.in_ok-push_slice.field-0
+    c.in_ok-push_slice.ensures c.if-not-branch.false
 
 pub returns-clause-named : goal.returns-clause-named
 returns-clause-named c =

@@ -11,47 +11,36 @@ loop-id-init c = walk_begin c.args.member.now.geom_name c.args.member.now.empty
 
 pub returns-then-is_at-clause-found : goal.returns-then-is_at-clause-found
 returns-then-is_at-clause-found c =
-    walk_passes c.args.topo.now.topology c.args.member.now.geom_name c.args.member.now.empty
-    (named_geoms c.args.member.now.kind c.args.member.now.geom_name c.args.topo.now.topology.geoms) c.loop-id.from
-    c.in-Some.id
-    (next_geom_of c.args.topo.now.topology (has_name c.args.member.now.kind c.args.member.now.geom_name)
-    c.loop-id.from c.in-Some.id c.in-Some.ensures.sound
-    (sym c.in-Some.ensures.first)) c.loop-id.invariant (sym c.if-is_at.true ∙ c.is_at.ensures)
+    walk_passes c.args.topo.now.topology (has_name c.args.member.now.kind c.args.member.now.geom_name)
+    c.args.member.now.geom_name c.args.member.now.empty c.loop-id.from c.in-Some.id c.in-Some.ensures.sound
+    c.in-Some.ensures.first c.loop-id.invariant (sym c.if-is_at.true ∙ c.is_at.ensures)
 
 pub returns-then-is_at-clause-first : goal.returns-then-is_at-clause-first
 returns-then-is_at-clause-first c = λ classes.
-    walk_found c.args.topo.now.topology c.args.member.now.geom_name c.args.member.now.empty
-    (named_geoms c.args.member.now.kind c.args.member.now.geom_name c.args.topo.now.topology.geoms) c.loop-id.from
-    c.in-Some.id
-    (next_geom_of c.args.topo.now.topology (has_name c.args.member.now.kind c.args.member.now.geom_name)
-    c.loop-id.from c.in-Some.id c.in-Some.ensures.sound
-    (sym c.in-Some.ensures.first)) c.loop-id.invariant (sym c.if-is_at.true ∙ c.is_at.ensures)
+    walk_found c.args.topo.now.topology (has_name c.args.member.now.kind c.args.member.now.geom_name)
+    c.args.member.now.geom_name c.args.member.now.empty c.loop-id.from c.in-Some.id c.in-Some.ensures.sound
+    c.in-Some.ensures.first c.loop-id.invariant (sym c.if-is_at.true ∙ c.is_at.ensures)
     ∙ ap (option_map (λ (g : Geom _). g.number)) (named_found c.args.member.now.kind c.args.member.now.geom_name
     c.args.member.now.empty c.requires c.args.topo.now.topology.geoms classes)
 
 pub overflow_add-from : goal.overflow_add-from
 overflow_add-from c =
     let next = next_geom_of c.args.topo.now.topology (has_name c.args.member.now.kind c.args.member.now.geom_name)
-    c.loop-id.from c.in-Some.id c.in-Some.ensures.sound
-    (sym c.in-Some.ensures.first) in
+    c.loop-id.from c.in-Some.id c.in-Some.ensures.sound (sym c.in-Some.ensures.first) in
     omega (arith, c.number-from.ensures, next.known, next.fits)
 
 pub loop-id-smaller : goal.loop-id-smaller
 loop-id-smaller c =
     let next = next_geom_of c.args.topo.now.topology (has_name c.args.member.now.kind c.args.member.now.geom_name)
-    c.loop-id.from c.in-Some.id c.in-Some.ensures.sound
-    (sym c.in-Some.ensures.first) in
+    c.loop-id.from c.in-Some.id c.in-Some.ensures.sound (sym c.in-Some.ensures.first) in
     omega (arith, c.number-from.ensures, next.known, next.past)
 
 pub loop-id-preserved : goal.loop-id-preserved
 loop-id-preserved c =
     rw c.number-from.ensures
-    (walk_on c.args.topo.now.topology c.args.member.now.geom_name c.args.member.now.empty
-    (named_geoms c.args.member.now.kind c.args.member.now.geom_name c.args.topo.now.topology.geoms) c.loop-id.from
-    c.in-Some.id
-    (next_geom_of c.args.topo.now.topology (has_name c.args.member.now.kind c.args.member.now.geom_name)
-    c.loop-id.from c.in-Some.id c.in-Some.ensures.sound
-    (sym c.in-Some.ensures.first)) c.loop-id.invariant (sym c.if-is_at.false ∙ c.is_at.ensures))
+    (walk_on c.args.topo.now.topology (has_name c.args.member.now.kind c.args.member.now.geom_name)
+    c.args.member.now.geom_name c.args.member.now.empty c.loop-id.from c.in-Some.id c.in-Some.ensures.sound
+    c.in-Some.ensures.first c.loop-id.invariant (sym c.if-is_at.false ∙ c.is_at.ensures))
 
 pub returns-clause-first : goal.returns-clause-first
 returns-clause-first c = λ classes.

@@ -18,15 +18,13 @@ raise-id-requires-clause-stand c =
 pub offer_parts-requires-clause-parts : goal.offer_parts-requires-clause-parts
 offer_parts-requires-clause-parts c =
     table_can c.args.topo.now c.args.queue.now c.args.geom.kind c.args.geom.name c.args.geom.config c.args.prov
-    c.args.parts.now
-    c.reserve.new.self c.raise-id.new.topo c.reserve.ensures.same c.raise-id.ensures.raised
+    c.args.parts.now c.reserve.new.self c.raise-id.new.topo c.reserve.ensures.same c.raise-id.ensures.raised
     (is_yes c.are_addable.result _ c.are_addable.ensures c.if-not-are_addable.false)
 
 pub returns-clause-made : goal.returns-clause-made
 returns-clause-made c = λ facts.
     table_made c.args.topo.now c.args.queue.now c.args.geom.kind c.args.geom.name c.args.geom.config c.args.prov
-    c.args.parts.now
-    c.reserve.new.self c.raise-id.new.topo c.reserve.ensures.same c.raise-id.ensures.raised
+    c.args.parts.now c.reserve.new.self c.raise-id.new.topo c.reserve.ensures.same c.raise-id.ensures.raised
     (is_yes c.are_addable.result _ c.are_addable.ensures c.if-not-are_addable.false)
     c.offer_parts.new.topo c.reserve-2.new.self c.offer_parts.new.queue c.raise-id.result
     c.reserve-2.ensures.events_stay

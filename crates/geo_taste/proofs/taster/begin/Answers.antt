@@ -1,5 +1,4 @@
 use Rattle.std.proofs.Common.{sym, ap, ◌∙◌, subst}
-use Rattle.geo_mesh.specs.Topo.{with_consumer}
 use Rattle.geo_taste.specs.Taster.{first_taste, IsSettled, IsTasteOf}
 use Rattle.geo_taste.proofs.Begun.{settled_roomed, taster_settled, tasted_is, loose_there, attach_goes, attached_is, taster_tasting}
 use Rattle.geo_taste.proofs.taster.begin.Goals as goal
@@ -12,18 +11,14 @@ returns-in_err-consumer-clause-settled c =
 pub attach-requires-clause-consumer : goal.attach-requires-clause-consumer
 attach-requires-clause-consumer c =
     loose_there c.args.topo.now c.new_consumer.new.self c.taste_geom-geom.ensures.sound
-    (c.in_ok-consumer.ensures.added
-    ∙ ap (λ g. record (with_consumer c.args.topo.now g) { room = c.new_consumer.new.self.room })
-    c.taste_geom-geom.ensures.number)
-    c.in_ok-consumer.consumer c.in_ok-consumer.ensures.number
+    c.taste_geom-geom.ensures.number c.in_ok-consumer.ensures.added c.in_ok-consumer.consumer
+    c.in_ok-consumer.ensures.number
 
 pub unreachable-requires : goal.unreachable-requires
 unreachable-requires c =
     let none = attach_goes c.args.topo.now c.new_consumer.new.self c.taste_geom-geom.ensures.sound
-    (c.in_ok-consumer.ensures.added
-    ∙ ap (λ g. record (with_consumer c.args.topo.now g) { room = c.new_consumer.new.self.room })
-    c.taste_geom-geom.ensures.number)
-    c.in_ok-consumer.consumer c.in_ok-consumer.ensures.number c.args.prov
+    c.taste_geom-geom.ensures.number c.in_ok-consumer.ensures.added c.in_ok-consumer.consumer
+    c.in_ok-consumer.ensures.number c.args.prov
     (tasted_is c.args.topo.now c.args.prov c.requires.tasted) in
     let never = sym none ∙ c.in-Err.ensures.answer in
     absurd (cc)
@@ -31,10 +26,8 @@ unreachable-requires c =
 pub returns-clause-added : goal.returns-clause-added
 returns-clause-added c =
     attached_is c.args.topo.now c.new_consumer.new.self c.taste_geom-geom.ensures.sound
-    (c.in_ok-consumer.ensures.added
-    ∙ ap (λ g. record (with_consumer c.args.topo.now g) { room = c.new_consumer.new.self.room })
-    c.taste_geom-geom.ensures.number)
-    c.in_ok-consumer.consumer c.in_ok-consumer.ensures.number c.args.prov c.attach.new.self c.in-Ok.ensures.attached
+    c.taste_geom-geom.ensures.number c.in_ok-consumer.ensures.added c.in_ok-consumer.consumer
+    c.in_ok-consumer.ensures.number c.args.prov c.attach.new.self c.in-Ok.ensures.attached
 
 pub returns-clause-settled : goal.returns-clause-settled
 returns-clause-settled c =
