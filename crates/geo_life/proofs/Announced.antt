@@ -79,6 +79,10 @@ module _ {C : Type 0} (start now : TopoView C) (counted : IsCounted now) (sound 
         rise_notes =
             ap (λ (v : TopoView C). v.risen) rest ∙ ap (λ (v : TopoView C). v.risen) mid_is
 
+        -- one note fewer is set
+        pub rise_fewer : notes now.risen ≡ notes new.risen + 1
+        rise_fewer = rise_less ∙ ap (λ rows. notes rows + 1) (sym rise_notes)
+
         pub rise_mesh : new ≡ record start { topology = new.topology; risen = new.risen }
         rise_mesh =
             rest
@@ -114,6 +118,10 @@ module _ {C : Type 0} (start now : TopoView C) (counted : IsCounted now) (sound 
 
       pub fall_notes : mid.fallen ≡ with_value now.fallen p false
       fall_notes = ap (λ (v : TopoView C). v.fallen) fallen_is
+
+      -- one note fewer is set
+      pub fall_fewer : notes now.fallen ≡ notes mid.fallen + 1
+      fall_fewer = fall_less ∙ ap (λ rows. notes rows + 1) (sym fall_notes)
 
       pub fall_graph : mid.topology ≡ now.topology
       fall_graph = ap (λ (v : TopoView C). v.topology) fallen_is

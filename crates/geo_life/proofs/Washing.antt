@@ -1,5 +1,5 @@
 -- What a wash finds.
-use Rattle.std.specs.Prelude.{◌≡◌, ℕ, suc, ◌==◌, nat_le, Bool, true, false, not, ◌&&◌, List, [], ◌∷◌, length, find, Option, Some, None, if◌then◌else◌, IsSomeAnd, IfSome, IsTrue, is_none, is_some, option_map}
+use Rattle.std.specs.Prelude.{◌≡◌, ℕ, suc, ◌+◌, ◌==◌, nat_le, Bool, true, false, not, ◌&&◌, List, [], ◌∷◌, length, find, Option, Some, None, if◌then◌else◌, IsSomeAnd, IfSome, IsTrue, is_none, is_some, option_map}
 use Rattle.std.specs.Option.{option_or}
 use Rattle.std.proofs.Common.{refl, sym, ap, ◌∙◌, subst, arith}
 use Rattle.std.proofs.lemmas.Bool.{le-leb, ne_eqb}
@@ -12,7 +12,9 @@ use Rattle.geo_model.specs.Demand.{is_zero}
 use Rattle.geo_model.specs.Freeing.{is_idle, free_consumer, free_geom, wash_work_of}
 use Rattle.geo_mesh.specs.Topo.{TopoView}
 use Rattle.geo_laws_graph.proofs.Numbered.{number_found}
+use Rattle.geo_laws_graph.specs.LookupLaws.{left_from}
 use Rattle.geo_access.specs.Views.{want_at}
+use Rattle.geo_access.proofs.Folding.{found_more, found_here}
 use Rattle.geo_life.specs.Life.{AreStored, is_out}
 use Rattle.geo_life.proofs.Errors.{any_found}
 use Rattle.geo_life.proofs.MarkWalk.{stored_now}
@@ -69,6 +71,36 @@ pub idle_is : {C : Type 0} (granted : ℕ → Counts) (t : TopoView C) → AreSt
     → is_idle granted (is_out t) t.topology x ≡ (is_zero (want_at t x.number) && not (is_out t x.number))
 idle_is granted t stored x found =
     ap (λ a. is_zero a && not (is_out t x.number)) (sym (stored_now granted t stored x.number x found))
+
+-- the walk over the consumers of a geom came to one, of which it was told whether it is idle
+module _ {C : Type 0} (granted : ℕ → Counts) (t : TopoView C) (stored : AreStored granted t)
+    (geom from_number id : ℕ) (x : Consumer)
+    (left : left_from (λ (c : Consumer). c.number) from_number (consumers_of t.topology geom)
+    ≡ x ∷ left_from (λ (c : Consumer). c.number) (id + 1) (consumers_of t.topology geom))
+    (lives : consumer_at t.topology x.number ≡ Some x) {b : Bool}
+    (told : b ≡ (is_zero (want_at t x.number) && not (is_out t x.number))) where
+  -- the test of the walk
+  abbrev test : Consumer → Bool
+  test = is_idle granted (is_out t) t.topology
+
+  -- the number of the first idle one
+  abbrev first : Option ℕ
+  first = option_map (λ (c : Consumer). c.number) (find test (consumers_of t.topology geom))
+
+  module _ (so_far : option_map (λ (c : Consumer). c.number)
+      (find test (left_from (λ (c : Consumer). c.number) from_number (consumers_of t.topology geom))) ≡ first) where
+    -- one that isn't is passed over
+    pub idle_more : b ≡ false → option_map (λ (c : Consumer). c.number)
+        (find test (left_from (λ (c : Consumer). c.number) (id + 1) (consumers_of t.topology geom))) ≡ first
+    idle_more fails =
+        found_more (λ (c : Consumer). c.number) test (consumers_of t.topology geom) from_number id x first left
+        (idle_is granted t stored x lives ∙ sym told ∙ fails) so_far
+
+    -- one that is idle is the first
+    pub idle_found : b ≡ true → Some x.number ≡ first
+    idle_found passes =
+        found_here (λ (c : Consumer). c.number) test (consumers_of t.topology geom) from_number id x first left
+        (idle_is granted t stored x lives ∙ sym told ∙ passes) so_far
 
 -- What can go of one geom
 

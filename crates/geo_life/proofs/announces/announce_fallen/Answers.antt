@@ -6,7 +6,7 @@ use Rattle.geo_access.specs.Access.{noted}
 use Rattle.geo_slots.specs.Slots.{with_value}
 use Rattle.geo_mesh.specs.Topo.{TopoView}
 use Rattle.geo_life.specs.Life.{queued, notes}
-use Rattle.geo_life.proofs.Announced.{fall_step, fall_next, fall_less, fall_notes, fall_graph, fall_mesh, fall_end}
+use Rattle.geo_life.proofs.Announced.{fall_step, fall_next, fall_less, fall_fewer, fall_notes, fall_graph, fall_mesh, fall_end}
 use Rattle.geo_life.proofs.Announcing.{note_none}
 use Rattle.geo_life.proofs.announces.announce_fallen.Goals as goal
 
@@ -20,15 +20,10 @@ offer_again-requires g c =
 
 pub loop-prov-smaller : goal.loop-prov-smaller
 loop-prov-smaller g c =
-    let less =
-    fall_less c.args.topo.now c.loop-prov.topo c.loop-prov.invariant.counted c.in-Some.ensures.sound
-    c.loop-prov.invariant.mesh c.in-Some.prov (sym c.in-Some.ensures.first)
-    c.next_fallen.new.topo c.in-Some.ensures.dropped in
-    let now : notes c.next_fallen.new.topo.fallen ≡ notes (with_value c.loop-prov.topo.fallen c.in-Some.prov false) =
-    ap notes (fall_notes c.args.topo.now c.loop-prov.topo c.loop-prov.invariant.counted c.in-Some.ensures.sound
-    c.loop-prov.invariant.mesh c.in-Some.prov (sym c.in-Some.ensures.first)
-    c.next_fallen.new.topo c.in-Some.ensures.dropped) in
-    omega (arith, less, now)
+    let fewer = fall_fewer c.args.topo.now c.loop-prov.topo c.loop-prov.invariant.counted c.in-Some.ensures.sound
+    c.loop-prov.invariant.mesh c.in-Some.prov (sym c.in-Some.ensures.first) c.next_fallen.new.topo
+    c.in-Some.ensures.dropped in
+    omega (arith, fewer)
 
 pub loop-prov-preserved : goal.loop-prov-preserved
 loop-prov-preserved g c =

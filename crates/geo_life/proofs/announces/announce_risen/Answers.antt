@@ -8,7 +8,7 @@ use Rattle.geo_laws_counts.specs.CountWords.{seen_by_counts}
 use Rattle.geo_life.specs.Life.{queued, notes, without_rises, IsDevMade, AreStored, CountsStay}
 use Rattle.geo_life.proofs.Seen.{mesh_kept}
 use Rattle.geo_life.proofs.Announcing.{note_none}
-use Rattle.geo_life.proofs.Announced.{rise_step, rise_stored, rise_end, rise_next, rise_less, rise_notes, rise_mesh, rise_unseen, rise_made, rise_out, mid_is}
+use Rattle.geo_life.proofs.Announced.{rise_step, rise_stored, rise_end, rise_next, rise_less, rise_fewer, rise_notes, rise_mesh, rise_unseen, rise_made, rise_out, mid_is}
 use Rattle.geo_life.proofs.announces.announce_risen.Goals as goal
 
 pub spoil_at-requires-clause-made : goal.spoil_at-requires-clause-made
@@ -28,15 +28,10 @@ spoil_at-requires-clause-room g c =
 
 pub loop-prov-smaller : goal.loop-prov-smaller
 loop-prov-smaller g c =
-    let less =
-    rise_less c.args.topo.now c.loop-prov.topo c.loop-prov.invariant.counted c.in-Some.ensures.sound
+    let fewer = rise_fewer c.args.topo.now c.loop-prov.topo c.loop-prov.invariant.counted c.in-Some.ensures.sound
     c.loop-prov.invariant.mesh c.loop-prov.invariant.seen c.in-Some.prov (sym c.in-Some.ensures.first)
-    c.next_risen.new.topo c.in-Some.ensures.dropped in
-    let now : notes c.spoil_at.new.topo.risen ≡ notes (with_value c.loop-prov.topo.risen c.in-Some.prov false) =
-    ap notes (rise_notes c.args.topo.now c.loop-prov.topo c.loop-prov.invariant.counted c.in-Some.ensures.sound
-    c.loop-prov.invariant.mesh c.loop-prov.invariant.seen c.in-Some.prov (sym c.in-Some.ensures.first)
-    c.next_risen.new.topo c.in-Some.ensures.dropped c.spoil_at.new.topo c.spoil_at.ensures.rest.mesh) in
-    omega (arith, less, now)
+    c.next_risen.new.topo c.in-Some.ensures.dropped c.spoil_at.new.topo c.spoil_at.ensures.rest.mesh in
+    omega (arith, fewer)
 
 pub loop-prov-preserved : goal.loop-prov-preserved
 loop-prov-preserved g c =

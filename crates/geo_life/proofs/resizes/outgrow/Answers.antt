@@ -39,11 +39,8 @@ loop-id-preserved g c = record {
       rest_more c.args.topo.now c.args.queue.now c.loop-id.topo c.loop-id.queue c.wither_if_outgrown.new.topo
       c.wither_if_outgrown.new.queue c.loop-id.invariant.rest c.wither_if_outgrown.ensures.rest;
   seen =
-      seen_if
-      _
-      (queued c.loop-id.topo c.loop-id.queue)
-      (queued c.wither_if_outgrown.new.topo c.wither_if_outgrown.new.queue) _
-      c.wither_if_outgrown.ensures.outgrown
+      seen_if _ (queued c.loop-id.topo c.loop-id.queue)
+      (queued c.wither_if_outgrown.new.topo c.wither_if_outgrown.new.queue) _ c.wither_if_outgrown.ensures.outgrown
       ∙ c.loop-id.invariant.seen;
   owed = omega (arith, c.loop-id.invariant.owed, c.wither_if_outgrown.ensures.owed);
   room = omega (arith, c.loop-id.invariant.room, c.wither_if_outgrown.ensures.owed);
@@ -62,10 +59,6 @@ returns-clause-kept g c =
 
 pub loop-id-smaller : goal.loop-id-smaller
 loop-id-smaller g c =
-    let next =
-    if_next
-    _
-    (queued c.loop-id.topo c.loop-id.queue)
-    (queued c.wither_if_outgrown.new.topo c.wither_if_outgrown.new.queue) _
-    c.wither_if_outgrown.ensures.outgrown in
+    let next = if_next _ (queued c.loop-id.topo c.loop-id.queue)
+    (queued c.wither_if_outgrown.new.topo c.wither_if_outgrown.new.queue) _ c.wither_if_outgrown.ensures.outgrown in
     omega (arith, next, c.in-Some.ensures.next.known, c.in-Some.ensures.next.past, c.number-from.ensures)
