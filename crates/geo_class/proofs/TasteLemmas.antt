@@ -59,6 +59,23 @@ pub verdict-moved : (granted : ℕ → Counts) (s : Taste) (asked : Asked) (kind
 verdict-moved granted s asked kinds.Ebr bytes f = refl
 verdict-moved granted s asked _ bytes f = refl
 
+-- so a verdict on a sector that was taken is one of the taste as it was
+pub taken-verdict : (granted : ℕ → Counts) (s : Taste) (kind : Kind) (block : List ℕ) (f : Facts) {t : Taste}
+    {bytes : List ℕ} {said : Verdict} → said ≡ verdict_on granted t kind bytes f → bytes ≡ block
+    → t ≡ record s { asked = NoClass } → said ≡ verdict_on granted s kind block f
+taken-verdict granted s kind block f {t = t} said_is same taken =
+    said_is ∙ ap (λ b. verdict_on granted t kind b f) same
+    ∙ ap (λ z. verdict_on granted z kind block f) taken
+    ∙ verdict-moved granted s NoClass kind block f
+
+-- and so is one by the chain alone
+pub taken-weighed : (s : Taste) (kind : Kind) (block : List ℕ) (f : Facts) {t : Taste} {bytes : List ℕ} {said : Verdict}
+    → said ≡ verdict_with t.chain kind bytes f → bytes ≡ block → t ≡ record s { asked = NoClass }
+    → said ≡ verdict_with s.chain kind block f
+taken-weighed s kind block f {t = t} said_is same taken =
+    said_is ∙ ap (λ b. verdict_with t.chain kind b f) same
+    ∙ ap (λ (z : Taste). verdict_with z.chain kind block f) taken
+
 -- nor in what the taste is after it
 wanting-moved : (granted : ℕ → Counts) (s : Taste) (asked : Asked) (kind : Kind) (bytes : List ℕ) (f : Facts)
     (sector : ℕ)

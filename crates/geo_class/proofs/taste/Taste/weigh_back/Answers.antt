@@ -1,16 +1,14 @@
 use Rattle.std.proofs.Common.{Some, sym, ap, ◌∙◌}
 use Rattle.geo_model.specs.World.{Taste}
-use Rattle.geo_class.specs.Taste.{chain_with, settled, verdict_with}
-use Rattle.geo_class.proofs.TasteLemmas.{weighed-verdict, weighed-taste}
+use Rattle.geo_class.specs.Taste.{chain_with, settled}
+use Rattle.geo_class.proofs.TasteLemmas.{taken-weighed, weighed-verdict, weighed-taste}
 use Rattle.geo_class.proofs.taste.Taste.weigh_back.Goals as goal
 
 pub returns-clause-verdict : goal.returns-clause-verdict
 returns-clause-verdict c granted =
     ap (λ v. Some v)
-    (c.weigh-verdict.ensures.verdict
-    ∙ ap (λ b. verdict_with c.take_sector.new.self.chain c.in-Some.kind b c.args.facts.now) c.bytes.ensures
-    ∙ ap (λ (s : Taste). verdict_with s.chain c.in-Some.kind c.in-Some.block c.args.facts.now)
-    c.take_sector.ensures.taste)
+    (taken-weighed c.args.self.now c.in-Some.kind c.in-Some.block c.args.facts.now c.weigh-verdict.ensures.verdict
+    c.bytes.ensures c.take_sector.ensures.taste)
     ∙ weighed-verdict granted c.args.self.now c.in-Some.kind c.in-Some.block c.args.facts.now
     (sym c.in-Some.ensures.sector)
 
@@ -27,7 +25,5 @@ returns-clause-taste c granted =
     }) c.take_sector.ensures.taste)
     ∙ weighed-taste granted c.args.self.now c.in-Some.kind c.in-Some.block c.args.facts.now
     (sym c.in-Some.ensures.sector) c.weigh-verdict.result
-    (c.weigh-verdict.ensures.verdict
-    ∙ ap (λ b. verdict_with c.take_sector.new.self.chain c.in-Some.kind b c.args.facts.now) c.bytes.ensures
-    ∙ ap (λ (s : Taste). verdict_with s.chain c.in-Some.kind c.in-Some.block c.args.facts.now)
-    c.take_sector.ensures.taste)
+    (taken-weighed c.args.self.now c.in-Some.kind c.in-Some.block c.args.facts.now c.weigh-verdict.ensures.verdict
+    c.bytes.ensures c.take_sector.ensures.taste)
