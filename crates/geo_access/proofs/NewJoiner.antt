@@ -13,7 +13,7 @@ use Rattle.geo_model.specs.Demand.{no_counts, have, want}
 use Rattle.geo_model.proofs.DemandLemmas.{map_same}
 use Rattle.geo_slots.specs.Slots.{value_at}
 use Rattle.geo_mesh.specs.declared.records.Scratch.{Scratch}
-use Rattle.geo_mesh.specs.Topo.{TopoView, Room, no_scratch, with_consumer, IsButForRoom}
+use Rattle.geo_mesh.specs.Topo.{TopoView, Room, no_scratch, with_consumer}
 use Rattle.geo_mesh.specs.Graph.{IsSoundGraph}
 use Rattle.geo_laws_graph.proofs.Members.{Origin, map-Contains}
 use Rattle.geo_laws_counts.specs.CountWords.{DemandStays, AnyConsumer}

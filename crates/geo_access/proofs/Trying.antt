@@ -11,7 +11,7 @@ use Rattle.geo_model.specs.Demand.{no_counts}
 use Rattle.geo_model.proofs.DemandLemmas.{map_same}
 use Rattle.geo_slots.specs.Slots.{value_at, with_value}
 use Rattle.geo_mesh.specs.declared.records.Scratch.{Scratch}
-use Rattle.geo_mesh.specs.Topo.{TopoView, no_scratch, with_geom_scratch, with_provider_scratch}
+use Rattle.geo_mesh.specs.Topo.{TopoView, with_geom_scratch, with_provider_scratch}
 use Rattle.geo_laws_counts.proofs.Levels.{of_each}
 use Rattle.geo_laws_counts.proofs.Members.{in_head, in_tail}
 use Rattle.geo_laws_counts.specs.WalkWords.{has_number, IsOrder, set_at}

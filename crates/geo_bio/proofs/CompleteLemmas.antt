@@ -12,7 +12,7 @@ use Rattle.geo_model.specs.declared.step.Owner.{Owner}
 use Rattle.geo_model.specs.declared.step.Owner.TheVariants as owners
 use Rattle.geo_model.specs.declared.step.Phase.{Phase}
 use Rattle.geo_model.specs.declared.step.Phase.TheVariants as phases
-use Rattle.geo_model.specs.World.{BioOf, is_done, is_waiting, is_child_of, children_among, change_number}
+use Rattle.geo_model.specs.World.{BioOf, is_done, is_waiting, is_child_of, children_among, change_number, bio_among}
 use Rattle.geo_model.specs.Words.{is_read}
 use Rattle.geo_model.specs.Bios.{up_with, bytes_of_result, error_of_result, first_failure, joined_result}
 use Rattle.geo_slots.specs.Slots.{IsRising, value_at, with_value, without}
@@ -20,7 +20,7 @@ use Rattle.geo_slots.proofs.RowLemmas.{IsRising-with_value, IsRising-without, wi
 use Rattle.geo_bio.specs.declared.bio.Bio.{Bio}
 use Rattle.geo_bio.specs.declared.bio.Held.{Held}
 use Rattle.geo_bio.specs.declared.bio.Held.TheVariants as held
-use Rattle.geo_bio.specs.BioTable.{bio_among, with_phase}
+use Rattle.geo_bio.specs.BioTable.{with_phase}
 use Rattle.geo_bio.specs.Rows.{as_bio, seen_row, at_phase, up_holding, Child, child_of, family, FollowFrom, HasFamily, WaitsIn, IsTable}
 use Rattle.geo_bio.specs.Gather.{held_error, error_from, bytes_from, without_all, held_of_parts, held_from}
 use Rattle.geo_bio.specs.Up.{resolved, held_as, gathered, completed}

@@ -9,8 +9,8 @@ use Rattle.std.specs.Option.{option_map, option_or, MatchOption, IfSome}
 use Rattle.geo_model.specs.declared.span.Piece.{Piece}
 use Rattle.geo_model.specs.declared.step.Owner.TheVariants as owners
 use Rattle.geo_model.specs.declared.step.Phase.TheVariants as phases
-use Rattle.geo_model.specs.World.{is_done, is_down, is_waiting, change_number}
-use Rattle.geo_bio.specs.BioTable.{BioTableView, bio_among, has_phase, with_phase}
+use Rattle.geo_model.specs.World.{is_done, is_down, is_waiting, change_number, bio_among}
+use Rattle.geo_bio.specs.BioTable.{BioTableView, has_phase, with_phase}
 use Rattle.geo_slots.specs.Slots.{SlotsView, IsRising, value_at, with_value, with_insert}
 use Rattle.geo_slots.proofs.RowLemmas.{IsRising-with_value, with_value_below, value_at_next}
 use Rattle.geo_bio.proofs.ValueLemmas.{value_at-with_value_same, value_at-with_value_other}

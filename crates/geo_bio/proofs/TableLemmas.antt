@@ -7,13 +7,13 @@ use Rattle.geo_model.specs.declared.step.Owner.{Owner}
 use Rattle.geo_model.specs.declared.step.Owner.TheVariants as owners
 use Rattle.geo_model.specs.declared.step.Phase.{Phase}
 use Rattle.geo_model.specs.declared.step.Phase.TheVariants as phases
-use Rattle.geo_model.specs.World.{BioOf, is_down, is_sent, is_busy, is_done, is_waiting, is_root, change_number}
+use Rattle.geo_model.specs.World.{BioOf, is_down, is_sent, is_busy, is_done, is_waiting, is_root, change_number, bio_among}
 use Rattle.std.specs.Option.{option_map, option_map_or}
 use Rattle.geo_slots.specs.Slots.{IsRising, value_at, with_value}
 use Rattle.geo_slots.proofs.RowLemmas.{IsRising-push, IsRising-with_value, with_value_below, value_at_below, value_at_next, find-items, change-items}
 use Rattle.geo_bio.specs.declared.bio.Bio.{Bio}
 use Rattle.geo_bio.specs.declared.bio.Held.{Held}
-use Rattle.geo_bio.specs.BioTable.{bio_among, has_phase}
+use Rattle.geo_bio.specs.BioTable.{has_phase}
 use Rattle.geo_bio.specs.Rows.{as_bio, seen_row, child_of, family, HasFamily, WaitsIn, IsTable}
 use Rattle.geo_bio.proofs.ValueLemmas.{value_at-with_value_same, value_at-with_value_other, value_at-push_same, value_at-push_other}
 

@@ -8,14 +8,14 @@ use Rattle.geo_model.specs.declared.step.Owner.{Owner}
 use Rattle.geo_model.specs.declared.step.Owner.TheVariants as owners
 use Rattle.geo_model.specs.declared.step.Phase.{Phase}
 use Rattle.geo_model.specs.declared.step.Phase.TheVariants as phases
-use Rattle.geo_model.specs.World.{BioOf, is_up, is_done, is_waiting, is_root, is_child_of, change_number}
+use Rattle.geo_model.specs.World.{BioOf, is_up, is_done, is_waiting, is_root, is_child_of, change_number, bio_among}
 use Rattle.geo_slots.specs.Slots.{SlotsView, IsRising, value_at, with_value, without}
 use Rattle.geo_slots.proofs.RowLemmas.{IsRising_ends, filter-items}
 use Rattle.geo_bio.specs.declared.bio.Bio.{Bio}
 use Rattle.geo_bio.specs.declared.bio.Held.{Held}
 use Rattle.geo_bio.specs.declared.bio.Risen.{Risen}
 use Rattle.geo_bio.specs.declared.bio.Risen.TheVariants as risen
-use Rattle.geo_bio.specs.BioTable.{BioTableView, bio_among, has_phase, with_phase}
+use Rattle.geo_bio.specs.BioTable.{BioTableView, has_phase, with_phase}
 use Rattle.geo_bio.specs.Rows.{as_bio, seen_row, at_phase, up_holding, Child, family, FollowFrom, IsTable}
 use Rattle.geo_bio.specs.Gather.{without_all, counted, held_from, changed_at, is_last, rows_up}
 use Rattle.geo_bio.specs.Up.{resolved, are_in, after_up, told_of_up}

@@ -1,5 +1,5 @@
 -- The table of bios, as contracts see it.
-use Rattle.std.specs.Prelude.{ℕ, ◌≤◌, ◌==◌, nat_le, Bool, false, IsTrue, ⊤, List, All, map, Option, Some, None, find, if◌then◌else◌}
+use Rattle.std.specs.Prelude.{ℕ, ◌≤◌, nat_le, Bool, false, IsTrue, ⊤, List, All, map, Option, Some, None, find, if◌then◌else◌}
 use Rattle.std.specs.Option.{option_map, option_map_or}
 use Rattle.geo_base.specs.declared.request.BioCmd.{BioCmd}
 use Rattle.geo_base.specs.declared.errno.Errno.{Errno}
@@ -8,7 +8,7 @@ use Rattle.geo_model.specs.declared.step.Phase.TheVariants as phases
 use Rattle.geo_model.specs.declared.step.Owner.{Owner}
 use Rattle.geo_model.specs.declared.step.Owner.TheVariants as owners
 use Rattle.geo_model.specs.Graph.{AreNumbers}
-use Rattle.geo_model.specs.World.{BioOf, is_waiting}
+use Rattle.geo_model.specs.World.{BioOf, bio_among, is_waiting}
 use Rattle.geo_model.specs.Words.{is_read}
 use Rattle.geo_bio.specs.declared.bio.Held.{Held}
 use Rattle.geo_bio.specs.declared.bio.Held.TheVariants as held
@@ -24,10 +24,6 @@ pub record AreInOrder (t : BioTableView) : Type 0 where
   pub numbers : AreNumbers (map (λ x. x.number) t.bios) t.next
   pub from_one : All (λ x. 1 ≤ x.number) t.bios
   pub next : 1 ≤ t.next
-
--- the bio of a number
-abbrev pub bio_among : {R : Type 0} → List (BioOf R) → ℕ → Option (BioOf R)
-bio_among bios bio = find (λ x. x.number == bio) bios
 
 -- whether the bio of a number is there, in a phase that passes
 abbrev pub has_phase : {R : Type 0} → (Phase → Bool) → List (BioOf R) → ℕ → Bool

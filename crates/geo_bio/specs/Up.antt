@@ -7,13 +7,13 @@ use Rattle.geo_model.specs.declared.step.BioResult.TheVariants as results
 use Rattle.geo_model.specs.declared.step.Owner.{Owner}
 use Rattle.geo_model.specs.declared.step.Owner.TheVariants as owners
 use Rattle.geo_model.specs.declared.step.Phase.TheVariants as phases
-use Rattle.geo_model.specs.World.{BioOf, is_done, is_child_of, children_among, change_number}
+use Rattle.geo_model.specs.World.{BioOf, is_done, is_child_of, children_among, change_number, bio_among}
 use Rattle.geo_model.specs.Bios.{up_with, joined_result}
 use Rattle.geo_bio.specs.declared.bio.Held.{Held}
 use Rattle.geo_bio.specs.declared.bio.Held.TheVariants as held
 use Rattle.geo_bio.specs.declared.bio.Risen.{Risen}
 use Rattle.geo_bio.specs.declared.bio.Risen.TheVariants as risen
-use Rattle.geo_bio.specs.BioTable.{bio_among, with_phase}
+use Rattle.geo_bio.specs.BioTable.{with_phase}
 
 -- what a bio holds as a result, where `log` tells the bytes of a place
 abbrev pub resolved : (ℕ → Option (List ℕ)) → Option Held → BioResult

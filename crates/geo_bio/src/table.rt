@@ -2,9 +2,9 @@
 ghost use Rattle.std.specs.Prelude.{◌≡◌, ◌+◌, ◌-◌, ◌<◌, ◌≤◌, ◌^◌, max, [], ◌∷◌, ◌++◌, length, IsOk, OnOk, IfOk, IfSome, OnErr, IsTrue, option_copied};
 ghost use Rattle.std.specs.Option.{option_map};
 ghost use Rattle.geo_model.specs.Bios.{new_bio, up_with};
-ghost use Rattle.geo_model.specs.World.{change_number, children_among, is_down, is_sent, is_busy, is_up, is_waiting, is_root};
+ghost use Rattle.geo_model.specs.World.{change_number, children_among, is_down, is_sent, is_busy, is_up, is_waiting, is_root, bio_among};
 ghost use Rattle.geo_model.specs.Words.{is_write};
-ghost use Rattle.geo_bio.specs.BioTable.{AreInOrder, HasParent, bio_among, has_phase, bio_from, with_phase, delivered, delivered_result};
+ghost use Rattle.geo_bio.specs.BioTable.{AreInOrder, HasParent, has_phase, bio_from, with_phase, delivered, delivered_result};
 ghost use Rattle.geo_slots.specs.Slots.{value_at};
 ghost use Rattle.geo_bio.specs.Rows.{as_bio, KnowsChildren};
 ghost use Rattle.geo_bio.specs.Split.{split_into};

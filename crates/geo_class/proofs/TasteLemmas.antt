@@ -1,5 +1,5 @@
 -- Classes that judge one sector.
-use Rattle.std.proofs.Common.{◌≡◌, ℕ, ◌*◌, Bool, List, Option, Some, Result, Ok, Err, true, false, refl, sym, ap, ◌∙◌}
+use Rattle.std.proofs.Common.{◌≡◌, ℕ, ◌*◌, Bool, List, Some, Result, Ok, Err, true, false, refl, sym, ap, ◌∙◌}
 use Rattle.std.specs.Option.{option_map, option_map_or}
 use Rattle.std.specs.Prelude.{unwrap_or, if◌then◌else◌}
 use Rattle.geo_base.specs.declared.decline.DeclineCause.{DeclineCause}

@@ -14,7 +14,7 @@ use Rattle.geo_model.specs.Append.{Growing}
 use Rattle.geo_model.specs.Fitting.{Firm, FitsPlace, FitsPlaces, HasItsSum, PlacesHold, sizes_of}
 use Rattle.geo_model.specs.Sound.{IsOfItsClass, fits_kind}
 use Rattle.geo_model.specs.Steady.{HasItsComponents, WaitsForPlaces}
-use Rattle.geo_model.specs.World.{World, Config}
+use Rattle.geo_model.specs.World.{World, Config, granted_in}
 use Rattle.geo_class.specs.Assembly.{CanGrow}
 use Rattle.geo_laws_graph.proofs.Members.{find-Contains, Contains-filter, Contains-map, nothing_in}
 use Rattle.geo_laws_graph.proofs.Numbered.{number_found}
@@ -43,7 +43,7 @@ module _ (w : World) (x : Growing) (firm : Firm w) (is : IsStanding w.topology x
   -- none of them is free, since it has a provider
   no_free : list_any is_none its.places ≡ false
   no_free = false_from_ne_true (list_any is_none its.places) (λ free.
-      let none_left = All-contains (WaitsForPlaces w) t.geoms x.geom firm.steady.partial (geom_here w x firm is)
+      let none_left = All-contains (WaitsForPlaces t) t.geoms x.geom firm.steady.partial (geom_here w x firm is)
       (ap (λ z. list_any is_none (places_of z)) its.is ∙ free) in
       nothing_in x.provider (subst (λ ys. Contains ys x.provider) none_left (provider_own w x firm is)))
 
@@ -52,7 +52,7 @@ module _ (w : World) (x : Growing) (firm : Firm w) (is : IsStanding w.topology x
       (flat_map option_to_list its.places)
   stood = subst (λ z. All (λ d. IsSomeAnd (consumer_at t d) (λ z. (z.geom ≡ n) × IsSome z.provider))
       (components z)) its.is
-      (All-contains (HasItsComponents w) t.geoms x.geom firm.steady.components (geom_here w x firm is)
+      (All-contains (HasItsComponents (granted_in w) t) t.geoms x.geom firm.steady.components (geom_here w x firm is)
       (inl is.upright))
 
   -- its provider is as long as they are together

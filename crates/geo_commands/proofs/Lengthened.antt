@@ -19,7 +19,7 @@ use Rattle.geo_model.specs.Graph.{IsInOrder}
 use Rattle.geo_model.specs.Demand.{have, risen}
 use Rattle.geo_model.specs.Place.{disk_of}
 use Rattle.geo_model.specs.Events.{QueuedTopology, announce_risen, post}
-use Rattle.geo_model.specs.World.{World, Config}
+use Rattle.geo_model.specs.World.{World, Config, granted_of}
 use Rattle.geo_model.specs.WorldEvents.{with_queued}
 use Rattle.geo_model.specs.Acceptance.{add_place}
 use Rattle.geo_model.specs.Append.{Growing as GrowingConcat, append_tests, appended, component_refusal, is_growth_busy, is_invalid_append, with_component}
@@ -47,7 +47,7 @@ use Rattle.geo_life.proofs.Places.{counts_are_stored, places_are_few}
 use Rattle.geo_life.proofs.Spared.{handles_are_spared}
 use Rattle.geo_state.specs.declared.state.State.{State}
 use Rattle.geo_state.specs.Changes.{IsSettled}
-use Rattle.geo_state.specs.Holds.{Holds, granted_of, owed_events}
+use Rattle.geo_state.specs.Holds.{Holds, owed_events}
 use Rattle.geo_state.specs.Parts.{SameParts, disk_row, owner_row}
 use Rattle.geo_state.specs.Sites.{HasComers}
 use Rattle.geo_state.specs.Steps.{IsFirm}

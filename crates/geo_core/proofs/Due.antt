@@ -16,7 +16,7 @@ use Rattle.geo_model.specs.declared.step.Phase.{Phase}
 use Rattle.geo_model.specs.declared.step.Step.{Step}
 use Rattle.geo_model.specs.declared.step.Step.TheVariants as steps
 use Rattle.geo_model.specs.declared.step.WashWork.{WashWork}
-use Rattle.geo_model.specs.World.{World, Bio, BioOf, Handle, is_busy, is_sent}
+use Rattle.geo_model.specs.World.{World, Bio, BioOf, Handle, is_busy, is_sent, bio_among}
 use Rattle.geo_model.specs.Bios.{busy_bio, disk_of_bio, disk_at}
 use Rattle.geo_model.specs.Fitting.{Firm}
 use Rattle.geo_model.specs.Freeing.{reap_work, reap, wash_work, wash}
@@ -24,7 +24,7 @@ use Rattle.geo_model.specs.Laws.{NoneBusy}
 use Rattle.geo_model.specs.Order.{is_at_rest, first_bio, is_to_take, take_step}
 use Rattle.geo_model.specs.Step.{reap_next, wash_next}
 use Rattle.geo_bio.specs.declared.bio.Held.{Held}
-use Rattle.geo_bio.specs.BioTable.{AreInOrder, bio_among}
+use Rattle.geo_bio.specs.BioTable.{AreInOrder}
 use Rattle.geo_log.specs.Places.{delivered_at}
 use Rattle.geo_state.specs.Traffic.{first_in}
 use Rattle.geo_state.specs.Shown.{shown_bio}

@@ -8,12 +8,11 @@ use Rattle.geo_base.specs.declared.request.BioCmd.TheVariants as cmds
 use Rattle.geo_base.specs.declared.limits.TheConstants.{MAX_REQUEST_BYTES}
 use Rattle.geo_model.specs.Words.{is_flush, is_read}
 use Rattle.geo_model.specs.Topology.{Provider, provider_at}
-use Rattle.geo_model.specs.World.{World, Bio, BioOf, bio_at}
+use Rattle.geo_model.specs.World.{World, Bio, BioOf, bio_at, granted_in, bio_among}
 use Rattle.geo_model.specs.Fitting.{Firm}
 use Rattle.geo_model.specs.SoundBios.{IsBioInOrder, IsRangeInside}
 use Rattle.geo_laws_graph.proofs.Members.{find-Contains}
 use Rattle.geo_bio.specs.declared.bio.Held.{Held}
-use Rattle.geo_bio.specs.BioTable.{bio_among}
 use Rattle.geo_log.specs.Places.{delivered_at}
 use Rattle.geo_state.specs.Shown.{shown_bio}
 use Rattle.geo_state.proofs.ShownLemmas.{shown_are_found}
@@ -26,8 +25,8 @@ use Rattle.geo_core.proofs.Meshes.{mesh_firm}
 read_is_short : (w : World) → Firm w → (x : Bio) → Contains w.bios x → is_read x.cmd ≡ true → x.len ≤ MAX_REQUEST_BYTES
 read_is_short w firm x here reads = by (provider_at w.topology x.target) order.target
   where
-    order : IsBioInOrder w x
-    order = All-contains (IsBioInOrder w) w.bios x firm.sound.bios here
+    order : IsBioInOrder (granted_in w) w.topology x
+    order = All-contains (IsBioInOrder (granted_in w) w.topology) w.bios x firm.sound.bios here
 
     by : (o : Option Provider) → IsSomeAnd o (λ p. is_flush x.cmd ≡ false → IsRangeInside x p)
         → x.len ≤ MAX_REQUEST_BYTES

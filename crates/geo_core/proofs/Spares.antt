@@ -12,7 +12,7 @@ use Rattle.geo_model.specs.declared.step.Owner.{Owner}
 use Rattle.geo_model.specs.declared.step.Owner.TheVariants as owners
 use Rattle.geo_model.specs.declared.step.Step.{Step}
 use Rattle.geo_model.specs.declared.step.Step.TheVariants as steps
-use Rattle.geo_model.specs.World.{World, Bio, BioOf, bio_at}
+use Rattle.geo_model.specs.World.{World, Bio, BioOf, bio_at, bio_among}
 use Rattle.geo_model.specs.Bios.{reply_of_result}
 use Rattle.geo_model.specs.declared.listing.GeomLine.{GeomLine}
 use Rattle.geo_model.specs.Commands.{do_command}
@@ -21,7 +21,6 @@ use Rattle.geo_model.specs.Step.{step, go, event, judge_next, reap_next, wash_ne
 use Rattle.geo_model.specs.History.{first_command, next_command}
 use Rattle.geo_model.specs.Laws.{ClosesOk}
 use Rattle.geo_bio.specs.declared.bio.Held.{Held}
-use Rattle.geo_bio.specs.BioTable.{bio_among}
 use Rattle.geo_log.specs.Places.{delivered_at}
 use Rattle.geo_state.specs.Shown.{shown_bio}
 use Rattle.geo_state.specs.ShownLaws.{BiosAreOfWorld}

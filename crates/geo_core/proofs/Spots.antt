@@ -2,9 +2,8 @@
 use Rattle.std.specs.Prelude.{◌≡◌, ℕ, ◌==◌, List, Option, Some, None}
 use Rattle.std.specs.Option.{option_and_then, option_map}
 use Rattle.std.proofs.Common.{refl, sym, ◌∙◌, ap}
-use Rattle.geo_model.specs.World.{World, BioOf}
+use Rattle.geo_model.specs.World.{World, BioOf, bio_among}
 use Rattle.geo_bio.specs.declared.bio.Held.{Held}
-use Rattle.geo_bio.specs.BioTable.{bio_among}
 use Rattle.geo_log.specs.Places.{delivered_at}
 use Rattle.geo_state.specs.Shown.{shown_bio}
 use Rattle.geo_state.proofs.ShownLemmas.{shown_are_found}

@@ -10,10 +10,10 @@ use Rattle.geo_model.specs.declared.step.Found.TheVariants as found
 use Rattle.geo_model.specs.declared.step.Outcome.{Outcome}
 use Rattle.geo_model.specs.declared.step.Step.{Step}
 use Rattle.geo_model.specs.declared.step.Step.TheVariants as steps
-use Rattle.geo_model.specs.World.{World, Bio, BioOf, bio_at, is_down, is_up}
+use Rattle.geo_model.specs.World.{World, Bio, BioOf, bio_at, is_down, is_up, bio_among}
 use Rattle.geo_model.specs.Step.{Answer, step, event, judge_next, reap_next, wash_next, start_of, take_of, deliver_of, up_of}
 use Rattle.geo_bio.specs.declared.bio.Held.{Held}
-use Rattle.geo_bio.specs.BioTable.{bio_among, has_phase}
+use Rattle.geo_bio.specs.BioTable.{has_phase}
 use Rattle.geo_log.specs.Places.{delivered_at}
 use Rattle.geo_state.specs.Shown.{shown_bio}
 use Rattle.geo_state.specs.ShownLaws.{BiosAreOfWorld}

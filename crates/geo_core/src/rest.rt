@@ -5,9 +5,9 @@ ghost use Rattle.geo_model.specs.declared.step.Step.TheVariants as steps;
 ghost use Rattle.geo_model.specs.Laws.{NoneBusy};
 ghost use Rattle.geo_model.specs.Order.{is_at_rest, first_bio, is_to_take, take_step};
 ghost use Rattle.geo_model.specs.Words.{is_read};
-ghost use Rattle.geo_model.specs.World.{is_up, is_down};
+ghost use Rattle.geo_model.specs.World.{is_up, is_down, bio_among};
 ghost use Rattle.geo_model.specs.Bios.{disk_at};
-ghost use Rattle.geo_bio.specs.BioTable.{AreInOrder, bio_among};
+ghost use Rattle.geo_bio.specs.BioTable.{AreInOrder};
 ghost use Rattle.geo_core.specs.Mesh.{bytes_read, bytes_read_by, world_of};
 ghost use Rattle.geo_core.specs.Running.{seen, is_idle, is_none_left, IsMesh};
 

@@ -1,7 +1,7 @@
 //! An outcome once more, where what it has was copied before the step.
 ghost use Rattle.std.specs.Prelude.{◌≡◌, ℕ, false, IfOk, IsOk, IfSome};
 ghost use Rattle.geo_model.specs.Bios.{reply_of_result};
-ghost use Rattle.geo_bio.specs.BioTable.{bio_among};
+ghost use Rattle.geo_model.specs.World.{bio_among};
 ghost use Rattle.geo_bio.specs.Up.{resolved};
 ghost use Rattle.geo_log.specs.Places.{delivered_at};
 ghost use Rattle.geo_core.specs.declared.twin.Spare.TheVariants as spares;

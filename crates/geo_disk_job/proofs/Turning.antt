@@ -1,5 +1,5 @@
 -- A turn, from what became of its ticket; what it leaves of the worker's passes and drives.
-use Rattle.std.specs.Prelude.{◌≡◌, ◌≢◌, ◌⊎◌, ℕ, zero, suc, List, [], ◌∷◌, ◌++◌, Option, Some, None, All, AllPairs, Contains, IfSome, IsSomeAnd, slice_get, slice_set}
+use Rattle.std.specs.Prelude.{◌≡◌, ◌≢◌, ◌⊎◌, ℕ, zero, suc, List, [], ◌∷◌, ◌++◌, Option, Some, None, AllPairs, Contains, IfSome, IsSomeAnd, slice_get, slice_set}
 use Rattle.std.proofs.Common.{append-nil, inl, inr, refl, sym, ◌∙◌, ap, subst, arith}
 use Rattle.std.proofs.lemmas.List.Elements.{All-set}
 use Rattle.geo_disk.specs.declared.drive.Drive.{Drive}

@@ -1,5 +1,5 @@
 -- Where a log is full it is nearly as long as it can be, and where no step is due all is at rest.
-use Rattle.std.specs.Prelude.{◌≡◌, ◌↔◌, ◌-◌, Bool, true, false, Option, Some, None, IsNone, IsSomeAnd, IsTrue}
+use Rattle.std.specs.Prelude.{◌≡◌, ◌↔◌, Bool, true, false, Option, Some, None, IsNone, IsSomeAnd, IsTrue}
 use Rattle.std.proofs.Common.{refl, sym, ◌∙◌, subst}
 use Rattle.std.proofs.lemmas.Bool.{both_ways}
 use Rattle.geo_model.specs.declared.step.Step.{Step}

@@ -1,5 +1,5 @@
 -- Where no bio is Busy, each that waits for a disk can be taken by it.
-use Rattle.std.specs.Prelude.{◌≡◌, ℕ, ◌==◌, true, false, List, map, filter, Option, Some, None, Contains, IsTrue}
+use Rattle.std.specs.Prelude.{◌≡◌, ℕ, ◌==◌, true, false, filter, Option, Some, None, Contains}
 use Rattle.std.specs.List.{AllByRecursion}
 use Rattle.std.specs.Option.{option_map_or}
 use Rattle.std.proofs.Common.{refl, subst}
@@ -24,7 +24,7 @@ module _ (w : World) (firm : Firm w) (idle : NoneBusy w) where
   at_its disk x here sent (Some d) at is =
       let same : d ≡ disk = eqb-true d disk is in
       let found : bio_at w x.number ≡ Some x =
-      found_itself (λ (y : Bio). y.number) w.next_bio w.bios x firm.sound.numbers.bios here in
+      found_itself (λ (y : Bio). y.number) w.next_bio w.bios x firm.sound.bio_numbers here in
       subst (λ (n : ℕ). is_enabled w 0 (steps.Take n x.number) ≡ true) same
       (take_by w firm x found sent (Some d) at (free_by w firm idle d (busy_bio w d) refl))
 

@@ -20,7 +20,7 @@ use Rattle.geo_model.specs.Graph.{IsInOrder}
 use Rattle.geo_model.specs.Topology.{Topology, Provider, Consumer, consumer_at, provider_at}
 use Rattle.geo_model.specs.Demand.{no_counts, one_read}
 use Rattle.geo_model.specs.Opens.{with_grant}
-use Rattle.geo_model.specs.World.{World, Config, Taste, is_read_out}
+use Rattle.geo_model.specs.World.{World, Config, Taste, is_read_out, granted_of}
 use Rattle.geo_model.specs.WorldEvents.{queued_of}
 use Rattle.geo_model.specs.Tasting.{Judging, facts_of, judged_world, judge_step, taste_step}
 use Rattle.geo_model.specs.Step.{Answer, judge_of, judge_next, taste_bio}
@@ -44,7 +44,7 @@ use Rattle.geo_taste.proofs.Reading.{held_idle, taster_found, taster_holds}
 use Rattle.geo_taste.proofs.Taking.{but_for_room, goes_found}
 use Rattle.geo_state.specs.declared.state.State.{State}
 use Rattle.geo_state.specs.Changes.{IsSettled}
-use Rattle.geo_state.specs.Holds.{Holds, granted_of, owed_events}
+use Rattle.geo_state.specs.Holds.{Holds, owed_events}
 use Rattle.geo_state.specs.Parts.{disk_row, owner_row}
 use Rattle.geo_state.specs.Sites.{Comers, AreFresh}
 use Rattle.geo_state.specs.Steps.{IsFirm, Makes}
@@ -244,7 +244,7 @@ module _ (s : State) (a : Taste) (ready : Ready s a) where
           few-links : class_asked a.asked ≡ Some kinds.Ebr → (p : Provider) → provider_at t a.provider ≡ Some p
               → length a.chain.links < MAX_LINKS
           few-links ebr p found =
-              let order : IsTasteInOrder (world ready.firm.1.0 ready.firm.0 s) a =
+              let order : IsTasteInOrder s.topo.topology a =
               ordered s ready.kept ready.firm a ready.is in
               let holds : ChainHolds (p.size / p.sector) a.asked a.reads a.chain =
               subst (λ o. IfSome o (λ x. ChainHolds (x.size / x.sector) a.asked a.reads a.chain)) found

@@ -8,7 +8,7 @@ use Rattle.geo_base.specs.declared.request.Counts.{Counts}
 use Rattle.geo_model.specs.declared.step.Event.TheVariants as heads
 use Rattle.geo_model.specs.Topology.{Topology, Consumer, consumer_at, provider_at}
 use Rattle.geo_model.specs.Events.{is_not_tasted}
-use Rattle.geo_model.specs.World.{World, Config, Taste}
+use Rattle.geo_model.specs.World.{World, Config, Taste, granted_of}
 use Rattle.geo_model.specs.WorldEvents.{do_event, begin_taste}
 use Rattle.geo_laws_graph.proofs.Lists.{found_fresh}
 use Rattle.geo_event.specs.EventQueue.{Queued}
@@ -18,7 +18,7 @@ use Rattle.geo_access.specs.Access.{granted_by}
 use Rattle.geo_taste.specs.Taster.{IsSettled, first_taste, with_taster}
 use Rattle.geo_state.specs.declared.state.State.{State}
 use Rattle.geo_state.specs.Trips.{trips, out_through}
-use Rattle.geo_state.specs.Holds.{Holds, granted_of, owed_events}
+use Rattle.geo_state.specs.Holds.{Holds, owed_events}
 use Rattle.geo_state.specs.Parts.{SameParts, disk_row, owner_row}
 use Rattle.geo_state.specs.Sites.{Comers, HasComers}
 use Rattle.geo_state.specs.World.{world}

@@ -77,8 +77,8 @@ module _ (s : State) (kept : Holds s) (firm : IsFirm s) (a : Taste) (is : s.tast
       subst (λ (o : Option Taste). MatchOption o (consumers_of t 2 ≡ []) (IsTasting t)) is firm.1.1.sound.handles.taste
 
   -- it is in order
-  pub ordered : IsTasteInOrder w a
-  ordered = subst (λ (o : Option Taste). IfSome o (IsTasteInOrder w)) is firm.1.1.sound.events.taste
+  pub ordered : IsTasteInOrder w.topology a
+  ordered = subst (λ (o : Option Taste). IfSome o (IsTasteInOrder w.topology)) is firm.1.1.sound.events.taste
 
   -- the reads made are few
   pub reads-few : a.reads < 2 ^ 63
@@ -225,15 +225,16 @@ module _ (s : State) (kept : Holds s) (firm : IsFirm s) (a : Taste) (is : s.tast
           sym (ap (λ (g : ℕ → Counts). want g t tasting-of.consumer) kept.grants) ∙ wants-it ∙ held_idle a idle
 
       -- so no request comes from it
-      no-request : (x : Bio) → IsBioInOrder w x → x.source ≡ a.consumer → ⊥
+      no-request : (x : Bio) → IsBioInOrder (granted_in w) w.topology x → x.source ≡ a.consumer → ⊥
       no-request x order same = by (is_read x.cmd) refl counts
         where
-          counts : HasCountFor w x tasting-of.consumer
+          counts : HasCountFor (granted_in w) w.topology x tasting-of.consumer
           counts =
-              (subst (λ o. IsSomeAnd o (λ (c : Consumer). (c.provider ≡ Some x.target) × HasCountFor w x c))
+              (subst (λ o. IsSomeAnd o (λ (c : Consumer).
+              (c.provider ≡ Some x.target) × HasCountFor (granted_in w) t x c))
               (ap (consumer_at t) same ∙ taster-at) order.source).1
 
-          by : (b : Bool) → is_read x.cmd ≡ b → HasCountFor w x tasting-of.consumer → ⊥
+          by : (b : Bool) → is_read x.cmd ≡ b → HasCountFor (granted_in w) w.topology x tasting-of.consumer → ⊥
           by true e has =
               let some : 0 < (want (granted_in w) t tasting-of.consumer).r = has.0 e in
               let none : (want (granted_in w) t tasting-of.consumer).r ≡ 0 = ap (λ (c : Counts). c.r) wants-nothing in
@@ -245,7 +246,7 @@ module _ (s : State) (kept : Holds s) (firm : IsFirm s) (a : Taste) (is : s.tast
 
       -- nor any of those that the state has
       none-through : (bios : List (BioOf Held))
-          → AllByRecursion (IsBioInOrder w) (shown_bios (delivered_at firm.0) bios)
+          → AllByRecursion (IsBioInOrder (granted_in w) w.topology) (shown_bios (delivered_at firm.0) bios)
           → AllByRecursion (λ (x : Trip). goes_through a.consumer x ≡ false) (trips bios)
       none-through [] order = tt
       none-through (x ∷ xs) order = (by (x.source == a.consumer) refl, none-through xs order.1)
@@ -261,7 +262,8 @@ module _ (s : State) (kept : Holds s) (firm : IsFirm s) (a : Taste) (is : s.tast
           active-at s.topo (trips s.traffic.bios) a.consumer kept.active (subst (λ o. IsSome o) (sym taster-at) refl)
           ∙ ap (λ n. Some n)
           (count-none (goes_through a.consumer) (trips s.traffic.bios)
-          (none-through s.traffic.bios (recursion_from_All (IsBioInOrder w) w.bios firm.1.1.sound.bios)))
+          (none-through s.traffic.bios
+          (recursion_from_All (IsBioInOrder (granted_in w) w.topology) w.bios firm.1.1.sound.bios)))
 
   -- none of its own is out
   pub read-none : is_read_out a.asked ≡ false → s.read ≡ None

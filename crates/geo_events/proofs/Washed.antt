@@ -101,8 +101,8 @@ module _ (s : State) (firm : IsFirm s) where
       → IfSome o (λ d. d < length s.disks.items)
   seat-of g here None is = tt
   seat-of g here (Some d) is =
-      let sizes : HasDiskSizes (world firm.1.0 firm.0 s) g =
-      All-contains (HasDiskSizes (world firm.1.0 firm.0 s)) s.topo.topology.geoms g
+      let sizes : HasDiskSizes s.topo.topology (world firm.1.0 firm.0 s).disks g =
+      All-contains (HasDiskSizes s.topo.topology (world firm.1.0 firm.0 s).disks) s.topo.topology.geoms g
       firm.1.1.sound.numbers.disk_sizes here in
       below-length disk_of_seat s.disks.items d
       (some-and _ (slice_get (map disk_of_seat s.disks.items) d) (rw is at sizes))

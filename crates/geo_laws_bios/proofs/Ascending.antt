@@ -108,8 +108,8 @@ module _ (w : World) (firm : Firm w) (x y : Bio) (index : ℕ) (found : bio_at w
       All-contains HasItsResult w.bios c hold.results stands.0 (over c here))
 
   -- the parent's family
-  family : IsFamilyInOrder w y
-  family = All-contains (IsFamilyInOrder w) w.bios y hold.families y_stands
+  family : IsFamilyInOrder w.topology w.bios y
+  family = All-contains (IsFamilyInOrder w.topology w.bios) w.bios y hold.families y_stands
 
   -- what the children came to is what they come to then
   pub same_results : child_results gathered y.number ≡ map got cs
@@ -145,7 +145,7 @@ module _ (w : World) (firm : Firm w) (x y : Bio) (index : ℕ) (found : bio_at w
   parent_firm =
       let own : is_child_of y.owner y.number ≡ false =
       not_own_child w y y.owner
-      (All-contains (λ (v : Bio). ComesFromItsOwner w v v.owner) w.bios y hold.owners y_stands) in
+      (All-contains (λ (v : Bio). ComesFromItsOwner w.handles w.taste v v.owner) w.bios y hold.owners y_stands) in
       subst (λ (vs : List Bio). Firm (record w { bios = vs })) (sym same_bios)
       (firm_with w (completed w y result).bios w.next_bio firm
       (completed_hold w y result hold there own none_waits fits))
@@ -186,8 +186,8 @@ module _ (w : World) (firm : Firm w) (x : Bio) (parent index : ℕ) (found : bio
   -- whether it is the last
   by_last : (b : Bool) → is_complete (turn w x phases.Done (λ r. r)) parent ≡ b → Firm (up_child w x parent).0
   by_last true e =
-      let family : IsFamilyInOrder w x =
-      All-contains (IsFamilyInOrder w) w.bios x firm.sound.families
+      let family : IsFamilyInOrder w.topology w.bios x =
+      All-contains (IsFamilyInOrder w.topology w.bios) w.bios x firm.sound.families
       (find-Contains (λ (v : Bio). v.number == x.number) w.bios x found) in
       by_parent (bio_at w parent) refl (rw owner at family.parent) e
   by_last false e = rw e

@@ -15,7 +15,7 @@ use Rattle.geo_model.specs.declared.step.Phase.TheVariants as phases
 use Rattle.geo_model.specs.Words.{change_where, is_flush}
 use Rattle.geo_model.specs.Topology.{Provider, provider_at}
 use Rattle.geo_model.specs.Graph.{AreNumbers}
-use Rattle.geo_model.specs.World.{World, Bio, bio_at, children_of, is_done, is_busy, is_sent, is_waiting, is_child_of, is_taste_root, is_read_out}
+use Rattle.geo_model.specs.World.{World, Bio, bio_at, children_of, is_done, is_busy, is_sent, is_waiting, is_child_of, is_taste_root, is_read_out, granted_in}
 use Rattle.geo_model.specs.Bios.{disk_of_bio}
 use Rattle.geo_model.specs.SoundBios.{IsRangeInside, IsBioInOrder, IsFamilyInOrder, HasItsParent, shape_of_child, NotBothBusy}
 use Rattle.geo_model.specs.Steady.{ComesFromItsOwner, HasItsResult, FitsBio}
@@ -44,7 +44,8 @@ child_no_read owners.Taste a child = absurd cc
 child_no_read (owners.Child parent index) a child = refl
 
 -- a bio isn't its own child
-pub not_own_child : (w : World) (y : Bio) (o : Owner) → ComesFromItsOwner w y o → is_child_of o y.number ≡ false
+pub not_own_child : (w : World) (y : Bio) (o : Owner) → ComesFromItsOwner w.handles w.taste y o
+    → is_child_of o y.number ≡ false
 not_own_child w y (owners.Line handle line) comes = refl
 not_own_child w y owners.Taste comes = refl
 not_own_child w y (owners.Child parent index) comes = ne_eqb parent y.number (λ same. omega (arith, same, comes))
@@ -125,19 +126,16 @@ module _ (w : World) (y : Bio) (result : BioResult) where
         subst (λ (o : Option Bio). IsSomeAnd o (λ q. IsTrue (is_waiting q.phase))) (sym (unchanged ∙ kept ∙ at)) has
 
     -- a parent stays
-    parent_kept : (o : Owner) → is_child_of o y.number ≡ false → HasItsParent w o → HasItsParent completed o
+    parent_kept : (o : Owner) → is_child_of o y.number ≡ false → HasItsParent w.bios o → HasItsParent completed.bios o
     parent_kept (owners.Line handle line) apart has = has
     parent_kept owners.Taste apart has = has
     parent_kept (owners.Child parent index) apart has =
         waiting_at parent (eqb-false parent y.number apart) (bio_at w parent) refl has
 
-    -- so does an owner
-    owner_kept : (z : Bio) (o : Owner) → ComesFromItsOwner w z o → ComesFromItsOwner completed z o
-    owner_kept z = owner_stays w completed z z refl refl refl refl refl
-
-    -- the one's owner
-    owner_risen : (o : Owner) → ComesFromItsOwner w y o → ComesFromItsOwner completed (risen y) o
-    owner_risen = owner_stays w completed y (risen y) refl refl refl refl refl
+    -- so does the one's owner
+    owner_risen : (o : Owner) → ComesFromItsOwner w.handles w.taste y o
+        → ComesFromItsOwner w.handles w.taste (risen y) o
+    owner_risen = owner_stays w.handles w.taste y (risen y) refl refl refl
 
     -- the children of another bio are those that it had, but for the one
     children_kept : (n : ℕ) → n ≢ y.number → children_of completed n ≡ change_where is_it risen (children_of w n)
@@ -156,7 +154,7 @@ module _ (w : World) (y : Bio) (result : BioResult) where
         ∙ map-changed is_it risen shape_of_child (λ z e. refl) (children_of w n)
 
     -- the family of the one
-    family_here : IsFamilyInOrder w y → IsFamilyInOrder completed (risen y)
+    family_here : IsFamilyInOrder w.topology w.bios y → IsFamilyInOrder w.topology completed.bios (risen y)
     family_here is = record {
       parent = parent_kept y.owner own is.parent;
       pieces = λ waiting. absurd cc;
@@ -165,7 +163,8 @@ module _ (w : World) (y : Bio) (result : BioResult) where
     }
 
     -- the family of another one
-    family_there : (z : Bio) → is_it z ≡ false → is_gone z ≡ false → IsFamilyInOrder w z → IsFamilyInOrder completed z
+    family_there : (z : Bio) → is_it z ≡ false → is_gone z ≡ false → IsFamilyInOrder w.topology w.bios z
+        → IsFamilyInOrder w.topology completed.bios z
     family_there z e stays is =
         let other : z.number ≢ y.number = eqb-false z.number y.number e in
         record {
@@ -180,7 +179,7 @@ module _ (w : World) (y : Bio) (result : BioResult) where
         }
 
     -- the one is still in order
-    order_here : IsBioInOrder w y → IsBioInOrder completed (risen y)
+    order_here : IsBioInOrder (granted_in w) w.topology y → IsBioInOrder (granted_in w) w.topology (risen y)
     order_here is = record {
       source = is.source;
       target = some_weaker (λ (p : Provider). is_flush y.cmd ≡ false → IsRangeInside y p)
@@ -190,18 +189,19 @@ module _ (w : World) (y : Bio) (result : BioResult) where
     }
 
     -- of two bios not both are Busy at one disk
-    not_both : (u v : Bio) (a b : Bool) → is_it u ≡ a → is_it v ≡ b → NotBothBusy w u v
-        → NotBothBusy completed (if is_it u then risen u else u) (if is_it v then risen v else v)
+    not_both : (u v : Bio) (a b : Bool) → is_it u ≡ a → is_it v ≡ b → NotBothBusy w.topology u v
+        → NotBothBusy w.topology (if is_it u then risen u else u) (if is_it v then risen v else v)
     not_both u v true b e f apart = rw e (λ busy. absurd cc)
     not_both u v false true e f apart = rw (e, f) (λ other busy. absurd cc)
     not_both u v false false e f apart = rw (e, f) apart
 
     -- so for all pairs
-    one_busy : AllPairs (NotBothBusy completed) completed.bios
+    one_busy : AllPairs (NotBothBusy w.topology) completed.bios
     one_busy =
-        pairs_map (NotBothBusy completed) (λ (z : Bio). if is_it z then risen z else z) staying
+        pairs_map (NotBothBusy w.topology) (λ (z : Bio). if is_it z then risen z else z) staying
         (λ i j d less short. not_both _ _ _ _ refl refl
-        (AllPairs-filter (NotBothBusy w) (λ (z : Bio). not (is_gone z)) w.bios hold.disks.one_busy i j d less short))
+        (AllPairs-filter (NotBothBusy w.topology) (λ (z : Bio). not (is_gone z)) w.bios hold.disks.one_busy
+        i j d less short))
 
     -- those that go read for no taste
     reads_stay : AllByRecursion (IsSpared is_gone (λ z. is_taste_root z.owner)) w.bios
@@ -230,9 +230,10 @@ module _ (w : World) (y : Bio) (result : BioResult) where
     pub completed_hold : BiosHold completed
     completed_hold = record {
       numbers = numbers-changed (λ (z : Bio). z.number) is_it risen (λ z e. refl) w.next_bio staying staying_numbers;
-      order = each_after (IsBioInOrder completed) (IsBioInOrder w) order_here
-          (λ z e stays is. record { source = is.source; target = is.target; bytes = is.bytes }) hold.order;
-      families = each_after (IsFamilyInOrder completed) (IsFamilyInOrder w) family_here family_there hold.families;
+      order = each_after (IsBioInOrder (granted_in w) w.topology) (IsBioInOrder (granted_in w) w.topology) order_here
+          (λ z e stays is. is) hold.order;
+      families = each_after (IsFamilyInOrder w.topology completed.bios) (IsFamilyInOrder w.topology w.bios)
+          family_here family_there hold.families;
       disks = record {
         at_disk = each_after (λ (z : Bio). IsTrue (is_sent z.phase || is_busy z.phase) → IsSome (disk_of_bio w z))
             (λ (z : Bio). IsTrue (is_sent z.phase || is_busy z.phase) → IsSome (disk_of_bio w z))
@@ -241,9 +242,9 @@ module _ (w : World) (y : Bio) (result : BioResult) where
       };
       read_out = subst (λ (b : Bool). IsTrue b ↔ IsTrue (option_map_or (λ s. is_read_out s.asked) w.taste false))
           (sym any_same) hold.read_out;
-      owners = each_after (λ (z : Bio). ComesFromItsOwner completed z z.owner)
-          (λ (z : Bio). ComesFromItsOwner w z z.owner)
-          (owner_risen y.owner) (λ z e stays comes. owner_kept z z.owner comes) hold.owners;
+      owners = each_after (λ (z : Bio). ComesFromItsOwner w.handles w.taste z z.owner)
+          (λ (z : Bio). ComesFromItsOwner w.handles w.taste z z.owner)
+          (owner_risen y.owner) (λ z e stays comes. comes) hold.owners;
       results = each_after HasItsResult HasItsResult
           (λ has up. fits_turned y phases.Up (λ r. Some result) (Some result) fits) (λ z e stays has. has) hold.results;
       read = record {

@@ -1,5 +1,5 @@
 -- In a firm mesh the consumers of an open geom have the counts for each request to one of its providers.
-use Rattle.std.specs.Prelude.{◌≡◌, ℕ, ◌==◌, Bool, true, false, List, [], ◌∷◌, map, Option, Some, None, Contains, IsSome, IsSomeAnd, IsTrue}
+use Rattle.std.specs.Prelude.{◌≡◌, ℕ, ◌==◌, true, false, List, [], ◌∷◌, map, Option, Some, None, Contains, IsSome, IsSomeAnd, IsTrue}
 use Rattle.std.proofs.Common.{inl, inr, refl, sym, ◌∙◌, subst, arith}
 use Rattle.std.proofs.lemmas.Bool.{eq-eqb, false_from_ne_true}
 use Rattle.std.proofs.lemmas.List.Elements.{All-contains}
@@ -200,14 +200,16 @@ module _ (w : World) (firm : Firm w) (x : Bio) (here : Contains w.bios x) (p : P
 
   -- a consumer of it has the count for the request, by the request's source
   counted_by : (c : Consumer) → c.geom ≡ g.number → (o : Option Consumer) → consumer_at t x.source ≡ o
-      → IsSomeAnd o (λ s. (s.provider ≡ Some x.target) × HasCountFor w x s) → HasCountFor w x c
+      → IsSomeAnd o (λ s. (s.provider ≡ Some x.target) × HasCountFor (granted_in w) w.topology x s)
+      → HasCountFor (granted_in w) w.topology x c
   counted_by c of_geom None e has = absurd has
   counted_by c of_geom (Some s) e has =
       serves_below (granted_in w) s c
       (find-Contains (λ (v : Consumer). v.number == x.source) t.consumers s e) has.0 of_geom has.1
 
   -- each consumer of the geom has it
-  pub counted : (c : Consumer) → c.geom ≡ g.number → HasCountFor w x c
+  pub counted : (c : Consumer) → c.geom ≡ g.number → HasCountFor (granted_in w) w.topology x c
   counted c of_geom =
-      let order : IsBioInOrder w x = All-contains (IsBioInOrder w) w.bios x firm.sound.bios here in
+      let order : IsBioInOrder (granted_in w) w.topology x =
+      All-contains (IsBioInOrder (granted_in w) w.topology) w.bios x firm.sound.bios here in
       counted_by c of_geom (consumer_at t x.source) refl order.source

@@ -119,7 +119,7 @@ module _ (w : World) (firm : Firm w) (x : Bio) (here : Contains w.bios x) (p : P
       (is_placed w firm x here p at_target g of_it no_disk o (omega (arith, size))))
 
   -- the consumers of the geom have the count
-  count : (c : Consumer) → c.geom ≡ g.number → HasCountFor w x c
+  count : (c : Consumer) → c.geom ≡ g.number → HasCountFor (granted_in w) w.topology x c
   count = counted w firm x here p at_target g of_it no_disk
 
   -- they are of the geom of the provider to which the bio goes
@@ -127,8 +127,8 @@ module _ (w : World) (firm : Firm w) (x : Bio) (here : Contains w.bios x) (p : P
   of_the_geom c of_geom q at = let same : p ≡ q = cc in of_geom ∙ geom_number ∙ ap (λ (v : Provider). v.geom) same
 
   -- the bio is in order
-  order : IsBioInOrder w x
-  order = All-contains (IsBioInOrder w) w.bios x firm.sound.bios here
+  order : IsBioInOrder (granted_in w) w.topology x
+  order = All-contains (IsBioInOrder (granted_in w) w.topology) w.bios x firm.sound.bios here
 
   module _ (moves : is_flush x.cmd ≡ false) where
     -- the range of the bio
@@ -257,7 +257,9 @@ module _ (w : World) (firm : Firm w) (x : Bio) (here : Contains w.bios x) (p : P
     -- so its components are attached consumers of it
     attached : All (λ c. IsSomeAnd (consumer_at t c) (λ v. (v.geom ≡ g.number) × IsSome v.provider))
         (components g.config)
-    attached = (All-contains (HasItsComponents w) t.geoms g firm.steady.components g_stands) (inr has_open)
+    attached =
+        (All-contains (HasItsComponents (granted_in w) w.topology) t.geoms g firm.steady.components g_stands)
+        (inr has_open)
 
     -- a FLUSH goes down to what it is attached to, by the provider
     flush_provider : (c : ℕ) (v : Consumer) (n : ℕ) (o : Option Provider) → consumer_at t c ≡ Some v

@@ -1,7 +1,7 @@
 -- Lists of numbered items of which one is changed: what then holds of all, of pairs, and of tests over all.
 use Rattle.std.specs.Prelude.{◌≡◌, ℕ, ◌<◌, ◌==◌, Bool, true, false, List, [], ◌∷◌, length, map, filter, find, Some, All, AllPairs, if◌then◌else◌}
 use Rattle.std.specs.List.{AllByRecursion, list_all}
-use Rattle.std.proofs.Common.{refl, sym, ap, subst, arith, get_or}
+use Rattle.std.proofs.Common.{refl, sym, subst, arith, get_or}
 use Rattle.std.proofs.lemmas.List.{get_or-map, length-map}
 use Rattle.std.proofs.lemmas.List.Elements.{All-map, All-weaker, All-from_recursion}
 use Rattle.geo_model.specs.Words.{change_where}

@@ -11,7 +11,7 @@ use Rattle.geo_model.specs.declared.step.Owner.{Owner}
 use Rattle.geo_model.specs.declared.step.Owner.TheVariants as owners
 use Rattle.geo_model.specs.declared.step.Phase.TheVariants as phases
 use Rattle.geo_model.specs.Topology.{provider_at}
-use Rattle.geo_model.specs.World.{World, Bio, bio_at, children_of, is_root, is_done, is_busy, is_sent, is_up, is_waiting, is_child_of, is_taste_root, is_read_out}
+use Rattle.geo_model.specs.World.{World, Bio, bio_at, children_of, is_root, is_done, is_busy, is_sent, is_up, is_waiting, is_child_of, is_taste_root, is_read_out, granted_in}
 use Rattle.geo_model.specs.Bios.{disk_of_bio, is_complete, without_bio}
 use Rattle.geo_model.specs.SoundBios.{IsBioInOrder, IsFamilyInOrder, HasItsParent, shape_of_child, NotBothBusy}
 use Rattle.geo_model.specs.Steady.{ComesFromItsOwner, HasItsResult}
@@ -27,7 +27,7 @@ use Rattle.geo_laws_bios.proofs.Apart.{bios_of, firm_with}
 use Rattle.geo_laws_bios.proofs.Phases.{not_waiting}
 use Rattle.geo_laws_bios.proofs.Turned.{MayTurn, AreItsPieces}
 use Rattle.geo_laws_bios.proofs.Turning.{found_there}
-use Rattle.geo_laws_bios.proofs.Owners.{parent_stays, owner_stays}
+use Rattle.geo_laws_bios.proofs.Owners.{parent_stays}
 
 -- a root is no child
 pub root_no_child : (o : Owner) (n : ℕ) → is_root o ≡ true → is_child_of o n ≡ false
@@ -83,15 +83,11 @@ module _ (w : World) (x : Bio) (hold : BiosHold w) (found : bio_at w x.number �
         rw same has
 
     -- a parent stays
-    parent_kept : (o : Owner) → HasItsParent w o → HasItsParent after o
-    parent_kept = parent_stays w after (λ n has. waiting_at n (n == x.number) refl has)
-
-    -- so does an owner
-    owner_kept : (y : Bio) (o : Owner) → ComesFromItsOwner w y o → ComesFromItsOwner after y o
-    owner_kept y = owner_stays w after y y refl refl refl refl refl
+    parent_kept : (o : Owner) → HasItsParent w.bios o → HasItsParent after.bios o
+    parent_kept = parent_stays w.bios after.bios (λ n has. waiting_at n (n == x.number) refl has)
 
     -- the family of each
-    pub family_kept : (y : Bio) → IsFamilyInOrder w y → IsFamilyInOrder after y
+    pub family_kept : (y : Bio) → IsFamilyInOrder w.topology w.bios y → IsFamilyInOrder w.topology after.bios y
     family_kept y is = record {
       parent = parent_kept y.owner is.parent;
       pieces = λ waiting. subst (λ (ys : List Bio). AreItsPieces w y (map shape_of_child ys))
@@ -116,21 +112,20 @@ module _ (w : World) (x : Bio) (hold : BiosHold w) (found : bio_at w x.number �
       pub leaves_hold : BiosHold after
       leaves_hold = record {
         numbers = numbers-kept (λ (y : Bio). y.number) (λ (y : Bio). not (is_it y)) w.next_bio w.bios hold.numbers;
-        order = each_after (IsBioInOrder after) (IsBioInOrder w)
-            (λ y is. record { source = is.source; target = is.target; bytes = is.bytes }) hold.order;
-        families = each_after (IsFamilyInOrder after) (IsFamilyInOrder w) family_kept hold.families;
+        order = All-filter (λ (y : Bio). not (is_it y)) (IsBioInOrder (granted_in w) w.topology) w.bios hold.order;
+        families = each_after (IsFamilyInOrder w.topology after.bios) (IsFamilyInOrder w.topology w.bios)
+            family_kept hold.families;
         disks = record {
           at_disk = All-filter (λ (y : Bio). not (is_it y))
               (λ (y : Bio). IsTrue (is_sent y.phase || is_busy y.phase) → IsSome (disk_of_bio w y))
               w.bios hold.disks.at_disk;
-          one_busy = AllPairs-filter (NotBothBusy w) (λ (y : Bio). not (is_it y)) w.bios hold.disks.one_busy;
+          one_busy = AllPairs-filter (NotBothBusy w.topology) (λ (y : Bio). not (is_it y)) w.bios hold.disks.one_busy;
         };
         read_out = subst (λ (b : Bool). IsTrue b ↔ IsTrue (option_map_or (λ s. is_read_out s.asked) w.taste false))
             (sym (any-spared is_it (λ (y : Bio). is_taste_root y.owner) w.bios
             (spared (λ (y : Bio). is_taste_root y.owner) reads))) hold.read_out;
-        owners = each_after (λ (y : Bio). ComesFromItsOwner after y y.owner)
-            (λ (y : Bio). ComesFromItsOwner w y y.owner)
-            (λ y comes. owner_kept y y.owner comes) hold.owners;
+        owners = All-filter (λ (y : Bio). not (is_it y)) (λ (y : Bio). ComesFromItsOwner w.handles w.taste y y.owner)
+            w.bios hold.owners;
         results = All-filter (λ (y : Bio). not (is_it y)) HasItsResult w.bios hold.results;
         read = record {
           one = rw as_many hold.read.one;

@@ -208,11 +208,11 @@ module _ (w : World) (firm : Firm w) (x : Bio) (here : Contains w.bios x) where
   t = w.topology
 
   -- it is in order
-  in_order : IsBioInOrder w x
-  in_order = All-contains (IsBioInOrder w) w.bios x firm.sound.bios here
+  in_order : IsBioInOrder (granted_in w) w.topology x
+  in_order = All-contains (IsBioInOrder (granted_in w) w.topology) w.bios x firm.sound.bios here
 
   -- a consumer with the count that it needs wants something
-  wants_some : (c : Consumer) (b : Bool) → is_read x.cmd ≡ b → HasCountFor w x c
+  wants_some : (c : Consumer) (b : Bool) → is_read x.cmd ≡ b → HasCountFor (granted_in w) w.topology x c
       → want (granted_in w) t c ≡ no_counts → ⊥
   wants_some c true e has none =
       let some : 0 < (want (granted_in w) t c).r = has.0 e in
@@ -226,7 +226,7 @@ module _ (w : World) (firm : Firm w) (x : Bio) (here : Contains w.bios x) where
   module _ (p : Provider) (at_target : provider_at t x.target ≡ Some p) where
     -- so the provider has a count
     open_by : (o : Option Consumer) → consumer_at t x.source ≡ o
-        → IsSomeAnd o (λ c. (c.provider ≡ Some x.target) × HasCountFor w x c)
+        → IsSomeAnd o (λ c. (c.provider ≡ Some x.target) × HasCountFor (granted_in w) w.topology x c)
         → is_zero (have (granted_in w) t x.target) ≡ false
     open_by None e has = absurd has
     open_by (Some c) e has = false_from_ne_true (is_zero (have (granted_in w) t x.target)) (λ zero.
@@ -270,7 +270,8 @@ module _ (w : World) (firm : Firm w) (x : Bio) (here : Contains w.bios x) where
       is_placed =
           let stands : Contains t.providers p =
           find-Contains (λ (v : Provider). v.number == x.target) t.providers p at_target in
-          let leads : LeadsDown w p = All-contains (LeadsDown w) t.providers p firm.sound.places stands in
+          let leads : LeadsDown (granted_in w) w.topology p =
+          All-contains (LeadsDown (granted_in w) w.topology) t.providers p firm.sound.places stands in
           placed_by ((rw of_it at leads) (inl is_open))
 
       -- the geom's number

@@ -13,7 +13,6 @@ use Rattle.geo_model.specs.Counts.{Counts}
 use Rattle.geo_model.specs.Kind.{Kind}
 use Rattle.geo_model.specs.Kind.TheVariants as kinds
 use Rattle.geo_model.specs.TheConstants.{MAX_RANK, UNTASTED_RANK}
-use Rattle.geo_model.specs.declared.step.Owner.{Owner}
 use Rattle.geo_model.specs.declared.step.Owner.TheVariants as owners
 use Rattle.geo_model.specs.Words.{is_read}
 use Rattle.geo_model.specs.Topology.{Topology, Geom, Provider, Consumer, geom_at, provider_at, consumer_at, providers_of, consumers_of, is_withering, note_started}
@@ -26,9 +25,9 @@ use Rattle.geo_model.specs.Bios.{piece_targets, disk_at}
 use Rattle.geo_model.specs.Tasting.{facts_of}
 use Rattle.geo_model.specs.declared.class.Facts.{Facts}
 use Rattle.geo_model.specs.Acceptance.{taste_where}
-use Rattle.geo_model.specs.Sound.{RanksHold, StandsBare, ProvidersHold, HandlesHold, IsHandleConsumer, IsTasting, IsOfItsClass, DifferInDisk, HasDiskSizes, IsPlaced, LeadsDown, IsTasteInOrder}
-use Rattle.geo_model.specs.SoundBios.{IsBioInOrder, IsFamilyInOrder, HasItsParent, HasItsPieces, HasCountFor, shape_of_child, shape_of_piece, DisksHold}
-use Rattle.geo_model.specs.Steady.{HasItsComponents, WaitsForPlaces, has_open_provider, ComesFromItsOwner}
+use Rattle.geo_model.specs.Sound.{RanksHold, StandsBare, ProvidersHold, NumbersHold, HandlesHold, IsTasting, IsOfItsClass, DifferInDisk, HasDiskSizes, IsPlaced, LeadsDown, IsTasteInOrder}
+use Rattle.geo_model.specs.SoundBios.{IsBioInOrder, IsFamilyInOrder, HasItsPieces, HasCountFor, shape_of_child, shape_of_piece, DisksHold}
+use Rattle.geo_model.specs.Steady.{HasItsComponents, WaitsForPlaces, has_open_provider}
 use Rattle.geo_model.specs.Fitting.{Firm, FitsBelow, FitsPlaces, HasOneProvider, PlacesHold, HasItsSum, AsksThere, IsWholeIn, IsAskedInOrder}
 use Rattle.geo_laws_counts.specs.CountWords.{DemandStays, AnyConsumer, seen_by_counts}
 use Rattle.geo_laws_counts.proofs.SeenCounts.{seen_stays}
@@ -36,10 +35,9 @@ use Rattle.geo_laws_graph.proofs.Living.{if_some_weaker}
 use Rattle.geo_laws_graph.specs.RankLaws.{AllRanksStay}
 use Rattle.geo_laws_graph.proofs.EdgeRanks.{stays_all}
 use Rattle.geo_laws_graph.proofs.KeptEdges.{parts-edges}
-use Rattle.geo_laws_bios.specs.BioFrames.{BiosHold, RestNumbersHold, GraphHolds, SizesHold, TasteHolds, restart, restarted, RestartsStayFirm}
+use Rattle.geo_laws_bios.specs.BioFrames.{BiosHold, GraphHolds, SizesHold, TasteHolds, restart, restarted, RestartsStayFirm}
 use Rattle.geo_laws_bios.proofs.Items.{pairs_map}
 use Rattle.geo_laws_bios.proofs.Apart.{bios_of, rest_of, firm_of}
-use Rattle.geo_laws_bios.proofs.Owners.{parent_stays, owner_stays}
 
 -- tests that agree
 any_agree : {X : Type 0} (test other : X → Bool) → ((x : X) → test x ≡ other x) → (xs : List X)
@@ -187,17 +185,16 @@ module _ (s : Geom Config → ℕ) where
     }
 
     -- numbers
-    numbers_hold : RestNumbersHold w → RestNumbersHold (restarted s w)
+    numbers_hold : NumbersHold t w.disks → NumbersHold u w.disks
     numbers_hold hold = record {
       geoms = subst (λ (ns : List ℕ). AreNumbers ns t.next_geom)
           (sym (map-map (λ (x : Geom Config). x.number) (restart s) t.geoms)) hold.geoms;
       providers = hold.providers;
       consumers = hold.consumers;
-      handles = hold.handles;
       classes = all_geoms IsOfItsClass IsOfItsClass
           (λ g is. record { config = is.config; dev = is.dev; taste = is.taste }) hold.classes;
       one_geom_of_disk = pairs_map DifferInDisk (restart s) t.geoms hold.one_geom_of_disk;
-      disk_sizes = all_geoms (HasDiskSizes w) (HasDiskSizes (restarted s w)) (λ g has. has) hold.disk_sizes;
+      disk_sizes = all_geoms (HasDiskSizes t w.disks) (HasDiskSizes u w.disks) (λ g has. has) hold.disk_sizes;
     }
 
     -- the taste's consumer
@@ -208,16 +205,16 @@ module _ (s : Geom Config → ℕ) where
         record { consumer = is.consumer; alone = is.alone; number = is.number; attached = is.attached }
 
     -- handles
-    handles_hold : HandlesHold w → HandlesHold (restarted s w)
+    handles_hold : HandlesHold t w.handles w.next_handle w.taste → HandlesHold u w.handles w.next_handle w.taste
     handles_hold hold = record {
-      consumers = All-weaker (IsHandleConsumer w) (IsHandleConsumer (restarted s w))
-          (λ c is. record { attached = is.attached; one_handle = is.one_handle }) (consumers_of t 1) hold.consumers;
+      numbers = hold.numbers;
+      consumers = hold.consumers;
       handles = hold.handles;
       taste = tasting_at w.taste hold.taste;
     }
 
     -- a provider leads down
-    leads_down : (p : Provider) → LeadsDown w p → LeadsDown (restarted s w) p
+    leads_down : (p : Provider) → LeadsDown (granted_in w) t p → LeadsDown (granted_in w) u p
     leads_down p leads =
         geom_and
         (λ (g : Geom Config). (is_zero (have (granted_in w) t p.number) ≡ false) ⊎ (g.withering ≡ false)
@@ -229,13 +226,14 @@ module _ (s : Geom Config → ℕ) where
         (demand_stays.haves p.number) used)) p.geom leads
 
     -- whether a geom is open
-    open_same : (g : Geom Config) → has_open_provider (restarted s w) (restart s g) ≡ has_open_provider w g
+    open_same : (g : Geom Config)
+        → has_open_provider (granted_in w) u (restart s g) ≡ has_open_provider (granted_in w) t g
     open_same g = any_agree (λ (p : Provider). not (is_zero (have (granted_in w) u p.number)))
         (λ (p : Provider). not (is_zero (have (granted_in w) t p.number)))
         (λ p. ap (λ (n : Counts). not (is_zero n)) (demand_stays.haves p.number)) (providers_of t g.number)
 
     -- the graph
-    graph_holds : GraphHolds w → GraphHolds (restarted s w)
+    graph_holds : GraphHolds (granted_in w) t w.disks → GraphHolds (granted_in w) u w.disks
     graph_holds graph = record {
       ranks = ranks_hold graph.ranks;
       counts = record {
@@ -244,8 +242,7 @@ module _ (s : Geom Config → ℕ) where
       };
       providers = providers_hold graph.providers;
       numbers = numbers_hold graph.numbers;
-      handles = handles_hold graph.handles;
-      places = All-weaker (LeadsDown w) (LeadsDown (restarted s w)) leads_down t.providers graph.places;
+      places = All-weaker (LeadsDown (granted_in w) t) (LeadsDown (granted_in w) u) leads_down t.providers graph.places;
       made = all_geoms (λ (g : Geom Config). (g.number ≡ 1) ⊎ (g.number ≡ 2) → g.automatic ≡ false)
           (λ (g : Geom Config). (g.number ≡ 1) ⊎ (g.number ≡ 2) → g.automatic ≡ false) (λ g made. made) graph.made;
       parts = record {
@@ -257,15 +254,15 @@ module _ (s : Geom Config → ℕ) where
             (λ c lives. geom_lives c.geom lives) t.consumers graph.parts.consumers;
       };
       attached = graph.attached;
-      components = all_geoms (HasItsComponents w) (HasItsComponents (restarted s w))
+      components = all_geoms (HasItsComponents (granted_in w) t) (HasItsComponents (granted_in w) u)
           (λ g has used. has (subst (λ (b : Bool). (g.withering ≡ false) ⊎ IsTrue b)
           (open_same g) used)) graph.components;
-      partial = all_geoms (WaitsForPlaces w) (WaitsForPlaces (restarted s w)) (λ g waits. waits) graph.partial;
+      partial = all_geoms (WaitsForPlaces t) (WaitsForPlaces u) (λ g waits. waits) graph.partial;
       unmarked = graph.unmarked;
     }
 
     -- sizes
-    sizes_hold : SizesHold w → SizesHold (restarted s w)
+    sizes_hold : SizesHold t w.disks → SizesHold u w.disks
     sizes_hold sizes = record {
       disks = sizes.disks;
       sectors = sizes.sectors;
@@ -293,7 +290,7 @@ module _ (s : Geom Config → ℕ) where
     asked_same p (ReadBack kind got) asked = (asks_there p kind asked.0, asked.1)
 
     -- a taste
-    taste_same : (x : Taste) → IsTasteInOrder w x → IsTasteInOrder (restarted s w) x
+    taste_same : (x : Taste) → IsTasteInOrder t x → IsTasteInOrder u x
     taste_same x is = record {
       rank = offerer_at (λ (g : Geom Config). rank t g.number < UNTASTED_RANK)
           (λ (g : Geom Config). rank u g.number < UNTASTED_RANK)
@@ -304,10 +301,10 @@ module _ (s : Geom Config → ℕ) where
     }
 
     -- the queue and the taste
-    tasting_holds : TasteHolds w → TasteHolds (restarted s w)
+    tasting_holds : TasteHolds t w.events w.taste → TasteHolds u w.events w.taste
     tasting_holds tasting = record {
       living = tasting.living;
-      taste = if_some_weaker (IsTasteInOrder w) (IsTasteInOrder (restarted s w)) taste_same w.taste tasting.taste;
+      taste = if_some_weaker (IsTasteInOrder t) (IsTasteInOrder u) taste_same w.taste tasting.taste;
       asked = if_some_weaker (λ (x : Taste). IfSome (provider_at t x.provider) (λ p. IsAskedInOrder t p x.asked))
           (λ (x : Taste). IfSome (provider_at t x.provider) (λ p. IsAskedInOrder u p x.asked))
           (λ x asked. if_some_weaker (λ (p : Provider). IsAskedInOrder t p x.asked)
@@ -316,10 +313,10 @@ module _ (s : Geom Config → ℕ) where
     }
 
     -- a bio
-    bio_same : (x : Bio) → IsBioInOrder w x → IsBioInOrder (restarted s w) x
+    bio_same : (x : Bio) → IsBioInOrder (granted_in w) t x → IsBioInOrder (granted_in w) u x
     bio_same x is = record {
-      source = some_weaker (λ (c : Consumer). (c.provider ≡ Some x.target) × HasCountFor w x c)
-          (λ (c : Consumer). (c.provider ≡ Some x.target) × HasCountFor (restarted s w) x c)
+      source = some_weaker (λ (c : Consumer). (c.provider ≡ Some x.target) × HasCountFor (granted_in w) t x c)
+          (λ (c : Consumer). (c.provider ≡ Some x.target) × HasCountFor (granted_in w) u x c)
           (λ c has. (
             has.0,
             subst (λ (n : Counts). (IsTrue (is_read x.cmd) → 0 < n.r) × (is_read x.cmd ≡ false → 0 < n.w))
@@ -330,7 +327,7 @@ module _ (s : Geom Config → ℕ) where
     }
 
     -- its pieces
-    pieces_same : (x : Bio) → HasItsPieces w x → HasItsPieces (restarted s w) x
+    pieces_same : (x : Bio) → HasItsPieces t w.bios x → HasItsPieces u w.bios x
     pieces_same x has =
         some_weaker
         (λ (p : Provider). IsSomeAnd (geom_at t p.geom) (λ g.
@@ -346,16 +343,8 @@ module _ (s : Geom Config → ℕ) where
         (λ item. shape_of_piece x item.0 item.1) (enumerate_from 0 (piece_targets g.config p x)))
         (λ g e. e) p.geom is) (provider_at t x.target) has
 
-    -- its parent
-    parent_same : (o : Owner) → HasItsParent w o → HasItsParent (restarted s w) o
-    parent_same = parent_stays w (restarted s w) (λ n has. has)
-
-    -- its owner
-    owner_same : (x : Bio) (o : Owner) → ComesFromItsOwner w x o → ComesFromItsOwner (restarted s w) x o
-    owner_same x = owner_stays w (restarted s w) x x refl refl refl refl refl
-
     -- disks
-    disks_hold : DisksHold w → DisksHold (restarted s w)
+    disks_hold : DisksHold t w.bios → DisksHold u w.bios
     disks_hold disks = record {
       at_disk = All-weaker (λ (x : Bio). IsTrue (is_sent x.phase || is_busy x.phase) → IsSome (disk_at t x.target))
           (λ (x : Bio). IsTrue (is_sent x.phase || is_busy x.phase) → IsSome (disk_at u x.target))
@@ -368,19 +357,17 @@ module _ (s : Geom Config → ℕ) where
     bios_hold : BiosHold w → BiosHold (restarted s w)
     bios_hold hold = record {
       numbers = hold.numbers;
-      order = All-weaker (IsBioInOrder w) (IsBioInOrder (restarted s w)) bio_same w.bios hold.order;
-      families = All-weaker (IsFamilyInOrder w) (IsFamilyInOrder (restarted s w))
+      order = All-weaker (IsBioInOrder (granted_in w) t) (IsBioInOrder (granted_in w) u) bio_same w.bios hold.order;
+      families = All-weaker (IsFamilyInOrder t w.bios) (IsFamilyInOrder u w.bios)
           (λ x is. record {
-            parent = parent_same x.owner is.parent;
+            parent = is.parent;
             pieces = λ waiting. pieces_same x (is.pieces waiting);
             not_complete = is.not_complete;
             root = is.root;
           }) w.bios hold.families;
       disks = disks_hold hold.disks;
       read_out = hold.read_out;
-      owners = All-weaker (λ (x : Bio). ComesFromItsOwner w x x.owner)
-          (λ (x : Bio). ComesFromItsOwner (restarted s w) x x.owner)
-          (λ x comes. owner_same x x.owner comes) w.bios hold.owners;
+      owners = hold.owners;
       results = hold.results;
       read = record { one = hold.read.one; sector = hold.read.sector };
     }
@@ -391,6 +378,7 @@ restarts_stay_firm s w firm =
     let rest = rest_of w firm in
     firm_of (restarted s w) (bios_hold s w (bios_of w firm)) (record {
       graph = graph_holds s w rest.graph;
+      handles = handles_hold s w rest.handles;
       sizes = sizes_hold s w rest.sizes;
       tasting = tasting_holds s w rest.tasting;
       commands = rest.commands;

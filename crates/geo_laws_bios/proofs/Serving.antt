@@ -11,7 +11,7 @@ use Rattle.geo_model.specs.declared.step.Owner.TheVariants as owners
 use Rattle.geo_model.specs.Words.{is_read, is_flush}
 use Rattle.geo_model.specs.Topology.{Topology, Geom, Provider, Consumer, geom_at, provider_at, consumer_at}
 use Rattle.geo_model.specs.Demand.{want}
-use Rattle.geo_model.specs.World.{World, Bio, Config, Nothing, Disk, Mbr, Ebr, Label, Concat, Stripe, Nop, bio_at, children_of, is_root, is_waiting, is_child_of}
+use Rattle.geo_model.specs.World.{World, Bio, Config, Nothing, Disk, Mbr, Ebr, Label, Concat, Stripe, Nop, bio_at, children_of, is_root, is_waiting, is_child_of, granted_in}
 use Rattle.geo_model.specs.Place.{disk_of}
 use Rattle.geo_model.specs.Bios.{PieceTarget, piece_targets}
 use Rattle.geo_model.specs.SoundBios.{IsBioInOrder, IsFamilyInOrder, HasCountFor, ChildShape, shape_of_child, shape_of_piece}
@@ -80,8 +80,10 @@ module _ (w : World) (firm : Firm w) (granted : ℕ → Counts) where
     -- the child, by its own source
     by_source : (c : Consumer) → consumer_at t z.source ≡ Some c → Serves granted t z c → SourceServes granted t z
     by_source c found serves =
-        let order : IsBioInOrder w z = All-contains (IsBioInOrder w) w.bios z firm.sound.bios z_here in
-        let source : (c.provider ≡ Some z.target) × HasCountFor w z c = rw found at order.source in
+        let order : IsBioInOrder (granted_in w) w.topology z =
+        All-contains (IsBioInOrder (granted_in w) w.topology) w.bios z firm.sound.bios z_here in
+        let source : (c.provider ≡ Some z.target) × HasCountFor (granted_in w) w.topology z c =
+        rw found at order.source in
         rw found (source.0, serves)
 
     -- the child, by what it is a piece of
@@ -140,7 +142,8 @@ module _ (w : World) (firm : Firm w) (granted : ℕ → Counts) where
     -- so a child of a bio whose source has the counts has them
     child_serves : is_waiting y.phase ≡ true → SourceServes granted t z
     child_serves waits =
-        let family : IsFamilyInOrder w y = All-contains (IsFamilyInOrder w) w.bios y firm.sound.families y_here in
+        let family : IsFamilyInOrder w.topology w.bios y =
+        All-contains (IsFamilyInOrder w.topology w.bios) w.bios y firm.sound.families y_here in
         by_provider (provider_at t y.target) refl (family.pieces waits)
 
   module _ (keep : Bio → Bool)
@@ -155,8 +158,8 @@ module _ (w : World) (firm : Firm w) (granted : ℕ → Counts) where
     by_parent n z here parent index owner so (Some y) at has =
         let y_here : Contains w.bios y = find-Contains (λ (v : Bio). v.number == parent) w.bios y at in
         let number : y.number ≡ parent = number_found (λ (v : Bio). v.number) w.bios parent y at in
-        let comes : ComesFromItsOwner w z z.owner =
-        All-contains (λ (v : Bio). ComesFromItsOwner w v v.owner) w.bios z firm.steady.owners here in
+        let comes : ComesFromItsOwner w.handles w.taste z z.owner =
+        All-contains (λ (v : Bio). ComesFromItsOwner w.handles w.taste v v.owner) w.bios z firm.steady.owners here in
         let above : parent < z.number = rw owner at comes in
         let is_child : is_child_of z.owner y.number ≡ true = rw owner (eq-eqb parent y.number (sym number)) in
         child_serves y z y_here here
@@ -170,7 +173,8 @@ module _ (w : World) (firm : Firm w) (granted : ℕ → Counts) where
     by_owner z here kept so (owners.Line handle line) e = roots z here (rw e refl) kept
     by_owner z here kept so owners.Taste e = roots z here (rw e refl) kept
     by_owner z here kept so (owners.Child parent index) e =
-        let family : IsFamilyInOrder w z = All-contains (IsFamilyInOrder w) w.bios z firm.sound.families here in
+        let family : IsFamilyInOrder w.topology w.bios z =
+        All-contains (IsFamilyInOrder w.topology w.bios) w.bios z firm.sound.families here in
         by_parent 0 z here parent index e so (bio_at w parent) refl (rw e at family.parent)
 
     -- for all numbers below one

@@ -18,7 +18,7 @@ use Rattle.geo_model.specs.declared.step.Phase.TheVariants as phases
 use Rattle.geo_model.specs.Words.{change_where, is_flush, is_write}
 use Rattle.geo_model.specs.Topology.{Geom, Provider, Consumer, geom_at, provider_at, consumer_at, provider_of_consumer}
 use Rattle.geo_model.specs.Graph.{AreNumbers}
-use Rattle.geo_model.specs.World.{World, Bio, Config, bio_at, children_of, is_done, is_busy, is_sent, is_down, is_waiting, is_child_of, is_taste_root, is_read_out}
+use Rattle.geo_model.specs.World.{World, Bio, Config, bio_at, children_of, is_done, is_busy, is_sent, is_down, is_waiting, is_child_of, is_taste_root, is_read_out, granted_in}
 use Rattle.geo_model.specs.Bios.{PieceTarget, piece_targets, piece_child, bytes_of_piece, disk_of_bio}
 use Rattle.geo_model.specs.SoundBios.{IsRangeInside, IsBioInOrder, IsFamilyInOrder, HasItsParent, HasItsPieces, HasCountFor, shape_of_child, shape_of_piece, NotBothBusy}
 use Rattle.geo_model.specs.Steady.{ComesFromItsOwner, HasItsResult}
@@ -98,7 +98,7 @@ pub record GoesDown (w : World) (x : Bio) (z : PieceTarget) : Type 0 where
   pub provider : Provider
   pub stands : provider_at w.topology under ≡ Some provider
   pub of_geom : (p : Provider) → provider_at w.topology x.target ≡ Some p → consumer.geom ≡ p.geom
-  pub count : HasCountFor w x consumer
+  pub count : HasCountFor (granted_in w) w.topology x consumer
   pub range : is_flush x.cmd ≡ false → IsSpanInside z.piece.span.offset z.piece.span.len provider
   pub bytes : IsTrue (is_write x.cmd) → length (bytes_of_piece x.bytes z.piece) ≡ z.piece.span.len
 
@@ -214,19 +214,16 @@ module _ (w : World) (x : Bio) (targets : List PieceTarget) where
         rw there has
 
     -- a parent stays
-    parent_kept : (o : Owner) → HasItsParent w o → HasItsParent parted o
-    parent_kept = parent_stays w parted (λ n has. waiting_at n (bio_at w n) refl has (n == x.number) refl)
+    parent_kept : (o : Owner) → HasItsParent w.bios o → HasItsParent parted.bios o
+    parent_kept = parent_stays w.bios parted.bios (λ n has. waiting_at n (bio_at w n) refl has (n == x.number) refl)
 
-    -- so does an owner
-    owner_kept : (z : Bio) (o : Owner) → ComesFromItsOwner w z o → ComesFromItsOwner parted z o
-    owner_kept z = owner_stays w parted z z refl refl refl refl refl
-
-    -- the one's owner
-    owner_waiting : (o : Owner) → ComesFromItsOwner w x o → ComesFromItsOwner parted (wait x) o
-    owner_waiting = owner_stays w parted x (wait x) refl refl refl refl refl
+    -- so does the one's owner
+    owner_waiting : (o : Owner) → ComesFromItsOwner w.handles w.taste x o
+        → ComesFromItsOwner w.handles w.taste (wait x) o
+    owner_waiting = owner_stays w.handles w.taste x (wait x) refl refl refl
 
     -- a bio that names a parent, names one that is Waiting
-    names_waiting : (o : Owner) → is_child_of o x.number ≡ true → HasItsParent w o → ⊥
+    names_waiting : (o : Owner) → is_child_of o x.number ≡ true → HasItsParent w.bios o → ⊥
     names_waiting (owners.Line handle line) child has = cc
     names_waiting owners.Taste child has = cc
     names_waiting (owners.Child parent index) child has =
@@ -240,7 +237,8 @@ module _ (w : World) (x : Bio) (targets : List PieceTarget) where
     no_children : children_of w x.number ≡ []
     no_children = nothing_kept (children_of w x.number) (λ c here.
         let stands = filter-Contains (λ (v : Bio). is_child_of v.owner x.number) w.bios c here in
-        let family : IsFamilyInOrder w c = All-contains (IsFamilyInOrder w) w.bios c hold.families stands.0 in
+        let family : IsFamilyInOrder w.topology w.bios c =
+        All-contains (IsFamilyInOrder w.topology w.bios) w.bios c hold.families stands.0 in
         names_waiting c.owner stands.1 family.parent)
 
     -- now it has these
@@ -258,7 +256,7 @@ module _ (w : World) (x : Bio) (targets : List PieceTarget) where
         (are : targets ≡ piece_targets g.config p x) (some : targets ≢ [])
         (lead : AllByRecursion (GoesDown w x) targets) where
       -- its pieces are these
-      pieces_here : HasItsPieces parted (wait x)
+      pieces_here : HasItsPieces w.topology parted.bios (wait x)
       pieces_here =
           let shapes : map shape_of_child (children_of parted x.number) ≡ map
           (λ item. shape_of_piece (wait x) item.0 item.1) (enumerate_from 0 (piece_targets g.config p (wait x))) =
@@ -275,7 +273,7 @@ module _ (w : World) (x : Bio) (targets : List PieceTarget) where
       not_done (z ∷ zs) there = refl
 
       -- the family of the bio
-      family_here : IsFamilyInOrder w x → IsFamilyInOrder parted (wait x)
+      family_here : IsFamilyInOrder w.topology w.bios x → IsFamilyInOrder w.topology parted.bios (wait x)
       family_here is = record {
         parent = parent_kept x.owner is.parent;
         pieces = λ waiting. pieces_here;
@@ -285,7 +283,8 @@ module _ (w : World) (x : Bio) (targets : List PieceTarget) where
       }
 
       -- the family of another one
-      family_there : (z : Bio) → is_it z ≡ false → IsFamilyInOrder w z → IsFamilyInOrder parted z
+      family_there : (z : Bio) → is_it z ≡ false → IsFamilyInOrder w.topology w.bios z
+          → IsFamilyInOrder w.topology parted.bios z
       family_there z e is =
           let other : x.number ≢ z.number = λ same. eqb-false z.number x.number e (sym same) in
           let same = children_there z.number other in
@@ -303,7 +302,8 @@ module _ (w : World) (x : Bio) (targets : List PieceTarget) where
           }
 
       -- the family of a child
-      family_new : (k : ℕ) (z : PieceTarget) → IsFamilyInOrder parted (piece_child w.topology w.next_bio x k z)
+      family_new : (k : ℕ) (z : PieceTarget)
+          → IsFamilyInOrder w.topology parted.bios (piece_child w.topology w.next_bio x k z)
       family_new k z = record {
         parent = rw found_waiting refl;
         pieces = λ waiting. absurd cc;
@@ -312,7 +312,7 @@ module _ (w : World) (x : Bio) (targets : List PieceTarget) where
       }
 
       -- the bio is still in order
-      order_here : IsBioInOrder w x → IsBioInOrder parted (wait x)
+      order_here : IsBioInOrder (granted_in w) w.topology x → IsBioInOrder (granted_in w) w.topology (wait x)
       order_here is = record {
         source = is.source;
         target = some_weaker (λ (q : Provider). is_flush x.cmd ≡ false → IsRangeInside x q)
@@ -334,7 +334,7 @@ module _ (w : World) (x : Bio) (targets : List PieceTarget) where
 
       -- a child is in order
       order_new : (k : ℕ) (z : PieceTarget) → GoesDown w x z
-          → IsBioInOrder parted (piece_child w.topology w.next_bio x k z)
+          → IsBioInOrder (granted_in w) w.topology (piece_child w.topology w.next_bio x k z)
       order_new k z goes =
           let found_it : consumer_at w.topology z.consumer ≡ Some goes.consumer = goes.found in
           let attached : goes.consumer.provider ≡ Some goes.under = goes.to_it in
@@ -345,7 +345,7 @@ module _ (w : World) (x : Bio) (targets : List PieceTarget) where
             source = subst
                 (λ (o : Option Consumer). IsSomeAnd o
                 (λ c. (c.provider ≡ Some (unwrap_or (provider_of_consumer w.topology z.consumer) 0))
-                × HasCountFor w x c))
+                × HasCountFor (granted_in w) w.topology x c))
                 (sym found_it) (attached ∙ ap (λ (n : ℕ). Some n) (sym to_there), goes.count);
             target = subst (λ (n : ℕ). IsSomeAnd (provider_at w.topology n)
                 (λ q. is_flush x.cmd ≡ false → IsRangeInside (piece_child w.topology w.next_bio x k z) q))
@@ -355,18 +355,18 @@ module _ (w : World) (x : Bio) (targets : List PieceTarget) where
           }
 
       -- of two bios that stood not both are Busy at one disk
-      not_both : (u v : Bio) (a b : Bool) → is_it u ≡ a → is_it v ≡ b → NotBothBusy w u v
-          → NotBothBusy parted (if is_it u then wait u else u) (if is_it v then wait v else v)
+      not_both : (u v : Bio) (a b : Bool) → is_it u ≡ a → is_it v ≡ b → NotBothBusy w.topology u v
+          → NotBothBusy w.topology (if is_it u then wait u else u) (if is_it v then wait v else v)
       not_both u v true b e f apart = rw e (λ busy. absurd cc)
       not_both u v false true e f apart = rw (e, f) (λ other busy. absurd cc)
       not_both u v false false e f apart = rw (e, f) apart
 
       -- so for all pairs
-      one_busy : AllPairs (NotBothBusy parted) parted.bios
+      one_busy : AllPairs (NotBothBusy w.topology) parted.bios
       one_busy =
-          pairs_quiet (NotBothBusy parted) (λ (c : Bio). is_busy c.phase ≡ false)
+          pairs_quiet (NotBothBusy w.topology) (λ (c : Bio). is_busy c.phase ≡ false)
           (λ a c quiet first second. absurd cc) (kids 0 targets) old
-          (pairs_map (NotBothBusy parted) (λ (z : Bio). if is_it z then wait z else z) w.bios
+          (pairs_map (NotBothBusy w.topology) (λ (z : Bio). if is_it z then wait z else z) w.bios
           (λ i j d less short. not_both _ _ _ _ refl refl (hold.disks.one_busy i j d less short)))
           (kids_any (λ (c : Bio). is_busy c.phase ≡ false) (λ k z. refl) 0 targets)
 
@@ -413,11 +413,12 @@ module _ (w : World) (x : Bio) (targets : List PieceTarget) where
       pub parted_hold : BiosHold parted
       parted_hold = record {
         numbers = numbers;
-        order = each_after (IsBioInOrder parted) (IsBioInOrder w) order_here
-            (λ z e is. record { source = is.source; target = is.target; bytes = is.bytes })
-            (kids_all (IsBioInOrder parted) (GoesDown w x) order_new 0 targets lead) hold.order;
-        families = each_after (IsFamilyInOrder parted) (IsFamilyInOrder w) family_here family_there
-            (kids_any (IsFamilyInOrder parted) family_new 0 targets) hold.families;
+        order = each_after (IsBioInOrder (granted_in w) w.topology) (IsBioInOrder (granted_in w) w.topology) order_here
+            (λ z e is. is)
+            (kids_all (IsBioInOrder (granted_in w) w.topology) (GoesDown w x) order_new 0 targets lead) hold.order;
+        families = each_after (IsFamilyInOrder w.topology parted.bios) (IsFamilyInOrder w.topology w.bios)
+            family_here family_there
+            (kids_any (IsFamilyInOrder w.topology parted.bios) family_new 0 targets) hold.families;
         disks = record {
           at_disk = each_after (λ (z : Bio). IsTrue (is_sent z.phase || is_busy z.phase) → IsSome (disk_of_bio w z))
               (λ (z : Bio). IsTrue (is_sent z.phase || is_busy z.phase) → IsSome (disk_of_bio w z))
@@ -428,10 +429,10 @@ module _ (w : World) (x : Bio) (targets : List PieceTarget) where
         };
         read_out = subst (λ (b : Bool). IsTrue b ↔ IsTrue (option_map_or (λ s. is_read_out s.asked) w.taste false))
             (sym any_same) hold.read_out;
-        owners = each_after (λ (z : Bio). ComesFromItsOwner parted z z.owner)
-            (λ (z : Bio). ComesFromItsOwner w z z.owner)
-            (owner_waiting x.owner) (λ z e comes. owner_kept z z.owner comes)
-            (kids_any (λ (z : Bio). ComesFromItsOwner parted z z.owner)
+        owners = each_after (λ (z : Bio). ComesFromItsOwner w.handles w.taste z z.owner)
+            (λ (z : Bio). ComesFromItsOwner w.handles w.taste z z.owner)
+            (owner_waiting x.owner) (λ z e comes. comes)
+            (kids_any (λ (z : Bio). ComesFromItsOwner w.handles w.taste z z.owner)
             (λ k z. omega (arith, below_next)) 0 targets) hold.owners;
         results = each_after HasItsResult HasItsResult (λ has up. absurd cc) (λ z e has. has)
             (kids_any HasItsResult (λ k z up. absurd cc) 0 targets) hold.results;

@@ -17,13 +17,13 @@ use Rattle.geo_model.specs.declared.step.BioResult.TheVariants as results
 use Rattle.geo_model.specs.declared.step.Owner.{Owner}
 use Rattle.geo_model.specs.declared.step.Owner.TheVariants as owners
 use Rattle.geo_model.specs.Words.{is_kind, is_read, names_number}
-use Rattle.geo_model.specs.Topology.{Topology, Geom, Provider, Consumer, geom_at, provider_at, consumer_at, providers_of, consumers_of}
+use Rattle.geo_model.specs.Topology.{Topology, Geom, Provider, Consumer, geom_at, provider_at, consumer_at, providers_of}
 use Rattle.geo_model.specs.Demand.{have, want, is_zero, no_counts, want_of_kind}
 use Rattle.geo_model.specs.World.{World, Bio, Config, Handle, Taste, Asked, NoClass, NextSector, ReadOut, ReadBack, granted_in, taste_grant, bio_at, is_root, is_taste_root, is_read_out, is_waiting, is_done, is_up, is_busy, is_sent}
 use Rattle.geo_model.specs.Place.{disk_of}
-use Rattle.geo_model.specs.Bios.{disk_of_bio, up_taste, without_bio}
-use Rattle.geo_model.specs.Sound.{IsTasting, IsHandleConsumer, HasItsConsumer, HandlesHold, LeadsDown, IsPlaced, IsTasteInOrder, HasItsChain, ChainHolds, class_asked, IsOfItsClass}
-use Rattle.geo_model.specs.SoundBios.{IsBioInOrder, IsFamilyInOrder, HasItsParent, HasCountFor, NotBothBusy}
+use Rattle.geo_model.specs.Bios.{disk_of_bio, up_taste}
+use Rattle.geo_model.specs.Sound.{IsTasting, HasItsConsumer, LeadsDown, IsPlaced, IsTasteInOrder, HasItsChain, ChainHolds, class_asked, IsOfItsClass}
+use Rattle.geo_model.specs.SoundBios.{IsBioInOrder, IsFamilyInOrder, HasCountFor, NotBothBusy}
 use Rattle.geo_model.specs.Steady.{HasItsComponents, ComesFromItsOwner, HasItsResult, FitsBio}
 use Rattle.geo_model.specs.Fitting.{Firm, IsAskedInOrder, IsOneSector}
 use Rattle.geo_laws_counts.specs.CountWords.{IsAtMost, AreAtMost}
@@ -34,12 +34,11 @@ use Rattle.geo_laws_graph.proofs.Lists.{numbers-kept, filter-filter, found_itsel
 use Rattle.geo_laws_graph.proofs.Living.{if_some_weaker}
 use Rattle.geo_laws_graph.proofs.Members.{find-Contains, filter-Contains, Contains-filter, Contains-cases, nothing_in, at_contained}
 use Rattle.geo_laws_graph.proofs.Numbered.{any-contained, number_found}
-use Rattle.geo_laws_bios.specs.BioFrames.{BiosHold, RestNumbersHold, GraphHolds, SizesHold, RestHolds}
+use Rattle.geo_laws_bios.specs.BioFrames.{BiosHold, GraphHolds, RestHolds}
 use Rattle.geo_laws_bios.specs.UpLaws.{TasteUpsStayFirm}
 use Rattle.geo_laws_bios.proofs.Apart.{bios_of, rest_of, firm_of}
 use Rattle.geo_laws_bios.proofs.Phases.{not_waiting}
 use Rattle.geo_laws_bios.proofs.Turning.{found_there}
-use Rattle.geo_laws_bios.proofs.Owners.{parent_stays}
 use Rattle.geo_laws_bios.proofs.Leaving.{family_kept, has_result}
 use Rattle.geo_laws_bios.specs.PieceLaws.{SourceServes}
 use Rattle.geo_laws_bios.proofs.Serving.{all_serve}
@@ -168,7 +167,7 @@ module _ (w : World) (x : Bio) (s : Taste) (kind : Kind) where
       ]
 
   -- a provider leads down
-  leads_down : (p : Provider) → LeadsDown w p → LeadsDown tasted p
+  leads_down : (p : Provider) → LeadsDown (granted_in w) t p → LeadsDown (granted_in tasted) t p
   leads_down p leads =
       some_weaker
       (λ (g : Geom Config). (is_zero (have (granted_in w) t p.number) ≡ false) ⊎ (g.withering ≡ false)
@@ -179,33 +178,9 @@ module _ (w : World) (x : Bio) (s : Taste) (kind : Kind) where
       (geom_at t p.geom) leads
 
   -- a geom has its components
-  components_kept : (g : Geom Config) → HasItsComponents w g → HasItsComponents tasted g
+  components_kept : (g : Geom Config) → HasItsComponents (granted_in w) t g → HasItsComponents (granted_in tasted) t g
   components_kept g has used =
       has (elim used [ inl stands ↦ inl stands | inr is_open ↦ inr (open_was (providers_of t g.number) is_open) ])
-
-  -- numbers
-  numbers_kept : RestNumbersHold w → RestNumbersHold tasted
-  numbers_kept hold = record {
-    geoms = hold.geoms;
-    providers = hold.providers;
-    consumers = hold.consumers;
-    handles = hold.handles;
-    classes = hold.classes;
-    one_geom_of_disk = hold.one_geom_of_disk;
-    disk_sizes = hold.disk_sizes;
-  }
-
-  -- sizes
-  sizes_kept : SizesHold w → SizesHold tasted
-  sizes_kept hold = record {
-    disks = hold.disks;
-    sectors = hold.sectors;
-    wholes = hold.wholes;
-    places = hold.places;
-    one = hold.one;
-    apart = hold.apart;
-    sums = hold.sums;
-  }
 
   module _ (firm : Firm w) (found : bio_at w x.number ≡ Some x) (up : is_up x.phase ≡ true)
       (owner : x.owner ≡ owners.Taste)
@@ -225,21 +200,11 @@ module _ (w : World) (x : Bio) (s : Taste) (kind : Kind) where
     -- the taste's consumer
     tasting : IsTasting t read
     tasting =
-        let was : IsTasting t s = rw is at rest.graph.handles.taste in
+        let was : IsTasting t s = rw is at rest.handles.taste in
         record { consumer = was.consumer; alone = was.alone; number = was.number; attached = was.attached }
 
-    -- handles
-    handles_kept : HandlesHold tasted
-    handles_kept = record {
-      consumers = All-weaker (IsHandleConsumer w) (IsHandleConsumer tasted)
-          (λ c of. record { attached = of.attached; one_handle = of.one_handle })
-          (consumers_of t 1) rest.graph.handles.consumers;
-      handles = rest.graph.handles.handles;
-      taste = tasting;
-    }
-
     -- the graph
-    graph_kept : GraphHolds tasted
+    graph_kept : GraphHolds (granted_in tasted) t w.disks
     graph_kept = record {
       ranks = rest.graph.ranks;
       counts = record {
@@ -247,20 +212,20 @@ module _ (w : World) (x : Bio) (s : Taste) (kind : Kind) where
         limited = limit_less (granted_in tasted) (granted_in w) less t rest.graph.counts.limited;
       };
       providers = rest.graph.providers;
-      numbers = numbers_kept rest.graph.numbers;
-      handles = handles_kept;
-      places = All-weaker (LeadsDown w) (LeadsDown tasted) leads_down t.providers rest.graph.places;
+      numbers = rest.graph.numbers;
+      places = All-weaker (LeadsDown (granted_in w) t) (LeadsDown (granted_in tasted) t) leads_down
+          t.providers rest.graph.places;
       made = rest.graph.made;
       parts = rest.graph.parts;
       attached = rest.graph.attached;
-      components = All-weaker (HasItsComponents w)
-          (HasItsComponents tasted) components_kept t.geoms rest.graph.components;
+      components = All-weaker (HasItsComponents (granted_in w) t) (HasItsComponents (granted_in tasted) t)
+          components_kept t.geoms rest.graph.components;
       partial = rest.graph.partial;
       unmarked = rest.graph.unmarked;
     }
 
     -- the chain
-    chain_kept : IsTasteInOrder w s → HasItsChain tasted read
+    chain_kept : IsTasteInOrder t s → HasItsChain t read
     chain_kept order ebr =
         let asks : class_asked s.asked ≡ Some kinds.Ebr =
         subst (λ (a : Asked). class_asked a ≡ Some kinds.Ebr) (sym asked) ebr in
@@ -282,10 +247,10 @@ module _ (w : World) (x : Bio) (s : Taste) (kind : Kind) where
         (provider_at t s.provider) (order.chain asks)
 
     -- the taste is in order
-    taste_kept : IsTasteInOrder tasted read
+    taste_kept : IsTasteInOrder t read
     taste_kept =
-        let order : IsTasteInOrder w s =
-        subst (λ (o : Option Taste). IfSome o (IsTasteInOrder w)) is rest.tasting.taste in
+        let order : IsTasteInOrder t s =
+        subst (λ (o : Option Taste). IfSome o (IsTasteInOrder t)) is rest.tasting.taste in
         record { rank = order.rank; reads = rw asked at order.reads; chain = chain_kept order }
 
     -- the result is one sector, by the result
@@ -321,7 +286,13 @@ module _ (w : World) (x : Bio) (s : Taste) (kind : Kind) where
     rest_kept : RestHolds tasted
     rest_kept = record {
       graph = graph_kept;
-      sizes = sizes_kept rest.sizes;
+      handles = record {
+        numbers = rest.handles.numbers;
+        consumers = rest.handles.consumers;
+        handles = rest.handles.handles;
+        taste = tasting;
+      };
+      sizes = rest.sizes;
       tasting = record { living = rest.tasting.living; taste = taste_kept; asked = asked_kept };
       commands = rest.commands;
     }
@@ -384,16 +355,16 @@ module _ (w : World) (x : Bio) (s : Taste) (kind : Kind) where
       by_consumer : (o : Option Consumer) → consumer_at t z.source ≡ o → SourceServes (granted_in tasted) t z
       by_consumer o at =
           let h_stands : Contains w.handles h = find-Contains (λ (v : Handle). v.number == handle) w.handles h e in
-          let of_it : HasItsConsumer w h =
-          All-contains (HasItsConsumer w) w.handles h rest.graph.handles.handles h_stands in
+          let of_it : HasItsConsumer t h = All-contains (HasItsConsumer t) w.handles h rest.handles.handles h_stands in
           let dev : IsSomeAnd (consumer_at t z.source) (λ v. v.geom ≡ 1) = rw names at of_it in
-          let order : IsBioInOrder w z = All-contains (IsBioInOrder w) w.bios z hold.order stands in
+          let order : IsBioInOrder (granted_in w) t z =
+          All-contains (IsBioInOrder (granted_in w) t) w.bios z hold.order stands in
           served o at (rw at at dev) (rw at at order.source)
           (grant_by h z.source h_stands names
           (find (λ (v : Handle). names_number v.consumer z.source) w.handles) refl)
         where
           served : (o : Option Consumer) → consumer_at t z.source ≡ o → IsSomeAnd o (λ v. v.geom ≡ 1)
-              → IsSomeAnd o (λ c. (c.provider ≡ Some z.target) × HasCountFor w z c)
+              → IsSomeAnd o (λ c. (c.provider ≡ Some z.target) × HasCountFor (granted_in w) t z c)
               → granted_in tasted z.source ≡ granted_in w z.source → SourceServes (granted_in tasted) t z
           served None at dev has same = absurd dev
           served (Some c) at dev has same =
@@ -412,8 +383,8 @@ module _ (w : World) (x : Bio) (s : Taste) (kind : Kind) where
     root_serves : (z : Bio) → Contains w.bios z → not (is_it z) ≡ true → (o : Owner) → z.owner ≡ o
         → is_root z.owner ≡ true → SourceServes (granted_in tasted) t z
     root_serves z stands kept (owners.Line handle line) e root =
-        let comes : ComesFromItsOwner w z z.owner =
-        All-contains (λ (v : Bio). ComesFromItsOwner w v v.owner) w.bios z hold.owners stands in
+        let comes : ComesFromItsOwner w.handles w.taste z z.owner =
+        All-contains (λ (v : Bio). ComesFromItsOwner w.handles w.taste v v.owner) w.bios z hold.owners stands in
         line_serves z stands (find (λ (h : Handle). h.number == handle) w.handles) handle refl (rw e at comes)
     root_serves z stands kept owners.Taste e root =
         let reads : is_taste_root z.owner ≡ true = rw e refl in
@@ -439,10 +410,11 @@ module _ (w : World) (x : Bio) (s : Taste) (kind : Kind) where
         cc))
 
     -- so each bio that stays is in order
-    order_kept : (z : Bio) → Contains staying z → IsBioInOrder tasted z
+    order_kept : (z : Bio) → Contains staying z → IsBioInOrder (granted_in tasted) t z
     order_kept z stays =
         let both = filter-Contains (λ (v : Bio). not (is_it v)) w.bios z stays in
-        let order : IsBioInOrder w z = All-contains (IsBioInOrder w) w.bios z hold.order both.0 in
+        let order : IsBioInOrder (granted_in w) t z =
+        All-contains (IsBioInOrder (granted_in w) t) w.bios z hold.order both.0 in
         record {
           source = all_serve w firm (granted_in tasted) (λ (v : Bio). not (is_it v))
               (λ v stands root kept. root_serves v stands kept v.owner refl root)
@@ -451,27 +423,12 @@ module _ (w : World) (x : Bio) (s : Taste) (kind : Kind) where
           bytes = order.bytes;
         }
 
-    -- a parent stays
-    parent_kept : (o : Owner) → HasItsParent (without_bio w x.number) o → HasItsParent tasted o
-    parent_kept = parent_stays (without_bio w x.number) tasted (λ n has. has)
-
-    -- so does an owner
-    owner_kept : (z : Bio) (o : Owner) → ComesFromItsOwner w z o → ComesFromItsOwner tasted z o
+    -- an owner stays
+    owner_kept : (z : Bio) (o : Owner) → ComesFromItsOwner w.handles w.taste z o
+        → ComesFromItsOwner w.handles (Some read) z o
     owner_kept z (owners.Line handle line) comes = comes
     owner_kept z owners.Taste comes = rw is at comes
     owner_kept z (owners.Child parent index) comes = comes
-
-    -- and a family
-    family_stays : (z : Bio) → IsFamilyInOrder w z → IsFamilyInOrder tasted z
-    family_stays z family =
-        let without : IsFamilyInOrder (without_bio w x.number) z =
-        family_kept w x hold found (rw owner refl) (not_waiting is_up refl x.phase up) z family in
-        record {
-          parent = parent_kept z.owner without.parent;
-          pieces = without.pieces;
-          not_complete = without.not_complete;
-          root = without.root;
-        }
 
     -- a fact of each bio that stays
     each_stays : (P Q : Bio → Type 0) → ((z : Bio) → Q z → P z) → All Q w.bios → All P staying
@@ -481,21 +438,24 @@ module _ (w : World) (x : Bio) (s : Taste) (kind : Kind) where
     bios_kept : BiosHold tasted
     bios_kept = record {
       numbers = numbers-kept (λ (z : Bio). z.number) (λ (z : Bio). not (is_it z)) w.next_bio w.bios hold.numbers;
-      order = All-weaker (Contains staying) (IsBioInOrder tasted) order_kept staying (All-contains_itself staying);
-      families = each_stays (IsFamilyInOrder tasted) (IsFamilyInOrder w) family_stays hold.families;
+      order = All-weaker (Contains staying) (IsBioInOrder (granted_in tasted) t) order_kept
+          staying (All-contains_itself staying);
+      families = each_stays (IsFamilyInOrder t staying) (IsFamilyInOrder t w.bios)
+          (family_kept w x hold found (rw owner refl) (not_waiting is_up refl x.phase up)) hold.families;
       disks = record {
         at_disk = All-filter (λ (z : Bio). not (is_it z))
             (λ (z : Bio). IsTrue (is_sent z.phase || is_busy z.phase) → IsSome
             (disk_of_bio w z)) w.bios hold.disks.at_disk;
-        one_busy = AllPairs-filter (NotBothBusy w) (λ (z : Bio). not (is_it z)) w.bios hold.disks.one_busy;
+        one_busy = AllPairs-filter (NotBothBusy t) (λ (z : Bio). not (is_it z)) w.bios hold.disks.one_busy;
       };
       read_out = (
         (λ some. let none : list_any (λ (z : Bio). is_taste_root z.owner) staying ≡ false = none_reads in
             absurd cc),
         (λ out. absurd cc),
       );
-      owners = each_stays (λ (z : Bio). ComesFromItsOwner tasted z z.owner)
-          (λ (z : Bio). ComesFromItsOwner w z z.owner) (λ z comes. owner_kept z z.owner comes) hold.owners;
+      owners = each_stays (λ (z : Bio). ComesFromItsOwner w.handles (Some read) z z.owner)
+          (λ (z : Bio). ComesFromItsOwner w.handles w.taste z z.owner)
+          (λ z comes. owner_kept z z.owner comes) hold.owners;
       results = All-filter (λ (z : Bio). not (is_it z)) HasItsResult w.bios hold.results;
       read = record {
         one =
@@ -536,6 +496,6 @@ pub taste_ups_stay_firm : TasteUpsStayFirm
 taste_ups_stay_firm w b x found up owner firm =
     let there : bio_at w x.number ≡ Some x = found_there w b x found in
     let here : Contains w.bios x = find-Contains (λ (v : Bio). v.number == x.number) w.bios x there in
-    let comes : ComesFromItsOwner w x x.owner =
-    All-contains (λ (v : Bio). ComesFromItsOwner w v v.owner) w.bios x firm.steady.owners here in
+    let comes : ComesFromItsOwner w.handles w.taste x x.owner =
+    All-contains (λ (v : Bio). ComesFromItsOwner w.handles w.taste v v.owner) w.bios x firm.steady.owners here in
     by_taste w x firm there up owner w.taste refl (rw owner at comes)

@@ -17,7 +17,7 @@ use Rattle.geo_model.specs.declared.step.Owner.TheVariants as owners
 use Rattle.geo_model.specs.declared.step.Phase.{Phase}
 use Rattle.geo_model.specs.Words.{change_where, is_flush}
 use Rattle.geo_model.specs.Topology.{Provider, geom_at, provider_at}
-use Rattle.geo_model.specs.World.{World, Bio, bio_at, children_of, is_root, is_done, is_busy, is_sent, is_up, is_waiting, is_child_of, is_taste_root, is_read_out}
+use Rattle.geo_model.specs.World.{World, Bio, bio_at, children_of, is_root, is_done, is_busy, is_sent, is_up, is_waiting, is_child_of, is_taste_root, is_read_out, granted_in}
 use Rattle.geo_model.specs.Bios.{piece_targets, disk_of_bio, busy_bio, is_complete}
 use Rattle.geo_model.specs.SoundBios.{IsRangeInside, IsBioInOrder, IsFamilyInOrder, HasItsParent, HasItsPieces, ChildShape, shape_of_child, shape_of_piece, NotBothBusy}
 use Rattle.geo_model.specs.Steady.{ComesFromItsOwner, FitsBio, HasItsResult}
@@ -58,7 +58,7 @@ record AreApart (w : World) (x : Bio) (phase : Phase) (y z : Bio) : Type 0 where
   first : IsElsewhere w x phase y
   second : IsElsewhere w x phase z
   below : y.number < z.number
-  not_both : NotBothBusy w y z
+  not_both : NotBothBusy w.topology y z
 
 -- the result of a bio fits it in another phase
 pub fits_turned : (x : Bio) (phase : Phase) (result : Option BioResult → Option BioResult) (o : Option BioResult)
@@ -120,16 +120,13 @@ module _ (w : World) (x : Bio) (phase : Phase) (result : Option BioResult → Op
       ∙ map-changed is_it change shape_of_child (λ y e. refl) (children_of w n)
 
   -- so the pieces of each bio stay
-  pieces_kept : (y : Bio) → HasItsPieces w y → HasItsPieces after y
+  pieces_kept : (y : Bio) → HasItsPieces w.topology w.bios y → HasItsPieces w.topology after.bios y
   pieces_kept y has = subst (AreItsPieces w y) (sym (shapes_kept y.number)) has
 
-  -- an owner is as it was
-  owner_kept : (y : Bio) (o : Owner) → ComesFromItsOwner w y o → ComesFromItsOwner after y o
-  owner_kept y = owner_stays w after y y refl refl refl refl refl
-
-  -- so it is for the one that changes
-  owner_turned : (o : Owner) → ComesFromItsOwner w x o → ComesFromItsOwner after (change x) o
-  owner_turned = owner_stays w after x (change x) refl refl refl refl refl
+  -- the owner of the one that changes is as it was
+  owner_turned : (o : Owner) → ComesFromItsOwner w.handles w.taste x o
+      → ComesFromItsOwner w.handles w.taste (change x) o
+  owner_turned = owner_stays w.handles w.taste x (change x) refl refl refl
 
   -- where the new phase isn't Done, no bio becomes complete
   pub stays_incomplete : is_done phase ≡ false → (n : ℕ) → is_complete w n ≡ false → is_complete after n ≡ false
@@ -160,11 +157,11 @@ module _ (w : World) (x : Bio) (phase : Phase) (result : Option BioResult → Op
         rw same has
 
     -- a parent is as it was
-    parent_kept : (o : Owner) → HasItsParent w o → HasItsParent after o
-    parent_kept = parent_stays w after (λ n has. waiting_at n (n == x.number) refl has)
+    parent_kept : (o : Owner) → HasItsParent w.bios o → HasItsParent after.bios o
+    parent_kept = parent_stays w.bios after.bios (λ n has. waiting_at n (n == x.number) refl has)
 
     -- the family of the one that changes
-    family_here : IsFamilyInOrder w x → IsFamilyInOrder after (change x)
+    family_here : IsFamilyInOrder w.topology w.bios x → IsFamilyInOrder w.topology after.bios (change x)
     family_here is = record {
       parent = parent_kept x.owner is.parent;
       pieces = λ waiting. let not_waiting : is_waiting phase ≡ false = may.waits in absurd cc;
@@ -173,7 +170,7 @@ module _ (w : World) (x : Bio) (phase : Phase) (result : Option BioResult → Op
     }
 
     -- the family of another one
-    family_there : (y : Bio) → IsFamilyInOrder w y → IsFamilyInOrder after y
+    family_there : (y : Bio) → IsFamilyInOrder w.topology w.bios y → IsFamilyInOrder w.topology after.bios y
     family_there y is = record {
       parent = parent_kept y.owner is.parent;
       pieces = λ waiting. pieces_kept y (is.pieces waiting);
@@ -223,7 +220,8 @@ module _ (w : World) (x : Bio) (phase : Phase) (result : Option BioResult → Op
     -- of two bios after the change not both are Busy at one disk
     not_both_by : (y z : Bio) (a b : Bool) → is_it y ≡ a → is_it z ≡ b → (is_it y ≡ true → y ≡ x)
         → (is_it z ≡ true → z ≡ x)
-        → AreApart w x phase y z → NotBothBusy after (with_change w x phase result y) (with_change w x phase result z)
+        → AreApart w x phase y z
+        → NotBothBusy w.topology (with_change w x phase result y) (with_change w x phase result z)
     not_both_by y z true true e f only_y only_z apart =
         let same : y.number ≡ z.number = ap (λ (v : Bio). v.number) (only_y e ∙ sym (only_z f)) in
         absurd (omega (arith, apart.below))
@@ -236,16 +234,16 @@ module _ (w : World) (x : Bio) (phase : Phase) (result : Option BioResult → Op
     not_both_by y z false false e f only_y only_z apart = rw (e, f) apart.not_both
 
     -- so for all pairs
-    one_busy : AllPairs (NotBothBusy after) after.bios
+    one_busy : AllPairs (NotBothBusy w.topology) after.bios
     one_busy =
-        pairs_map (NotBothBusy after) (with_change w x phase result) w.bios (λ i j d less short.
+        pairs_map (NotBothBusy w.topology) (with_change w x phase result) w.bios (λ i j d less short.
         let near : i < length w.bios = omega arith in
         not_both_by (get_or w.bios i d) (get_or w.bios j d) (is_it (get_or w.bios i d))
         (is_it (get_or w.bios j d)) refl refl
         (only i d near) (only j d short) (all_apart i j d less short))
 
     -- the one that changes is still in order
-    order_here : IsBioInOrder w x → IsBioInOrder after (change x)
+    order_here : IsBioInOrder (granted_in w) w.topology x → IsBioInOrder (granted_in w) w.topology (change x)
     order_here is = record {
       source = is.source;
       target = some_weaker (λ (p : Provider). is_flush x.cmd ≡ false → IsRangeInside x p)
@@ -279,9 +277,9 @@ module _ (w : World) (x : Bio) (phase : Phase) (result : Option BioResult → Op
     pub turns_hold : BiosHold after
     turns_hold = record {
       numbers = numbers-changed (λ (y : Bio). y.number) is_it change (λ y e. refl) w.next_bio w.bios hold.numbers;
-      order = each_after (IsBioInOrder after) (IsBioInOrder w) order_here
-          (λ y e is. record { source = is.source; target = is.target; bytes = is.bytes }) hold.order;
-      families = each_after (IsFamilyInOrder after) (IsFamilyInOrder w) family_here
+      order = each_after (IsBioInOrder (granted_in w) w.topology) (IsBioInOrder (granted_in w) w.topology) order_here
+          (λ y e is. is) hold.order;
+      families = each_after (IsFamilyInOrder w.topology after.bios) (IsFamilyInOrder w.topology w.bios) family_here
           (λ y e is. family_there y is) hold.families;
       disks = record {
         at_disk = each_after (λ (y : Bio). IsTrue (is_sent y.phase || is_busy y.phase) → IsSome (disk_of_bio w y))
@@ -290,8 +288,9 @@ module _ (w : World) (x : Bio) (phase : Phase) (result : Option BioResult → Op
         one_busy = one_busy;
       };
       read_out = read_out;
-      owners = each_after (λ (y : Bio). ComesFromItsOwner after y y.owner) (λ (y : Bio). ComesFromItsOwner w y y.owner)
-          (owner_turned x.owner) (λ y e comes. owner_kept y y.owner comes) hold.owners;
+      owners = each_after (λ (y : Bio). ComesFromItsOwner w.handles w.taste y y.owner)
+          (λ (y : Bio). ComesFromItsOwner w.handles w.taste y y.owner)
+          (owner_turned x.owner) (λ y e comes. comes) hold.owners;
       results = each_after HasItsResult HasItsResult
           (λ has up. fits_turned x phase result (result x.result) (may.gives up)) (λ y e has. has) hold.results;
       read = record { one = rw as_many hold.read.one; sector = sectors };

@@ -1,9 +1,9 @@
 -- Words for walks downwards from a provider, which try what a demand makes the counts below gain (g_access(9)).
-use Rattle.std.specs.Prelude.{◌≡◌, ℕ, zero, suc, ◌==◌, min, Bool, List, [], ◌∷◌, fold, map, filter, Contains, if◌then◌else◌}
+use Rattle.std.specs.Prelude.{◌≡◌, ℕ, zero, suc, ◌==◌, min, Bool, List, [], ◌∷◌, fold, map, Contains, if◌then◌else◌}
 use Rattle.std.specs.List.{list_any}
 use Rattle.std.specs.Option.{option_map_or}
 use Rattle.geo_model.specs.Counts.{Counts}
-use Rattle.geo_model.specs.Topology.{Topology, Consumer, attached_to, consumers_of}
+use Rattle.geo_model.specs.Topology.{Topology, Consumer, attached_to}
 use Rattle.geo_model.specs.Rank.{geoms_under}
 use Rattle.geo_model.specs.Demand.{no_counts, add_counts, sum_counts}
 

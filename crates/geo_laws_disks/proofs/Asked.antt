@@ -1,5 +1,5 @@
 -- What a Take of a firm mesh asks of its disk lies inside the disk.
-use Rattle.std.specs.Prelude.{◌≡◌, ℕ, zero, suc, ◌+◌, ◌*◌, ◌/◌, ◌%◌, ◌<◌, ◌≤◌, ◌==◌, Bool, true, false, List, length, filter, slice_get, Option, Some, None, Ok, IsSomeAnd, IfSome, IsTrue, All, Contains}
+use Rattle.std.specs.Prelude.{◌≡◌, ℕ, zero, suc, ◌+◌, ◌*◌, ◌/◌, ◌%◌, ◌<◌, ◌≤◌, ◌==◌, Bool, true, false, length, slice_get, Option, Some, None, Ok, IsSomeAnd, IfSome, IsTrue, All, Contains}
 use Rattle.std.specs.Option.{option_map_or}
 use Rattle.std.proofs.Common.{refl, sym, ◌∙◌, ap, subst, arith}
 use Rattle.std.proofs.Math.Nat.{add-mul, mod-add-div, mul_comm, zero-mul}
@@ -8,13 +8,11 @@ use Rattle.std.proofs.lemmas.Nat.{div-mul-add}
 use Rattle.std.proofs.lemmas.List.Elements.{All-contains}
 use Rattle.geo_model.proofs.BioLemmas.{write_moves}
 use Rattle.geo_base.specs.Sectors.{IsSectorSize}
-use Rattle.geo_base.specs.declared.request.BioCmd.TheVariants as cmds
 use Rattle.geo_model.specs.declared.step.Outcome.{Outcome}
-use Rattle.geo_model.specs.declared.step.Request.{Request}
 use Rattle.geo_model.specs.declared.step.Step.TheVariants as steps
 use Rattle.geo_model.specs.Words.{is_flush, is_write}
 use Rattle.geo_model.specs.Topology.{Geom, Provider, providers_of}
-use Rattle.geo_model.specs.World.{World, Config, Disk, Bio, HeaderDisk}
+use Rattle.geo_model.specs.World.{World, Config, Bio, HeaderDisk, granted_in}
 use Rattle.geo_model.specs.Bios.{request_of_bio, sector_of_bio, take_bio}
 use Rattle.geo_model.specs.Place.{disk_of}
 use Rattle.geo_model.specs.Sound.{HasDiskSizes}
@@ -127,8 +125,8 @@ take_asks_inside w v seat disk b o firm bare made = record {
     here : Contains w.bios x
     here = find-Contains (λ (y : Bio). y.number == b) w.bios x it.found
 
-    order : IsBioInOrder w x
-    order = All-contains (IsBioInOrder w) w.bios x firm.sound.bios here
+    order : IsBioInOrder (granted_in w) w.topology x
+    order = All-contains (IsBioInOrder (granted_in w) w.topology) w.bios x firm.sound.bios here
 
     d : AtDisk w.topology x.target disk
     d = at_disk w.topology x.target disk it.can.disk_is
@@ -150,8 +148,8 @@ take_asks_inside w v seat disk b o firm bare made = record {
 
     has_sizes : IsSomeAnd (slice_get w.disks disk) HasSizes
     has_sizes =
-        let of_geom : HasDiskSizes w d.geom =
-        All-contains (HasDiskSizes w) w.topology.geoms d.geom firm.sound.numbers.disk_sizes
+        let of_geom : HasDiskSizes w.topology w.disks d.geom =
+        All-contains (HasDiskSizes w.topology w.disks) w.topology.geoms d.geom firm.sound.numbers.disk_sizes
         (find-Contains (λ (g : Geom Config). g.number == d.provider.geom) w.topology.geoms d.geom d.of) in
         subst (λ c. IfSome (disk_of c) (λ n. IsSomeAnd (slice_get w.disks n) HasSizes)) d.config of_geom
 

@@ -1,5 +1,5 @@
 -- Where bios come from after any step.
-use Rattle.std.specs.Prelude.{◌≡◌, ℕ, Bool, true, false, List, [], ◌∷◌, ◌++◌, fold, slice_get, Option, Some, None, Ok, Err, is_some, if◌then◌else◌, All}
+use Rattle.std.specs.Prelude.{◌≡◌, ℕ, Bool, true, false, List, [], ◌∷◌, fold, slice_get, Option, Some, None, Ok, Err, is_some, if◌then◌else◌, All}
 use Rattle.std.specs.Option.{option_map_or}
 use Rattle.std.proofs.Common.{refl, sym, subst, inl, inr, arith}
 use Rattle.std.proofs.lemmas.List.Elements.{All-append, All-from_recursion}
@@ -24,7 +24,7 @@ use Rattle.geo_model.specs.Commands.{do_command}
 use Rattle.geo_model.specs.Step.{Answer, with_commands, waits_for, unless_found, go_of, go, event, event_of, judge_next, judge_of, taste_bio, reap_next, wash_next, step}
 use Rattle.geo_model.specs.Fitting.{Firm}
 use Rattle.geo_laws_requests.proofs.Arrivals.{okay}
-use Rattle.geo_laws_disks.proofs.Commanded.{BioComes, Made, StayOrCome, Stays, command_made, same_world}
+use Rattle.geo_laws_disks.proofs.Commanded.{Made, StayOrCome, Stays, command_made, same_world}
 use Rattle.geo_laws_disks.proofs.Origins.{HasOrigins, Origin, all_stay}
 use Rattle.geo_laws_disks.proofs.Turns.{delivers_origins, starts_origins, takes_origins}
 use Rattle.geo_laws_disks.proofs.Rises.{ups_origins}
@@ -170,7 +170,7 @@ steps_origins w v seat steps.Event o firm e = come_origins w v seat (event_by w 
 steps_origins w v seat steps.Judge o firm e = come_origins w v seat (judge_by w v o w.taste e)
 steps_origins w v seat steps.Reap o firm e = come_origins w v seat (reap_by w v o (reap_work w) e)
 steps_origins w v seat steps.Wash o firm e = come_origins w v seat (wash_by w v o (wash_work w) e)
-steps_origins w v seat (steps.Start b) o firm e = starts_origins w v seat b o firm.sound.numbers.bios e
-steps_origins w v seat (steps.Take disk b) o firm e = takes_origins w v seat disk b o firm.sound.numbers.bios e
-steps_origins w v seat (steps.Deliver b got) o firm e = delivers_origins w v seat b got o firm.sound.numbers.bios e
+steps_origins w v seat (steps.Start b) o firm e = starts_origins w v seat b o firm.sound.bio_numbers e
+steps_origins w v seat (steps.Take disk b) o firm e = takes_origins w v seat disk b o firm.sound.bio_numbers e
+steps_origins w v seat (steps.Deliver b got) o firm e = delivers_origins w v seat b got o firm.sound.bio_numbers e
 steps_origins w v seat (steps.Up b) o firm e = ups_origins w v seat b o firm e

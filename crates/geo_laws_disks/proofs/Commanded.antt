@@ -1,7 +1,7 @@
 -- What each command adds to the bios: none, or one with the next number, and without a range if it is a FLUSH.
 use Rattle.std.specs.Prelude.{◌≡◌, ◌⊎◌, ℕ, ◌+◌, ◌-◌, Bool, true, false, List, [], ◌∷◌, ◌++◌, length, Option, Some, None, is_some, unwrap_or, option_and_then}
 use Rattle.std.specs.Option.{option_map_or}
-use Rattle.std.proofs.Common.{refl, ap, inl, inr}
+use Rattle.std.proofs.Common.{refl, inl, inr}
 use Rattle.std.proofs.lemmas.Bool.{both_ways}
 use Rattle.geo_base.specs.declared.errno.Errno.{Errno}
 use Rattle.geo_base.specs.declared.request.BioCmd.TheVariants as cmds
@@ -10,7 +10,6 @@ use Rattle.geo_base.specs.declared.request.Counts.{Counts}
 use Rattle.geo_model.specs.declared.command.Command.{Command}
 use Rattle.geo_model.specs.declared.command.Command.TheVariants as commands
 use Rattle.geo_model.specs.declared.step.Outcome.{Outcome}
-use Rattle.geo_model.specs.declared.step.Outcome.TheVariants as outcomes
 use Rattle.geo_model.specs.declared.step.Owner.TheVariants as owners
 use Rattle.geo_model.specs.Words.{first_error, is_flush}
 use Rattle.geo_model.specs.Topology.{Geom, Provider, find_provider}
@@ -18,8 +17,8 @@ use Rattle.geo_model.specs.World.{World, Config, Handle, Bio, HeaderDisk, handle
 use Rattle.geo_model.specs.Opens.{open_refusal}
 use Rattle.geo_model.specs.Bios.{new_bio}
 use Rattle.geo_model.specs.Requests.{Asking, request_refusal, provider_of_handle}
-use Rattle.geo_model.specs.HandleCommands.{answer, do_open, open_answered, with_handle, without_number, close_handle, without_handle, do_request, record_request, request_answered}
-use Rattle.geo_model.specs.WorldEvents.{after_open, after_close, queued_of, with_queued}
+use Rattle.geo_model.specs.HandleCommands.{answer, do_open, open_answered, close_handle, do_request, record_request, request_answered}
+use Rattle.geo_model.specs.WorldEvents.{queued_of, with_queued}
 use Rattle.geo_model.specs.Acceptance.{joined_size}
 use Rattle.geo_model.specs.Events.{wither}
 use Rattle.geo_model.specs.Names.{concat_name, nop_name, stripe_name}

@@ -189,9 +189,9 @@ module _ (w : World) (seat other b : ℕ) (x : Bio) (apart : other ≢ seat) (fo
       other_one : c ≢ b
       other_one = elsewhere is_up refl c y it.found it.up
 
-      family : IsFamilyInOrder w y
+      family : IsFamilyInOrder w.topology w.bios y
       family =
-          All-contains (IsFamilyInOrder w) w.bios y firm.sound.families
+          All-contains (IsFamilyInOrder w.topology w.bios) w.bios y firm.sound.families
           (find-Contains (λ (z : Bio). z.number == c) w.bios y it.found)
 
       goes : v.bios ≡ filter (λ (z : Bio). not (z.number == y.number)) w.bios → bio_at v b ≡ Some x

@@ -8,7 +8,6 @@ use Rattle.std.proofs.lemmas.List.Elements.{All-contains}
 use Rattle.geo_laws_disks.proofs.Asked.{whole_back}
 use Rattle.geo_model.proofs.BioLemmas.{read_moves}
 use Rattle.geo_base.specs.Sectors.{IsSectorSize}
-use Rattle.geo_base.specs.declared.request.BioCmd.TheVariants as cmds
 use Rattle.geo_base.specs.declared.limits.TheConstants.{MAX_REQUEST_BYTES}
 use Rattle.geo_model.specs.declared.step.DeviceResult.{DeviceResult}
 use Rattle.geo_model.specs.declared.step.DeviceResult.TheVariants as devices
@@ -18,7 +17,7 @@ use Rattle.geo_model.specs.declared.step.Phase.TheVariants as phases
 use Rattle.geo_model.specs.declared.step.Request.{Request}
 use Rattle.geo_model.specs.Words.{is_flush, is_read}
 use Rattle.geo_model.specs.Topology.{Geom, Provider, providers_of}
-use Rattle.geo_model.specs.World.{World, Config, Bio, HeaderDisk, bio_at, change_number}
+use Rattle.geo_model.specs.World.{World, Config, Bio, HeaderDisk, bio_at, change_number, granted_in}
 use Rattle.geo_model.specs.Bios.{deliver, fits_bio, request_of_bio, sector_of_bio, take_bio}
 use Rattle.geo_model.specs.Place.{disk_of}
 use Rattle.geo_model.specs.Sound.{HasDiskSizes}
@@ -117,9 +116,9 @@ takes_are_servable w v seat disk b q header firm made here lies = record {
     asks : q ≡ request_of_bio w disk x
     asks = let same : outcomes.Asked q ≡ outcomes.Asked (request_of_bio w disk x) = asked in cc
 
-    order : IsBioInOrder w x
+    order : IsBioInOrder (granted_in w) w.topology x
     order =
-        All-contains (IsBioInOrder w) w.bios x firm.sound.bios
+        All-contains (IsBioInOrder (granted_in w) w.topology) w.bios x firm.sound.bios
         (find-Contains (λ (y : Bio). y.number == b) w.bios x it.found)
 
     d : AtDisk w.topology x.target disk
@@ -139,8 +138,8 @@ takes_are_servable w v seat disk b q header firm made here lies = record {
 
     are_sizes : AreSizes header
     are_sizes =
-        let of_geom : HasDiskSizes w d.geom =
-        All-contains (HasDiskSizes w) w.topology.geoms d.geom firm.sound.numbers.disk_sizes
+        let of_geom : HasDiskSizes w.topology w.disks d.geom =
+        All-contains (HasDiskSizes w.topology w.disks) w.topology.geoms d.geom firm.sound.numbers.disk_sizes
         (find-Contains (λ (g : Geom Config). g.number == d.provider.geom) w.topology.geoms d.geom d.of) in
         let of_disk : IsSomeAnd (slice_get w.disks disk) AreSizes =
         subst (λ c. IfSome (disk_of c) (λ n. IsSomeAnd (slice_get w.disks n) AreSizes)) d.config of_geom in

@@ -330,7 +330,7 @@ pub record PartsStayAlive (C : Type 0) : Type 0 where
 
 -- the lists of a sound world stand in order
 abbrev pub SoundIsInOrder : Type 0
-SoundIsInOrder = (w : World) → NumbersHold w → IsInOrder w.topology
+SoundIsInOrder = (w : World) → NumbersHold w.topology w.disks → IsInOrder w.topology
 
 -- in a steady world what the parts name lives
 abbrev pub SteadyPartsLive : Type 0

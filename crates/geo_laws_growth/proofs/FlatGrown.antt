@@ -1,5 +1,5 @@
 -- Across an append each offset lies in the end where it lay.
-use Rattle.std.specs.Prelude.{◌≡◌, ◌⊎◌, ℕ, suc, ◌+◌, ◌<◌, ◌==◌, Bool, true, false, ◌&&◌, length, Option, Some, None, All, Contains, IsSome, IsSomeAnd, IsTrue}
+use Rattle.std.specs.Prelude.{◌≡◌, ◌⊎◌, ℕ, suc, ◌+◌, ◌<◌, ◌==◌, true, false, ◌&&◌, length, Option, Some, None, All, Contains, IsSome, IsSomeAnd, IsTrue}
 use Rattle.std.proofs.Common.{refl, sym, ◌∙◌, ap, subst, arith, inl, inr}
 use Rattle.std.proofs.lemmas.Bool.{and_from, cases_eq, false_from_ne_true}
 use Rattle.std.proofs.lemmas.List.Elements.{All-contains}
@@ -142,7 +142,7 @@ module _ (w : World) (sound : Sound w) (p : ℕ) (clean : has_error_below w.topo
   laid_at r there None found stands = absurd stands
   laid_at r there (Some y) found stands =
       laid_with r there y found (geom_at w.topology y.geom) refl
-      (All-contains (LeadsDown w) w.topology.providers y sound.places
+      (All-contains (LeadsDown (granted_in w) w.topology) w.topology.providers y sound.places
       (find-Contains (λ (z : Provider). z.number == r) w.topology.providers y found))
 
   -- a provider stands that has a rank

@@ -13,7 +13,7 @@ use Rattle.geo_laws_graph.proofs.Numbered.{unique}
 use Rattle.geo_laws_graph.proofs.Spared.{IsUntouched, filter-untouched}
 use Rattle.geo_laws_graph.proofs.RankChanges.{loop-ranked}
 use Rattle.geo_laws_counts.specs.CountWords.{IsAtMost, NumbersLead, IsOnlyOne}
-use Rattle.geo_laws_counts.proofs.Sums.{counts-same, add-assoc, add-zero, zero-add, at_most-zero, sum-at_most, add-move}
+use Rattle.geo_laws_counts.proofs.Sums.{add-assoc, add-zero, zero-add, at_most-zero, sum-at_most, add-move}
 use Rattle.geo_laws_counts.proofs.Levels.{of_each, want_given-at_most, grants-same}
 use Rattle.geo_laws_counts.proofs.Numbers.{numbers_lead, number_is_only}
 use Rattle.geo_laws_growth.specs.JoinLaws.{Joins, JoinsWithoutLoop, JoiningRaises}

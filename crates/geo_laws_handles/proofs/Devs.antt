@@ -1,5 +1,5 @@
 -- DEV and TASTE in a firm mesh: DEV offers nothing and has no configuration; consumers of both hold their grants.
-use Rattle.std.specs.Prelude.{◌≡◌, ◌≢◌, ◌⊎◌, ℕ, ◌==◌, true, [], Some, Contains, IsSome}
+use Rattle.std.specs.Prelude.{◌≡◌, ◌≢◌, ◌⊎◌, ℕ, ◌==◌, true, [], Option, Some, None, Contains, IsSome}
 use Rattle.std.proofs.Common.{inl, inr, refl, sym, ◌∙◌, ap, subst}
 use Rattle.std.proofs.lemmas.Bool.{eq-eqb, eqb-true}
 use Rattle.geo_base.proofs.Tests.{from_false_true}
@@ -9,7 +9,7 @@ use Rattle.geo_model.specs.Words.{is_kind, is_granted_kind}
 use Rattle.geo_model.specs.Topology.{Topology, Geom, Provider, Consumer, geom_at, consumer_at, consumers_of}
 use Rattle.geo_model.specs.World.{World, Config, Nothing, Disk, Mbr, Ebr, Label, Concat, Stripe, Nop, Taste}
 use Rattle.geo_model.specs.Graph.{IsInOrder}
-use Rattle.geo_model.specs.Sound.{fits_kind, IsTasting}
+use Rattle.geo_model.specs.Sound.{fits_kind, IsTasting, HasTasteConsumer}
 use Rattle.geo_model.specs.Fitting.{Firm}
 use Rattle.geo_laws_counts.specs.CountWords.{HoldsGrants}
 use Rattle.geo_laws_graph.proofs.Members.{Contains-filter, Contains-here, filter-Contains, nothing_in}
@@ -41,6 +41,17 @@ dev_nothing (Label below) e = from_false_true e
 dev_nothing (Concat id places sizes) e = from_false_true e
 dev_nothing (Stripe id stripe places sizes) e = from_false_true e
 dev_nothing (Nop below offset fail) e = from_false_true e
+
+-- where TASTE has the consumers that it had, the taste has its consumer
+pub tasting_stays : (t u : Topology Config) → consumers_of u 2 ≡ consumers_of t 2 → (o : Option Taste)
+    → HasTasteConsumer t o → HasTasteConsumer u o
+tasting_stays t u same None is = same ∙ is
+tasting_stays t u same (Some s) is = record {
+  consumer = is.consumer;
+  alone = same ∙ is.alone;
+  number = is.number;
+  attached = is.attached;
+}
 
 module _ (w : World) (firm : Firm w) where
   -- the graph

@@ -21,8 +21,8 @@ use Rattle.geo_model.specs.Acceptance.{places_of}
 use Rattle.geo_model.specs.World.{World, Config, Handle, Taste, Bio, granted_in, taste_grant}
 use Rattle.geo_model.specs.HandleCommands.{with_handle}
 use Rattle.geo_model.specs.Graph.{IsInOrder, PartsLive}
-use Rattle.geo_model.specs.Sound.{IsHandleConsumer, HasItsConsumer, IsTasting, IsPlaceInside, IsPlaced, LeadsDown, IsTasteInOrder}
-use Rattle.geo_model.specs.SoundBios.{IsBioInOrder, IsFamilyInOrder, HasItsParent, HasCountFor}
+use Rattle.geo_model.specs.Sound.{IsHandleConsumer, HasItsConsumer, IsPlaceInside, IsPlaced, LeadsDown, IsTasteInOrder}
+use Rattle.geo_model.specs.SoundBios.{IsBioInOrder, IsFamilyInOrder, HasCountFor}
 use Rattle.geo_model.specs.Steady.{HasItsComponents, ComesFromItsOwner}
 use Rattle.geo_model.specs.Fitting.{IsWholeIn, sizes_of, FitsBelow, FitsPlace, FitsPlaces, Firm}
 use Rattle.geo_model.proofs.DemandLemmas.{find_passes}
@@ -42,7 +42,7 @@ use Rattle.geo_laws_counts.proofs.Openers.{came_stays, came_wants}
 use Rattle.geo_laws_counts.proofs.Refusing.{errors_came}
 use Rattle.geo_laws_bios.proofs.Items.{none_kept}
 use Rattle.geo_laws_life.proofs.Found.{found-with, some-with, some-there, if-found, at-found, one-found, all_zip-weaker}
-use Rattle.geo_laws_handles.proofs.Devs.{holds_grants, dev_there, dev_config, not_of_dev}
+use Rattle.geo_laws_handles.proofs.Devs.{tasting_stays, holds_grants, dev_there, dev_config, not_of_dev}
 
 -- who serves a bio, serves it with more counts
 more_serve : (b : Bool) (a c d : Counts) → d ≡ add_counts a c → (IsTrue b → 0 < a.r) × (b ≡ false → 0 < a.w)
@@ -106,7 +106,7 @@ module _ (w : World) (firm : Firm w) (actor : ℕ) (name : List ℕ) (p : ℕ) (
       let names : h.consumer ≡ Some t.next_consumer =
       names_some h.consumer t.next_consumer (find_passes (λ (h : Handle). names_number h.consumer t.next_consumer)
       w.handles h e) in
-      let its : HasItsConsumer w h = All-contains (HasItsConsumer w) w.handles h firm.sound.handles.handles
+      let its : HasItsConsumer t h = All-contains (HasItsConsumer t) w.handles h firm.sound.handles.handles
       (find-Contains (λ (h : Handle). names_number h.consumer t.next_consumer) w.handles h e) in
       let d = found-with (consumer_at t t.next_consumer) (λ z. z.geom ≡ 1)
       (subst (λ o. MatchOption o (h.dead ≡ true) (λ c. IsSomeAnd (consumer_at t c) (λ z. z.geom ≡ 1))) names its) in
@@ -221,7 +221,7 @@ module _ (w : World) (firm : Firm w) (actor : ℕ) (name : List ℕ) (p : ℕ) (
         some-with (place h.config q.name o) (IsPlaceInside u h q) spot.item spot.is (inside h q spot.item spot.fact)
 
     -- each provider leads down
-    leads : (q : Provider) → Contains t.providers q → LeadsDown w q → LeadsDown v q
+    leads : (q : Provider) → Contains t.providers q → LeadsDown (granted_in w) t q → LeadsDown (granted_in v) u q
     leads q here old =
         let h = found-with (geom_at t q.geom) (λ h. (is_zero (have (granted_in w) t q.number) ≡ false)
         ⊎ (h.withering ≡ false) → IsSome (disk_of h.config) ⊎ IsPlaced t h q) old in
@@ -262,7 +262,8 @@ module _ (w : World) (firm : Firm w) (actor : ℕ) (name : List ℕ) (p : ℕ) (
         q.here (sym (ap (λ a. not (is_zero a)) (same_have q.item kept.0 h of withers)) ∙ q.passes)
 
     -- each geom has its components
-    has_components : (h : Geom Config) → Contains t.geoms h → HasItsComponents w h → HasItsComponents v h
+    has_components : (h : Geom Config) → Contains t.geoms h → HasItsComponents (granted_in w) t h
+        → HasItsComponents (granted_in v) u h
     has_components h here old used =
         All-weaker (λ c. IsSomeAnd (consumer_at t c) (λ z. (z.geom ≡ h.number) × IsSome z.provider))
         (λ c. IsSomeAnd (consumer_at u c) (λ z. (z.geom ≡ h.number) × IsSome z.provider)) (λ c fact.
@@ -342,7 +343,8 @@ module _ (w : World) (firm : Firm w) (actor : ℕ) (name : List ℕ) (p : ℕ) (
         (none_passes (λ (h : Handle). names_number h.consumer t.next_consumer) w.handles none_has)))
 
     -- each consumer of DEV is that of one handle
-    one_each : (c : Consumer) → Contains (consumers_of t 1) c → IsHandleConsumer w c → IsHandleConsumer v c
+    one_each : (c : Consumer) → Contains (consumers_of t 1) c → IsHandleConsumer w.handles c
+        → IsHandleConsumer v.handles c
     one_each c here is =
         let kept = filter-Contains (λ (z : Consumer). z.geom == 1) t.consumers c here in
         record {
@@ -353,7 +355,7 @@ module _ (w : World) (firm : Firm w) (actor : ℕ) (name : List ℕ) (p : ℕ) (
         }
 
     -- each handle has its consumer
-    its_consumer : (h : Handle) → HasItsConsumer w h → HasItsConsumer v h
+    its_consumer : (h : Handle) → HasItsConsumer t h → HasItsConsumer u h
     its_consumer h = by h.consumer where
       -- by the consumer
       by : (o : Option ℕ) → MatchOption o (h.dead ≡ true) (λ c. IsSomeAnd (consumer_at t c) (λ z. z.geom ≡ 1))
@@ -363,19 +365,8 @@ module _ (w : World) (firm : Firm w) (actor : ℕ) (name : List ℕ) (p : ℕ) (
           let d = found-with (consumer_at t c) (λ z. z.geom ≡ 1) fact in
           some-with (consumer_at u c) (λ z. z.geom ≡ 1) d.item (found_still c d.item d.is) d.fact
 
-    -- the taste has its consumer
-    tasting : (o : Option Taste) → MatchOption o (consumers_of t 2 ≡ []) (IsTasting t)
-        → MatchOption o (consumers_of u 2 ≡ []) (IsTasting u)
-    tasting None is = same_taste ∙ is
-    tasting (Some s) is = record {
-      consumer = is.consumer;
-      alone = same_taste ∙ is.alone;
-      number = is.number;
-      attached = is.attached;
-    }
-
     -- the taste is in order
-    tastes : (o : Option Taste) → IfSome o (IsTasteInOrder w) → IfSome o (IsTasteInOrder v)
+    tastes : (o : Option Taste) → IfSome o (IsTasteInOrder t) → IfSome o (IsTasteInOrder u)
     tastes None fact = tt
     tastes (Some s) fact =
         let g = found-with (geom_of_provider t s.provider) (λ g. rank t g.number < UNTASTED_RANK) fact.rank in
@@ -401,14 +392,15 @@ module _ (w : World) (firm : Firm w) (actor : ℕ) (name : List ℕ) (p : ℕ) (
     -- Bios
 
     -- each bio is in order
-    bio : (b : Bio) → IsBioInOrder w b → IsBioInOrder v b
+    bio : (b : Bio) → IsBioInOrder (granted_in w) t b → IsBioInOrder (granted_in v) u b
     bio b is =
         let d = found-with (consumer_at t b.source)
-        (λ c. (c.provider ≡ Some b.target) × HasCountFor w b c) is.source in
+        (λ c. (c.provider ≡ Some b.target) × HasCountFor (granted_in w) t b c) is.source in
         let here : Contains t.consumers d.item =
         find-Contains (λ (z : Consumer). z.number == b.source) t.consumers d.item d.is in
         record {
-          source = some-with (consumer_at u b.source) (λ c. (c.provider ≡ Some b.target) × HasCountFor v b c) d.item
+          source = some-with (consumer_at u b.source)
+              (λ c. (c.provider ≡ Some b.target) × HasCountFor (granted_in v) u b c) d.item
               (found_still b.source d.item d.is) (
                 d.fact.0,
                 serves (geom_at t d.item.geom) d.item here refl
@@ -422,7 +414,7 @@ module _ (w : World) (firm : Firm w) (actor : ℕ) (name : List ℕ) (p : ℕ) (
         -- by the geom of its consumer
         serves : (o : Option (Geom Config)) (c : Consumer) → Contains t.consumers c → geom_at t c.geom ≡ o
             → IsSome o
-            → HasCountFor w b c → HasCountFor v b c
+            → HasCountFor (granted_in w) t b c → HasCountFor (granted_in v) u b c
         serves None c here e some counts = absurd (let bad : ⊥ = cc in bad)
         serves (Some g) c here e some counts =
             more_serve (is_read b.cmd) (want (granted_in w) t c) _ (want (granted_in v) u c)
@@ -430,23 +422,17 @@ module _ (w : World) (firm : Firm w) (actor : ℕ) (name : List ℕ) (p : ℕ) (
             agree c g here e)
             counts
 
-    -- its parent waits
-    its_parent : (o : Owner) → HasItsParent w o → HasItsParent v o
-    its_parent (owners.Line number line) fact = fact
-    its_parent owners.Taste fact = fact
-    its_parent (owners.Child parent index) fact = fact
-
     -- and its family is in order
-    family : (b : Bio) → IsFamilyInOrder w b → IsFamilyInOrder v b
+    family : (b : Bio) → IsFamilyInOrder t w.bios b → IsFamilyInOrder u w.bios b
     family b is = record {
-      parent = its_parent b.owner is.parent;
+      parent = is.parent;
       pieces = is.pieces;
       not_complete = is.not_complete;
       root = is.root;
     }
 
     -- it comes from its owner
-    comes : (b : Bio) (o : Owner) → ComesFromItsOwner w b o → ComesFromItsOwner v b o
+    comes : (b : Bio) (o : Owner) → ComesFromItsOwner w.handles w.taste b o → ComesFromItsOwner v.handles w.taste b o
     comes b (owners.Line number line) fact =
         let h = found-with (find (λ (h : Handle). h.number == number) w.handles) (λ h. h.consumer ≡ Some b.source)
         fact in
@@ -470,29 +456,30 @@ module _ (w : World) (firm : Firm w) (actor : ℕ) (name : List ℕ) (p : ℕ) (
           geoms = firm.sound.numbers.geoms;
           providers = firm.sound.numbers.providers;
           consumers = (added-consumer.order t 1 (Some p) order).consumers;
-          handles = numbers-push (λ (h : Handle). h.number) w.next_handle w.handles handle refl
-              firm.sound.numbers.handles;
-          bios = firm.sound.numbers.bios;
           classes = firm.sound.numbers.classes;
           one_geom_of_disk = firm.sound.numbers.one_geom_of_disk;
           disk_sizes = firm.sound.numbers.disk_sizes;
         };
         handles = record {
-          consumers = subst (All (IsHandleConsumer v)) (sym (added-consumer.own t 1 (Some p)))
-              (All-push (IsHandleConsumer v) (consumers_of t 1) new
-              (all_members (IsHandleConsumer w) (IsHandleConsumer v) (consumers_of t 1) one_each
+          numbers = numbers-push (λ (h : Handle). h.number) w.next_handle w.handles handle refl
+              firm.sound.handles.numbers;
+          consumers = subst (All (IsHandleConsumer v.handles)) (sym (added-consumer.own t 1 (Some p)))
+              (All-push (IsHandleConsumer v.handles) (consumers_of t 1) new
+              (all_members (IsHandleConsumer w.handles) (IsHandleConsumer v.handles) (consumers_of t 1) one_each
               firm.sound.handles.consumers)
               (record { attached = refl; one_handle = new_count }));
-          handles = All-push (HasItsConsumer v) w.handles handle
-              (All-weaker (HasItsConsumer w) (HasItsConsumer v) its_consumer w.handles firm.sound.handles.handles)
+          handles = All-push (HasItsConsumer u) w.handles handle
+              (All-weaker (HasItsConsumer t) (HasItsConsumer u) its_consumer w.handles firm.sound.handles.handles)
               (some-with (consumer_at u t.next_consumer)
               (λ z. z.geom ≡ 1) new (added-consumer.new t 1 (Some p) order)
               refl);
-          taste = tasting w.taste firm.sound.handles.taste;
+          taste = tasting_stays t u same_taste w.taste firm.sound.handles.taste;
         };
-        places = all_members (LeadsDown w) (LeadsDown v) t.providers leads firm.sound.places;
-        bios = All-weaker (IsBioInOrder w) (IsBioInOrder v) bio w.bios firm.sound.bios;
-        families = All-weaker (IsFamilyInOrder w) (IsFamilyInOrder v) family w.bios firm.sound.families;
+        places = all_members (LeadsDown (granted_in w) t) (LeadsDown (granted_in v) u) t.providers leads
+            firm.sound.places;
+        bio_numbers = firm.sound.bio_numbers;
+        bios = All-weaker (IsBioInOrder (granted_in w) t) (IsBioInOrder (granted_in v) u) bio w.bios firm.sound.bios;
+        families = All-weaker (IsFamilyInOrder t w.bios) (IsFamilyInOrder u w.bios) family w.bios firm.sound.families;
         disks = record { at_disk = firm.sound.disks.at_disk; one_busy = firm.sound.disks.one_busy };
         events = record {
           living = firm.sound.events.living;
@@ -508,11 +495,11 @@ module _ (w : World) (firm : Firm w) (actor : ℕ) (name : List ℕ) (p : ℕ) (
         };
         attached = All-push (λ (c : Consumer). IsSome (option_and_then (provider_at t) c.provider)) t.consumers new
             firm.steady.attached (some-there (provider_at t p) x found);
-        components = all_members (HasItsComponents w) (HasItsComponents v) t.geoms has_components
-            firm.steady.components;
+        components = all_members (HasItsComponents (granted_in w) t) (HasItsComponents (granted_in v) u) t.geoms
+            has_components firm.steady.components;
         partial = firm.steady.partial;
-        owners = All-weaker (λ b. ComesFromItsOwner w b b.owner) (λ b. ComesFromItsOwner v b b.owner)
-            (λ b. comes b b.owner) w.bios firm.steady.owners;
+        owners = All-weaker (λ b. ComesFromItsOwner w.handles w.taste b b.owner)
+            (λ b. ComesFromItsOwner v.handles w.taste b b.owner) (λ b. comes b b.owner) w.bios firm.steady.owners;
         results = firm.steady.results;
         unmarked = subst (All (λ (c : Consumer). c.spoiled ≡ false)) (sym (added-consumer.own t 1 (Some p)))
             (All-push (λ (c : Consumer). c.spoiled ≡ false) (consumers_of t 1) new firm.steady.unmarked refl);

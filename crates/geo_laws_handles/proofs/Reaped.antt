@@ -66,14 +66,13 @@ module _ (w : World) (firm : Firm w) (h : Handle) (here : Contains w.handles h) 
 
   -- a handle with its consumer, or dead
   has_its : (x : Handle) → Contains w.handles x → (b : Bool) → hit x ≡ b
-      → HasItsConsumer (record w { topology = remove_consumer t d.number; handles = after })
-      (if hit x then change x else x)
+      → HasItsConsumer (remove_consumer t d.number) (if hit x then change x else x)
   has_its x x_here true e =
       let one : x ≡ h = one_holder w firm h x d.number here x_here names (names_some x.consumer d.number e) in
       let is_dead : x.dead ≡ true = ap (λ (y : Handle). y.dead) one ∙ dead in
       rw e is_dead
   has_its x x_here false e =
-      rw e (by x.consumer refl (All-contains (HasItsConsumer w) w.handles x firm.sound.handles.handles x_here))
+      rw e (by x.consumer refl (All-contains (HasItsConsumer t) w.handles x firm.sound.handles.handles x_here))
     where
       -- by the consumer
       by : (o : Option ℕ) → x.consumer ≡ o
@@ -108,7 +107,7 @@ module _ (w : World) (firm : Firm w) (h : Handle) (here : Contains w.handles h) 
   pub after_released : AreReleased w d.number after
   after_released = record {
     numbers = numbers-changed (λ (x : Handle). x.number) hit change (λ x e. refl) w.next_handle w.handles
-        firm.sound.numbers.handles;
+        firm.sound.handles.numbers;
     found = λ n apart. find-untouched hit (λ (x : Handle). names_number x.consumer n) change w.handles
         (none_touched n apart);
     count = λ n apart.
@@ -116,10 +115,9 @@ module _ (w : World) (firm : Firm w) (h : Handle) (here : Contains w.handles h) 
         ∙ ap (λ (ys : List Handle). length ys)
         (filter-untouched hit (λ (x : Handle). names_number x.consumer n) change w.handles (none_touched n apart))
         ∙ length-filter (λ (x : Handle). names_number x.consumer n) w.handles;
-    each = All-map (HasItsConsumer (record w { topology = remove_consumer t d.number; handles = after }))
-        (λ x. if hit x then change x else x) w.handles
-        (all_of (λ x. HasItsConsumer (record w { topology = remove_consumer t d.number; handles = after })
-        (if hit x then change x else x)) w.handles (λ x x_here. has_its x x_here (hit x) refl));
+    each = All-map (HasItsConsumer (remove_consumer t d.number)) (λ x. if hit x then change x else x) w.handles
+        (all_of (λ x. HasItsConsumer (remove_consumer t d.number) (if hit x then change x else x)) w.handles
+        (λ x x_here. has_its x x_here (hit x) refl));
     of_line = line_kept;
   }
 

@@ -17,8 +17,8 @@ use Rattle.geo_model.specs.Place.{Spot, place, component, components, disk_of}
 use Rattle.geo_model.specs.Acceptance.{places_of}
 use Rattle.geo_model.specs.World.{World, Config, Handle, Taste, Bio, granted_in, taste_grant, is_active, is_root, is_done}
 use Rattle.geo_model.specs.Graph.{AreNumbers, IsInOrder, PartsLive}
-use Rattle.geo_model.specs.Sound.{IsHandleConsumer, HasItsConsumer, IsTasting, IsPlaceInside, IsPlaced, LeadsDown, IsTasteInOrder}
-use Rattle.geo_model.specs.SoundBios.{IsBioInOrder, IsFamilyInOrder, HasItsParent, HasCountFor}
+use Rattle.geo_model.specs.Sound.{IsHandleConsumer, HasItsConsumer, IsPlaceInside, IsPlaced, LeadsDown, IsTasteInOrder}
+use Rattle.geo_model.specs.SoundBios.{IsBioInOrder, IsFamilyInOrder, HasCountFor}
 use Rattle.geo_model.specs.Steady.{HasItsComponents, ComesFromItsOwner}
 use Rattle.geo_model.specs.Fitting.{sizes_of, FitsBelow, FitsPlace, FitsPlaces, Firm}
 use Rattle.geo_laws_graph.proofs.Members.{find-Contains, filter-Contains, All-from_contained}
@@ -38,7 +38,7 @@ use Rattle.geo_laws_bios.specs.PieceLaws.{Serves, SourceServes}
 use Rattle.geo_laws_bios.proofs.Serving.{all_serve}
 use Rattle.geo_laws_life.proofs.Found.{found-with, some-with, if-found, at-found, one-found, all_zip-weaker, keeps_all, passes_apart}
 use Rattle.geo_laws_life.proofs.LessBios.{no_count}
-use Rattle.geo_laws_handles.proofs.Devs.{holds_grants, dev_config, not_of_dev, of_taste}
+use Rattle.geo_laws_handles.proofs.Devs.{tasting_stays, holds_grants, dev_config, not_of_dev, of_taste}
 
 -- the handles of a world where the consumer of a number has gone: all other consumers have the handles that they
 -- had, each handle has its consumer, and a line's handle has the consumer that it had
@@ -48,7 +48,7 @@ pub record AreReleased (w : World) (n : ℕ) (hs : List Handle) : Type 0 where
       ≡ find (λ h. names_number h.consumer d) w.handles
   pub count : (d : ℕ) → d ≢ n → count_by (λ h. names_number h.consumer d) hs
       ≡ count_by (λ h. names_number h.consumer d) w.handles
-  pub each : All (HasItsConsumer (record w { topology = remove_consumer w.topology n; handles = hs })) hs
+  pub each : All (HasItsConsumer (remove_consumer w.topology n)) hs
   pub of_line : (handle source : ℕ) → source ≢ n
       → IsSomeAnd (find (λ h. h.number == handle) w.handles) (λ h. h.consumer ≡ Some source)
       → IsSomeAnd (find (λ h. h.number == handle) hs) (λ h. h.consumer ≡ Some source)
@@ -193,7 +193,8 @@ module _ (w : World) (firm : Firm w) (d : Consumer) (here : Contains w.topology.
       (inside g q spot.item other spot.fact)
 
   -- each provider leads down
-  leads : (q : Provider) → Contains t.providers q → LeadsDown w q → LeadsDown without q
+  leads : (q : Provider) → Contains t.providers q → LeadsDown (granted_in w) t q
+      → LeadsDown (granted_in without) u q
   leads q q_here old =
       let g = found-with (geom_at t q.geom) (λ g. (is_zero (have (granted_in w) t q.number) ≡ false)
       ⊎ (g.withering ≡ false) → IsSome (disk_of g.config) ⊎ IsPlaced t g q) old in
@@ -226,7 +227,8 @@ module _ (w : World) (firm : Firm w) (d : Consumer) (here : Contains w.topology.
       (still c x.item x.is (λ one. other (sym x.fact.0 ∙ one))) x.fact
 
   -- each geom has its components
-  has_components : (g : Geom Config) → Contains t.geoms g → HasItsComponents w g → HasItsComponents without g
+  has_components : (g : Geom Config) → Contains t.geoms g → HasItsComponents (granted_in w) t g
+      → HasItsComponents (granted_in without) u g
   has_components g g_here old used = by (cases_eq g.number 1) where
     -- it was used so before
     before : (g.withering ≡ false)
@@ -268,27 +270,16 @@ module _ (w : World) (firm : Firm w) (d : Consumer) (here : Contains w.topology.
   -- Handles
 
   -- each other consumer of DEV is that of one handle
-  one_each : (c : Consumer) → Contains (consumers_of u 1) c → IsHandleConsumer without c
+  one_each : (c : Consumer) → Contains (consumers_of u 1) c → IsHandleConsumer hs c
   one_each c c_here =
       let kept = filter-Contains (λ (x : Consumer). not (x.number == d.number)) (consumers_of t 1) c
       (subst (λ cs. Contains cs c) (removed-consumer.of t d.number 1) c_here) in
-      let old : IsHandleConsumer w c =
-      All-contains (IsHandleConsumer w) (consumers_of t 1) c firm.sound.handles.consumers kept.0 in
+      let old : IsHandleConsumer w.handles c =
+      All-contains (IsHandleConsumer w.handles) (consumers_of t 1) c firm.sound.handles.consumers kept.0 in
       record {
         attached = old.attached;
         one_handle = released.count c.number (passes_apart c.number d.number kept.1) ∙ old.one_handle;
       }
-
-  -- the taste has its consumer
-  tasting : (o : Option Taste) → MatchOption o (consumers_of t 2 ≡ []) (IsTasting t)
-      → MatchOption o (consumers_of u 2 ≡ []) (IsTasting u)
-  tasting None is = taste_stays ∙ is
-  tasting (Some s) is = record {
-    consumer = is.consumer;
-    alone = taste_stays ∙ is.alone;
-    number = is.number;
-    attached = is.attached;
-  }
 
   -- Ranks and the taste
 
@@ -298,7 +289,7 @@ module _ (w : World) (firm : Firm w) (d : Consumer) (here : Contains w.topology.
       (remove_consumer-providers t d.number (ranked-live t firm.sound.ranks.ranked)) (removed-edges t d.number)).1
 
   -- the taste is in order
-  tastes : (o : Option Taste) → IfSome o (IsTasteInOrder w) → IfSome o (IsTasteInOrder without)
+  tastes : (o : Option Taste) → IfSome o (IsTasteInOrder t) → IfSome o (IsTasteInOrder u)
   tastes None fact = tt
   tastes (Some s) fact =
       let g = found-with (geom_of_provider t s.provider) (λ g. rank t g.number < UNTASTED_RANK) fact.rank in
@@ -315,7 +306,8 @@ module _ (w : World) (firm : Firm w) (d : Consumer) (here : Contains w.topology.
     -- a root isn't from it
     root_apart : (z : Bio) → Contains w.bios z → is_root z.owner ≡ true → z.source ≢ d.number
     root_apart z z_here root same =
-        let family : IsFamilyInOrder w z = All-contains (IsFamilyInOrder w) w.bios z firm.sound.families z_here in
+        let family : IsFamilyInOrder t w.bios z =
+        All-contains (IsFamilyInOrder t w.bios) w.bios z firm.sound.families z_here in
         let out : is_done z.phase ≡ false = family.root root in
         let from : (z.source == d.number) ≡ true = eq-eqb z.source d.number same in
         let acts : ((z.source == d.number) && not (is_done z.phase)) ≡ true = rw (from, out) refl in
@@ -341,8 +333,8 @@ module _ (w : World) (firm : Firm w) (d : Consumer) (here : Contains w.topology.
     quiet = went_quietly but_it (granted_in without) t d only holds others_agree none_for_it
 
     -- a consumer that holds its grant serves by them as before
-    serves_so : (z : Bio) (c : Consumer) → HoldsGrants t c.geom → c.number ≢ d.number → HasCountFor w z c
-        → Serves but_it t z c
+    serves_so : (z : Bio) (c : Consumer) → HoldsGrants t c.geom → c.number ≢ d.number
+        → HasCountFor (granted_in w) t z c → Serves but_it t z c
     serves_so z c held apart counts =
         let same : want but_it t c ≡ want (granted_in w) t c =
         wants_grant but_it t c held ∙ sym (others_agree c.number apart) ∙ agree c.number apart
@@ -351,12 +343,12 @@ module _ (w : World) (firm : Firm w) (d : Consumer) (here : Contains w.topology.
 
     -- the source of a root is of DEV or TASTE
     source_of : (z : Bio) (c : Consumer) → consumer_at t z.source ≡ Some c → (o : Owner) → is_root o ≡ true
-        → ComesFromItsOwner w z o → (c.geom ≡ 1) ⊎ (c.geom ≡ 2)
+        → ComesFromItsOwner w.handles w.taste z o → (c.geom ≡ 1) ⊎ (c.geom ≡ 2)
     source_of z c e (owners.Line handle line) root comes =
         let h = found-with (find (λ (h : Handle). h.number == handle) w.handles) (λ h. h.consumer ≡ Some z.source)
         comes in
-        let its : HasItsConsumer w h.item =
-        All-contains (HasItsConsumer w) w.handles h.item firm.sound.handles.handles
+        let its : HasItsConsumer t h.item =
+        All-contains (HasItsConsumer t) w.handles h.item firm.sound.handles.handles
         (find-Contains (λ (h : Handle). h.number == handle) w.handles h.item h.is) in
         let at : IsSomeAnd (consumer_at t z.source) (λ x. x.geom ≡ 1) =
         subst (λ o. MatchOption o (h.item.dead ≡ true) (λ n. IsSomeAnd (consumer_at t n) (λ x. x.geom ≡ 1)))
@@ -370,12 +362,14 @@ module _ (w : World) (firm : Firm w) (d : Consumer) (here : Contains w.topology.
     -- so the sources of roots serve
     root_serves : (z : Bio) → Contains w.bios z → is_root z.owner ≡ true → true ≡ true → SourceServes but_it t z
     root_serves z z_here root kept =
-        let old : IsBioInOrder w z = All-contains (IsBioInOrder w) w.bios z firm.sound.bios z_here in
-        let c = found-with (consumer_at t z.source) (λ c. (c.provider ≡ Some z.target) × HasCountFor w z c)
-        old.source in
+        let old : IsBioInOrder (granted_in w) t z =
+        All-contains (IsBioInOrder (granted_in w) t) w.bios z firm.sound.bios z_here in
+        let c = found-with (consumer_at t z.source)
+        (λ c. (c.provider ≡ Some z.target) × HasCountFor (granted_in w) t z c) old.source in
         let number : c.item.number ≡ z.source =
         number_found (λ (x : Consumer). x.number) t.consumers z.source c.item c.is in
-        let comes = All-contains (λ (x : Bio). ComesFromItsOwner w x x.owner) w.bios z firm.steady.owners z_here in
+        let comes = All-contains (λ (x : Bio). ComesFromItsOwner w.handles w.taste x x.owner) w.bios z
+        firm.steady.owners z_here in
         some-with (consumer_at t z.source) (λ c. (c.provider ≡ Some z.target) × Serves but_it t z c) c.item c.is (
           c.fact.0,
           serves_so z c.item (holds_grants w firm c.item.geom (source_of z c.item c.is z.owner root comes))
@@ -405,7 +399,7 @@ module _ (w : World) (firm : Firm w) (d : Consumer) (here : Contains w.topology.
         server_apart z c.item c.is c.fact.1
 
     -- each bio is in order
-    bio : (z : Bio) → Contains w.bios z → IsBioInOrder w z → IsBioInOrder without z
+    bio : (z : Bio) → Contains w.bios z → IsBioInOrder (granted_in w) t z → IsBioInOrder (granted_in without) u z
     bio z z_here old =
         let c = found-with (consumer_at t z.source) (λ c. (c.provider ≡ Some z.target) × Serves but_it t z c)
         (serves z z_here) in
@@ -415,8 +409,8 @@ module _ (w : World) (firm : Firm w) (d : Consumer) (here : Contains w.topology.
         let same : want (granted_in without) u c.item ≡ want but_it t c.item =
         quiet.wants c.item (find-Contains (λ (x : Consumer). x.number == z.source) u.consumers c.item found) in
         record {
-          source = some-with (consumer_at u z.source) (λ c. (c.provider ≡ Some z.target) × HasCountFor without z c)
-              c.item found (
+          source = some-with (consumer_at u z.source)
+              (λ c. (c.provider ≡ Some z.target) × HasCountFor (granted_in without) u z c) c.item found (
                 c.fact.0,
                 subst (λ a. (IsTrue (is_read z.cmd) → 0 < a.r) × (is_read z.cmd ≡ false → 0 < a.w)) (sym same)
                     c.fact.1,
@@ -425,24 +419,18 @@ module _ (w : World) (firm : Firm w) (d : Consumer) (here : Contains w.topology.
           bytes = old.bytes;
         }
 
-    -- its parent waits
-    its_parent : (o : Owner) → HasItsParent w o → HasItsParent without o
-    its_parent (owners.Line handle line) fact = fact
-    its_parent owners.Taste fact = fact
-    its_parent (owners.Child parent index) fact = fact
-
     -- and its family is in order
-    family_kept : (z : Bio) → IsFamilyInOrder w z → IsFamilyInOrder without z
+    family_kept : (z : Bio) → IsFamilyInOrder t w.bios z → IsFamilyInOrder u w.bios z
     family_kept z is = record {
-      parent = its_parent z.owner is.parent;
+      parent = is.parent;
       pieces = is.pieces;
       not_complete = is.not_complete;
       root = is.root;
     }
 
     -- it comes from its owner
-    comes_by : (z : Bio) → Contains w.bios z → (o : Owner) → z.owner ≡ o → ComesFromItsOwner w z o
-        → ComesFromItsOwner without z o
+    comes_by : (z : Bio) → Contains w.bios z → (o : Owner) → z.owner ≡ o → ComesFromItsOwner w.handles w.taste z o
+        → ComesFromItsOwner hs w.taste z o
     comes_by z z_here (owners.Line handle line) is fact =
         released.of_line handle z.source (root_apart z z_here (rw is refl)) fact
     comes_by z z_here owners.Taste is fact = fact
@@ -467,20 +455,23 @@ module _ (w : World) (firm : Firm w) (d : Consumer) (here : Contains w.topology.
           geoms = firm.sound.numbers.geoms;
           providers = firm.sound.numbers.providers;
           consumers = (removed-consumer.order t d.number order).consumers;
-          handles = released.numbers;
-          bios = firm.sound.numbers.bios;
           classes = firm.sound.numbers.classes;
           one_geom_of_disk = firm.sound.numbers.one_geom_of_disk;
           disk_sizes = firm.sound.numbers.disk_sizes;
         };
         handles = record {
-          consumers = all_of (IsHandleConsumer without) (consumers_of u 1) one_each;
+          numbers = released.numbers;
+          consumers = all_of (IsHandleConsumer hs) (consumers_of u 1) one_each;
           handles = released.each;
-          taste = tasting w.taste firm.sound.handles.taste;
+          taste = tasting_stays t u taste_stays w.taste firm.sound.handles.taste;
         };
-        places = all_members (LeadsDown w) (LeadsDown without) t.providers leads firm.sound.places;
-        bios = all_members (IsBioInOrder w) (IsBioInOrder without) w.bios bio firm.sound.bios;
-        families = All-weaker (IsFamilyInOrder w) (IsFamilyInOrder without) family_kept w.bios firm.sound.families;
+        places = all_members (LeadsDown (granted_in w) t) (LeadsDown (granted_in without) u) t.providers leads
+            firm.sound.places;
+        bio_numbers = firm.sound.bio_numbers;
+        bios = all_members (IsBioInOrder (granted_in w) t) (IsBioInOrder (granted_in without) u) w.bios bio
+            firm.sound.bios;
+        families = All-weaker (IsFamilyInOrder t w.bios) (IsFamilyInOrder u w.bios) family_kept w.bios
+            firm.sound.families;
         disks = record { at_disk = firm.sound.disks.at_disk; one_busy = firm.sound.disks.one_busy };
         events = record {
           living = firm.sound.events.living;
@@ -497,10 +488,11 @@ module _ (w : World) (firm : Firm w) (d : Consumer) (here : Contains w.topology.
         attached = All-filter (λ (x : Consumer). not (x.number == d.number))
             (λ (c : Consumer). IsSome (option_and_then (provider_at t) c.provider))
             t.consumers firm.steady.attached;
-        components = all_members (HasItsComponents w) (HasItsComponents without) t.geoms has_components
-            firm.steady.components;
+        components = all_members (HasItsComponents (granted_in w) t) (HasItsComponents (granted_in without) u)
+            t.geoms has_components firm.steady.components;
         partial = firm.steady.partial;
-        owners = all_members (λ z. ComesFromItsOwner w z z.owner) (λ z. ComesFromItsOwner without z z.owner) w.bios
+        owners = all_members (λ z. ComesFromItsOwner w.handles w.taste z z.owner)
+            (λ z. ComesFromItsOwner hs w.taste z z.owner) w.bios
             (λ z z_here fact. comes_by z z_here z.owner refl fact) firm.steady.owners;
         results = firm.steady.results;
         unmarked = subst (All (λ (c : Consumer). c.spoiled ≡ false)) (sym (removed-consumer.of t d.number 1))

@@ -114,7 +114,7 @@ module _ (w : World) (firm : Firm w) (line : ℕ) (h : Handle) (here : Contains 
         passes
 
     -- the consumer has the count
-    has_count : HasCountFor w (asked d.number p.number) d
+    has_count : HasCountFor (granted_in w) t (asked d.number p.number) d
     has_count =
         let is : want (granted_in w) t d ≡ h.grant =
         wants_grant (granted_in w) t d (holds_grants w firm d.geom (inl dev))
@@ -142,7 +142,7 @@ module _ (w : World) (firm : Firm w) (line : ℕ) (h : Handle) (here : Contains 
         }
 
     -- the bio is in order
-    in_order : IsBioInOrder w (asked d.number p.number)
+    in_order : IsBioInOrder (granted_in w) t (asked d.number p.number)
     in_order =
         let found : consumer_at t d.number ≡ Some d =
         found_itself (λ (x : Consumer). x.number) t.next_consumer t.consumers d
@@ -150,7 +150,7 @@ module _ (w : World) (firm : Firm w) (line : ℕ) (h : Handle) (here : Contains 
         let there : provider_at t p.number ≡ Some p = subst (λ n. provider_at t n ≡ Some p) (sym number) stands in
         record {
           source = some-with (consumer_at t d.number)
-              (λ c. (c.provider ≡ Some p.number) × HasCountFor w (asked d.number p.number) c) d found
+              (λ c. (c.provider ≡ Some p.number) × HasCountFor (granted_in w) t (asked d.number p.number) c) d found
               (subst (λ n. d.provider ≡ Some n) (sym number) to_it, has_count);
           target = some-with (provider_at t p.number)
               (λ r. is_flush a.cmd ≡ false → IsRangeInside (asked d.number p.number) r) p there range;
@@ -162,7 +162,7 @@ module _ (w : World) (firm : Firm w) (line : ℕ) (h : Handle) (here : Contains 
     accepted =
         submitted-firm w (asked d.number p.number) h.number line firm refl refl refl in_order
         (some-with (find (λ (x : Handle). x.number == h.number) w.handles) (λ x. x.consumer ≡ Some d.number) h
-        (found_itself (λ (x : Handle). x.number) w.next_handle w.handles h firm.sound.numbers.handles here) names)
+        (found_itself (λ (x : Handle). x.number) w.next_handle w.handles h firm.sound.handles.numbers here) names)
 
   -- the world of an accepted request
   abbrev made : Option ℕ → Option Provider → World

@@ -12,7 +12,7 @@ use Rattle.geo_model.specs.declared.step.Owner.TheVariants as owners
 use Rattle.geo_model.specs.declared.step.Phase.{Phase}
 use Rattle.geo_model.specs.declared.step.Phase.TheVariants as phases
 use Rattle.geo_model.specs.Topology.{geom_at, provider_at}
-use Rattle.geo_model.specs.World.{World, Bio, bio_at, children_of, is_waiting, is_done, is_busy, is_sent, is_up, is_child_of, is_taste_root, is_read_out}
+use Rattle.geo_model.specs.World.{World, Bio, bio_at, children_of, is_waiting, is_done, is_busy, is_sent, is_up, is_child_of, is_taste_root, is_read_out, granted_in}
 use Rattle.geo_model.specs.Bios.{piece_targets, disk_of_bio}
 use Rattle.geo_model.specs.SoundBios.{IsBioInOrder, IsFamilyInOrder, HasItsParent, shape_of_child, shape_of_piece, NotBothBusy}
 use Rattle.geo_model.specs.Steady.{ComesFromItsOwner, HasItsResult}
@@ -24,8 +24,9 @@ use Rattle.geo_laws_bios.specs.BioFrames.{BiosHold, with_bios}
 use Rattle.geo_laws_bios.proofs.Apart.{bios_of, firm_with}
 
 module _ (w : World) (x : Bio) (handle line : ℕ) (firm : Firm w) (number : x.number ≡ w.next_bio)
-    (down : x.phase ≡ phases.Down) (owner : x.owner ≡ owners.Line handle line) (in_order : IsBioInOrder w x)
-    (of_handle : ComesFromItsOwner w x (owners.Line handle line)) where
+    (down : x.phase ≡ phases.Down) (owner : x.owner ≡ owners.Line handle line)
+    (in_order : IsBioInOrder (granted_in w) w.topology x)
+    (of_handle : ComesFromItsOwner w.handles w.taste x (owners.Line handle line)) where
   -- the world with it
   abbrev v : World
   v = with_bios w (w.bios ++ x ∷ []) (w.next_bio + 1)
@@ -50,12 +51,8 @@ module _ (w : World) (x : Bio) (handle line : ℕ) (firm : Firm w) (number : x.n
   same_children : (n : ℕ) → children_of v n ≡ children_of w n
   same_children n = filter-pushed (λ (z : Bio). is_child_of z.owner n) w.bios x (no_child n)
 
-  -- a bio is in order
-  order_kept : (z : Bio) → IsBioInOrder w z → IsBioInOrder v z
-  order_kept z is = record { source = is.source; target = is.target; bytes = is.bytes }
-
   -- a parent stays
-  parent_kept : (o : Owner) → HasItsParent w o → HasItsParent v o
+  parent_kept : (o : Owner) → HasItsParent w.bios o → HasItsParent v.bios o
   parent_kept (owners.Line h l) has = tt
   parent_kept owners.Taste has = tt
   parent_kept (owners.Child parent index) has = by (bio_at w parent) refl has where
@@ -68,7 +65,7 @@ module _ (w : World) (x : Bio) (handle line : ℕ) (firm : Firm w) (number : x.n
         (sym (found-before (λ (z : Bio). z.number == parent) w.bios (x ∷ []) y e)) waits
 
   -- and so does a family
-  family_kept : (z : Bio) → IsFamilyInOrder w z → IsFamilyInOrder v z
+  family_kept : (z : Bio) → IsFamilyInOrder w.topology w.bios z → IsFamilyInOrder w.topology v.bios z
   family_kept z is = record {
     parent = parent_kept z.owner is.parent;
     pieces = λ waits. subst (λ cs. IsSomeAnd (provider_at w.topology z.target) (λ p.
@@ -82,37 +79,32 @@ module _ (w : World) (x : Bio) (handle line : ℕ) (firm : Firm w) (number : x.n
   }
 
   -- its own family
-  own_family : IsFamilyInOrder v x
+  own_family : IsFamilyInOrder w.topology v.bios x
   own_family =
       let still : is_waiting x.phase ≡ false = not_in is_waiting refl in
       record {
-        parent = subst (HasItsParent v) (sym owner) tt;
+        parent = subst (HasItsParent v.bios) (sym owner) tt;
         pieces = λ waits. absurd (let bad : ⊥ = cc in bad);
         not_complete = λ waits. absurd (let bad : ⊥ = cc in bad);
         root = λ root. not_in is_done refl;
       }
 
-  -- an owner stays
-  owner_kept : (z : Bio) (o : Owner) → ComesFromItsOwner w z o → ComesFromItsOwner v z o
-  owner_kept z (owners.Line h l) comes = comes
-  owner_kept z owners.Taste comes = comes
-  owner_kept z (owners.Child parent index) comes = comes
-
   -- the bios then
   submitted_hold : BiosHold v
   submitted_hold = record {
     numbers = numbers-push (λ (z : Bio). z.number) w.next_bio w.bios x number hold.numbers;
-    order = All-push (IsBioInOrder v) w.bios x
-        (All-weaker (IsBioInOrder w) (IsBioInOrder v) order_kept w.bios hold.order) (order_kept x in_order);
-    families = All-push (IsFamilyInOrder v) w.bios x
-        (All-weaker (IsFamilyInOrder w) (IsFamilyInOrder v) family_kept w.bios hold.families) own_family;
+    order = All-push (IsBioInOrder (granted_in w) w.topology) w.bios x hold.order in_order;
+    families = All-push (IsFamilyInOrder w.topology v.bios) w.bios x
+        (All-weaker (IsFamilyInOrder w.topology w.bios) (IsFamilyInOrder w.topology v.bios) family_kept w.bios
+        hold.families)
+        own_family;
     disks = record {
       at_disk = All-push (λ (z : Bio). IsTrue (is_sent z.phase || is_busy z.phase) → IsSome (disk_of_bio w z))
           w.bios x
           hold.disks.at_disk
           (λ out. let none : (is_sent x.phase || is_busy x.phase) ≡ false =
           not_in (λ p. is_sent p || is_busy p) refl in absurd (let bad : ⊥ = cc in bad));
-      one_busy = all_pairs_push (NotBothBusy v) w.bios x hold.disks.one_busy
+      one_busy = all_pairs_push (NotBothBusy w.topology) w.bios x hold.disks.one_busy
           (λ k d short first second. let none : is_busy x.phase ≡ false = not_in is_busy refl in
           absurd (let bad : ⊥ = cc in bad));
     };
@@ -121,10 +113,8 @@ module _ (w : World) (x : Bio) (handle line : ℕ) (firm : Firm w) (number : x.n
         ∙ ap (λ b. list_any (λ (z : Bio). is_taste_root z.owner) w.bios || b) no_read
         ∙ or-false (list_any (λ (z : Bio). is_taste_root z.owner) w.bios)))
         hold.read_out;
-    owners = All-push (λ (z : Bio). ComesFromItsOwner v z z.owner) w.bios x
-        (All-weaker (λ (z : Bio). ComesFromItsOwner w z z.owner) (λ (z : Bio). ComesFromItsOwner v z z.owner)
-        (λ z comes. owner_kept z z.owner comes) w.bios hold.owners)
-        (subst (ComesFromItsOwner v x) (sym owner) of_handle);
+    owners = All-push (λ (z : Bio). ComesFromItsOwner w.handles w.taste z z.owner) w.bios x hold.owners
+        (subst (ComesFromItsOwner w.handles w.taste x) (sym owner) of_handle);
     results = All-push HasItsResult w.bios x hold.results
         (λ over. let none : (is_up x.phase || is_done x.phase) ≡ false =
         not_in (λ p. is_up p || is_done p) refl in absurd (let bad : ⊥ = cc in bad));

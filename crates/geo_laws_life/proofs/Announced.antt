@@ -1,5 +1,5 @@
 -- What follows a change of write counts, and what events do: a firm world stays firm.
-use Rattle.std.specs.Prelude.{◌≡◌, ◌≢◌, ◌⊎◌, ℕ, ◌==◌, true, false, not, ◌&&◌, ◌||◌, List, [], ◌∷◌, filter, fold, Option, Some, None, All, Contains, IsSome, MatchOption}
+use Rattle.std.specs.Prelude.{◌≡◌, ◌≢◌, ◌⊎◌, ℕ, ◌==◌, true, false, not, ◌&&◌, ◌||◌, List, [], ◌∷◌, filter, fold, Option, Some, None, All, Contains, IsSome}
 use Rattle.std.specs.List.{AllByRecursion}
 use Rattle.std.specs.Option.{option_map_or, option_and_then}
 use Rattle.std.proofs.Common.{inl, inr, refl, sym, ◌∙◌, ap, subst}
@@ -12,9 +12,9 @@ use Rattle.geo_model.specs.Words.{is_kind, names_number}
 use Rattle.geo_model.specs.Topology.{Topology, Geom, Provider, Consumer, geom_at, provider_at, geom_of_provider, attached_to, consumers_of, is_errored, set_marks}
 use Rattle.geo_model.specs.Demand.{have, want, is_zero, risen, fallen}
 use Rattle.geo_model.specs.Events.{QueuedTopology, post, spoil_at, offer_again, announce_risen, announce_fallen, spoil_consumer, spoil, is_of_dev, orphan_consumer, orphan, is_outgrown, outgrow_consumer, resize, wither, wither_unless_withering}
-use Rattle.geo_model.specs.World.{World, Config, Taste, granted_in}
+use Rattle.geo_model.specs.World.{World, Config, granted_in}
 use Rattle.geo_model.specs.WorldEvents.{queued_of, with_queued, kill_handle}
-use Rattle.geo_model.specs.Sound.{IsTasting}
+use Rattle.geo_model.specs.Sound.{HasTasteConsumer}
 use Rattle.geo_model.specs.Fitting.{Firm}
 use Rattle.geo_laws_graph.proofs.Members.{All-from_contained, Contains-filter, filter-Contains, nothing_in}
 use Rattle.geo_laws_graph.proofs.Numbered.{number_found}
@@ -82,8 +82,7 @@ IsOtherConsumer c = (c.geom ≢ 1) × (c.geom ≢ 2)
 no_taste : (w : World) → Firm w → w.taste ≡ None → (c : Consumer) → Contains w.topology.consumers c → c.geom ≢ 2
 no_taste w firm none c here own =
     let empty : consumers_of w.topology 2 ≡ [] =
-    subst (λ (o : Option Taste). MatchOption o (consumers_of w.topology 2 ≡ []) (IsTasting w.topology)) none
-    firm.sound.handles.taste in
+    subst (HasTasteConsumer w.topology) none firm.sound.handles.taste in
     nothing_in c (subst (λ cs. Contains cs c) empty
     (Contains-filter (λ (z : Consumer). z.geom == 2) w.topology.consumers c here (eq-eqb c.geom 2 own)))
 

@@ -14,7 +14,7 @@ use Rattle.geo_model.specs.declared.step.Owner.TheVariants as owners
 use Rattle.geo_model.specs.Words.{names_number, is_read, is_granted_kind}
 use Rattle.geo_model.specs.Topology.{Topology, Geom, Provider, Consumer, geom_at, provider_at, consumer_at, geom_of_provider, providers_of, consumers_of, is_errored, add_consumer}
 use Rattle.geo_model.specs.Rank.{rank}
-use Rattle.geo_model.specs.Demand.{have, want, is_zero, is_exclusive, fits_limit, no_counts, one_read}
+use Rattle.geo_model.specs.Demand.{have, want, is_zero, no_counts, one_read}
 use Rattle.geo_model.specs.Place.{Spot, place, component, components, disk_of}
 use Rattle.geo_model.specs.Acceptance.{places_of}
 use Rattle.geo_model.specs.Chain.{no_links}
@@ -22,7 +22,7 @@ use Rattle.geo_model.specs.Events.{tasting_classes, is_not_tasted}
 use Rattle.geo_model.specs.World.{World, Config, Nothing, Disk, Mbr, Ebr, Label, Concat, Stripe, Nop, Handle, Taste, NoClass, Bio, granted_in, taste_grant, is_taste_root, is_read_out}
 use Rattle.geo_model.specs.WorldEvents.{begin_taste}
 use Rattle.geo_model.specs.Graph.{IsInOrder, PartsLive}
-use Rattle.geo_model.specs.Sound.{fits_kind, IsHandleConsumer, HasItsConsumer, IsTasting, IsPlaceInside, IsPlaced, LeadsDown, IsTasteInOrder}
+use Rattle.geo_model.specs.Sound.{CountsHold, fits_kind, IsHandleConsumer, HasItsConsumer, HasTasteConsumer, IsPlaceInside, IsPlaced, LeadsDown, IsTasteInOrder}
 use Rattle.geo_model.specs.SoundBios.{IsBioInOrder, IsFamilyInOrder, HasCountFor}
 use Rattle.geo_model.specs.Steady.{HasItsComponents, ComesFromItsOwner}
 use Rattle.geo_model.specs.Fitting.{IsWholeIn, FitsBelow, sizes_of, FitsPlace, FitsPlaces, IsAskedInOrder, Firm}
@@ -149,7 +149,7 @@ module _ (w : World) (p : ℕ) (firm : Firm w) (none : w.taste ≡ None) (x : Pr
       let names : h.consumer ≡ Some t.next_consumer =
       names_some h.consumer t.next_consumer (find_passes (λ (h : Handle). names_number h.consumer t.next_consumer)
       w.handles h e) in
-      let its : HasItsConsumer w h = All-contains (HasItsConsumer w) w.handles h firm.sound.handles.handles
+      let its : HasItsConsumer t h = All-contains (HasItsConsumer t) w.handles h firm.sound.handles.handles
       (find-Contains (λ (h : Handle). names_number h.consumer t.next_consumer) w.handles h e) in
       let d = found-with (consumer_at t t.next_consumer) (λ z. z.geom ≡ 1)
       (subst (λ o. MatchOption o (h.dead ≡ true) (λ c. IsSomeAnd (consumer_at t c) (λ z. z.geom ≡ 1))) names its) in
@@ -180,8 +180,7 @@ module _ (w : World) (p : ℕ) (firm : Firm w) (none : w.taste ≡ None) (x : Pr
 
   -- no consumer is of TASTE yet
   empty : consumers_of t 2 ≡ []
-  empty = subst (λ (o : Option Taste). MatchOption o (consumers_of t 2 ≡ []) (IsTasting t)) none
-      firm.sound.handles.taste
+  empty = subst (HasTasteConsumer t) none firm.sound.handles.taste
 
   -- the consumers of DEV are the same
   same_dev : consumers_of u 1 ≡ consumers_of t 1
@@ -210,23 +209,19 @@ module _ (w : World) (p : ℕ) (firm : Firm w) (none : w.taste ≡ None) (x : Pr
       let spot = found-with (place h.config q.name o) (IsPlaceInside t h q) (old o short) in
       some-with (place h.config q.name o) (IsPlaceInside u h q) spot.item spot.is (inside h q spot.item spot.fact)
 
-  -- the counts of a provider, by those before
-  same_zero : (n : ℕ) → is_zero (have (granted_in v) u n) ≡ is_zero (have (granted_in w) t n)
-  same_zero n = ap is_zero (ap (λ (G : ℕ → Counts). have G u n) grants ∙ demand.haves n)
-
   -- each provider leads down
-  leads : (q : Provider) → LeadsDown w q → LeadsDown v q
+  leads : (q : Provider) → LeadsDown (granted_in w) t q → LeadsDown (granted_in w) u q
   leads q old =
       let h = found-with (geom_at t q.geom) (λ h. (is_zero (have (granted_in w) t q.number) ≡ false)
       ⊎ (h.withering ≡ false)
       → IsSome (disk_of h.config) ⊎ IsPlaced t h q) old in
-      some-with (geom_at t q.geom) (λ h. (is_zero (have (granted_in v) u q.number) ≡ false) ⊎ (h.withering ≡ false)
+      some-with (geom_at t q.geom) (λ h. (is_zero (have (granted_in w) u q.number) ≡ false) ⊎ (h.withering ≡ false)
       → IsSome (disk_of h.config) ⊎ IsPlaced u h q) h.item h.is (λ used. by h.item (h.fact (before used)))
     where
       -- it was used so before
-      before : {A : Type 0} → (is_zero (have (granted_in v) u q.number) ≡ false) ⊎ A
+      before : {A : Type 0} → (is_zero (have (granted_in w) u q.number) ≡ false) ⊎ A
           → (is_zero (have (granted_in w) t q.number) ≡ false) ⊎ A
-      before (inl opened) = inl (sym (same_zero q.number) ∙ opened)
+      before (inl opened) = inl (sym (ap is_zero (demand.haves q.number)) ∙ opened)
       before (inr stands) = inr stands
 
       -- a disk, or placed
@@ -235,7 +230,7 @@ module _ (w : World) (p : ℕ) (firm : Firm w) (none : w.taste ≡ None) (x : Pr
       by h (inr is_placed) = inr (placed h q is_placed)
 
   -- each handle has its consumer
-  its_consumer : (h : Handle) → HasItsConsumer w h → HasItsConsumer v h
+  its_consumer : (h : Handle) → HasItsConsumer t h → HasItsConsumer u h
   its_consumer h = by h.consumer where
     -- by the consumer
     by : (o : Option ℕ) → MatchOption o (h.dead ≡ true) (λ c. IsSomeAnd (consumer_at t c) (λ z. z.geom ≡ 1))
@@ -246,23 +241,24 @@ module _ (w : World) (p : ℕ) (firm : Firm w) (none : w.taste ≡ None) (x : Pr
         some-with (consumer_at u c) (λ z. z.geom ≡ 1) d.item (found_still c d.item d.is) d.fact
 
   -- a bio is in order
-  bio : (b : Bio) → IsBioInOrder w b → IsBioInOrder v b
+  bio : (b : Bio) → IsBioInOrder (granted_in w) t b → IsBioInOrder (granted_in w) u b
   bio b is =
-      let d = found-with (consumer_at t b.source) (λ c. (c.provider ≡ Some b.target) × HasCountFor w b c) is.source in
-      let same : want (granted_in v) u d.item ≡ want (granted_in w) t d.item =
-      ap (λ (G : ℕ → Counts). want G u d.item) grants ∙ demand.wants d.item tt in
+      let d = found-with (consumer_at t b.source)
+      (λ c. (c.provider ≡ Some b.target) × HasCountFor (granted_in w) t b c) is.source in
       record {
-        source = some-with (consumer_at u b.source) (λ c. (c.provider ≡ Some b.target) × HasCountFor v b c) d.item
+        source = some-with (consumer_at u b.source)
+            (λ c. (c.provider ≡ Some b.target) × HasCountFor (granted_in w) u b c) d.item
             (found_still b.source d.item d.is) (
               d.fact.0,
-              subst (λ a. (IsTrue (is_read b.cmd) → 0 < a.r) × (is_read b.cmd ≡ false → 0 < a.w)) (sym same) d.fact.1,
+              subst (λ a. (IsTrue (is_read b.cmd) → 0 < a.r) × (is_read b.cmd ≡ false → 0 < a.w))
+                  (sym (demand.wants d.item tt)) d.fact.1,
             );
         target = is.target;
         bytes = is.bytes;
       }
 
   -- the taste is in order
-  in_order : IsTasteInOrder v s
+  in_order : IsTasteInOrder u s
   in_order = record {
     rank = some-with (geom_of_provider t p) (λ h. rank u h.number < UNTASTED_RANK) g
         (ap (option_and_then (λ (z : Provider). geom_at t z.geom)) found ∙ of)
@@ -278,7 +274,7 @@ module _ (w : World) (p : ℕ) (firm : Firm w) (none : w.taste ≡ None) (x : Pr
   }
 
   -- a root comes from its owner; none is of a taste yet
-  comes : (b : Bio) (o : Owner) → ComesFromItsOwner w b o → ComesFromItsOwner v b o
+  comes : (b : Bio) (o : Owner) → ComesFromItsOwner w.handles w.taste b o → ComesFromItsOwner w.handles (Some s) b o
   comes b (owners.Line handle line) fact = fact
   comes b owners.Taste fact =
       absurd (subst (λ (o : Option Taste). IsSomeAnd o (λ z. (z.consumer ≡ b.source) × (z.provider ≡ b.target))) none
@@ -286,21 +282,17 @@ module _ (w : World) (p : ℕ) (firm : Firm w) (none : w.taste ≡ None) (x : Pr
   comes b (owners.Child parent index) fact = fact
 
   -- each component stands
-  stands : (h : Geom Config) → HasItsComponents w h → HasItsComponents v h
-  stands h = subst (λ (G : ℕ → Counts). HasItsComponents w h → (h.withering ≡ false)
-      ⊎ IsTrue (list_any (λ q. not (is_zero (have G u q.number))) (providers_of t h.number))
-      → All (λ c. IsSomeAnd (consumer_at u c) (λ z. (z.geom ≡ h.number) × IsSome z.provider)) (components h.config))
-      (sym grants)
-      (subst (λ (H : ℕ → Counts). HasItsComponents w h → (h.withering ≡ false)
-      ⊎ IsTrue (list_any (λ q. not (is_zero (H q.number))) (providers_of t h.number))
-      → All (λ c. IsSomeAnd (consumer_at u c) (λ z. (z.geom ≡ h.number) × IsSome z.provider)) (components h.config))
-      (sym (grants-same (have (granted_in w) u) (have (granted_in w) t) demand.haves)) (λ old used.
+  stands : (h : Geom Config) → HasItsComponents (granted_in w) t h → HasItsComponents (granted_in w) u h
+  stands h old used =
       All-weaker (λ c. IsSomeAnd (consumer_at t c) (λ z. (z.geom ≡ h.number) × IsSome z.provider))
       (λ c. IsSomeAnd (consumer_at u c) (λ z. (z.geom ≡ h.number) × IsSome z.provider)) (λ c fact.
       let d = found-with (consumer_at t c) (λ z. (z.geom ≡ h.number) × IsSome z.provider) fact in
       some-with (consumer_at u c) (λ z. (z.geom ≡ h.number) × IsSome z.provider) d.item (found_still c d.item d.is)
       d.fact)
-      (components h.config) (old used)))
+      (components h.config)
+      (old (subst (λ (H : ℕ → Counts). (h.withering ≡ false)
+      ⊎ IsTrue (list_any (λ q. not (is_zero (H q.number))) (providers_of t h.number)))
+      (grants-same (have (granted_in w) u) (have (granted_in w) t) demand.haves) used))
 
   -- TASTE has no configuration
   no_config : (h : Geom Config) → geom_at t 2 ≡ Some h → h.config ≡ Nothing
@@ -359,12 +351,10 @@ module _ (w : World) (p : ℕ) (firm : Firm w) (none : w.taste ≡ None) (x : Pr
   begun-firm = record {
     sound = record {
       ranks = sound-ranks.opened t 2 p x (inr refl) firm.sound.ranks live.geoms found;
-      counts = record {
-        exclusive = subst (λ (G : ℕ → Counts). IsTrue (is_exclusive G u)) (sym grants)
-            (demand.exclusive firm.sound.counts.exclusive);
-        limited = subst (λ (G : ℕ → Counts). IsTrue (fits_limit G u)) (sym grants)
-            (demand.limit firm.sound.counts.limited);
-      };
+      counts = subst (λ (G : ℕ → Counts). CountsHold G u) (sym grants) (record {
+        exclusive = demand.exclusive firm.sound.counts.exclusive;
+        limited = demand.limit firm.sound.counts.limited;
+      });
       providers = record {
         names = firm.sound.providers.names;
         withering = firm.sound.providers.withering;
@@ -374,18 +364,14 @@ module _ (w : World) (p : ℕ) (firm : Firm w) (none : w.taste ≡ None) (x : Pr
         geoms = firm.sound.numbers.geoms;
         providers = firm.sound.numbers.providers;
         consumers = (added-consumer.order t 2 (Some p) order).consumers;
-        handles = firm.sound.numbers.handles;
-        bios = firm.sound.numbers.bios;
         classes = firm.sound.numbers.classes;
         one_geom_of_disk = firm.sound.numbers.one_geom_of_disk;
         disk_sizes = firm.sound.numbers.disk_sizes;
       };
       handles = record {
-        consumers = subst (All (IsHandleConsumer v)) (sym same_dev)
-            (All-weaker (IsHandleConsumer w) (IsHandleConsumer v)
-            (λ c is. record { attached = is.attached; one_handle = is.one_handle })
-            (consumers_of t 1) firm.sound.handles.consumers);
-        handles = All-weaker (HasItsConsumer w) (HasItsConsumer v) its_consumer w.handles firm.sound.handles.handles;
+        numbers = firm.sound.handles.numbers;
+        consumers = subst (All (IsHandleConsumer w.handles)) (sym same_dev) firm.sound.handles.consumers;
+        handles = All-weaker (HasItsConsumer t) (HasItsConsumer u) its_consumer w.handles firm.sound.handles.handles;
         taste = record {
           consumer = new;
           alone = added-consumer.own t 2 (Some p) ∙ ap (λ cs. cs ++ new ∷ []) empty;
@@ -393,9 +379,12 @@ module _ (w : World) (p : ℕ) (firm : Firm w) (none : w.taste ≡ None) (x : Pr
           attached = refl;
         };
       };
-      places = All-weaker (LeadsDown w) (LeadsDown v) leads t.providers firm.sound.places;
-      bios = All-weaker (IsBioInOrder w) (IsBioInOrder v) bio w.bios firm.sound.bios;
-      families = All-weaker (IsFamilyInOrder w) (IsFamilyInOrder v)
+      places = subst (λ (G : ℕ → Counts). All (LeadsDown G u) t.providers) (sym grants)
+          (All-weaker (LeadsDown (granted_in w) t) (LeadsDown (granted_in w) u) leads t.providers firm.sound.places);
+      bio_numbers = firm.sound.bio_numbers;
+      bios = subst (λ (G : ℕ → Counts). All (IsBioInOrder G u) w.bios) (sym grants)
+          (All-weaker (IsBioInOrder (granted_in w) t) (IsBioInOrder (granted_in w) u) bio w.bios firm.sound.bios);
+      families = All-weaker (IsFamilyInOrder t w.bios) (IsFamilyInOrder u w.bios)
           (λ b is. record { parent = is.parent; pieces = is.pieces; not_complete = is.not_complete; root = is.root })
           w.bios firm.sound.families;
       disks = record { at_disk = firm.sound.disks.at_disk; one_busy = firm.sound.disks.one_busy };
@@ -415,10 +404,12 @@ module _ (w : World) (p : ℕ) (firm : Firm w) (none : w.taste ≡ None) (x : Pr
       };
       attached = All-push (λ (c : Consumer). IsSome (option_and_then (provider_at t) c.provider)) t.consumers new
           firm.steady.attached (some-there (provider_at t p) x found);
-      components = All-weaker (HasItsComponents w) (HasItsComponents v) stands t.geoms firm.steady.components;
+      components = subst (λ (G : ℕ → Counts). All (HasItsComponents G u) t.geoms) (sym grants)
+          (All-weaker (HasItsComponents (granted_in w) t) (HasItsComponents (granted_in w) u) stands t.geoms
+          firm.steady.components);
       partial = firm.steady.partial;
-      owners = All-weaker (λ b. ComesFromItsOwner w b b.owner) (λ b. ComesFromItsOwner v b b.owner)
-          (λ b. comes b b.owner) w.bios firm.steady.owners;
+      owners = All-weaker (λ b. ComesFromItsOwner w.handles w.taste b b.owner)
+          (λ b. ComesFromItsOwner w.handles (Some s) b b.owner) (λ b. comes b b.owner) w.bios firm.steady.owners;
       results = firm.steady.results;
       unmarked = subst (All (λ (c : Consumer). c.spoiled ≡ false)) (sym same_dev) firm.steady.unmarked;
     };

@@ -1,12 +1,12 @@
 -- The changes of one thing by which a graph comes to less.
-use Rattle.std.specs.Prelude.{◌+◌, ◌≡◌, ◌⊎◌, ℕ, ◌==◌, Bool, true, false, List, [], ◌∷◌, length, find, Option, Some, None, Contains, IsSome, MatchOption, option_map, if◌then◌else◌}
+use Rattle.std.specs.Prelude.{◌+◌, ◌≡◌, ◌⊎◌, ℕ, ◌==◌, Bool, true, false, List, [], ◌∷◌, length, find, Option, Some, None, Contains, IsSome, if◌then◌else◌}
 use Rattle.std.proofs.Common.{inl, inr, refl, sym, ◌∙◌, ap, subst}
 use Rattle.geo_model.proofs.Options.{is_some-map}
 use Rattle.geo_model.specs.Words.{change_where}
-use Rattle.geo_model.specs.Topology.{Topology, Geom, Provider, Consumer, consumer_at, providers_of, consumers_of, set_error, set_withering, set_marks, note_started}
+use Rattle.geo_model.specs.Topology.{Topology, Geom, Provider, Consumer, consumer_at, providers_of, set_error, set_withering, set_marks, note_started}
 use Rattle.geo_model.specs.Rank.{rank}
 use Rattle.geo_model.specs.World.{World, Config, Taste, granted_in}
-use Rattle.geo_model.specs.Sound.{IsTasting}
+use Rattle.geo_model.specs.Sound.{IsTasting, HasTasteConsumer}
 use Rattle.geo_laws_graph.proofs.Members.{Contains-cases, Contains-here, Contains-there, nothing_in}
 use Rattle.geo_laws_graph.proofs.Lists.{changed, find-changed, length-changed}
 use Rattle.geo_laws_graph.proofs.Found.{error-found, withering-found, marks-found, start-found}
@@ -148,9 +148,8 @@ module _ (w : World) (u : Topology Config) (less : IsLess w u) where
       provider false = refl
 
   -- whatever taste there is
-  marked_taste : (test : Consumer → Bool) (mark : Bool) (o : Option Taste)
-      → MatchOption o (consumers_of u 2 ≡ []) (IsTasting u)
-      → MatchOption o (consumers_of (set_marks u test mark) 2 ≡ []) (IsTasting (set_marks u test mark))
+  marked_taste : (test : Consumer → Bool) (mark : Bool) (o : Option Taste) → HasTasteConsumer u o
+      → HasTasteConsumer (set_marks u test mark) o
   marked_taste test mark None is = marks-found.of u test mark 2
       ∙ ap (change_where test (λ (y : Consumer). record y { spoiled = mark })) is
   marked_taste test mark (Some s) is = marked_tasting test mark s is

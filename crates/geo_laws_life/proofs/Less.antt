@@ -9,10 +9,9 @@ use Rattle.geo_model.specs.Fitting.{Firm}
 use Rattle.geo_laws_graph.proofs.Lists.{found_itself}
 use Rattle.geo_laws_graph.proofs.Living.{sound-order, steady-parts}
 use Rattle.geo_laws_counts.specs.CountWords.{DemandStays, AnyConsumer}
-use Rattle.std.specs.Prelude.{List, MatchOption, Option, filter, ◌==◌, [], None}
-use Rattle.geo_model.specs.Topology.{consumers_of}
+use Rattle.std.specs.Prelude.{List, Option, filter, ◌==◌, None}
 use Rattle.geo_model.specs.World.{Taste}
-use Rattle.geo_model.specs.Sound.{IsTasting}
+use Rattle.geo_model.specs.Sound.{HasTasteConsumer}
 use Rattle.geo_model.specs.declared.step.Event.{Event}
 use Rattle.geo_laws_life.specs.LessLaws.{IsGeomOf, IsProviderOf, IsConsumerOf, IsLess}
 
@@ -103,8 +102,8 @@ pub same_le : (a b c : ℕ) → a ≡ b → b ≤ c → a ≤ c
 same_le a b c e less = omega arith
 
 -- the taste's consumer, where consumers are the same
-pub same_tasting : (t u : Topology Config) → u.consumers ≡ t.consumers → (o : Option Taste)
-    → MatchOption o (consumers_of t 2 ≡ []) (IsTasting t) → MatchOption o (consumers_of u 2 ≡ []) (IsTasting u)
+pub same_tasting : (t u : Topology Config) → u.consumers ≡ t.consumers → (o : Option Taste) → HasTasteConsumer t o
+    → HasTasteConsumer u o
 same_tasting t u e None is = ap (filter (λ (x : Consumer). x.geom == 2)) e ∙ is
 same_tasting t u e (Some s) is =
     record {

@@ -4,20 +4,18 @@ use Rattle.std.specs.List.{enumerate_from}
 use Rattle.std.proofs.Common.{inl, inr, refl, sym, ◌∙◌, ap, subst, arith}
 use Rattle.std.proofs.lemmas.List.Elements.{All-contains, Contains-get_or}
 use Rattle.std.proofs.Common.{get_or}
-use Rattle.geo_model.specs.declared.step.Event.{Event}
 use Rattle.geo_model.specs.Words.{is_read, is_flush}
 use Rattle.geo_model.specs.Topology.{Topology, Geom, Provider, Consumer, geom_at, provider_at, consumer_at}
 use Rattle.geo_model.specs.Demand.{want}
-use Rattle.geo_model.specs.Bios.{PieceTarget, piece_targets, disk_of_bio}
+use Rattle.geo_model.specs.Bios.{PieceTarget, piece_targets, disk_at}
 use Rattle.geo_model.specs.Place.{disk_of}
-use Rattle.geo_model.specs.World.{World, Config, Nothing, Disk, Mbr, Ebr, Label, Concat, Stripe, Nop, Bio, granted_in, children_of, is_sent, is_busy}
+use Rattle.geo_model.specs.World.{World, Config, Nothing, Disk, Mbr, Ebr, Label, Concat, Stripe, Nop, Bio, granted_in, children_among, is_sent, is_busy}
 use Rattle.geo_model.specs.SoundBios.{IsRangeInside, HasCountFor, IsBioInOrder, shape_of_child, shape_of_piece, HasItsPieces, IsFamilyInOrder, DisksHold}
 use Rattle.geo_model.specs.Fitting.{Firm}
 use Rattle.geo_laws_counts.proofs.LimitFacts.{all_of}
 use Rattle.geo_laws_life.proofs.Found.{FoundWith, found-with, some-with, at-some}
 use Rattle.geo_laws_life.specs.LessLaws.{IsLess}
 use Rattle.geo_laws_life.proofs.LessLooks.{StandsStill, attached-still, stays_or_spent, wants-still, disk_there}
-use Rattle.geo_laws_life.proofs.Less.{remade}
 
 -- the pieces of a bio don't depend on errors
 same_targets : (config : Config) (p : Provider) (b : Bool) (x : Bio)
@@ -66,19 +64,21 @@ module _ (w : World) (u : Topology Config) (firm : Firm w) (less : IsLess w u) w
       ]
     where
       -- its consumer before
-      d : FoundWith (consumer_at w.topology x.source) (λ c. (c.provider ≡ Some x.target) × HasCountFor w x c)
-      d = found-with (consumer_at w.topology x.source) (λ c. (c.provider ≡ Some x.target) × HasCountFor w x c)
-          (All-contains (IsBioInOrder w) w.bios x firm.sound.bios here).source
+      d : FoundWith (consumer_at w.topology x.source)
+          (λ c. (c.provider ≡ Some x.target) × HasCountFor (granted_in w) w.topology x c)
+      d = found-with (consumer_at w.topology x.source)
+          (λ c. (c.provider ≡ Some x.target) × HasCountFor (granted_in w) w.topology x c)
+          (All-contains (IsBioInOrder (granted_in w) w.topology) w.bios x firm.sound.bios here).source
 
   -- so it is in order
-  bio_in_order : (queue : List Event) (x : Bio) → Contains w.bios x → IsBioInOrder (remade w u queue) x
-  bio_in_order queue x here =
+  bio_in_order : (x : Bio) → Contains w.bios x → IsBioInOrder (granted_in w) u x
+  bio_in_order x here =
       let s = bio-stands x here in
-      let old = All-contains (IsBioInOrder w) w.bios x firm.sound.bios here in
+      let old = All-contains (IsBioInOrder (granted_in w) w.topology) w.bios x firm.sound.bios here in
       record {
         source = some-with (consumer_at u x.source)
-            (λ c. (c.provider ≡ Some x.target) × HasCountFor (remade w u queue) x c) s.source
-            s.found (s.attached, s.counts);
+            (λ c. (c.provider ≡ Some x.target) × HasCountFor (granted_in w) u x c) s.source s.found
+            (s.attached, s.counts);
         target = some-with (provider_at u x.target) (λ p. is_flush x.cmd ≡ false → IsRangeInside x p)
             s.target.provider s.target.found (λ other.
             let r = at-some (provider_at w.topology x.target) (λ p. is_flush x.cmd ≡ false → IsRangeInside x p)
@@ -94,16 +94,15 @@ module _ (w : World) (u : Topology Config) (firm : Firm w) (less : IsLess w u) w
       }
 
   -- its children are its pieces
-  has_pieces : (queue : List Event) (x : Bio) → Contains w.bios x → HasItsPieces w x
-      → HasItsPieces (remade w u queue) x
-  has_pieces queue x here old =
+  has_pieces : (x : Bio) → Contains w.bios x → HasItsPieces w.topology w.bios x → HasItsPieces u w.bios x
+  has_pieces x here old =
       let s = (bio-stands x here).target in
       let was = at-some (geom_at w.topology s.before.geom)
-      (λ g. map shape_of_child (children_of w x.number) ≡ map (λ item. shape_of_piece x item.0 item.1)
+      (λ g. map shape_of_child (children_among w.bios x.number) ≡ map (λ item. shape_of_piece x item.0 item.1)
       (enumerate_from 0 (piece_targets g.config s.before x)))
       s.geom_before s.was_of (at-some (provider_at w.topology x.target)
       (λ p. IsSomeAnd (geom_at w.topology p.geom) (λ g.
-      map shape_of_child (children_of w x.number) ≡ map (λ item. shape_of_piece x item.0 item.1)
+      map shape_of_child (children_among w.bios x.number) ≡ map (λ item. shape_of_piece x item.0 item.1)
       (enumerate_from 0 (piece_targets g.config p x))))
       s.before s.was old) in
       let same : piece_targets s.geom.config s.provider x ≡ piece_targets s.geom_before.config s.before x =
@@ -111,53 +110,52 @@ module _ (w : World) (u : Topology Config) (firm : Firm w) (less : IsLess w u) w
       ∙ ap (λ z. piece_targets s.geom_before.config z x) s.is.same
       ∙ same_targets s.geom_before.config s.before s.provider.errored x in
       some-with (provider_at u x.target) (λ p. IsSomeAnd (geom_at u p.geom) (λ g.
-      map shape_of_child (children_of w x.number) ≡ map (λ item. shape_of_piece x item.0 item.1)
+      map shape_of_child (children_among w.bios x.number) ≡ map (λ item. shape_of_piece x item.0 item.1)
       (enumerate_from 0 (piece_targets g.config p x))))
       s.provider s.found (some-with (geom_at u s.provider.geom)
-      (λ g. map shape_of_child (children_of w x.number) ≡ map (λ item. shape_of_piece x item.0 item.1)
+      (λ g. map shape_of_child (children_among w.bios x.number) ≡ map (λ item. shape_of_piece x item.0 item.1)
       (enumerate_from 0 (piece_targets g.config s.provider x)))
       s.geom s.of
       (was ∙ ap (λ (ts : List PieceTarget). map (λ item. shape_of_piece x item.0 item.1) (enumerate_from 0 ts))
       (sym same)))
 
   -- so families are in order
-  family_in_order : (queue : List Event) (x : Bio) → Contains w.bios x → IsFamilyInOrder (remade w u queue) x
-  family_in_order queue x here =
-      let old = All-contains (IsFamilyInOrder w) w.bios x firm.sound.families here in
+  family_in_order : (x : Bio) → Contains w.bios x → IsFamilyInOrder u w.bios x
+  family_in_order x here =
+      let old = All-contains (IsFamilyInOrder w.topology w.bios) w.bios x firm.sound.families here in
       record {
         parent = old.parent;
-        pieces = λ waits. has_pieces queue x here (old.pieces waits);
+        pieces = λ waits. has_pieces x here (old.pieces waits);
         not_complete = old.not_complete;
         root = old.root;
       }
 
   -- the disk of a bio is what it was
-  same_disk : (queue : List Event) (x : Bio) → Contains w.bios x → disk_of_bio (remade w u queue) x ≡ disk_of_bio w x
-  same_disk queue x here =
+  same_disk : (x : Bio) → Contains w.bios x → disk_at u x.target ≡ disk_at w.topology x.target
+  same_disk x here =
       let s = (bio-stands x here).target in
       disk_there u x.target s.provider s.geom s.found s.of ∙ ap (λ (z : Geom Config). disk_of z.config) s.geom_is.same
       ∙ sym (disk_there w.topology x.target s.before s.geom_before s.was s.was_of)
 
   -- bios are in order
-  pub less-bios : (queue : List Event) → All (IsBioInOrder (remade w u queue)) w.bios
-  less-bios queue = all_of (IsBioInOrder (remade w u queue)) w.bios (bio_in_order queue)
+  pub less-bios : All (IsBioInOrder (granted_in w) u) w.bios
+  less-bios = all_of (IsBioInOrder (granted_in w) u) w.bios bio_in_order
 
   -- families are
-  pub less-families : (queue : List Event) → All (IsFamilyInOrder (remade w u queue)) w.bios
-  less-families queue = all_of (IsFamilyInOrder (remade w u queue)) w.bios (family_in_order queue)
+  pub less-families : All (IsFamilyInOrder u w.bios) w.bios
+  less-families = all_of (IsFamilyInOrder u w.bios) w.bios family_in_order
 
   -- and so are those at disks
-  pub less-disks : (queue : List Event) → DisksHold (remade w u queue)
-  less-disks queue = record {
-    at_disk = all_of (λ x. IsTrue (is_sent x.phase || is_busy x.phase)
-        → IsSome (disk_of_bio (remade w u queue) x)) w.bios (λ x here out.
-        subst (λ o. IsSome o) (sym (same_disk queue x here))
-        (All-contains (λ x. IsTrue (is_sent x.phase || is_busy x.phase) → IsSome (disk_of_bio w x)) w.bios x
+  pub less-disks : DisksHold u w.bios
+  less-disks = record {
+    at_disk = all_of (λ x. IsTrue (is_sent x.phase || is_busy x.phase) → IsSome (disk_at u x.target)) w.bios
+        (λ x here out.
+        subst (λ o. IsSome o) (sym (same_disk x here))
+        (All-contains (λ x. IsTrue (is_sent x.phase || is_busy x.phase) → IsSome (disk_at w.topology x.target)) w.bios x
         firm.sound.disks.at_disk here out));
     one_busy = λ i j d less_than short a b disk first second.
         let here : Contains w.bios (get_or w.bios i d) = Contains-get_or w.bios i d (omega (arith, less_than, short)) in
         let there : Contains w.bios (get_or w.bios j d) = Contains-get_or w.bios j d short in
         firm.sound.disks.one_busy i j d less_than short a b disk
-        (sym (same_disk queue (get_or w.bios i d) here) ∙ first)
-        (sym (same_disk queue (get_or w.bios j d) there) ∙ second);
+        (sym (same_disk (get_or w.bios i d) here) ∙ first) (sym (same_disk (get_or w.bios j d) there) ∙ second);
   }

@@ -216,14 +216,15 @@ module _ (w : World) (u : Topology Config) (firm : Firm w) (less : IsLess w u) w
   less-firm queue withering unmarked living = record {
     sound = record {
       ranks = less.ranks;
-      counts = less-counts w u firm less queue;
+      counts = less-counts w u firm less;
       providers = less-providers w u firm less withering;
-      numbers = less-numbers w u firm less queue;
-      handles = less-handles w u firm less queue;
-      places = less-places w u firm less queue;
-      bios = less-bios w u firm less queue;
-      families = less-families w u firm less queue;
-      disks = less-disks w u firm less queue;
+      numbers = less-numbers w u firm less;
+      handles = less-handles w u firm less;
+      places = less-places w u firm less;
+      bio_numbers = firm.sound.bio_numbers;
+      bios = less-bios w u firm less;
+      families = less-families w u firm less;
+      disks = less-disks w u firm less;
       events = less-events w u firm less queue living;
     };
     steady = less-steady w u firm less queue unmarked;

@@ -12,7 +12,7 @@ use Rattle.geo_model.specs.Demand.{have, is_zero, no_counts}
 use Rattle.geo_model.specs.Events.{provider_of_event}
 use Rattle.geo_model.specs.Place.{Spot, place, component, disk_of}
 use Rattle.geo_model.specs.World.{HeaderDisk, World, Config, Taste, granted_in}
-use Rattle.geo_model.specs.Sound.{IsMediaSize, DifferInName, ProvidersHold, CountsHold, IsOfItsClass, DifferInDisk, HasDiskSizes, NumbersHold, IsHandleConsumer, HasItsConsumer, IsTasting, HandlesHold, IsPlaceInside, IsPlaced, LeadsDown, ChainHolds, IsTasteInOrder, EventsHold, StandsBare}
+use Rattle.geo_model.specs.Sound.{IsMediaSize, DifferInName, ProvidersHold, CountsHold, IsOfItsClass, DifferInDisk, HasDiskSizes, NumbersHold, IsHandleConsumer, HasItsConsumer, IsTasting, HasTasteConsumer, HandlesHold, IsPlaceInside, IsPlaced, LeadsDown, ChainHolds, IsTasteInOrder, EventsHold, StandsBare}
 use Rattle.geo_model.specs.Fitting.{Firm}
 use Rattle.geo_laws_graph.proofs.Members.{find-Contains, Contains-filter, filter-Contains, Contains-here}
 use Rattle.geo_laws_graph.proofs.Numbered.{number_found}
@@ -20,7 +20,7 @@ use Rattle.geo_laws_graph.proofs.Lists.{found_itself}
 use Rattle.geo_laws_counts.proofs.LimitFacts.{all_of}
 use Rattle.geo_laws_life.proofs.Found.{found-with, some-with, some-there, if-found, at-found, at-some, one-found, pairs-from}
 use Rattle.geo_laws_life.specs.LessLaws.{IsGeomOf, IsProviderOf, IsSpent, IsLess}
-use Rattle.geo_laws_life.proofs.Less.{upright-before, remade, geom-number, provider-number}
+use Rattle.geo_laws_life.proofs.Less.{upright-before, geom-number, provider-number}
 use Rattle.geo_laws_life.proofs.LessLooks.{has_below, StandsStill, provider_from, before_order, stands-still, attached-still, stays_or_spent, of_geom, spent-closed, component-below, geom_there}
 
 -- names that differ still do where more is in error
@@ -75,21 +75,22 @@ module _ (w : World) (u : Topology Config) (firm : Firm w) (less : IsLess w u) w
   }
 
   -- no count is in another's way or above the limit
-  pub less-counts : (queue : List Event) → CountsHold (remade w u queue)
-  less-counts queue = record {
+  pub less-counts : CountsHold (granted_in w) u
+  less-counts = record {
     exclusive = less.demand.exclusive firm.sound.counts.exclusive;
     limited = less.demand.limit firm.sound.counts.limited;
   }
 
   -- each geom has the sizes of its disk
-  disk_sizes : (queue : List Event) (y : Geom Config) → Contains u.geoms y → HasDiskSizes (remade w u queue) y
-  disk_sizes queue y here =
+  disk_sizes : (y : Geom Config) → Contains u.geoms y → HasDiskSizes u w.disks y
+  disk_sizes y here =
       let o = less.geoms y here in
       if-found (disk_of y.config) (λ d. IsSomeAnd (slice_get w.disks d) (HasSizes u y.number)) (λ d e.
       let before = found-with (slice_get w.disks d) (HasSizes w.topology o.item.number)
       (at-found (disk_of o.item.config) (λ d. IsSomeAnd (slice_get w.disks d) (HasSizes w.topology o.item.number))
       d (sym (ap (λ (z : Geom Config). disk_of z.config) o.fact.same) ∙ e)
-      (All-contains (HasDiskSizes w) w.topology.geoms o.item firm.sound.numbers.disk_sizes o.stands)) in
+      (All-contains (HasDiskSizes w.topology w.disks) w.topology.geoms o.item firm.sound.numbers.disk_sizes
+      o.stands)) in
       some-with (slice_get w.disks d) (HasSizes u y.number) before.item before.is
       (all_of (HasSize before.item) (providers_of u y.number) (λ p own.
       let q = of_geom w u firm less y.number p own in
@@ -106,13 +107,11 @@ module _ (w : World) (u : Topology Config) (firm : Firm w) (less : IsLess w u) w
       subst IsOfItsClass (sym o.fact.same) (record { config = c.config; dev = c.dev; taste = c.taste })
 
   -- numbers and classes hold
-  pub less-numbers : (queue : List Event) → NumbersHold (remade w u queue)
-  less-numbers queue = record {
+  pub less-numbers : NumbersHold u w.disks
+  less-numbers = record {
     geoms = less.order.geoms;
     providers = less.order.providers;
     consumers = less.order.consumers;
-    handles = firm.sound.numbers.handles;
-    bios = firm.sound.numbers.bios;
     classes = all_of IsOfItsClass u.geoms class_of;
     one_geom_of_disk = pairs-from (λ (x : Geom Config). x.number) DifferInDisk IsGeomOf geom-number
         (λ x y a b first second apart.
@@ -122,7 +121,7 @@ module _ (w : World) (u : Topology Config) (firm : Firm w) (less : IsLess w u) w
         w.topology.next_geom u.next_geom w.topology.geoms u.geoms (before_order w u firm less).geoms less.order.geoms
         less.geoms
         firm.sound.numbers.one_geom_of_disk;
-    disk_sizes = all_of (HasDiskSizes (remade w u queue)) u.geoms (disk_sizes queue);
+    disk_sizes = all_of (HasDiskSizes u w.disks) u.geoms disk_sizes;
   }
 
   -- a consumer of geom 1 or 2 isn't spent
@@ -136,17 +135,16 @@ module _ (w : World) (u : Topology Config) (firm : Firm w) (less : IsLess w u) w
       cc
 
   -- each consumer of DEV is attached, and that of one handle
-  handle_consumer : (queue : List Event) (y : Consumer) → Contains (consumers_of u 1) y
-      → IsHandleConsumer (remade w u queue) y
-  handle_consumer queue y here =
+  handle_consumer : (y : Consumer) → Contains (consumers_of u 1) y → IsHandleConsumer w.handles y
+  handle_consumer y here =
       let kept = filter-Contains (λ (z : Consumer). z.geom == 1) u.consumers y here in
       let o = less.consumers y kept.0 in
       let own : o.item.geom ≡ 1 = sym (ap (λ (z : Consumer). z.geom) o.fact.same) ∙ eqb-true y.geom 1 kept.1 in
-      let before : IsHandleConsumer w o.item =
-      All-contains (IsHandleConsumer w) (consumers_of w.topology 1) o.item firm.sound.handles.consumers
+      let before : IsHandleConsumer w.handles o.item =
+      All-contains (IsHandleConsumer w.handles) (consumers_of w.topology 1) o.item firm.sound.handles.consumers
       (Contains-filter (λ (z : Consumer). z.geom == 1) w.topology.consumers o.item o.stands
       (eq-eqb o.item.geom 1 own)) in
-      subst (λ z. IsHandleConsumer (remade w u queue) z) (sym o.fact.same)
+      subst (IsHandleConsumer w.handles) (sym o.fact.same)
       (record { attached = before.attached; one_handle = before.one_handle })
 
   -- each handle has its consumer
@@ -164,10 +162,11 @@ module _ (w : World) (u : Topology Config) (firm : Firm w) (less : IsLess w u) w
       ]
 
   -- handles and the taste's consumer hold
-  pub less-handles : (queue : List Event) → HandlesHold (remade w u queue)
-  less-handles queue = record {
-    consumers = all_of (IsHandleConsumer (remade w u queue)) (consumers_of u 1) (handle_consumer queue);
-    handles = All-weaker (HasItsConsumer w) (HasItsConsumer (remade w u queue))
+  pub less-handles : HandlesHold u w.handles w.next_handle w.taste
+  less-handles = record {
+    numbers = firm.sound.handles.numbers;
+    consumers = all_of (IsHandleConsumer w.handles) (consumers_of u 1) handle_consumer;
+    handles = All-weaker (HasItsConsumer w.topology) (HasItsConsumer u)
         (λ h. its_consumer h.consumer h.dead) w.handles firm.sound.handles.handles;
     taste = less.tasting;
   }
@@ -271,8 +270,8 @@ module _ (w : World) (u : Topology Config) (firm : Firm w) (less : IsLess w u) w
         premise (inr stands) = inr (upright-before h g of h.withering refl stands)
 
   -- each provider that is open or of a geom that doesn't wither leads down
-  leads_down : (queue : List Event) (p : Provider) → Contains u.providers p → LeadsDown (remade w u queue) p
-  leads_down queue p here =
+  leads_down : (p : Provider) → Contains u.providers p → LeadsDown (granted_in w) u p
+  leads_down p here =
       let s = stands-still w u firm less p.number (some-there (provider_at u p.number) p
       (found_itself (λ (z : Provider). z.number) u.next_provider u.providers p less.order.providers here)) in
       let now : p ≡ s.provider = one-found (provider_at u p.number) p s.provider
@@ -281,22 +280,22 @@ module _ (w : World) (u : Topology Config) (firm : Firm w) (less : IsLess w u) w
       find-Contains (λ (z : Provider). z.number == p.number) w.topology.providers s.before s.was in
       let old = at-some (geom_at w.topology s.before.geom) (λ g. IsUsed w w.topology s.before.number g.withering
       → IsSome (disk_of g.config) ⊎ IsPlaced w.topology g s.before)
-      s.geom_before s.was_of (All-contains (LeadsDown w) w.topology.providers s.before firm.sound.places there) in
+      s.geom_before s.was_of (All-contains (LeadsDown (granted_in w) w.topology) w.topology.providers s.before
+      firm.sound.places there) in
       some-with (geom_at u p.geom) (λ g. IsUsed w u p.number g.withering → IsSome (disk_of g.config) ⊎ IsPlaced u g p)
       s.geom (subst (λ (z : Provider). geom_at u z.geom ≡ Some s.geom) (sym now) s.of)
       (leads p s.before (subst (λ z. IsProviderOf s.before z) (sym now) s.is) s.geom s.geom_before s.was_of s.geom_is
       there old)
 
   -- so do all of them
-  pub less-places : (queue : List Event) → All (LeadsDown (remade w u queue)) u.providers
-  less-places queue = all_of (LeadsDown (remade w u queue)) u.providers (leads_down queue)
+  pub less-places : All (LeadsDown (granted_in w) u) u.providers
+  less-places = all_of (LeadsDown (granted_in w) u) u.providers leads_down
 
   -- Events and the taste
 
   -- a taste is still in order
-  taste_in_order : (queue : List Event) (s : Taste) → IsTasting u s → IsTasteInOrder w s
-      → IsTasteInOrder (remade w u queue) s
-  taste_in_order queue s tasting old = record {
+  taste_in_order : (s : Taste) → IsTasting u s → IsTasteInOrder w.topology s → IsTasteInOrder u s
+  taste_in_order s tasting old = record {
     rank = some-with (geom_of_provider u s.provider) (λ g. rank u g.number < UNTASTED_RANK) still.geom
         (geom_there u s.provider still.provider still.geom still.found still.of) (
         let g = found-with (geom_of_provider w.topology s.provider) (λ g. rank w.topology g.number < UNTASTED_RANK)
@@ -329,16 +328,16 @@ module _ (w : World) (u : Topology Config) (firm : Firm w) (less : IsLess w u) w
       still = attached-still w u firm less tasting.consumer s.provider here tasting.attached
 
   -- whatever taste there is
-  taste_holds : (queue : List Event) (o : Option Taste) → MatchOption o (consumers_of u 2 ≡ []) (IsTasting u)
-      → IfSome o (IsTasteInOrder w) → IfSome o (IsTasteInOrder (remade w u queue))
-  taste_holds queue None tasting old = tt
-  taste_holds queue (Some s) tasting old = taste_in_order queue s tasting old
+  taste_holds : (o : Option Taste) → HasTasteConsumer u o → IfSome o (IsTasteInOrder w.topology)
+      → IfSome o (IsTasteInOrder u)
+  taste_holds None tasting old = tt
+  taste_holds (Some s) tasting old = taste_in_order s tasting old
 
   -- events and the taste hold
   pub less-events : (queue : List Event) → All (λ e. IsSome (provider_at u (provider_of_event e))) queue
-      → EventsHold (remade w u queue)
+      → EventsHold u queue w.taste w.bios
   less-events queue living = record {
     living = living;
     read_out = firm.sound.events.read_out;
-    taste = taste_holds queue w.taste less.tasting firm.sound.events.taste;
+    taste = taste_holds w.taste less.tasting firm.sound.events.taste;
   }

@@ -49,11 +49,11 @@ module _ (w : World) (u : Topology Config) (firm : Firm w) (less : IsLess w u) w
       by (Some n) e was live = live
 
   -- a geom that is used or stands upright was so before
-  used_before : (queue : List Event) (x y : Geom Config) → IsGeomOf x y
-      → (y.withering ≡ false) ⊎ IsTrue (has_open_provider (remade w u queue) y)
-      → (x.withering ≡ false) ⊎ IsTrue (has_open_provider w x)
-  used_before queue x y is (inl stands) = inl (upright-before x y is x.withering refl stands)
-  used_before queue x y is (inr some) =
+  used_before : (x y : Geom Config) → IsGeomOf x y
+      → (y.withering ≡ false) ⊎ IsTrue (has_open_provider (granted_in w) u y)
+      → (x.withering ≡ false) ⊎ IsTrue (has_open_provider (granted_in w) w.topology x)
+  used_before x y is (inl stands) = inl (upright-before x y is x.withering refl stands)
+  used_before x y is (inr some) =
       let p = some-passes (λ (z : Provider). not (is_zero (have (granted_in w) u z.number))) (providers_of u y.number)
       some in
       let q = of_geom w u firm less y.number p.item p.here in
@@ -65,7 +65,7 @@ module _ (w : World) (u : Topology Config) (firm : Firm w) (less : IsLess w u) w
 
   -- a spent consumer isn't a component of a geom that is used or stands upright
   spent_unused : (x : Geom Config) → Contains w.topology.geoms x → (x.withering ≡ false)
-      ⊎ IsTrue (has_open_provider w x) → has_below x.config ≡ true
+      ⊎ IsTrue (has_open_provider (granted_in w) w.topology x) → has_below x.config ≡ true
       → (d : Consumer) → d.geom ≡ x.number → IsSpent w d → ⊥
   spent_unused x here used below d own spent =
       let at : geom_at w.topology d.geom ≡ Some x =
@@ -89,12 +89,12 @@ module _ (w : World) (u : Topology Config) (firm : Firm w) (less : IsLess w u) w
       ]
 
   -- each component still stands
-  components_stand : (queue : List Event) (y : Geom Config) → Contains u.geoms y
-      → HasItsComponents (remade w u queue) y
-  components_stand queue y here used =
+  components_stand : (y : Geom Config) → Contains u.geoms y → HasItsComponents (granted_in w) u y
+  components_stand y here used =
       let o = less.geoms y here in
-      let before = used_before queue o.item y o.fact used in
-      let old = All-contains (HasItsComponents w) w.topology.geoms o.item firm.steady.components o.stands before in
+      let before = used_before o.item y o.fact used in
+      let old = All-contains (HasItsComponents (granted_in w) w.topology) w.topology.geoms o.item
+      firm.steady.components o.stands before in
       all_of (λ c. IsSomeAnd (consumer_at u c) (λ x. (x.geom ≡ y.number) × IsSome x.provider)) (components y.config)
       (λ c among.
       let among_before : Contains (components o.item.config) c =
@@ -113,13 +113,13 @@ module _ (w : World) (u : Topology Config) (firm : Firm w) (less : IsLess w u) w
       ])
 
   -- an assembly with a free place has no provider
-  waits : (queue : List Event) (y : Geom Config) → Contains u.geoms y → WaitsForPlaces (remade w u queue) y
-  waits queue y here free =
+  waits : (y : Geom Config) → Contains u.geoms y → WaitsForPlaces u y
+  waits y here free =
       let o = less.geoms y here in
       no_longer (providers_of u y.number) (providers_of w.topology o.item.number)
       (subst (λ n. length (providers_of u y.number) ≤ length (providers_of w.topology n))
       (geom-number o.item y o.fact) (less.fewer y.number))
-      (All-contains (WaitsForPlaces w) w.topology.geoms o.item firm.steady.partial o.stands
+      (All-contains (WaitsForPlaces w.topology) w.topology.geoms o.item firm.steady.partial o.stands
       (subst (λ (z : Geom Config). IsTrue (has_free_place z)) o.fact.same free))
 
   -- so the world is steady
@@ -132,8 +132,8 @@ module _ (w : World) (u : Topology Config) (firm : Firm w) (less : IsLess w u) w
         o.item firm.steady.made o.stands));
     parts = record { providers = less.live.offerers; consumers = less.live.geoms };
     attached = all_of (λ (c : Consumer). IsSome (option_and_then (provider_at u) c.provider)) u.consumers attached_one;
-    components = all_of (HasItsComponents (remade w u queue)) u.geoms (components_stand queue);
-    partial = all_of (WaitsForPlaces (remade w u queue)) u.geoms (waits queue);
+    components = all_of (HasItsComponents (granted_in w) u) u.geoms components_stand;
+    partial = all_of (WaitsForPlaces u) u.geoms waits;
     owners = firm.steady.owners;
     results = firm.steady.results;
     unmarked = unmarked;

@@ -101,7 +101,7 @@ module _ (plan : Plan) (facts : List (ℕ × ℕ)) (xs : List Stander) where
   }
 
   -- nothing is open, so all counts are within their limits
-  counts : CountsHold w
+  counts : CountsHold (granted_in w) t
   counts = record {
     exclusive = each-passes (λ (x : Provider). stand_together (granted_in w) t (attached_to t x.number))
         (λ x. refl) t.providers;
@@ -167,7 +167,7 @@ module _ (plan : Plan) (facts : List (ℕ × ℕ)) (xs : List Stander) where
         (is.sector ∙ ap (λ (d : HeaderDisk). d.sector) disk, is.size ∙ ap (λ (d : HeaderDisk). d.size) disk)
 
     -- so have all that the geom offers
-    disk_sizes_of : (x : Geom Config) → Contains t.geoms x → HasDisk disks x → HasDiskSizes w x
+    disk_sizes_of : (x : Geom Config) → Contains t.geoms x → HasDisk disks x → HasDiskSizes t disks x
     disk_sizes_of x here h =
         let sizes : All (λ (p : Provider). (p.sector ≡ h.disk.sector) × (p.size ≡ h.disk.size))
         (providers_of t x.number) =
@@ -181,13 +181,11 @@ module _ (plan : Plan) (facts : List (ℕ × ℕ)) (xs : List Stander) where
         rw (config, at) sizes
 
     -- numbers are in order, each geom is of its class, and no disk has two geoms
-    numbers : NumbersHold w
+    numbers : NumbersHold t disks
     numbers = record {
       geoms = geom_numbers;
       providers = provider_numbers;
       consumers = numbers-from 0 1 [] tt;
-      handles = numbers-from 0 1 [] tt;
-      bios = numbers-from 0 1 [] tt;
       classes = All-from_recursion IsOfItsClass t.geoms (
         record { config = refl; dev = refl; taste = refl },
         (
@@ -199,11 +197,11 @@ module _ (plan : Plan) (facts : List (ℕ × ℕ)) (xs : List Stander) where
         bare-differs dev_geom refl (taste_geom ∷ disk_geoms 3 xs),
         (bare-differs taste_geom refl (disk_geoms 3 xs), geoms-differ 3 xs apart),
       );
-      disk_sizes = All-from_recursion (HasDiskSizes w) t.geoms (
+      disk_sizes = All-from_recursion (HasDiskSizes t disks) t.geoms (
         tt,
         (
           tt,
-          All-from_contained (HasDiskSizes w) (disk_geoms 3 xs)
+          All-from_contained (HasDiskSizes t disks) (disk_geoms 3 xs)
               (λ x here. disk_sizes_of x
               (Contains-there dev_geom x (taste_geom ∷ disk_geoms 3 xs)
               (Contains-there taste_geom x (disk_geoms 3 xs) here))
@@ -213,15 +211,16 @@ module _ (plan : Plan) (facts : List (ℕ × ℕ)) (xs : List Stander) where
     }
 
     -- there is no consumer, no handle and no taste yet
-    handles : HandlesHold w
+    handles : HandlesHold t w.handles w.next_handle w.taste
     handles = record {
+      numbers = numbers-from 0 1 [] tt;
       consumers = λ k d short. nowhere k short;
       handles = λ k d short. nowhere k short;
       taste = refl;
     }
 
     -- each provider is that of a disk
-    leads_down : (p : Provider) → IsOfDisk disks t.geoms p → LeadsDown w p
+    leads_down : (p : Provider) → IsOfDisk disks t.geoms p → LeadsDown (granted_in w) t p
     leads_down p is =
         let found = geom_of p is in
         let config : is.geom.config ≡ Disk is.place = is.config in
@@ -239,7 +238,7 @@ module _ (plan : Plan) (facts : List (ℕ × ℕ)) (xs : List Stander) where
         rw there refl
 
     -- so each event is of a provider that lives, and no taste goes on
-    events : EventsHold w
+    events : EventsHold t w.events w.taste w.bios
     events = record {
       living = All-from_recursion (λ (e : Event). IsSome (provider_at t (provider_of_event e))) w.events
           (all_weaker (IsOffered t.providers) (λ (e : Event). IsSome (provider_at t (provider_of_event e))) offered
@@ -256,8 +255,9 @@ module _ (plan : Plan) (facts : List (ℕ × ℕ)) (xs : List Stander) where
       providers = providers;
       numbers = numbers;
       handles = handles;
-      places = All-from_recursion (LeadsDown w) t.providers
-          (all_weaker (IsOfDisk disks t.geoms) (LeadsDown w) leads_down t.providers providers_of_disks);
+      places = All-from_recursion (LeadsDown (granted_in w) t) t.providers
+          (all_weaker (IsOfDisk disks t.geoms) (LeadsDown (granted_in w) t) leads_down t.providers providers_of_disks);
+      bio_numbers = numbers-from 0 1 [] tt;
       bios = λ k d short. nowhere k short;
       families = λ k d short. nowhere k short;
       disks = record { at_disk = λ k d short. nowhere k short; one_busy = λ i j d less short. nowhere j short };
@@ -269,12 +269,12 @@ module _ (plan : Plan) (facts : List (ℕ × ℕ)) (xs : List Stander) where
     lives p is = let found = geom_of p is in rw found refl
 
     -- a disk's geom has no components
-    no_components : (x : Geom Config) → IsDiskGeom 3 x → HasItsComponents w x
+    no_components : (x : Geom Config) → IsDiskGeom 3 x → HasItsComponents (granted_in w) t x
     no_components x is = let config : x.config ≡ Disk is.disk = is.config in
         rw config (λ used k d short. nowhere k short)
 
     -- and no free places
-    no_places : (x : Geom Config) → IsDiskGeom 3 x → WaitsForPlaces w x
+    no_places : (x : Geom Config) → IsDiskGeom 3 x → WaitsForPlaces t x
     no_places x is = let config : x.config ≡ Disk is.disk = is.config in
         rw config (λ free. let bad : false ≡ true = free in absurd (let no_way : ⊥ = cc in no_way))
 
@@ -296,18 +296,18 @@ module _ (plan : Plan) (facts : List (ℕ × ℕ)) (xs : List Stander) where
         consumers = λ k d short. nowhere k short;
       };
       attached = λ k d short. nowhere k short;
-      components = All-from_recursion (HasItsComponents w) t.geoms (
+      components = All-from_recursion (HasItsComponents (granted_in w) t) t.geoms (
         (λ used k d short. nowhere k short),
         (
           (λ used k d short. nowhere k short),
-          all_weaker (IsDiskGeom 3) (HasItsComponents w) no_components (disk_geoms 3 xs) geoms_of_disks,
+          all_weaker (IsDiskGeom 3) (HasItsComponents (granted_in w) t) no_components (disk_geoms 3 xs) geoms_of_disks,
         ),
       );
-      partial = All-from_recursion (WaitsForPlaces w) t.geoms (
+      partial = All-from_recursion (WaitsForPlaces t) t.geoms (
         (λ free. let bad : false ≡ true = free in absurd (let no_way : ⊥ = cc in no_way)),
         (
           (λ free. let bad : false ≡ true = free in absurd (let no_way : ⊥ = cc in no_way)),
-          all_weaker (IsDiskGeom 3) (WaitsForPlaces w) no_places (disk_geoms 3 xs) geoms_of_disks,
+          all_weaker (IsDiskGeom 3) (WaitsForPlaces t) no_places (disk_geoms 3 xs) geoms_of_disks,
         ),
       );
       owners = λ k d short. nowhere k short;

@@ -1,5 +1,5 @@
 -- A provider with nothing attached, a spent consumer and a bare geom go: the graph comes to less.
-use Rattle.std.specs.Prelude.{◌≡◌, ◌≢◌, ◌⊎◌, ℕ, ◌≤◌, ◌==◌, Bool, true, false, not, List, [], length, map, Option, Some, None, All, Contains, IsSome, IsSomeAnd, IsTrue, MatchOption}
+use Rattle.std.specs.Prelude.{◌≡◌, ◌≢◌, ◌⊎◌, ℕ, ◌≤◌, ◌==◌, Bool, true, false, not, List, [], length, map, Option, Some, None, All, Contains, IsSome, IsSomeAnd, IsTrue}
 use Rattle.std.specs.Option.{option_map_or}
 use Rattle.std.proofs.Common.{inl, inr, refl, sym, ◌∙◌, ap, subst, arith}
 use Rattle.std.proofs.lemmas.Bool.{eqb-true, eq-eqb, ne_eqb, cases_eq}
@@ -14,7 +14,7 @@ use Rattle.geo_model.specs.Demand.{have, want, want_of_kind, no_counts}
 use Rattle.geo_model.specs.Events.{provider_of_event, without_events_of}
 use Rattle.geo_model.specs.World.{World, Config, Taste, granted_in}
 use Rattle.geo_model.specs.Graph.{IsInOrder, PartsLive}
-use Rattle.geo_model.specs.Sound.{IsTasting, IsOfItsClass, StandsBare}
+use Rattle.geo_model.specs.Sound.{HasTasteConsumer, IsOfItsClass, StandsBare}
 use Rattle.geo_model.specs.Fitting.{Firm}
 use Rattle.geo_laws_graph.proofs.Members.{find-Contains, All-from_contained, Contains-filter, filter-Contains, nothing_in}
 use Rattle.geo_laws_graph.proofs.Lists.{found_itself}
@@ -160,8 +160,7 @@ module _ (w : World) (firm : Firm w) where
         (sym (ap (λ (z : Consumer). z.geom) (is_it y kept.0 same)) ∙ eqb-true y.geom 2 kept.1)))))
 
     -- so the taste has its consumer
-    tasting_stays : (o : Option Taste) → MatchOption o (consumers_of t 2 ≡ []) (IsTasting t)
-        → MatchOption o (consumers_of (remove_consumer t c) 2 ≡ []) (IsTasting (remove_consumer t c))
+    tasting_stays : (o : Option Taste) → HasTasteConsumer t o → HasTasteConsumer (remove_consumer t c) o
     tasting_stays None is = taste_stays ∙ is
     tasting_stays (Some s) is = record {
       consumer = is.consumer;

@@ -179,8 +179,8 @@ module _ (w : World) (firm : Firm w) where
   no_bio_from : (c : ℕ) (d : Consumer) → consumer_at t c ≡ Some d → IsSpent w d → (x : Bio) → Contains w.bios x
       → x.source ≢ c
   no_bio_from c d found spent x here same =
-      let s = found-with (consumer_at t x.source) (λ z. (z.provider ≡ Some x.target) × HasCountFor w x z)
-      (All-contains (IsBioInOrder w) w.bios x firm.sound.bios here).source in
+      let s = found-with (consumer_at t x.source) (λ z. (z.provider ≡ Some x.target) × HasCountFor (granted_in w) t x z)
+      (All-contains (IsBioInOrder (granted_in w) t) w.bios x firm.sound.bios here).source in
       let one : s.item ≡ d = one-found (consumer_at t c) s.item d
       (subst (λ n. consumer_at t n ≡ Some s.item) same s.is) found in
       let idle : want (granted_in w) t s.item ≡ no_counts = ap (want (granted_in w) t) one ∙ spent.idle in

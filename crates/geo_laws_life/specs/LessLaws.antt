@@ -53,7 +53,7 @@ pub record IsLess (w : World) (u : Topology Config) : Type 0 where
   pub consumers : (y : Consumer) → Contains u.consumers y → ComesFrom IsConsumerOf w.topology.consumers y
   pub fewer : (g : ℕ) → length (providers_of u g) ≤ length (providers_of w.topology g)
   pub stay : (x : Consumer) → Contains w.topology.consumers x → IsSome (consumer_at u x.number) ⊎ IsSpent w x
-  pub tasting : HasTasteConsumer (record w { topology = u })
+  pub tasting : HasTasteConsumer u w.taste
 
 -- a firm world's graph has come to less by nothing; and with a graph that has come to less a firm world is firm,
 -- where each provider of a geom that withers carries an error, no consumer of DEV is marked, and the events are of

@@ -71,8 +71,8 @@ module _ (w : World) (s : Taste) (p : Provider) (kind : Kind) (bytes : List ℕ)
   one_sector = asked.1
 
   -- the taste is in order
-  pub tasting : IsTasteInOrder w s
-  tasting = at-found w.taste (IsTasteInOrder w) s accepted.taste firm.sound.events.taste
+  pub tasting : IsTasteInOrder t s
+  tasting = at-found w.taste (IsTasteInOrder t) s accepted.taste firm.sound.events.taste
 
   -- the geom of the provider
   pub record HasGeom : Type 0 where

@@ -1,23 +1,22 @@
 -- A link of a chain that leads on: what holds of the chain with it.
-use Rattle.std.specs.Prelude.{◌≡◌, ◌≢◌, ℕ, ◌+◌, ◌<◌, ◌≤◌, ◌==◌, nat_lt, nat_le, Bool, true, false, ◌||◌, List, [], ◌∷◌, ◌++◌, length, map, Option, Some, None, All, AllPairs, IfSome, ⊤, if◌then◌else◌}
+use Rattle.std.specs.Prelude.{◌≡◌, ◌≢◌, ℕ, ◌+◌, ◌<◌, ◌≤◌, ◌==◌, nat_lt, Bool, true, false, ◌||◌, List, [], ◌∷◌, ◌++◌, length, map, Option, Some, None, All, AllPairs, IfSome, if◌then◌else◌}
 use Rattle.std.specs.List.{list_any}
-use Rattle.std.proofs.Common.{refl, sym, ◌∙◌, ap, subst, arith, length-append}
-use Rattle.std.proofs.lemmas.Bool.{eqb-false, eq-eqb, ltb-false, or_parts}
+use Rattle.std.proofs.Common.{refl, sym, subst, arith, length-append}
+use Rattle.std.proofs.lemmas.Bool.{eqb-false, ltb-false, or_parts}
 use Rattle.std.proofs.lemmas.List.{map-append}
-use Rattle.std.proofs.lemmas.List.Elements.{All-cons, All-map, All-nil, All-push, All-weaker}
+use Rattle.std.proofs.lemmas.List.Elements.{All-cons, All-map, All-nil, All-push}
 use Rattle.std.proofs.lemmas.List.Quantifiers.{all_pairs_push}
 use Rattle.geo_base.specs.declared.decline.DeclineCause.{DeclineCause}
 use Rattle.geo_base.specs.declared.kind.Kind.TheVariants as kinds
 use Rattle.geo_base.specs.declared.limits.TheConstants.{MAX_LINKS}
-use Rattle.geo_model.specs.declared.class.EbrPart.{EbrPart}
 use Rattle.geo_model.specs.declared.class.Shape.{Shape}
 use Rattle.geo_model.specs.declared.class.Shape.TheVariants.{Logical}
-use Rattle.geo_model.specs.declared.class.Verdict.TheVariants.{Decline, More, Accept}
+use Rattle.geo_model.specs.declared.class.Verdict.TheVariants.{More, Accept}
 use Rattle.geo_model.specs.declared.step.BioResult.{BioResult}
 use Rattle.geo_model.specs.Words.{first_error}
 use Rattle.geo_model.specs.Records.{entry_start, entry_type, u32_at}
 use Rattle.geo_model.specs.Chain.{LinkRead, Chain, BeginsAtZero, chain_verdict, feed, leads_on, link_tests, named_part, next_link, table_of, with_link}
-use Rattle.geo_model.specs.World.{NextSector, ReadBack}
+use Rattle.geo_model.specs.World.{ReadBack}
 use Rattle.geo_model.specs.Sound.{ChainHolds, IsPartOf}
 use Rattle.geo_laws_texts.proofs.ChainWalks.{leads-to}
 use Rattle.geo_laws_texts.proofs.ChainTests.{LeadsTo}

@@ -16,7 +16,7 @@ use Rattle.geo_model.specs.Acceptance.{places_of}
 use Rattle.geo_model.specs.World.{World, Config, Handle, Taste, Bio, granted_in, taste_grant, is_read_out, is_taste_root}
 use Rattle.geo_model.specs.Tasting.{abort_taste}
 use Rattle.geo_model.specs.Sound.{IsHandleConsumer, HasItsConsumer, IsPlaceInside, IsPlaced, LeadsDown}
-use Rattle.geo_model.specs.SoundBios.{IsBioInOrder, IsFamilyInOrder, HasItsParent, HasCountFor}
+use Rattle.geo_model.specs.SoundBios.{IsBioInOrder, IsFamilyInOrder, HasCountFor}
 use Rattle.geo_model.specs.Steady.{HasItsComponents, ComesFromItsOwner}
 use Rattle.geo_model.specs.Fitting.{sizes_of, FitsBelow, FitsPlace, FitsPlaces, Firm}
 use Rattle.geo_laws_graph.proofs.Members.{filter-Contains, find-Contains, All-from_contained}
@@ -142,7 +142,7 @@ module _ (w : World) (firm : Firm w) (s : Taste) (is : w.taste ≡ Some s) (none
       (inside g q spot.item other spot.fact)
 
   -- each provider leads down
-  leads : (q : Provider) → Contains t.providers q → LeadsDown w q → LeadsDown v q
+  leads : (q : Provider) → Contains t.providers q → LeadsDown (granted_in w) t q → LeadsDown (granted_in v) u q
   leads q q_here old =
       let g = found-with (geom_at t q.geom) (λ g. (is_zero (have (granted_in w) t q.number) ≡ false)
       ⊎ (g.withering ≡ false) → IsSome (disk_of g.config) ⊎ IsPlaced t g q) old in
@@ -166,10 +166,11 @@ module _ (w : World) (firm : Firm w) (s : Taste) (is : w.taste ≡ Some s) (none
       by g other (inr is_placed) = inr (placed g q other is_placed)
 
   -- each geom has its components
-  has_components : (g : Geom Config) → Contains t.geoms g → HasItsComponents w g → HasItsComponents v g
+  has_components : (g : Geom Config) → Contains t.geoms g → HasItsComponents (granted_in w) t g
+      → HasItsComponents (granted_in v) u g
   has_components g g_here old = by (cases_eq g.number 2) where
     -- TASTE has none, and no other geom has the one that goes
-    by : (g.number ≡ 2) ⊎ (g.number ≢ 2) → HasItsComponents v g
+    by : (g.number ≡ 2) ⊎ (g.number ≢ 2) → HasItsComponents (granted_in v) u g
     by (inl two) = λ used.
         subst (λ config. All (λ c. IsSomeAnd (consumer_at u c) (λ x. (x.geom ≡ g.number) × IsSome x.provider))
         (components config)) (sym (taste_config w firm g g_here two)) (λ k x short. absurd (omega (arith, short)))
@@ -204,7 +205,7 @@ module _ (w : World) (firm : Firm w) (s : Taste) (is : w.taste ≡ Some s) (none
   -- Handles and bios
 
   -- each handle has its consumer
-  its_consumer : (h : Handle) → HasItsConsumer w h → HasItsConsumer v h
+  its_consumer : (h : Handle) → HasItsConsumer t h → HasItsConsumer u h
   its_consumer h = by h.consumer where
     -- by the consumer
     by : (o : Option ℕ) → MatchOption o (h.dead ≡ true) (λ c. IsSomeAnd (consumer_at t c) (λ z. z.geom ≡ 1))
@@ -216,7 +217,8 @@ module _ (w : World) (firm : Firm w) (s : Taste) (is : w.taste ≡ Some s) (none
         (still c x.item x.is (λ two. let no : 1 ≡ 2 = sym x.fact ∙ two in absurd (omega (arith, no)))) x.fact
 
   -- a bio isn't from the one that goes
-  source_apart : (z : Bio) (c : Consumer) → consumer_at t z.source ≡ Some c → HasCountFor w z c → z.source ≢ d.number
+  source_apart : (z : Bio) (c : Consumer) → consumer_at t z.source ≡ Some c → HasCountFor (granted_in w) t z c
+      → z.source ≢ d.number
   source_apart z c e counts same =
       let there : consumer_at t d.number ≡ Some c = subst (λ n. consumer_at t n ≡ Some c) same e in
       let one : d ≡ c = one-found (consumer_at t d.number) d c (taster_found w firm s is) there in
@@ -226,16 +228,17 @@ module _ (w : World) (firm : Firm w) (s : Taste) (is : w.taste ≡ Some s) (none
       (ap (λ a. a.w) idle) counts
 
   -- each bio is in order
-  bio : (z : Bio) → IsBioInOrder w z → IsBioInOrder v z
+  bio : (z : Bio) → IsBioInOrder (granted_in w) t z → IsBioInOrder (granted_in v) u z
   bio z old =
-      let c = found-with (consumer_at t z.source) (λ c. (c.provider ≡ Some z.target) × HasCountFor w z c) old.source in
+      let c = found-with (consumer_at t z.source)
+      (λ c. (c.provider ≡ Some z.target) × HasCountFor (granted_in w) t z c) old.source in
       let found : consumer_at u z.source ≡ Some c.item =
       removed-consumer.others t d.number z.source (source_apart z c.item c.is c.fact.1) ∙ c.is in
       let same : want (granted_in v) u c.item ≡ want (granted_in w) t c.item =
       demand.wants c.item (find-Contains (λ (x : Consumer). x.number == z.source) u.consumers c.item found) in
       record {
-        source = some-with (consumer_at u z.source) (λ c. (c.provider ≡ Some z.target) × HasCountFor v z c)
-            c.item found (
+        source = some-with (consumer_at u z.source)
+            (λ c. (c.provider ≡ Some z.target) × HasCountFor (granted_in v) u z c) c.item found (
               c.fact.0,
               subst (λ a. (IsTrue (is_read z.cmd) → 0 < a.r) × (is_read z.cmd ≡ false → 0 < a.w)) (sym same) c.fact.1,
             );
@@ -243,16 +246,10 @@ module _ (w : World) (firm : Firm w) (s : Taste) (is : w.taste ≡ Some s) (none
         bytes = old.bytes;
       }
 
-  -- its parent waits
-  its_parent : (o : Owner) → HasItsParent w o → HasItsParent v o
-  its_parent (owners.Line handle line) fact = fact
-  its_parent owners.Taste fact = fact
-  its_parent (owners.Child parent index) fact = fact
-
-  -- and its family is in order
-  family : (z : Bio) → IsFamilyInOrder w z → IsFamilyInOrder v z
+  -- and its family is
+  family : (z : Bio) → IsFamilyInOrder t w.bios z → IsFamilyInOrder u w.bios z
   family z fact = record {
-    parent = its_parent z.owner fact.parent;
+    parent = fact.parent;
     pieces = fact.pieces;
     not_complete = fact.not_complete;
     root = fact.root;
@@ -267,7 +264,8 @@ module _ (w : World) (firm : Firm w) (s : Taste) (is : w.taste ≡ Some s) (none
       let no : true ≡ false = sym out ∙ none in cc
 
   -- so a root comes from its owner
-  comes : (z : Bio) → Contains w.bios z → (o : Owner) → z.owner ≡ o → ComesFromItsOwner w z o → ComesFromItsOwner v z o
+  comes : (z : Bio) → Contains w.bios z → (o : Owner) → z.owner ≡ o → ComesFromItsOwner w.handles w.taste z o
+      → ComesFromItsOwner w.handles None z o
   comes z here (owners.Line handle line) e fact = fact
   comes z here owners.Taste e fact =
       absurd (none_reads (any-contained (λ (x : Bio). is_taste_root x.owner) w.bios z here (ap is_taste_root e)))
@@ -291,23 +289,21 @@ module _ (w : World) (firm : Firm w) (s : Taste) (is : w.taste ≡ Some s) (none
         geoms = firm.sound.numbers.geoms;
         providers = firm.sound.numbers.providers;
         consumers = (removed-consumer.order t d.number (order w firm)).consumers;
-        handles = firm.sound.numbers.handles;
-        bios = firm.sound.numbers.bios;
         classes = firm.sound.numbers.classes;
         one_geom_of_disk = firm.sound.numbers.one_geom_of_disk;
         disk_sizes = firm.sound.numbers.disk_sizes;
       };
       handles = record {
-        consumers = subst (All (IsHandleConsumer v)) (sym same_dev)
-            (All-weaker (IsHandleConsumer w) (IsHandleConsumer v)
-            (λ c of. record { attached = of.attached; one_handle = of.one_handle })
-            (consumers_of t 1) firm.sound.handles.consumers);
-        handles = All-weaker (HasItsConsumer w) (HasItsConsumer v) its_consumer w.handles firm.sound.handles.handles;
+        numbers = firm.sound.handles.numbers;
+        consumers = subst (All (IsHandleConsumer w.handles)) (sym same_dev) firm.sound.handles.consumers;
+        handles = All-weaker (HasItsConsumer t) (HasItsConsumer u) its_consumer w.handles firm.sound.handles.handles;
         taste = no_taster;
       };
-      places = all_members (LeadsDown w) (LeadsDown v) t.providers leads firm.sound.places;
-      bios = All-weaker (IsBioInOrder w) (IsBioInOrder v) bio w.bios firm.sound.bios;
-      families = All-weaker (IsFamilyInOrder w) (IsFamilyInOrder v) family w.bios firm.sound.families;
+      places = all_members (LeadsDown (granted_in w) t) (LeadsDown (granted_in v) u) t.providers leads
+          firm.sound.places;
+      bio_numbers = firm.sound.bio_numbers;
+      bios = All-weaker (IsBioInOrder (granted_in w) t) (IsBioInOrder (granted_in v) u) bio w.bios firm.sound.bios;
+      families = All-weaker (IsFamilyInOrder t w.bios) (IsFamilyInOrder u w.bios) family w.bios firm.sound.families;
       disks = record { at_disk = firm.sound.disks.at_disk; one_busy = firm.sound.disks.one_busy };
       events = record {
         living = firm.sound.events.living;
@@ -323,9 +319,11 @@ module _ (w : World) (firm : Firm w) (s : Taste) (is : w.taste ≡ Some s) (none
       };
       attached = All-filter (λ (x : Consumer). not (x.number == d.number))
           (λ (c : Consumer). IsSome (option_and_then (provider_at t) c.provider)) t.consumers firm.steady.attached;
-      components = all_members (HasItsComponents w) (HasItsComponents v) t.geoms has_components firm.steady.components;
+      components = all_members (HasItsComponents (granted_in w) t) (HasItsComponents (granted_in v) u) t.geoms
+          has_components firm.steady.components;
       partial = firm.steady.partial;
-      owners = all_members (λ z. ComesFromItsOwner w z z.owner) (λ z. ComesFromItsOwner v z z.owner) w.bios
+      owners = all_members (λ z. ComesFromItsOwner w.handles w.taste z z.owner)
+          (λ z. ComesFromItsOwner w.handles None z z.owner) w.bios
           (λ z here fact. comes z here z.owner refl fact) firm.steady.owners;
       results = firm.steady.results;
       unmarked = subst (All (λ (c : Consumer). c.spoiled ≡ false)) (sym same_dev) firm.steady.unmarked;

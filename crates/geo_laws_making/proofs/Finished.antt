@@ -220,7 +220,8 @@ module _ (w : World) (g : Geom Config) (name : List ℕ) (sector : ℕ) (firm : 
     disk_sizes = if-found (disk_of g.config) _ (λ d e.
         let none = (has-places g.config waits.assembly).no_disk in
         absurd (let no : ⊥ = cc in no));
-    components = All-contains (HasItsComponents w) t.geoms g firm.steady.components here (inl waits.upright);
+    components = All-contains (HasItsComponents (granted_in w) t) t.geoms g firm.steady.components here
+        (inl waits.upright);
     partial = λ free. false_true (sym (none_free (places_of g.config) can.full) ∙ free);
     places = fits_places;
     one = λ concat. let all : length (providers_of u n) ≡ 1 = ap length own in omega arith;
@@ -256,7 +257,7 @@ module _ (w : World) (g : Geom Config) (name : List ℕ) (sector : ℕ) (firm : 
   )
 
   -- the taste isn't too high
-  low_still : (o : Option Taste) → IfSome o (IsTasteInOrder w)
+  low_still : (o : Option Taste) → IfSome o (IsTasteInOrder t)
       → IfSome o (λ s. IsSomeAnd (geom_of_provider u s.provider) (λ h. rank u h.number < UNTASTED_RANK))
   low_still None old = tt
   low_still (Some s) old =

@@ -1,5 +1,5 @@
 -- The step of a taste: a firm world stays firm.
-use Rattle.std.specs.Prelude.{◌≡◌, ◌≢◌, ℕ, ◌+◌, ◌/◌, ◌<◌, ◌≤◌, ◌==◌, Bool, true, false, not, List, [], ◌∷◌, length, map, Option, Some, None, All, AllPairs, IsSome, IfSome, is_some, ⊤, if◌then◌else◌}
+use Rattle.std.specs.Prelude.{◌≡◌, ℕ, ◌+◌, ◌/◌, ◌<◌, ◌≤◌, ◌==◌, Bool, true, false, List, [], ◌∷◌, length, Option, Some, None, IsSome, IfSome, is_some, if◌then◌else◌}
 use Rattle.std.specs.Option.{option_map_or}
 use Rattle.std.proofs.Common.{refl, sym, ◌∙◌, ap, subst, arith}
 use Rattle.std.proofs.lemmas.List.Elements.{All-contains, All-nil}
@@ -9,34 +9,32 @@ use Rattle.geo_base.specs.declared.kind.Kind.{Kind}
 use Rattle.geo_base.specs.declared.kind.Kind.TheVariants as kinds
 use Rattle.geo_base.specs.declared.request.Counts.{Counts}
 use Rattle.geo_model.specs.declared.class.Facts.{Facts}
-use Rattle.geo_model.specs.declared.class.Judged.TheVariants.{Read, Next, Made, Ended}
+use Rattle.geo_model.specs.declared.class.Judged.TheVariants.{Read, Next, Made}
 use Rattle.geo_model.specs.declared.class.Shape.{Shape}
 use Rattle.geo_model.specs.declared.class.Verdict.{Verdict}
 use Rattle.geo_model.specs.declared.class.Verdict.TheVariants.{Decline, More, Accept}
 use Rattle.geo_model.specs.declared.step.BioResult.{BioResult}
 use Rattle.geo_model.specs.declared.step.BioResult.TheVariants as results
-use Rattle.geo_model.specs.declared.step.Found.TheVariants as refusals
 use Rattle.geo_model.specs.declared.step.Step.TheVariants as steps
 use Rattle.geo_model.specs.Topology.{Topology, Provider, provider_at}
 use Rattle.geo_model.specs.Demand.{one_read}
 use Rattle.geo_model.specs.Opens.{grant_refusal, with_grant}
 use Rattle.geo_model.specs.Order.{reads_limit}
-use Rattle.geo_model.specs.Chain.{Chain, LinkRead, no_links, with_link, feed}
+use Rattle.geo_model.specs.Chain.{Chain, no_links, with_link, feed}
 use Rattle.geo_model.specs.World.{World, Config, Taste, Asked, NoClass, NextSector, ReadOut, ReadBack, granted_in, is_read_out}
 use Rattle.geo_model.specs.Events.{QueuedTopology}
 use Rattle.geo_model.specs.WorldEvents.{queued_of, with_queued}
 use Rattle.geo_model.specs.Acceptance.{accept, judge, taste_where}
-use Rattle.geo_model.specs.Tasting.{Judging, facts_of, is_attached_class, is_ended, end_class, end_taste, read_sector, follow, with_read, verdict_on, take_result, ask_class, next_class, go_on, taste_step, judged_world, judge_step}
-use Rattle.geo_model.specs.Sound.{AreReadsInOrder, ChainHolds, HasItsChain, IsMediaSize, IsTasteInOrder, class_asked}
+use Rattle.geo_model.specs.Tasting.{Judging, facts_of, is_attached_class, is_ended, end_class, end_taste, read_sector, follow, with_read, verdict_on, take_result, next_class, go_on, judged_world, judge_step}
+use Rattle.geo_model.specs.Sound.{AreReadsInOrder, ChainHolds, IsMediaSize, IsTasteInOrder, class_asked}
 use Rattle.geo_model.specs.Fitting.{AsksThere, IsAskedInOrder, Firm}
 use Rattle.geo_model.specs.Laws.{world_by}
 use Rattle.geo_model.specs.Log.{world_after}
 use Rattle.geo_model.specs.Step.{step, judge_of, judge_next}
 use Rattle.geo_laws_graph.proofs.Members.{find-Contains}
 use Rattle.geo_laws_life.proofs.Found.{if-found, at-found}
-use Rattle.geo_laws_making.specs.AcceptLaws.{IsAccepted}
 use Rattle.geo_laws_making.proofs.Accepts.{accepts_stay}
-use Rattle.geo_laws_making.specs.TasteLaws.{taste_asking, world_with_taste, IsAsking, IsGranted}
+use Rattle.geo_laws_making.specs.TasteLaws.{taste_asking, world_with_taste}
 use Rattle.geo_laws_making.specs.ChainSteps.{GoesOnTo}
 use Rattle.geo_laws_making.specs.JudgeLaws.{JudgesStayFirm}
 use Rattle.geo_laws_making.proofs.Asking.{asking-firm}
@@ -98,8 +96,8 @@ module _ (w : World) (firm : Firm w) (s : Taste) (is : w.taste ≡ Some s)
     f = facts_of t p
 
     -- the taste was in order
-    was : IsTasteInOrder w s
-    was = subst (λ (o : Option Taste). IfSome o (IsTasteInOrder w)) is firm.sound.events.taste
+    was : IsTasteInOrder t s
+    was = subst (λ (o : Option Taste). IfSome o (IsTasteInOrder t)) is firm.sound.events.taste
 
     -- so was how far the class was asked
     was_asked : IsAskedInOrder t p s.asked

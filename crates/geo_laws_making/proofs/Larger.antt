@@ -137,7 +137,7 @@ module _ (w : World) (x : Growing) (q : Provider) (firm : Firm w) (is : IsStandi
   -- none was free
   no_free : list_any is_none before.places ≡ false
   no_free = false_from_ne_true (list_any is_none before.places) (λ free.
-      let none_left = All-contains (WaitsForPlaces w) t.geoms x.geom firm.steady.partial (geom_here w x firm is)
+      let none_left = All-contains (WaitsForPlaces t) t.geoms x.geom firm.steady.partial (geom_here w x firm is)
       (ap (λ z. list_any is_none (places_of z)) before.is ∙ free) in
       nothing_in x.provider (subst (λ ys. Contains ys x.provider) none_left (provider_own w x firm is)))
 
@@ -146,8 +146,8 @@ module _ (w : World) (x : Growing) (q : Provider) (firm : Firm w) (is : IsStandi
       (flat_map option_to_list before.places)
   stood = subst (λ z. All (λ d. IsSomeAnd (consumer_at t d) (λ z. (z.geom ≡ n) × IsSome z.provider))
       (components z)) before.is
-      (All-contains (HasItsComponents w) t.geoms x.geom firm.steady.components (geom_here w x firm is)
-      (inl is.upright))
+      (All-contains (HasItsComponents (granted_in w) t) t.geoms x.geom firm.steady.components
+      (geom_here w x firm is) (inl is.upright))
 
   -- as long as its provider
   summed : x.provider.size ≡ sum before.sizes
@@ -489,8 +489,8 @@ module _ (w : World) (x : Growing) (q : Provider) (firm : Firm w) (is : IsStandi
       elim (at-some (geom_at t x.provider.geom) (λ h. (is_zero (have (granted_in w) t x.provider.number) ≡ false)
       ⊎ (h.withering ≡ false) → IsSome (disk_of h.config) ⊎ IsPlaced t h x.provider) x.geom
       (ap (geom_at t) is.found.own ∙ is.found.geom)
-      (All-contains (LeadsDown w) t.providers x.provider firm.sound.places (provider_here w x firm is))
-      (inr is.upright)) [
+      (All-contains (LeadsDown (granted_in w) t) t.providers x.provider firm.sound.places
+      (provider_here w x firm is)) (inr is.upright)) [
         | inl disk ↦ false_true (subst (λ z. IsSome (disk_of z)) before.is disk)
         | inr so ↦ so
       ]
@@ -589,7 +589,7 @@ module _ (w : World) (x : Growing) (q : Provider) (firm : Firm w) (is : IsStandi
 
   -- so its rank stays
   taste_low : (o : Option Taste) → option_map_or (λ (s : Taste). is_below t p s.provider) o false ≡ false
-      → IfSome o (IsTasteInOrder w)
+      → IfSome o (IsTasteInOrder t)
       → IfSome o (λ s. IsSomeAnd (geom_of_provider u s.provider) (λ h. rank u h.number < UNTASTED_RANK))
   taste_low None away old = tt
   taste_low (Some s) away old =

@@ -364,7 +364,7 @@ module _ (w : World) (kind : Kind) (name : List ℕ) (config : Config) (automati
       let bad : ⊥ = cc in bad))
 
   -- the providers have the sizes of its disk
-  has_sizes : HasDiskSizes (record w { topology = u }) g
+  has_sizes : HasDiskSizes u w.disks g
   has_sizes =
       if-found (disk_of config) (λ a. IsSomeAnd (slice_get w.disks a) (λ disk.
       All (λ p. (p.sector ≡ disk.sector) × (p.size ≡ disk.size)) (providers_of u n))) (λ a e.
@@ -441,7 +441,7 @@ module _ (w : World) (kind : Kind) (name : List ℕ) (config : Config) (automati
   )
 
   -- the taste isn't too high
-  low_still : (o : Option Taste) → IfSome o (IsTasteInOrder w)
+  low_still : (o : Option Taste) → IfSome o (IsTasteInOrder t)
       → IfSome o (λ s. IsSomeAnd (geom_of_provider u s.provider) (λ h. rank u h.number < UNTASTED_RANK))
   low_still None old = tt
   low_still (Some s) old =

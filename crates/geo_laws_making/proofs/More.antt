@@ -1,5 +1,5 @@
 -- A graph that has come to more: what is found in it, and what soundness says still holds.
-use Rattle.std.specs.Prelude.{◌≡◌, ◌≢◌, ◌⊎◌, ℕ, ◌<◌, ◌≤◌, ◌/◌, ◌==◌, Bool, true, false, ◌&&◌, ◌||◌, List, [], map, Option, Some, None, All, Contains, IsSome, IsSomeAnd, IfSome, IsTrue, MatchOption, option_and_then, slice_get}
+use Rattle.std.specs.Prelude.{◌≡◌, ◌≢◌, ◌⊎◌, ℕ, ◌<◌, ◌≤◌, ◌/◌, ◌==◌, Bool, true, false, ◌&&◌, ◌||◌, List, map, Option, Some, None, All, Contains, IsSome, IsSomeAnd, IfSome, IsTrue, MatchOption, option_and_then, slice_get}
 use Rattle.std.specs.List.{enumerate_from}
 use Rattle.std.proofs.Common.{inl, inr, refl, sym, ◌∙◌, ap, subst, arith, get_or}
 use Rattle.std.proofs.lemmas.Bool.{and_parts, eqb-true}
@@ -8,15 +8,15 @@ use Rattle.geo_base.proofs.FindLists.{some-passes}
 use Rattle.geo_base.specs.declared.limits.TheConstants.{UNTASTED_RANK}
 use Rattle.geo_model.specs.declared.step.Event.{Event}
 use Rattle.geo_model.specs.Words.{is_read, is_flush}
-use Rattle.geo_model.specs.Topology.{Topology, Geom, Provider, Consumer, geom_at, provider_at, consumer_at, geom_of_provider, consumers_of, is_withering}
+use Rattle.geo_model.specs.Topology.{Topology, Geom, Provider, Consumer, geom_at, provider_at, consumer_at, geom_of_provider, is_withering}
 use Rattle.geo_model.specs.Rank.{rank}
 use Rattle.geo_model.specs.Demand.{have, want, is_zero}
 use Rattle.geo_model.specs.Events.{provider_of_event}
-use Rattle.geo_model.specs.Bios.{piece_targets, disk_of_bio}
+use Rattle.geo_model.specs.Bios.{piece_targets, disk_at}
 use Rattle.geo_model.specs.Place.{Spot, place, component, disk_of}
 use Rattle.geo_model.specs.World.{World, Config, Taste, Bio, granted_in, children_of, is_sent, is_busy}
 use Rattle.geo_model.specs.Graph.{IsInOrder}
-use Rattle.geo_model.specs.Sound.{IsMediaSize, ProvidersHold, CountsHold, IsOfItsClass, HasDiskSizes, NumbersHold, IsHandleConsumer, HasItsConsumer, IsTasting, HandlesHold, IsPlaceInside, IsPlaced, LeadsDown, ChainHolds, IsTasteInOrder, EventsHold}
+use Rattle.geo_model.specs.Sound.{IsMediaSize, ProvidersHold, CountsHold, IsOfItsClass, HasDiskSizes, NumbersHold, IsHandleConsumer, HasItsConsumer, HasTasteConsumer, HandlesHold, IsPlaceInside, IsPlaced, LeadsDown, ChainHolds, IsTasteInOrder, EventsHold}
 use Rattle.geo_model.specs.SoundBios.{IsRangeInside, HasCountFor, IsBioInOrder, shape_of_child, shape_of_piece, HasItsPieces, IsFamilyInOrder, DisksHold}
 use Rattle.geo_model.specs.Fitting.{Firm}
 use Rattle.geo_laws_graph.proofs.Members.{has, find-Contains}
@@ -24,7 +24,6 @@ use Rattle.geo_laws_graph.proofs.Numbered.{any-contained}
 use Rattle.geo_laws_graph.proofs.Living.{sound-order}
 use Rattle.geo_laws_counts.proofs.LimitFacts.{all_of}
 use Rattle.geo_laws_life.proofs.Found.{found-with, some-with, at-some}
-use Rattle.geo_laws_life.proofs.Less.{remade}
 use Rattle.geo_laws_life.proofs.LessLooks.{disk_there}
 use Rattle.geo_laws_making.specs.MoreLaws.{IsGrownFrom, IsMore}
 
@@ -97,36 +96,34 @@ module _ (w : World) (u : Topology Config) (g : Geom Config) (firm : Firm w) (mo
   }
 
   -- no count is in another's way or above the limit
-  pub more-counts : (queue : List Event) → CountsHold (remade w u queue)
-  more-counts queue = record { exclusive = more.exclusive; limited = more.limited }
+  pub more-counts : CountsHold (granted_in w) u
+  more-counts = record { exclusive = more.exclusive; limited = more.limited }
 
   -- each geom has the sizes of its disk
-  disk_sizes : (queue : List Event) (y : Geom Config) → Contains u.geoms y → HasDiskSizes (remade w u queue) y
-  disk_sizes queue y here =
+  disk_sizes : (y : Geom Config) → Contains u.geoms y → HasDiskSizes u w.disks y
+  disk_sizes y here =
       elim (more.geoms y here) [
         | inl old ↦
             subst (λ (ps : List Provider). IfSome (disk_of y.config) (λ d. IsSomeAnd (slice_get w.disks d) (λ disk.
             All (λ (p : Provider). (p.sector ≡ disk.sector) × (p.size ≡ disk.size)) ps)))
             (sym (more.others y.number old.1))
-            (All-contains (HasDiskSizes w) t.geoms y firm.sound.numbers.disk_sizes old.0)
-        | inr same ↦ subst (HasDiskSizes (record w { topology = u })) (sym same) more.fits.disk_sizes
+            (All-contains (HasDiskSizes t w.disks) t.geoms y firm.sound.numbers.disk_sizes old.0)
+        | inr same ↦ subst (HasDiskSizes u w.disks) (sym same) more.fits.disk_sizes
       ]
 
   -- numbers and classes hold
-  pub more-numbers : (queue : List Event) → NumbersHold (remade w u queue)
-  more-numbers queue = record {
+  pub more-numbers : NumbersHold u w.disks
+  more-numbers = record {
     geoms = more.order.geoms;
     providers = more.order.providers;
     consumers = more.order.consumers;
-    handles = firm.sound.numbers.handles;
-    bios = firm.sound.numbers.bios;
     classes = all_of IsOfItsClass u.geoms (λ y here.
         elim (more.geoms y here) [
           | inl old ↦ All-contains IsOfItsClass t.geoms y firm.sound.numbers.classes old.0
           | inr same ↦ subst IsOfItsClass (sym same) more.fits.class
         ]);
     one_geom_of_disk = more.disks;
-    disk_sizes = all_of (HasDiskSizes (remade w u queue)) u.geoms (disk_sizes queue);
+    disk_sizes = all_of (HasDiskSizes u w.disks) u.geoms disk_sizes;
   }
 
   -- each handle has its consumer
@@ -139,8 +136,7 @@ module _ (w : World) (u : Topology Config) (g : Geom Config) (firm : Firm w) (mo
       some-with (consumer_at u c) (λ x. x.geom ≡ 1) d.item (more.old_consumers c d.item d.is) d.fact
 
   -- the taste has its consumer
-  tasting_still : (o : Option Taste) → MatchOption o (consumers_of t 2 ≡ []) (IsTasting t)
-      → MatchOption o (consumers_of u 2 ≡ []) (IsTasting u)
+  tasting_still : (o : Option Taste) → HasTasteConsumer t o → HasTasteConsumer u o
   tasting_still None fact = more.tasting ∙ fact
   tasting_still (Some s) fact = record {
     consumer = fact.consumer;
@@ -150,14 +146,12 @@ module _ (w : World) (u : Topology Config) (g : Geom Config) (firm : Firm w) (mo
   }
 
   -- handles and the taste's consumer hold
-  pub more-handles : (queue : List Event) → HandlesHold (remade w u queue)
-  more-handles queue = record {
-    consumers = subst (All (IsHandleConsumer (remade w u queue))) (sym more.dev)
-        (All-weaker (IsHandleConsumer w) (IsHandleConsumer (remade w u queue))
-        (λ c is. record { attached = is.attached; one_handle = is.one_handle })
-        (consumers_of t 1) firm.sound.handles.consumers);
-    handles = All-weaker (HasItsConsumer w) (HasItsConsumer (remade w u queue))
-        (λ h. its_consumer h.consumer h.dead) w.handles firm.sound.handles.handles;
+  pub more-handles : HandlesHold u w.handles w.next_handle w.taste
+  more-handles = record {
+    numbers = firm.sound.handles.numbers;
+    consumers = subst (All (IsHandleConsumer w.handles)) (sym more.dev) firm.sound.handles.consumers;
+    handles = All-weaker (HasItsConsumer t) (HasItsConsumer u) (λ h. its_consumer h.consumer h.dead) w.handles
+        firm.sound.handles.handles;
     taste = tasting_still w.taste firm.sound.handles.taste;
   }
 
@@ -203,9 +197,9 @@ module _ (w : World) (u : Topology Config) (g : Geom Config) (firm : Firm w) (mo
       some-with (place h.config p.name o) (IsPlaceInside u h p) spot.item spot.is (inside h p spot.item spot.fact)
 
   -- an old provider leads down
-  old_leads : (queue : List Event) (p : Provider) → Contains t.providers p → p.geom ≢ g.number → LeadsDown w p
-      → LeadsDown (remade w u queue) p
-  old_leads queue p here apart old =
+  old_leads : (p : Provider) → Contains t.providers p → p.geom ≢ g.number → LeadsDown (granted_in w) t p
+      → LeadsDown (granted_in w) u p
+  old_leads p here apart old =
       let h = found-with (geom_at t p.geom) (λ h. (is_zero (have (granted_in w) t p.number) ≡ false)
       ⊎ (h.withering ≡ false) → IsSome (disk_of h.config) ⊎ IsPlaced t h p) old in
       some-with (geom_at u p.geom) (λ h. (is_zero (have (granted_in w) u p.number) ≡ false) ⊎ (h.withering ≡ false)
@@ -230,10 +224,12 @@ module _ (w : World) (u : Topology Config) (g : Geom Config) (firm : Firm w) (mo
       before h found (inr stands) = inr stands
 
   -- each provider leads down
-  pub more-places : (queue : List Event) → All (LeadsDown (remade w u queue)) u.providers
-  more-places queue = all_of (LeadsDown (remade w u queue)) u.providers (λ p here.
+  pub more-places : All (LeadsDown (granted_in w) u) u.providers
+  more-places = all_of (LeadsDown (granted_in w) u) u.providers (λ p here.
       elim (more.providers p here) [
-        | inl old ↦ old_leads queue p old.0 old.1 (All-contains (LeadsDown w) t.providers p firm.sound.places old.0)
+        | inl old ↦
+            old_leads p old.0 old.1
+            (All-contains (LeadsDown (granted_in w) t) t.providers p firm.sound.places old.0)
         | inr made ↦
             some-with (geom_at u p.geom) (λ h. (is_zero (have (granted_in w) u p.number) ≡ false)
             ⊎ (h.withering ≡ false) → IsSome (disk_of h.config) ⊎ IsPlaced u h p) g
@@ -262,21 +258,21 @@ module _ (w : World) (u : Topology Config) (g : Geom Config) (firm : Firm w) (mo
   pub target_stands : (x : Bio) → Contains w.bios x → StandsBoth t u x.target
   target_stands x here =
       let p = found-with (provider_at t x.target) (λ p. is_flush x.cmd ≡ false → IsRangeInside x p)
-      (All-contains (IsBioInOrder w) w.bios x firm.sound.bios here).target in
+      (All-contains (IsBioInOrder (granted_in w) t) w.bios x firm.sound.bios here).target in
       stands_both x.target p.item p.is (more.bios x here p.item p.is)
 
   -- a bio is in order
-  bio_in_order : (queue : List Event) (x : Bio) → Contains w.bios x → IsBioInOrder (remade w u queue) x
-  bio_in_order queue x here =
-      let old = All-contains (IsBioInOrder w) w.bios x firm.sound.bios here in
-      let d = found-with (consumer_at t x.source) (λ c. (c.provider ≡ Some x.target) × HasCountFor w x c)
-      old.source in
+  bio_in_order : (x : Bio) → Contains w.bios x → IsBioInOrder (granted_in w) u x
+  bio_in_order x here =
+      let old = All-contains (IsBioInOrder (granted_in w) t) w.bios x firm.sound.bios here in
+      let d = found-with (consumer_at t x.source)
+      (λ c. (c.provider ≡ Some x.target) × HasCountFor (granted_in w) t x c) old.source in
       let less = more.wants d.item (find-Contains (λ (z : Consumer). z.number == x.source) t.consumers d.item
       d.is) in
       let s = target_stands x here in
       record {
         source = some-with (consumer_at u x.source) (λ c. (c.provider ≡ Some x.target)
-            × HasCountFor (remade w u queue) x c)
+            × HasCountFor (granted_in w) u x c)
             d.item (more.old_consumers x.source d.item d.is) (
               d.fact.0,
               enough (is_read x.cmd) (want (granted_in w) t d.item).r (want (granted_in w) t d.item).w
@@ -290,9 +286,8 @@ module _ (w : World) (u : Topology Config) (g : Geom Config) (firm : Firm w) (mo
       }
 
   -- the children of a bio are its pieces
-  has_pieces : (queue : List Event) (x : Bio) → Contains w.bios x → HasItsPieces w x
-      → HasItsPieces (remade w u queue) x
-  has_pieces queue x here old =
+  has_pieces : (x : Bio) → Contains w.bios x → HasItsPieces t w.bios x → HasItsPieces u w.bios x
+  has_pieces x here old =
       let s = target_stands x here in
       some-with (provider_at u x.target) (λ p. IsSomeAnd (geom_at u p.geom) (λ g.
       map shape_of_child (children_of w x.number) ≡ map (λ item. shape_of_piece x item.0 item.1)
@@ -310,53 +305,52 @@ module _ (w : World) (u : Topology Config) (g : Geom Config) (firm : Firm w) (mo
       s.provider s.was old)))
 
   -- families are in order
-  family_in_order : (queue : List Event) (x : Bio) → Contains w.bios x → IsFamilyInOrder (remade w u queue) x
-  family_in_order queue x here =
-      let old = All-contains (IsFamilyInOrder w) w.bios x firm.sound.families here in
+  family_in_order : (x : Bio) → Contains w.bios x → IsFamilyInOrder u w.bios x
+  family_in_order x here =
+      let old = All-contains (IsFamilyInOrder t w.bios) w.bios x firm.sound.families here in
       record {
         parent = old.parent;
-        pieces = λ waits. has_pieces queue x here (old.pieces waits);
+        pieces = λ waits. has_pieces x here (old.pieces waits);
         not_complete = old.not_complete;
         root = old.root;
       }
 
   -- the disk of a bio is what it was
-  same_disk : (queue : List Event) (x : Bio) → Contains w.bios x → disk_of_bio (remade w u queue) x
-      ≡ disk_of_bio w x
-  same_disk queue x here =
+  same_disk : (x : Bio) → Contains w.bios x → disk_at u x.target ≡ disk_at t x.target
+  same_disk x here =
       let s = target_stands x here in
       disk_there u x.target s.provider s.geom s.found s.of
       ∙ sym (disk_there t x.target s.provider s.geom s.was s.was_of)
 
   -- bios are in order
-  pub more-bios : (queue : List Event) → All (IsBioInOrder (remade w u queue)) w.bios
-  more-bios queue = all_of (IsBioInOrder (remade w u queue)) w.bios (bio_in_order queue)
+  pub more-bios : All (IsBioInOrder (granted_in w) u) w.bios
+  more-bios = all_of (IsBioInOrder (granted_in w) u) w.bios bio_in_order
 
   -- families are
-  pub more-families : (queue : List Event) → All (IsFamilyInOrder (remade w u queue)) w.bios
-  more-families queue = all_of (IsFamilyInOrder (remade w u queue)) w.bios (family_in_order queue)
+  pub more-families : All (IsFamilyInOrder u w.bios) w.bios
+  more-families = all_of (IsFamilyInOrder u w.bios) w.bios family_in_order
 
   -- and so are those at disks
-  pub more-disks : (queue : List Event) → DisksHold (remade w u queue)
-  more-disks queue = record {
-    at_disk = all_of (λ x. IsTrue (is_sent x.phase || is_busy x.phase)
-        → IsSome (disk_of_bio (remade w u queue) x)) w.bios (λ x here out.
-        subst (λ o. IsSome o) (sym (same_disk queue x here))
-        (All-contains (λ x. IsTrue (is_sent x.phase || is_busy x.phase) → IsSome (disk_of_bio w x)) w.bios x
+  pub more-disks : DisksHold u w.bios
+  more-disks = record {
+    at_disk = all_of (λ x. IsTrue (is_sent x.phase || is_busy x.phase) → IsSome (disk_at u x.target)) w.bios
+        (λ x here out.
+        subst (λ o. IsSome o) (sym (same_disk x here))
+        (All-contains (λ x. IsTrue (is_sent x.phase || is_busy x.phase) → IsSome (disk_at t x.target)) w.bios x
         firm.sound.disks.at_disk here out));
     one_busy = λ i j d less_than short a b disk first second.
         let here : Contains w.bios (get_or w.bios i d) = Contains-get_or w.bios i d
         (omega (arith, less_than, short)) in
         let there : Contains w.bios (get_or w.bios j d) = Contains-get_or w.bios j d short in
         firm.sound.disks.one_busy i j d less_than short a b disk
-        (sym (same_disk queue (get_or w.bios i d) here) ∙ first)
-        (sym (same_disk queue (get_or w.bios j d) there) ∙ second);
+        (sym (same_disk (get_or w.bios i d) here) ∙ first)
+        (sym (same_disk (get_or w.bios j d) there) ∙ second);
   }
 
   -- Events and the taste
 
   -- the provider of a taste stands
-  pub taste_stands : (s : Taste) → IsTasteInOrder w s → ((x : Provider) → provider_at t s.provider ≡ Some x
+  pub taste_stands : (s : Taste) → IsTasteInOrder t s → ((x : Provider) → provider_at t s.provider ≡ Some x
       → (provider_at u s.provider ≡ Some x) × (x.geom ≢ g.number)) → StandsBoth t u s.provider
   taste_stands s old still =
       let p = has (provider_at t s.provider) (by (provider_at t s.provider) old.rank) in
@@ -370,13 +364,13 @@ module _ (w : World) (u : Topology Config) (g : Geom Config) (firm : Firm w) (mo
       by (Some x) fact = refl
 
   -- a taste is in order
-  taste_holds : (queue : List Event) (o : Option Taste) → IfSome o (IsTasteInOrder w)
+  taste_holds : (o : Option Taste) → IfSome o (IsTasteInOrder t)
       → IfSome o (λ s. (x : Provider) → provider_at t s.provider ≡ Some x → (provider_at u s.provider ≡ Some x)
       × (x.geom ≢ g.number))
       → IfSome o (λ s. IsSomeAnd (geom_of_provider u s.provider) (λ h. rank u h.number < UNTASTED_RANK))
-      → IfSome o (IsTasteInOrder (remade w u queue))
-  taste_holds queue None old still low = tt
-  taste_holds queue (Some s) old still low =
+      → IfSome o (IsTasteInOrder u)
+  taste_holds None old still low = tt
+  taste_holds (Some s) old still low =
       let both = taste_stands s old still in
       record {
         rank = low;
@@ -387,9 +381,9 @@ module _ (w : World) (u : Topology Config) (g : Geom Config) (firm : Firm w) (mo
 
   -- events and the taste hold
   pub more-events : (queue : List Event) → All (λ e. IsSome (provider_at u (provider_of_event e))) queue
-      → EventsHold (remade w u queue)
+      → EventsHold u queue w.taste w.bios
   more-events queue living = record {
     living = living;
     read_out = firm.sound.events.read_out;
-    taste = taste_holds queue w.taste firm.sound.events.taste more.tasted more.rank;
+    taste = taste_holds w.taste firm.sound.events.taste more.tasted more.rank;
   }

@@ -96,11 +96,11 @@ module _ (w : World) (u : Topology Config) (g : Geom Config) (firm : Firm w) (mo
   -- Steadiness
 
   -- a geom that is open or stands upright was so before
-  used_before : (queue : List Event) (x : Geom Config) → Contains t.geoms x → x.number ≢ g.number
-      → (x.withering ≡ false) ⊎ IsTrue (has_open_provider (remade w u queue) x)
-      → (x.withering ≡ false) ⊎ IsTrue (has_open_provider w x)
-  used_before queue x here apart (inl stands) = inl stands
-  used_before queue x here apart (inr some) =
+  used_before : (x : Geom Config) → Contains t.geoms x → x.number ≢ g.number
+      → (x.withering ≡ false) ⊎ IsTrue (has_open_provider (granted_in w) u x)
+      → (x.withering ≡ false) ⊎ IsTrue (has_open_provider (granted_in w) t x)
+  used_before x here apart (inl stands) = inl stands
+  used_before x here apart (inr some) =
       let was : list_any (λ (z : Provider). not (is_zero (have (granted_in w) u z.number)))
       (providers_of t x.number) ≡ true =
       subst (λ ps. list_any (λ (z : Provider). not (is_zero (have (granted_in w) u z.number))) ps ≡ true)
@@ -122,9 +122,8 @@ module _ (w : World) (u : Topology Config) (g : Geom Config) (firm : Firm w) (mo
       ]
 
   -- each component still stands
-  components_stand : (queue : List Event) (y : Geom Config) → Contains u.geoms y
-      → HasItsComponents (remade w u queue) y
-  components_stand queue y here =
+  components_stand : (y : Geom Config) → Contains u.geoms y → HasItsComponents (granted_in w) u y
+  components_stand y here =
       elim (more.geoms y here) [
         | inl old ↦ (λ used.
             All-weaker (λ c. IsSomeAnd (consumer_at t c) (λ x. (x.geom ≡ y.number) × IsSome x.provider))
@@ -132,8 +131,8 @@ module _ (w : World) (u : Topology Config) (g : Geom Config) (firm : Firm w) (mo
             let d = found-with (consumer_at t c) (λ x. (x.geom ≡ y.number) × IsSome x.provider) fact in
             some-with (consumer_at u c) (λ x. (x.geom ≡ y.number) × IsSome x.provider) d.item
             (more.old_consumers c d.item d.is) d.fact) (components y.config)
-            (All-contains (HasItsComponents w) t.geoms y firm.steady.components old.0
-            (used_before queue y old.0 old.1 used)))
+            (All-contains (HasItsComponents (granted_in w) t) t.geoms y firm.steady.components old.0
+            (used_before y old.0 old.1 used)))
         | inr same ↦ (λ used.
             subst (λ (z : Geom Config). All (λ c. IsSomeAnd (consumer_at u c) (λ x. (x.geom ≡ z.number)
             × IsSome x.provider))
@@ -164,11 +163,11 @@ module _ (w : World) (u : Topology Config) (g : Geom Config) (firm : Firm w) (mo
               firm.steady.attached old)
           | inr made ↦ made.attached
         ]);
-    components = all_of (HasItsComponents (remade w u queue)) u.geoms (components_stand queue);
-    partial = all_of (WaitsForPlaces (remade w u queue)) u.geoms (λ y here.
+    components = all_of (HasItsComponents (granted_in w) u) u.geoms components_stand;
+    partial = all_of (WaitsForPlaces u) u.geoms (λ y here.
         elim (more.geoms y here) [
           | inl old ↦ (λ free.
-              more.others y.number old.1 ∙ All-contains (WaitsForPlaces w) t.geoms y firm.steady.partial old.0 free)
+              more.others y.number old.1 ∙ All-contains (WaitsForPlaces t) t.geoms y firm.steady.partial old.0 free)
           | inr same ↦
               subst (λ (z : Geom Config). IsTrue (has_free_place z) → providers_of u z.number ≡ []) (sym same)
               more.fits.partial
@@ -239,7 +238,7 @@ module _ (w : World) (u : Topology Config) (g : Geom Config) (firm : Firm w) (mo
       (omega arith, subst (λ m. size % m ≡ 0) (sym (ap (λ (z : Provider). z.sector) b.is.same)) fit.1)))
 
   -- the taste asks in order
-  asks : (o : Option Taste) → IfSome o (IsTasteInOrder w)
+  asks : (o : Option Taste) → IfSome o (IsTasteInOrder t)
       → IfSome o (λ s. (x : Provider) → provider_at t s.provider ≡ Some x → (provider_at u s.provider ≡ Some x)
       × (x.geom ≢ g.number))
       → IfSome o (λ s. IfSome (provider_at t s.provider) (λ p. IsAskedInOrder t p s.asked))
@@ -313,14 +312,15 @@ module _ (w : World) (u : Topology Config) (g : Geom Config) (firm : Firm w) (mo
   more-firm queue living = record {
     sound = record {
       ranks = more.ranks;
-      counts = more-counts w u g firm more queue;
+      counts = more-counts w u g firm more;
       providers = more-providers w u g firm more;
-      numbers = more-numbers w u g firm more queue;
-      handles = more-handles w u g firm more queue;
-      places = more-places w u g firm more queue;
-      bios = more-bios w u g firm more queue;
-      families = more-families w u g firm more queue;
-      disks = more-disks w u g firm more queue;
+      numbers = more-numbers w u g firm more;
+      handles = more-handles w u g firm more;
+      places = more-places w u g firm more;
+      bio_numbers = firm.sound.bio_numbers;
+      bios = more-bios w u g firm more;
+      families = more-families w u g firm more;
+      disks = more-disks w u g firm more;
       events = more-events w u g firm more queue living;
     };
     steady = more-steady queue;

@@ -4,7 +4,7 @@ use Rattle.std.proofs.Common.{inl, sym, ◌∙◌, subst}
 use Rattle.std.proofs.lemmas.Bool.{eq-eqb}
 use Rattle.std.proofs.lemmas.List.Elements.{All-contains}
 use Rattle.geo_model.specs.Topology.{Topology, Geom, Provider, geom_at, consumer_at}
-use Rattle.geo_model.specs.World.{World, Config}
+use Rattle.geo_model.specs.World.{World, Config, granted_in}
 use Rattle.geo_model.specs.Place.{components}
 use Rattle.geo_model.specs.Sound.{IsOfItsClass}
 use Rattle.geo_model.specs.Steady.{HasItsComponents}
@@ -67,4 +67,5 @@ module _ (w : World) (g : Geom Config) (firm : Firm w) (waits : IsOpenAssembly w
   component-there d stands =
       All-contains (λ d. IsSomeAnd (consumer_at t d) (λ x. (x.geom ≡ g.number) × IsSome x.provider))
       (components g.config) d
-      (All-contains (HasItsComponents w) t.geoms g firm.steady.components is-there (inl waits.upright)) stands
+      (All-contains (HasItsComponents (granted_in w) t) t.geoms g firm.steady.components is-there
+      (inl waits.upright)) stands

@@ -357,7 +357,7 @@ module _ (w : World) (p : Provider) (g : Geom Config) (k : ℕ) (firm : Firm w) 
   untouched m x e = (e, not_of_it x (find-Contains (λ (z : Provider). z.number == m) t.providers x e))
 
   -- the taste isn't too high
-  low_still : (o : Option Taste) → IfSome o (IsTasteInOrder w)
+  low_still : (o : Option Taste) → IfSome o (IsTasteInOrder t)
       → IfSome o (λ s. IsSomeAnd (geom_of_provider u s.provider) (λ h. rank u h.number < UNTASTED_RANK))
   low_still None old = tt
   low_still (Some s) old =

@@ -306,7 +306,7 @@ module _ (w : World) (p : Provider) (m : Member) (count : ℕ) (made : QueuedTop
             (sound-order w firm.sound.numbers).geoms here;
         upright = upright;
         assembly = is.assembly;
-        offers_none = All-contains (WaitsForPlaces w) before.geoms g firm.steady.partial here free;
+        offers_none = All-contains (WaitsForPlaces before) before.geoms g firm.steady.partial here free;
       })
       is.whole (λ d x q among found below.
       let place : Contains (places_of g.config) (Some d) =

@@ -1,21 +1,21 @@
 -- A taste is granted one read: what a firm world holds without its bios, it holds still.
-use Rattle.std.specs.Prelude.{◌≡◌, ◌≢◌, ◌⊎◌, ℕ, ◌==◌, Bool, true, false, not, ◌&&◌, List, find, Option, Some, None, All, Contains, IsSome, IsSomeAnd, IfSome, IsTrue, if◌then◌else◌}
+use Rattle.std.specs.Prelude.{◌≡◌, ◌≢◌, ◌⊎◌, ℕ, ◌==◌, Bool, true, false, not, ◌&&◌, List, find, Option, Some, None, All, Contains, IsSome, IfSome, IsTrue, if◌then◌else◌}
 use Rattle.std.specs.List.{list_any}
 use Rattle.std.specs.Option.{option_map_or}
 use Rattle.std.proofs.Common.{inl, inr, refl, sym, ◌∙◌, ap, subst}
 use Rattle.std.proofs.lemmas.Bool.{eq-eqb, eqb-true, ne_eqb, cases_eq}
-use Rattle.std.proofs.lemmas.List.Elements.{All-contains, All-weaker}
+use Rattle.std.proofs.lemmas.List.Elements.{All-contains}
 use Rattle.geo_base.proofs.FindLists.{some-passes}
 use Rattle.geo_base.specs.declared.request.Counts.{Counts}
 use Rattle.geo_base.specs.declared.kind.Kind.{Kind}
 use Rattle.geo_model.specs.Words.{names_number}
-use Rattle.geo_model.specs.Topology.{Topology, Geom, Provider, Consumer, geom_at, consumer_at, providers_of, consumers_of, is_errored, is_withering}
+use Rattle.geo_model.specs.Topology.{Topology, Geom, Provider, Consumer, geom_at, consumer_at, providers_of, is_errored, is_withering}
 use Rattle.geo_model.specs.Demand.{have, is_zero, no_counts, one_read}
 use Rattle.geo_model.specs.Opens.{below, has_error_below, with_grant}
-use Rattle.geo_model.specs.Place.{components, disk_of}
+use Rattle.geo_model.specs.Place.{disk_of}
 use Rattle.geo_model.specs.Chain.{Chain}
 use Rattle.geo_model.specs.World.{World, Config, Handle, Taste, ReadOut, Bio, granted_in, taste_grant}
-use Rattle.geo_model.specs.Sound.{IsHandleConsumer, IsPlaced, LeadsDown, IsTasteInOrder}
+use Rattle.geo_model.specs.Sound.{IsPlaced, LeadsDown, IsTasteInOrder}
 use Rattle.geo_model.specs.Steady.{HasItsComponents}
 use Rattle.geo_model.specs.Fitting.{Firm}
 use Rattle.geo_laws_graph.proofs.Members.{find-Contains, filter-Contains}
@@ -165,7 +165,7 @@ module _ (w : World) (firm : Firm w) (s : Taste) (p : Provider) (granted : IsGra
       firm.sound.providers.withering here is))
 
   -- each provider leads down
-  leads : (q : Provider) → Contains t.providers q → LeadsDown w q → LeadsDown v q
+  leads : (q : Provider) → Contains t.providers q → LeadsDown (granted_in w) t q → LeadsDown (granted_in v) t q
   leads q here old =
       let h = found-with (geom_at t q.geom) (λ h. (is_zero (have (granted_in w) t q.number) ≡ false)
       ⊎ (h.withering ≡ false) → IsSome (disk_of h.config) ⊎ IsPlaced t h q) old in
@@ -197,7 +197,8 @@ module _ (w : World) (firm : Firm w) (s : Taste) (p : Provider) (granted : IsGra
       q.here (sym (ap (λ a. not (is_zero a)) (same_have q.item kept.0 h of withers)) ∙ q.passes)
 
   -- each geom has its components
-  has_components : (h : Geom Config) → Contains t.geoms h → HasItsComponents w h → HasItsComponents v h
+  has_components : (h : Geom Config) → Contains t.geoms h → HasItsComponents (granted_in w) t h
+      → HasItsComponents (granted_in v) t h
   has_components h here old used = old (before h.withering refl used) where
     -- it was used so before
     before : (b : Bool) → h.withering ≡ b → (h.withering ≡ false)
@@ -217,8 +218,8 @@ module _ (w : World) (firm : Firm w) (s : Taste) (p : Provider) (granted : IsGra
   rest = rest_of w firm
 
   -- the taste was in order
-  was : IsTasteInOrder w s
-  was = subst (λ (o : Option Taste). IfSome o (IsTasteInOrder w)) granted.taste rest.tasting.taste
+  was : IsTasteInOrder t s
+  was = subst (λ (o : Option Taste). IfSome o (IsTasteInOrder t)) granted.taste rest.tasting.taste
 
   -- all but the bios then
   pub read-rest : RestHolds v
@@ -227,41 +228,26 @@ module _ (w : World) (firm : Firm w) (s : Taste) (p : Provider) (granted : IsGra
       ranks = rest.graph.ranks;
       counts = record { exclusive = allows.exclusive; limited = allows.limit };
       providers = rest.graph.providers;
-      numbers = record {
-        geoms = rest.graph.numbers.geoms;
-        providers = rest.graph.numbers.providers;
-        consumers = rest.graph.numbers.consumers;
-        handles = rest.graph.numbers.handles;
-        classes = rest.graph.numbers.classes;
-        one_geom_of_disk = rest.graph.numbers.one_geom_of_disk;
-        disk_sizes = rest.graph.numbers.disk_sizes;
-      };
-      handles = record {
-        consumers = All-weaker (IsHandleConsumer w) (IsHandleConsumer v)
-            (λ c of. record { attached = of.attached; one_handle = of.one_handle })
-            (consumers_of t 1) rest.graph.handles.consumers;
-        handles = rest.graph.handles.handles;
-        taste =
-            let had = tasting w firm s granted.taste in
-            record { consumer = had.consumer; alone = had.alone; number = had.number; attached = had.attached };
-      };
-      places = all_members (LeadsDown w) (LeadsDown v) t.providers leads rest.graph.places;
+      numbers = rest.graph.numbers;
+      places = all_members (LeadsDown (granted_in w) t) (LeadsDown (granted_in v) t) t.providers leads
+          rest.graph.places;
       made = rest.graph.made;
       parts = rest.graph.parts;
       attached = rest.graph.attached;
-      components = all_members (HasItsComponents w) (HasItsComponents v) t.geoms has_components rest.graph.components;
+      components = all_members (HasItsComponents (granted_in w) t) (HasItsComponents (granted_in v) t) t.geoms
+          has_components rest.graph.components;
       partial = rest.graph.partial;
       unmarked = rest.graph.unmarked;
     };
-    sizes = record {
-      disks = rest.sizes.disks;
-      sectors = rest.sizes.sectors;
-      wholes = rest.sizes.wholes;
-      places = rest.sizes.places;
-      one = rest.sizes.one;
-      apart = rest.sizes.apart;
-      sums = rest.sizes.sums;
+    handles = record {
+      numbers = rest.handles.numbers;
+      consumers = rest.handles.consumers;
+      handles = rest.handles.handles;
+      taste =
+          let had = tasting w firm s granted.taste in
+          record { consumer = had.consumer; alone = had.alone; number = had.number; attached = had.attached };
     };
+    sizes = rest.sizes;
     tasting = record {
       living = rest.tasting.living;
       taste = record { rank = was.rank; reads = asks.reads; chain = asks.chain };

@@ -1,6 +1,6 @@
 -- The read of a sector is submitted for a taste to which it is granted: a firm world stays firm.
-use Rattle.std.specs.Prelude.{◌≡◌, ◌↔◌, ℕ, ◌+◌, ◌*◌, ◌/◌, ◌%◌, ◌<◌, ◌≤◌, ◌==◌, Bool, true, false, ◌||◌, List, [], ◌∷◌, ◌++◌, length, map, filter, count_by, Option, Some, None, All, IsSome, IsSomeAnd, IfSome, IsTrue}
-use Rattle.std.specs.List.{AllByRecursion, enumerate_from, list_all, list_any}
+use Rattle.std.specs.Prelude.{◌≡◌, ℕ, ◌+◌, ◌*◌, ◌/◌, ◌%◌, ◌<◌, ◌≤◌, ◌==◌, Bool, true, false, ◌||◌, List, [], ◌∷◌, ◌++◌, length, map, filter, count_by, Option, Some, IsSome, IsSomeAnd, IsTrue}
+use Rattle.std.specs.List.{enumerate_from, list_all, list_any}
 use Rattle.std.specs.Option.{option_map_or}
 use Rattle.std.proofs.Common.{inl, inr, refl, sym, ◌∙◌, ap, subst, arith}
 use Rattle.std.proofs.Math.Bool.{or-true}
@@ -18,8 +18,8 @@ use Rattle.geo_model.specs.Words.{is_read}
 use Rattle.geo_model.specs.Topology.{Topology, Provider, Consumer, geom_at, provider_at, consumer_at}
 use Rattle.geo_model.specs.Demand.{want, one_read}
 use Rattle.geo_model.specs.Chain.{Chain}
-use Rattle.geo_model.specs.World.{World, Config, Taste, ReadOut, Bio, granted_in, bio_at, children_of, is_waiting, is_done, is_busy, is_sent, is_up, is_child_of, is_taste_root, is_read_out}
-use Rattle.geo_model.specs.Bios.{piece_targets, disk_of_bio, new_bio}
+use Rattle.geo_model.specs.World.{World, Config, Taste, ReadOut, Bio, granted_in, bio_at, children_of, is_waiting, is_done, is_busy, is_sent, is_child_of, is_taste_root, is_read_out}
+use Rattle.geo_model.specs.Bios.{piece_targets, disk_at, new_bio}
 use Rattle.geo_model.specs.Tasting.{submit_read}
 use Rattle.geo_model.specs.SoundBios.{IsRangeInside, IsBioInOrder, IsFamilyInOrder, HasItsParent, HasCountFor, shape_of_child, shape_of_piece, NotBothBusy}
 use Rattle.geo_model.specs.Steady.{ComesFromItsOwner, HasItsResult}
@@ -119,12 +119,13 @@ module _ (w : World) (firm : Firm w) (s : Taste) (p : Provider) (granted : IsGra
   same_children n = filter-pushed (λ (z : Bio). is_child_of z.owner n) w.bios x refl
 
   -- a bio is in order
-  order_kept : (z : Bio) → IsBioInOrder w z → IsBioInOrder v z
+  order_kept : (z : Bio) → IsBioInOrder (granted_in w) t z → IsBioInOrder (granted_in v) t z
   order_kept z old =
-      let c = found-with (consumer_at t z.source) (λ c. (c.provider ≡ Some z.target) × HasCountFor w z c) old.source in
+      let c = found-with (consumer_at t z.source)
+      (λ c. (c.provider ≡ Some z.target) × HasCountFor (granted_in w) t z c) old.source in
       record {
-        source = some-with (consumer_at t z.source) (λ c. (c.provider ≡ Some z.target) × HasCountFor v z c)
-            c.item c.is (
+        source = some-with (consumer_at t z.source)
+            (λ c. (c.provider ≡ Some z.target) × HasCountFor (granted_in v) t z c) c.item c.is (
               c.fact.0,
               more_serve (is_read z.cmd) (want (granted_in w) t c.item) (want (granted_in v) t c.item)
                   (want-at_most (granted_in w) (granted_in v)
@@ -151,10 +152,10 @@ module _ (w : World) (firm : Firm w) (s : Taste) (p : Provider) (granted : IsGra
       firm.fitting.sectors (find-Contains (λ (q : Provider). q.number == s.provider) t.providers p granted.found)) below
 
   -- the read is in order
-  own_order : IsBioInOrder v x
+  own_order : IsBioInOrder (granted_in v) t x
   own_order = record {
-    source = some-with (consumer_at t s.consumer) (λ c. (c.provider ≡ Some s.provider) × HasCountFor v x c) d
-        found_source (
+    source = some-with (consumer_at t s.consumer)
+        (λ c. (c.provider ≡ Some s.provider) × HasCountFor (granted_in v) t x c) d found_source (
           (tasting w firm s granted.taste).attached,
           subst (λ (a : Counts). (IsTrue true → 0 < a.r) × (true ≡ false → 0 < a.w)) (sym wants) (
             (λ reads. omega arith),
@@ -173,7 +174,7 @@ module _ (w : World) (firm : Firm w) (s : Taste) (p : Provider) (granted : IsGra
   }
 
   -- a parent stays
-  parent_kept : (o : Owner) → HasItsParent w o → HasItsParent v o
+  parent_kept : (o : Owner) → HasItsParent w.bios o → HasItsParent v.bios o
   parent_kept (owners.Line h l) has = tt
   parent_kept owners.Taste has = tt
   parent_kept (owners.Child parent index) has =
@@ -182,11 +183,10 @@ module _ (w : World) (firm : Firm w) (s : Taste) (p : Provider) (granted : IsGra
       (found-before (λ (z : Bio). z.number == parent) w.bios (x ∷ []) y.item y.is) y.fact
 
   -- and so does a family
-  family_kept : (z : Bio) → IsFamilyInOrder w z → IsFamilyInOrder v z
+  family_kept : (z : Bio) → IsFamilyInOrder t w.bios z → IsFamilyInOrder t v.bios z
   family_kept z is = record {
     parent = parent_kept z.owner is.parent;
-    pieces = λ waits. subst (λ cs. IsSomeAnd (provider_at w.topology z.target) (λ p.
-        IsSomeAnd (geom_at w.topology p.geom) (λ g.
+    pieces = λ waits. subst (λ cs. IsSomeAnd (provider_at t z.target) (λ p. IsSomeAnd (geom_at t p.geom) (λ g.
         map shape_of_child cs
         ≡ map (λ item. shape_of_piece z item.0 item.1) (enumerate_from 0 (piece_targets g.config p z)))))
         (sym (same_children z.number)) (is.pieces waits);
@@ -196,7 +196,7 @@ module _ (w : World) (firm : Firm w) (s : Taste) (p : Provider) (granted : IsGra
   }
 
   -- its own family
-  own_family : IsFamilyInOrder v x
+  own_family : IsFamilyInOrder t v.bios x
   own_family = record {
     parent = tt;
     pieces = λ waits. absurd (let bad : ⊥ = cc in bad);
@@ -205,7 +205,8 @@ module _ (w : World) (firm : Firm w) (s : Taste) (p : Provider) (granted : IsGra
   }
 
   -- an owner stays
-  owner_kept : (z : Bio) (o : Owner) → ComesFromItsOwner w z o → ComesFromItsOwner v z o
+  owner_kept : (z : Bio) (o : Owner) → ComesFromItsOwner w.handles w.taste z o
+      → ComesFromItsOwner w.handles v.taste z o
   owner_kept z (owners.Line h l) comes = comes
   owner_kept z owners.Taste comes =
       subst (λ (o : Option Taste). IsSomeAnd o (λ s. (s.consumer ≡ z.source) × (s.provider ≡ z.target))) granted.taste
@@ -224,14 +225,16 @@ module _ (w : World) (firm : Firm w) (s : Taste) (p : Provider) (granted : IsGra
   read-bios : BiosHold v
   read-bios = record {
     numbers = numbers-push (λ (z : Bio). z.number) w.next_bio w.bios x refl hold.numbers;
-    order = All-push (IsBioInOrder v) w.bios x
-        (All-weaker (IsBioInOrder w) (IsBioInOrder v) order_kept w.bios hold.order) own_order;
-    families = All-push (IsFamilyInOrder v) w.bios x
-        (All-weaker (IsFamilyInOrder w) (IsFamilyInOrder v) family_kept w.bios hold.families) own_family;
+    order = All-push (IsBioInOrder (granted_in v) t) w.bios x
+        (All-weaker (IsBioInOrder (granted_in w) t) (IsBioInOrder (granted_in v) t) order_kept w.bios hold.order)
+        own_order;
+    families = All-push (IsFamilyInOrder t v.bios) w.bios x
+        (All-weaker (IsFamilyInOrder t w.bios) (IsFamilyInOrder t v.bios) family_kept w.bios hold.families)
+        own_family;
     disks = record {
-      at_disk = All-push (λ (z : Bio). IsTrue (is_sent z.phase || is_busy z.phase) → IsSome (disk_of_bio w z))
+      at_disk = All-push (λ (z : Bio). IsTrue (is_sent z.phase || is_busy z.phase) → IsSome (disk_at t z.target))
           w.bios x hold.disks.at_disk (λ out. absurd (let bad : ⊥ = cc in bad));
-      one_busy = all_pairs_push (NotBothBusy v) w.bios x hold.disks.one_busy
+      one_busy = all_pairs_push (NotBothBusy t) w.bios x hold.disks.one_busy
           (λ k d short first second. absurd (let bad : ⊥ = cc in bad));
     };
     read_out = (
@@ -239,14 +242,15 @@ module _ (w : World) (firm : Firm w) (s : Taste) (p : Provider) (granted : IsGra
       (λ out. any-pushed (λ (z : Bio). is_taste_root z.owner) w.bios x
           ∙ or-true (list_any (λ (z : Bio). is_taste_root z.owner) w.bios)),
     );
-    owners = All-push (λ (z : Bio). ComesFromItsOwner v z z.owner) w.bios x
-        (All-weaker (λ (z : Bio). ComesFromItsOwner w z z.owner) (λ (z : Bio). ComesFromItsOwner v z z.owner)
-        (λ z comes. owner_kept z z.owner comes) w.bios hold.owners) (refl, refl);
+    owners = All-push (λ (z : Bio). ComesFromItsOwner w.handles v.taste z z.owner) w.bios x
+        (All-weaker (λ (z : Bio). ComesFromItsOwner w.handles w.taste z z.owner)
+        (λ (z : Bio). ComesFromItsOwner w.handles v.taste z z.owner) (λ z comes. owner_kept z z.owner comes) w.bios
+        hold.owners) (refl, refl);
     results = All-push HasItsResult w.bios x hold.results (λ over. absurd (let bad : ⊥ = cc in bad));
     read = record {
       one = let one = one_reads in omega arith;
       sector = All-push (λ (z : Bio). IsTrue (is_taste_root z.owner)
-          → IsSomeAnd (provider_at w.topology z.target) (λ p. z.len ≡ p.sector)) w.bios x hold.read.sector
+          → IsSomeAnd (provider_at t z.target) (λ p. z.len ≡ p.sector)) w.bios x hold.read.sector
           (λ is. some-with (provider_at t s.provider) (λ q. p.sector ≡ q.sector) p granted.found refl);
     };
   }

@@ -1,17 +1,16 @@
 -- TASTE and the consumer of a taste in a firm mesh: TASTE offers nothing and has no configuration, and its one consumer
 -- holds what the taste was granted.
-use Rattle.std.specs.Prelude.{◌≡◌, ◌≢◌, ◌⊎◌, ℕ, ◌==◌, true, List, [], ◌∷◌, find, Option, Some, None, All, Contains, IsSome, IsSomeAnd, MatchOption, option_and_then}
+use Rattle.std.specs.Prelude.{◌≡◌, ◌≢◌, ◌==◌, true, [], find, Option, Some, None, Contains, IsSomeAnd, MatchOption}
 use Rattle.std.specs.Option.{option_map_or}
-use Rattle.std.proofs.Common.{inl, inr, refl, sym, ◌∙◌, ap, subst, arith}
+use Rattle.std.proofs.Common.{inr, refl, sym, ◌∙◌, ap, subst, arith}
 use Rattle.std.proofs.lemmas.Bool.{eq-eqb, eqb-true}
 use Rattle.std.proofs.lemmas.List.Elements.{All-contains}
-use Rattle.geo_base.specs.declared.request.Counts.{Counts}
 use Rattle.geo_base.specs.declared.kind.Kind.TheVariants as kinds
 use Rattle.geo_model.specs.Words.{names_number, is_granted_kind}
-use Rattle.geo_model.specs.Topology.{Topology, Geom, Provider, Consumer, geom_at, provider_at, consumer_at, consumers_of}
+use Rattle.geo_model.specs.Topology.{Topology, Geom, Provider, Consumer, geom_at, consumer_at}
 use Rattle.geo_model.specs.World.{World, Config, Nothing, Handle, Taste, granted_in, taste_grant}
 use Rattle.geo_model.specs.Graph.{IsInOrder, PartsLive}
-use Rattle.geo_model.specs.Sound.{fits_kind, HasItsConsumer, IsTasting}
+use Rattle.geo_model.specs.Sound.{fits_kind, HasItsConsumer, IsTasting, HasTasteConsumer}
 use Rattle.geo_model.specs.Fitting.{Firm}
 use Rattle.geo_model.proofs.DemandLemmas.{find_passes}
 use Rattle.geo_laws_graph.proofs.Members.{find-Contains, filter-Contains, Contains-filter, Contains-here, nothing_in}
@@ -68,8 +67,7 @@ module _ (w : World) (firm : Firm w) where
   module _ (s : Taste) (is : w.taste ≡ Some s) where
     -- the taste has its consumer
     pub tasting : IsTasting t s
-    tasting = subst (λ (o : Option Taste). MatchOption o (consumers_of t 2 ≡ []) (IsTasting t)) is
-        firm.sound.handles.taste
+    tasting = subst (HasTasteConsumer t) is firm.sound.handles.taste
 
     -- its consumer
     abbrev pub taster : Consumer
@@ -109,7 +107,7 @@ module _ (w : World) (firm : Firm w) where
         let names : h.consumer ≡ Some taster.number =
         names_some h.consumer taster.number
         (find_passes (λ (h : Handle). names_number h.consumer taster.number) w.handles h e) in
-        let its : HasItsConsumer w h = All-contains (HasItsConsumer w) w.handles h firm.sound.handles.handles
+        let its : HasItsConsumer t h = All-contains (HasItsConsumer t) w.handles h firm.sound.handles.handles
         (find-Contains (λ (h : Handle). names_number h.consumer taster.number) w.handles h e) in
         let d = found-with (consumer_at t taster.number) (λ z. z.geom ≡ 1)
         (subst (λ o. MatchOption o (h.dead ≡ true) (λ c. IsSomeAnd (consumer_at t c) (λ z. z.geom ≡ 1))) names its) in

@@ -40,7 +40,7 @@ pub record GeomFits (w : World) (u : Topology Config) (g : Geom Config) : Type 0
   pub taste : g.number ≢ 2
   pub class : IsOfItsClass g
   pub upright : g.withering ≡ false
-  pub disk_sizes : HasDiskSizes (record w { topology = u }) g
+  pub disk_sizes : HasDiskSizes u w.disks g
   pub components : All (λ c. IsSomeAnd (consumer_at u c) (λ x. (x.geom ≡ g.number) × IsSome x.provider))
       (components g.config)
   pub partial : IsTrue (has_free_place g) → providers_of u g.number ≡ []

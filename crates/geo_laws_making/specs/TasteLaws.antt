@@ -21,7 +21,7 @@ world_with_taste w s = record w { taste = Some s }
 -- how far a class is asked, after so many reads and with this chain, is in order
 pub record IsAsking (w : World) (s : Taste) : Type 0 where
   pub reads : AreReadsInOrder s.asked s.reads
-  pub chain : HasItsChain w s
+  pub chain : HasItsChain w.topology s
   pub asked : IfSome (provider_at w.topology s.provider) (λ p. IsAskedInOrder w.topology p s.asked)
 
 -- no read of the taste is out, its provider is found, and nothing refuses it a read there

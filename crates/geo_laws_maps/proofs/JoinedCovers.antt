@@ -15,7 +15,7 @@ use Rattle.geo_base.specs.Sectors.{IsSectorSize}
 use Rattle.geo_model.specs.declared.span.Piece.{Piece}
 use Rattle.geo_model.specs.Words.{is_flush, is_write, same_cmd}
 use Rattle.geo_model.specs.Topology.{Topology, Geom, Provider, Consumer, geom_at, provider_at, consumer_at, provider_of_consumer}
-use Rattle.geo_model.specs.World.{World, Config, Bio, children_of, is_waiting, is_done, is_child_of}
+use Rattle.geo_model.specs.World.{World, Config, Bio, children_of, is_waiting, is_done, is_child_of, granted_in}
 use Rattle.geo_model.specs.Place.{DiskSector, Spot, place, component, components, disk_of, pieces, flat, ends, PieceIsPlaced, Follow}
 use Rattle.geo_model.specs.Bios.{PieceTarget, piece_targets, empty_piece, bytes_of_piece, is_complete}
 use Rattle.geo_model.specs.SoundBios.{IsBioInOrder, IsFamilyInOrder, IsRangeInside, HasCountFor, ChildShape, shape_of_child, shape_of_piece}
@@ -99,8 +99,8 @@ module _ (w : World) (firm : Firm w) (x : Bio) (here : Contains w.bios x) (waiti
   cs = children_of w x.number
 
   -- it is in order
-  family : IsFamilyInOrder w x
-  family = All-contains (IsFamilyInOrder w) w.bios x firm.sound.families here
+  family : IsFamilyInOrder t w.bios x
+  family = All-contains (IsFamilyInOrder t w.bios) w.bios x firm.sound.families here
 
   -- its children are its pieces
   shapes : map shape_of_child cs
@@ -154,9 +154,10 @@ module _ (w : World) (firm : Firm w) (x : Bio) (here : Contains w.bios x) (waiti
   -- its source is attached to its target
   child_source : (y : Bio) → Contains w.bios y → provider_of_consumer t y.source ≡ Some y.target
   child_source y stands =
-      let order : IsBioInOrder w y = All-contains (IsBioInOrder w) w.bios y firm.sound.bios stands in
-      let c = found-with (consumer_at t y.source) (λ c. (c.provider ≡ Some y.target) × HasCountFor w y c)
-      order.source in
+      let order : IsBioInOrder (granted_in w) t y =
+      All-contains (IsBioInOrder (granted_in w) t) w.bios y firm.sound.bios stands in
+      let c = found-with (consumer_at t y.source)
+      (λ c. (c.provider ≡ Some y.target) × HasCountFor (granted_in w) t y c) order.source in
       ap (option_and_then (λ (z : Consumer). z.provider)) c.is ∙ c.fact.0
 
   -- a FLUSH
@@ -281,7 +282,8 @@ module _ (w : World) (firm : Firm w) (x : Bio) (here : Contains w.bios x) (waiti
       -- its range is in whole sectors
       whole : y.len % p.sector ≡ 0
       whole =
-          let order : IsBioInOrder w y = All-contains (IsBioInOrder w) w.bios y firm.sound.bios stands in
+          let order : IsBioInOrder (granted_in w) t y =
+          All-contains (IsBioInOrder (granted_in w) t) w.bios y firm.sound.bios stands in
           subst (λ n. y.len % n ≡ 0) same_sector
           (at-some (provider_at t y.target)
           (λ v. is_flush y.cmd ≡ false → IsRangeInside y v) q at_child order.target
@@ -417,7 +419,8 @@ module _ (w : World) (firm : Firm w) (x : Bio) (here : Contains w.bios x) (waiti
               ∙ ap (λ n. map (flat t n) (sector_offsets p.sector x.offset x.len)) (sym number);
           commands = joined_commands cs (each_command cs (piece_targets g.config p x) each_piece covered);
           bytes = λ write.
-              let order : IsBioInOrder w x = All-contains (IsBioInOrder w) w.bios x firm.sound.bios here in
+              let order : IsBioInOrder (granted_in w) t x =
+              All-contains (IsBioInOrder (granted_in w) t) w.bios x firm.sound.bios here in
               let long : length x.bytes ≡ x.len = order.bytes write in
               joined.bytes_are write
               ∙ ap (λ n. take n (drop 0 x.bytes)) size

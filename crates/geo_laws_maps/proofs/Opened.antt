@@ -63,7 +63,7 @@ module _ (w : World) (firm : Firm w) where
       (sym (total p) ∙ none)
 
   -- a bio's count at its source
-  counted : (x : Bio) (c : Consumer) → HasCountFor w x c → (b : Bool) → is_read x.cmd ≡ b
+  counted : (x : Bio) (c : Consumer) → HasCountFor (granted_in w) t x c → (b : Bool) → is_read x.cmd ≡ b
       → want (granted_in w) t c ≡ no_counts → ⊥
   counted x c count true e none =
       let some : 0 < (want (granted_in w) t c).r = count.0 e in
@@ -77,9 +77,10 @@ module _ (w : World) (firm : Firm w) where
   -- a provider to which a bio goes is open
   pub live-open : (x : Bio) → Contains w.bios x → IsOpen w x.target
   live-open x here none =
-      let order : IsBioInOrder w x = All-contains (IsBioInOrder w) w.bios x firm.sound.bios here in
+      let order : IsBioInOrder (granted_in w) t x =
+      All-contains (IsBioInOrder (granted_in w) t) w.bios x firm.sound.bios here in
       let s = found-with (consumer_at t x.source)
-      (λ c. (c.provider ≡ Some x.target) × HasCountFor w x c) order.source in
+      (λ c. (c.provider ≡ Some x.target) × HasCountFor (granted_in w) t x c) order.source in
       counted x s.item s.fact.1 (is_read x.cmd) refl
       (wants_none s.item x.target
       (find-Contains (λ (z : Consumer). z.number == x.source) t.consumers s.item s.is) s.fact.0 none)
@@ -120,7 +121,7 @@ module _ (w : World) (firm : Firm w) where
         ∙ none)
 
     -- so the geom has an open provider
-    in_use : IsTrue (has_open_provider w g)
+    in_use : IsTrue (has_open_provider (granted_in w) t g)
     in_use =
         any-contained (λ (z : Provider). not (is_zero (have (granted_in w) t z.number))) (providers_of t g.number) x
         offered (by (is_zero (have (granted_in w) t x.number)) refl) where
@@ -146,7 +147,8 @@ module _ (w : World) (firm : Firm w) where
     -- each component leads to an open provider
     leads : (n : ℕ) → Contains (components g.config) n → LeadsInto t (IsOpen w) g n
     leads n among =
-        let all = All-contains (HasItsComponents w) t.geoms g firm.steady.components g_stands (inr in_use) in
+        let all = All-contains (HasItsComponents (granted_in w) t) t.geoms g firm.steady.components g_stands
+        (inr in_use) in
         let c = found-with (consumer_at t n) (λ z. (z.geom ≡ g.number) × IsSome z.provider)
         (All-contains (λ m. IsSomeAnd (consumer_at t m) (λ z. (z.geom ≡ g.number) × IsSome z.provider))
         (components g.config) n all among) in

@@ -149,7 +149,7 @@ module _ (w : World) (firm : Firm w) (b : ℕ) where
   start_by : (x : Bio) → bio_at w b ≡ Some x → (is : Bool) → is_down x.phase ≡ is
       → Changes w (steps.Start b) (start_of w (Some x))
   start_by x found true e =
-      let same = start_owes w x firm.sound.numbers.bios (found_there w b x found) e in rw e (omega (arith, same))
+      let same = start_owes w x firm.sound.bio_numbers (found_there w b x found) e in rw e (omega (arith, same))
   start_by x found false e = rw e tt
 
   -- by the bio
@@ -176,7 +176,7 @@ module _ (w : World) (firm : Firm w) (b : ℕ) where
   take_by seat disk x found (Some f) e = tt
   take_by seat disk x found None e =
       let quiet = idle is_sent (λ s. refl) x (can_take w disk x e).sent in
-      let same = change_owes w x (λ y. record y { phase = phases.Busy seat }) firm.sound.numbers.bios
+      let same = change_owes w x (λ y. record y { phase = phases.Busy seat }) firm.sound.bio_numbers
       (found_there w b x found) in
       omega (arith, same, quiet)
 
@@ -193,7 +193,7 @@ module _ (w : World) (firm : Firm w) (b : ℕ) where
   deliver_by seat got x found (Some f) e = tt
   deliver_by seat got x found None e =
       let counts : busy x ≡ 1 = rw (can_deliver w seat x got x.phase e).0 refl in
-      let same = change_owes w x (up_with (result_of_device got)) firm.sound.numbers.bios (found_there w b x found) in
+      let same = change_owes w x (up_with (result_of_device got)) firm.sound.bio_numbers (found_there w b x found) in
       omega (arith, same, counts)
 
   -- by the bio
@@ -208,7 +208,7 @@ module _ (w : World) (firm : Firm w) (b : ℕ) where
 pub step_owes : (w : World) (seat : ℕ) (s : Step) → Firm w → Changes w s (step w seat s)
 unfolding step go event judge_next reap_next wash_next
 step_owes w seat (steps.Go actor) firm =
-    go_left w actor firm.sound.numbers.handles (slice_get w.actors actor) refl
+    go_left w actor firm.sound.handles.numbers (slice_get w.actors actor) refl
 step_owes w seat steps.Event firm = event_by w (is_some w.taste)
 step_owes w seat steps.Judge firm = taste_owes w w.taste
 step_owes w seat steps.Reap firm = reap_owes w (reap_work w)

@@ -13,7 +13,7 @@ use Rattle.geo_base.specs.declared.request.BioCmd.TheVariants as cmds
 use Rattle.geo_model.specs.declared.step.DeviceResult.{DeviceResult}
 use Rattle.geo_model.specs.Words.{◌>>=◌, is_flush, same_cmd}
 use Rattle.geo_model.specs.Topology.{Topology, Geom, Provider, provider_at, geom_at, provider_with_geom}
-use Rattle.geo_model.specs.World.{World, Config, Nothing, Disk, Mbr, Ebr, Label, Concat, Stripe, Nop, Bio}
+use Rattle.geo_model.specs.World.{World, Config, Nothing, Disk, Mbr, Ebr, Label, Concat, Stripe, Nop, Bio, granted_in}
 use Rattle.geo_model.specs.Place.{DiskSector, disk_of, flat, flat_step, flat_within, ends, ends_step, ends_within}
 use Rattle.geo_model.specs.Bios.{disk_at, disk_of_bio, request_of_bio, sector_of_bio}
 use Rattle.geo_model.specs.SoundBios.{IsBioInOrder, IsRangeInside}
@@ -132,7 +132,7 @@ same_command cmds.Delete = refl
 same_command cmds.Flush = refl
 
 -- the leaf of a Take covers the bio, whatever the device answers
-pub take_covers : (w : World) (x : Bio) (disk : ℕ) (got : DeviceResult) → IsBioInOrder w x
+pub take_covers : (w : World) (x : Bio) (disk : ℕ) (got : DeviceResult) → IsBioInOrder (granted_in w) w.topology x
     → All (λ p. IsSectorSize p.sector) w.topology.providers → disk_of_bio w x ≡ Some disk
     → CoversThere w x (record { bio = x.number; request = request_of_bio w disk x; got = got } ∷ [])
 take_covers w x disk got order sizes is =

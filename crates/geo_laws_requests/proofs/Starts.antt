@@ -108,12 +108,12 @@ its_error t x = by (is_errored t x.target) refl
     by false e = at e (provider_with_geom t x.target) refl
 
 -- a bio that is Down has no children
-pub down_childless : (w : World) (x : Bio) → All (IsFamilyInOrder w) w.bios → bio_at w x.number ≡ Some x
+pub down_childless : (w : World) (x : Bio) → All (IsFamilyInOrder w.topology w.bios) w.bios → bio_at w x.number ≡ Some x
     → is_down x.phase ≡ true → children_of w x.number ≡ []
 down_childless w x families found down =
     none_kept (λ (y : Bio). is_child_of y.owner x.number) w.bios
     (recursion_from_All (λ y. is_child_of y.owner x.number ≡ false) w.bios
-    (all_members (IsFamilyInOrder w) (λ y. is_child_of y.owner x.number ≡ false) w.bios
+    (all_members (IsFamilyInOrder w.topology w.bios) (λ y. is_child_of y.owner x.number ≡ false) w.bios
     (λ y here family. by_owner y.owner family.parent) families))
   where
     not_both : (p : Phase) → is_down p ≡ true → IsTrue (is_waiting p) → ⊥
@@ -124,7 +124,7 @@ down_childless w x families found down =
     not_both phases.Up is waits = let bad : ⊥ = cc in bad
     not_both phases.Done is waits = let bad : ⊥ = cc in bad
 
-    by_owner : (o : Owner) → HasItsParent w o → is_child_of o x.number ≡ false
+    by_owner : (o : Owner) → HasItsParent w.bios o → is_child_of o x.number ≡ false
     by_owner (owners.Line handle line) parent = refl
     by_owner owners.Taste parent = refl
     by_owner (owners.Child parent index) waits =
@@ -133,7 +133,8 @@ down_childless w x families found down =
         (rw found at (subst (λ n. IsSomeAnd (bio_at w n) (λ y. IsTrue (is_waiting y.phase))) same waits)))
 
 module _ (h : List Moment) (w v : World) (seat b : ℕ) (x : Bio) (o : Outcome) (ledger : Ledger h w)
-    (are : AreNumbers (map (λ (y : Bio). y.number) w.bios) w.next_bio) (families : All (IsFamilyInOrder w) w.bios)
+    (are : AreNumbers (map (λ (y : Bio). y.number) w.bios) w.next_bio)
+    (families : All (IsFamilyInOrder w.topology w.bios) w.bios)
     (found : bio_at w x.number ≡ Some x) (same : x.number ≡ b) (down : x.phase ≡ phases.Down)
     (maps : SameMaps w v) where
   -- the moment of the Start
@@ -328,7 +329,8 @@ starts_it w v seat b o e = by (bio_at w b) refl e
 
 -- each Start keeps the ledger
 pub starts_keep : (h : List Moment) (w v : World) (seat b : ℕ) (o : Outcome) → Ledger h w
-    → AreNumbers (map (λ (y : Bio). y.number) w.bios) w.next_bio → All (IsFamilyInOrder w) w.bios → SameMaps w v
+    → AreNumbers (map (λ (y : Bio). y.number) w.bios) w.next_bio → All (IsFamilyInOrder w.topology w.bios) w.bios
+    → SameMaps w v
     → step w seat (steps.Start b) ≡ Ok (v, o) → Ledger (h ++ moment_of w seat (steps.Start b) o ∷ []) v
 starts_keep h w v seat b o ledger are families maps made =
     by (way_of w.topology x) (its_error w.topology x) it.made

@@ -13,7 +13,7 @@ use Rattle.geo_model.specs.declared.step.Phase.{Phase}
 use Rattle.geo_model.specs.declared.step.Phase.TheVariants as phases
 use Rattle.geo_model.specs.declared.step.Request.{Request}
 use Rattle.geo_model.specs.declared.step.Step.TheVariants as steps
-use Rattle.geo_model.specs.World.{World, Bio, bio_at, change_number, is_busy}
+use Rattle.geo_model.specs.World.{World, Bio, bio_at, change_number, is_busy, granted_in}
 use Rattle.geo_model.specs.SoundBios.{IsBioInOrder}
 use Rattle.geo_model.specs.Bios.{take_bio, deliver, request_of_bio, result_of_device, up_with}
 use Rattle.geo_model.specs.Step.{take_of, deliver_of, take_found, deliver_found, unless_found, step}
@@ -82,7 +82,7 @@ unreplied h m n not_it none =
 
 -- each Take keeps the ledger
 pub takes_keep : (h : List Moment) (w v : World) (seat disk b : ℕ) (o : Outcome) → Ledger h w
-    → AreNumbers (map (λ (y : Bio). y.number) w.bios) w.next_bio → All (IsBioInOrder w) w.bios
+    → AreNumbers (map (λ (y : Bio). y.number) w.bios) w.next_bio → All (IsBioInOrder (granted_in w) w.topology) w.bios
     → All (λ p. IsSectorSize p.sector) w.topology.providers → SameMaps w v
     → step w seat (steps.Take disk b) ≡ Ok (v, o) → Ledger (h ++ moment_of w seat (steps.Take disk b) o ∷ []) v
 unfolding take_bio
@@ -142,7 +142,9 @@ takes_keep h w v seat disk b o ledger are order sizes maps made =
                 ((keeps_phase (phases.Busy seat)).request x)
                 (covers_stay w v x (its_leaf got)
                 (All-contains (λ (y : Bio). SameMap w.topology v.topology y.target) w.bios x maps here)
-                (take_covers w x disk got (All-contains (IsBioInOrder w) w.bios x order here) sizes it.can.disk_is)));
+                (take_covers w x disk got
+                (All-contains (IsBioInOrder (granted_in w) w.topology) w.bios x order here)
+                sizes it.can.disk_is)));
           };
         }
 

@@ -237,7 +237,7 @@ module _ (w : World) (firm : Firm w) (p : Provider) (there : provider_at w.topol
           order = order;
           there = subst (λ (o : Option (Geom Config)). IsSome o) (sym stands) refl;
         })
-        (All-contains (WaitsForPlaces w) t.geoms g firm.steady.partial here free)
+        (All-contains (WaitsForPlaces t) t.geoms g firm.steady.partial here free)
         there m.name made g.config m.place e
 
     -- by whether one stands

@@ -1,5 +1,5 @@
 -- The six numbers of the measure, compared from the first on.
-use Rattle.std.specs.Prelude.{◌≡◌, ◌⊎◌, ℕ, ◌+◌, ◌*◌, ◌<◌, ◌≤◌, ◌==◌, nat_lt, not, ◌&&◌, List, [], ◌∷◌, length, sum_by, count_by, is_some, IsTrue}
+use Rattle.std.specs.Prelude.{◌≡◌, ℕ, ◌+◌, ◌*◌, ◌<◌, ◌≤◌, ◌==◌, nat_lt, not, ◌&&◌, List, [], ◌∷◌, length, sum_by, count_by, is_some, IsTrue}
 use Rattle.std.proofs.Common.{inl, inr, refl, arith}
 use Rattle.std.proofs.lemmas.Bool.{lt-ltb, eq-eqb, cases_lt, or_right}
 use Rattle.geo_model.specs.World.{World}

@@ -1,15 +1,13 @@
 -- A Go lowers the measure, since a command less is left; and so does a Reap, since a handle less is open.
-use Rattle.std.specs.Prelude.{◌≡◌, ◌⊎◌, ℕ, ◌+◌, ◌<◌, ◌≤◌, ◌==◌, Bool, true, false, not, ◌&&◌, List, [], ◌∷◌, length, find, map, sum_by, count_by, slice_get, slice_set, Option, Some, None, Ok, Err, Contains, is_ok, is_some, IsTrue, cond, if◌then◌else◌}
-use Rattle.std.specs.List.{AllByRecursion}
+use Rattle.std.specs.Prelude.{◌≡◌, ℕ, ◌+◌, ◌≤◌, Bool, true, false, not, ◌&&◌, List, [], ◌∷◌, length, find, map, sum_by, slice_get, Option, Some, None, Ok, Err, Contains, is_ok, is_some, cond, if◌then◌else◌}
 use Rattle.std.specs.Option.{option_map_or}
-use Rattle.std.proofs.Common.{inl, inr, refl, sym, ◌∙◌, ap, subst, arith}
+use Rattle.std.proofs.Common.{refl, ap, arith}
 use Rattle.std.proofs.lemmas.Bool.{eq-eqb, and_parts}
 use Rattle.std.proofs.lemmas.List.Sums.{sum_by-set}
 use Rattle.std.proofs.lemmas.Option.{slice_get_within, get_or_from_slice_get}
 use Rattle.geo_base.specs.declared.errno.Errno.{Errno}
 use Rattle.geo_base.specs.declared.errno.Errno.TheVariants.{ENXIO}
 use Rattle.geo_base.specs.declared.request.Counts.{Counts}
-use Rattle.geo_base.specs.declared.kind.Kind.{Kind}
 use Rattle.geo_model.specs.declared.command.Command.{Command}
 use Rattle.geo_model.specs.declared.command.Command.TheVariants as commands
 use Rattle.geo_model.specs.declared.command.LineCommand.{LineCommand}
@@ -17,22 +15,19 @@ use Rattle.geo_model.specs.declared.step.Found.{Found}
 use Rattle.geo_model.specs.declared.step.Found.TheVariants as refusals
 use Rattle.geo_model.specs.declared.step.Outcome.{Outcome}
 use Rattle.geo_model.specs.declared.step.Outcome.TheVariants as outcomes
-use Rattle.geo_model.specs.declared.step.Step.TheVariants as steps
 use Rattle.geo_model.specs.Words.{names_number, first_error}
-use Rattle.geo_model.specs.Names.{nop_name, concat_name, stripe_name}
+use Rattle.geo_model.specs.Names.{nop_name}
 use Rattle.geo_model.specs.Topology.{Geom, Provider, find_provider}
 use Rattle.geo_model.specs.Opens.{open_refusal}
 use Rattle.geo_model.specs.World.{World, Config, Handle, HeaderDisk, granted_in, handle_of, is_active}
-use Rattle.geo_model.specs.HandleCommands.{answer, open_answered, do_open, close_handle, without_handle, request_answered, do_request}
+use Rattle.geo_model.specs.HandleCommands.{answer, open_answered, close_handle, request_answered, do_request}
 use Rattle.geo_model.specs.Requests.{Asking, request_refusal}
-use Rattle.geo_model.specs.GeomCommands.{header_disk, is_geom_of_disk, insert_tests, stand, do_insert, wither_found, do_pull, nop_tests, do_nop, nop_config, found_providers, concat_config, stripe_config, joined_tests, is_invalid_stripe, sector_of, with_made, do_concat, do_stripe, destroy_tests, do_destroy, found_provider, named_geom}
-use Rattle.geo_model.specs.Acceptance.{joined_size}
+use Rattle.geo_model.specs.GeomCommands.{header_disk, is_geom_of_disk, insert_tests, stand, do_insert, wither_found, do_pull, nop_tests, do_nop, destroy_tests, do_destroy, found_provider, named_geom}
 use Rattle.geo_model.specs.Append.{Growing, growing_concat, append_tests, component_refusal, append_joined, append_tested, do_append}
-use Rattle.geo_model.specs.Commands.{request, write_record, do_command}
+use Rattle.geo_model.specs.Commands.{do_command}
 use Rattle.geo_model.specs.Freeing.{is_to_reap, reap_work, reap, reap_handle}
-use Rattle.geo_model.specs.Step.{step, is_enabled, waits_for, with_commands, go_of, go, unless_found, reap_next}
+use Rattle.geo_model.specs.Step.{step, waits_for, with_commands, go_of, go, unless_found, reap_next}
 use Rattle.geo_model.specs.Log.{world_after}
-use Rattle.geo_model.specs.Laws.{world_by}
 use Rattle.geo_model.specs.Order.{IsLess, measure}
 use Rattle.geo_laws_graph.proofs.Members.{find-Contains}
 use Rattle.geo_laws_graph.proofs.Finding.{found_fact}

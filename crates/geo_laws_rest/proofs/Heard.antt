@@ -1,28 +1,25 @@
 -- An Event lowers the measure.
-use Rattle.std.specs.Prelude.{◌≡◌, ◌≢◌, ◌⊎◌, ℕ, suc, ◌+◌, ◌-◌, ◌*◌, ◌<◌, ◌≤◌, ◌==◌, nat_le, Bool, true, false, not, ◌||◌, List, [], ◌∷◌, ◌++◌, length, map, fold, sum_by, count_by, Option, Some, None, Ok, Err, Contains, IsSome, IsSomeAnd, is_ok, is_some, IsTrue, cond, if◌then◌else◌}
-use Rattle.std.specs.List.{AllByRecursion}
+use Rattle.std.specs.Prelude.{◌≡◌, ℕ, suc, ◌+◌, ◌-◌, ◌*◌, ◌<◌, ◌≤◌, ◌==◌, nat_le, Bool, true, false, not, ◌||◌, List, [], ◌∷◌, ◌++◌, length, fold, sum_by, count_by, Option, Some, None, Err, Contains, IsSome, IsSomeAnd, is_ok, is_some, cond, if◌then◌else◌}
 use Rattle.std.specs.Option.{option_map_or}
 use Rattle.std.proofs.Common.{inl, inr, refl, sym, ◌∙◌, ap, subst, arith}
 use Rattle.std.proofs.lemmas.Bool.{cases_lt, le-leb, or_parts}
 use Rattle.std.proofs.lemmas.List.Elements.{All-contains}
 use Rattle.std.proofs.lemmas.List.Sums.{sum_by-cons, sum_by_push}
-use Rattle.geo_base.specs.declared.request.Counts.{Counts}
 use Rattle.geo_base.specs.declared.limits.TheConstants.{UNTASTED_RANK}
 use Rattle.geo_model.specs.declared.step.Event.{Event}
 use Rattle.geo_model.specs.declared.step.Event.TheVariants as events
 use Rattle.geo_model.specs.declared.step.Found.{Found}
 use Rattle.geo_model.specs.declared.step.Found.TheVariants as refusals
 use Rattle.geo_model.specs.declared.step.Outcome.{Outcome}
-use Rattle.geo_model.specs.declared.step.Step.TheVariants as steps
 use Rattle.geo_model.specs.declared.command.LineCommand.{LineCommand}
 use Rattle.geo_model.specs.Words.{names_number}
-use Rattle.geo_model.specs.Topology.{Topology, Geom, Provider, Consumer, geom_at, provider_at, geom_of_provider, attached_to, is_errored, add_consumer}
+use Rattle.geo_model.specs.Topology.{Geom, geom_at, provider_at, geom_of_provider, attached_to, is_errored}
 use Rattle.geo_model.specs.Rank.{rank}
 use Rattle.geo_model.specs.Demand.{have}
 use Rattle.geo_model.specs.World.{World, Config, Handle, Taste, granted_in}
-use Rattle.geo_model.specs.Events.{QueuedTopology, provider_of_event, post, is_not_tasted, spoil, orphan, resize, offer_again, outgrow_consumer, dying_consumers}
+use Rattle.geo_model.specs.Events.{QueuedTopology, provider_of_event, post, is_not_tasted, spoil, orphan, outgrow_consumer, dying_consumers}
 use Rattle.geo_model.specs.WorldEvents.{queued_of, with_queued, begin_taste, kill_handle, do_event}
-use Rattle.geo_model.specs.Step.{Answer, step, is_enabled, event_of, event}
+use Rattle.geo_model.specs.Step.{step, event_of, event}
 use Rattle.geo_model.specs.Log.{world_after}
 use Rattle.geo_model.specs.Order.{taste_weight, taste_weight_below, rank_of_provider, event_weight, taste_left, is_loss, IsLess, measure}
 use Rattle.geo_model.specs.Fitting.{Firm}
@@ -31,7 +28,7 @@ use Rattle.geo_laws_counts.proofs.Levels.{of_each}
 use Rattle.geo_laws_graph.proofs.Opens.{open-rises}
 use Rattle.geo_laws_rest.proofs.Falls.{commands_of, handles_of, tasting_of, losses_of, tasting_less, losses_less}
 use Rattle.geo_laws_rest.proofs.Sums.{sum_mapped}
-use Rattle.geo_laws_rest.proofs.Costs.{KeepsRanks, rank_same, weights_same, left_same, weight_some}
+use Rattle.geo_laws_rest.proofs.Costs.{rank_same, weights_same, weight_some}
 use Rattle.geo_laws_rest.specs.LossLaws.{EventsLower}
 use Rattle.geo_laws_rest.proofs.Losing.{losses_in, InOrder, OnlyLoses, spoil_loses, orphan_loses_all, outgrow_loses}
 use Rattle.geo_laws_rest.proofs.Elsewhere.{elsewhere}

@@ -1,5 +1,5 @@
 -- A Judge that makes nothing lowers the measure.
-use Rattle.std.specs.Prelude.{◌≡◌, ◌≢◌, ◌⊎◌, ℕ, ◌+◌, ◌-◌, ◌*◌, ◌<◌, ◌≤◌, ◌==◌, Bool, true, false, not, List, [], ◌∷◌, length, sum_by, Option, Some, None, Ok, Err, Contains, IsSome, MatchOption, is_ok, is_some, IsTrue, IfSome, if◌then◌else◌, option_and_then}
+use Rattle.std.specs.Prelude.{◌≡◌, ◌≢◌, ℕ, ◌+◌, ◌*◌, ◌<◌, ◌≤◌, ◌==◌, Bool, true, false, List, [], ◌∷◌, length, sum_by, Option, Some, None, Ok, Err, Contains, IsSome, MatchOption, is_ok, is_some, IfSome, if◌then◌else◌, option_and_then}
 use Rattle.std.specs.Option.{option_map_or}
 use Rattle.std.proofs.Common.{refl, sym, ◌∙◌, ap, subst, arith}
 use Rattle.std.proofs.lemmas.Bool.{eqb-true}
@@ -11,7 +11,7 @@ use Rattle.geo_base.specs.declared.kind.Kind.{Kind}
 use Rattle.geo_base.specs.declared.kind.Kind.TheVariants as kinds
 use Rattle.geo_base.specs.declared.request.Counts.{Counts}
 use Rattle.geo_model.specs.declared.class.Facts.{Facts}
-use Rattle.geo_model.specs.declared.class.Judged.TheVariants.{Read, Next, Made, Ended}
+use Rattle.geo_model.specs.declared.class.Judged.TheVariants.{Read, Next, Made}
 use Rattle.geo_model.specs.declared.class.Verdict.{Verdict}
 use Rattle.geo_model.specs.declared.class.Verdict.TheVariants.{Decline, More, Accept}
 use Rattle.geo_model.specs.declared.step.BioResult.{BioResult}
@@ -19,8 +19,7 @@ use Rattle.geo_model.specs.declared.step.BioResult.TheVariants as results
 use Rattle.geo_model.specs.declared.step.Found.{Found}
 use Rattle.geo_model.specs.declared.step.Found.TheVariants as refusals
 use Rattle.geo_model.specs.declared.step.Outcome.{Outcome}
-use Rattle.geo_model.specs.declared.step.Step.TheVariants as steps
-use Rattle.geo_model.specs.Topology.{Topology, Provider, Consumer, provider_at, consumer_at, consumers_of, remove_consumer}
+use Rattle.geo_model.specs.Topology.{Provider, Consumer, provider_at, consumer_at, consumers_of, remove_consumer}
 use Rattle.geo_model.specs.Rank.{rank, reaches}
 use Rattle.geo_model.specs.Demand.{one_read}
 use Rattle.geo_model.specs.Opens.{grant_refusal, with_grant}
@@ -30,19 +29,18 @@ use Rattle.geo_model.specs.Events.{QueuedTopology}
 use Rattle.geo_model.specs.WorldEvents.{queued_of, with_queued}
 use Rattle.geo_model.specs.Acceptance.{accept, taste_where}
 use Rattle.geo_model.specs.Tasting.{Judging, facts_of, is_attached_class, is_ended, end_class, end_taste, read_sector, follow, with_read, verdict_on, take_result, ask_class, next_class, go_on, taste_step, abort_taste, submit_read, judged_world, judge_step}
-use Rattle.geo_model.specs.Step.{step, is_enabled, judge_of, judge_next, taste_bio}
+use Rattle.geo_model.specs.Step.{step, judge_of, judge_next, taste_bio}
 use Rattle.geo_model.specs.Log.{world_after}
-use Rattle.geo_model.specs.Order.{reads_limit, judges_of_class, judges_left, makes_left, can_make, taste_weight, rank_of_provider, event_weight, taste_left, IsLess, measure}
-use Rattle.geo_model.specs.Graph.{IsInOrder}
+use Rattle.geo_model.specs.Order.{judges_of_class, judges_left, makes_left, can_make, taste_weight, rank_of_provider, taste_left, IsLess, measure}
 use Rattle.geo_model.specs.Sound.{IsTasting, IsTasteInOrder, AreReadsInOrder}
 use Rattle.geo_model.specs.Fitting.{Firm}
-use Rattle.geo_laws_graph.proofs.Living.{sound-order, steady-parts}
+use Rattle.geo_laws_graph.proofs.Living.{sound-order}
 use Rattle.geo_laws_graph.proofs.Members.{has, Contains-here, filter-Contains, at_contained}
 use Rattle.geo_laws_graph.proofs.Numbered.{each_found}
 use Rattle.geo_laws_graph.proofs.EdgeRanks.{reaches-none}
 use Rattle.geo_laws_graph.specs.Attach.{IsAttached}
 use Rattle.geo_laws_graph.proofs.RankChanges.{removal-lowers}
-use Rattle.geo_laws_rest.proofs.Falls.{tasting_of, tasting_less}
+use Rattle.geo_laws_rest.proofs.Falls.{tasting_less}
 use Rattle.geo_laws_rest.proofs.Costs.{weights_same, left_same}
 use Rattle.geo_laws_rest.specs.LossLaws.{IdleJudgesLower}
 use Rattle.geo_laws_rest.proofs.Elsewhere.{elsewhere}
@@ -189,8 +187,8 @@ module _ (w : World) (firm : Firm w) (s : Taste) (is : w.taste ≡ Some s) where
       read_lower (record a { asked = ReadOut kind; reads = a.reads + 1 }) sector reads
 
   -- the reads made are few
-  few : IsTasteInOrder w s
-  few = subst (λ (o : Option Taste). IfSome o (IsTasteInOrder w)) is firm.sound.events.taste
+  few : IsTasteInOrder w.topology s
+  few = subst (λ (o : Option Taste). IfSome o (IsTasteInOrder w.topology)) is firm.sound.events.taste
 
   -- a class that is asked no more costs less, where it still had a step
   ended_less : (a : Taste) (asked : Asked) → s.asked ≡ asked → IsAs a s → 1 ≤ judges_left asked s.reads

@@ -1,15 +1,13 @@
 -- Effects that lose something: errors and withering raise no cost of tasting, and each error costs two losses and
 -- brings one event.
-use Rattle.std.specs.Prelude.{◌≡◌, ◌≢◌, ◌⊎◌, ℕ, ◌+◌, ◌*◌, ◌<◌, ◌≤◌, ◌==◌, Bool, true, false, not, ◌&&◌, List, [], ◌∷◌, ◌++◌, map, filter, find, fold, sum_by, count_by, Option, Some, None, Contains, IsSomeAnd, cond, if◌then◌else◌}
+use Rattle.std.specs.Prelude.{◌≡◌, ◌≢◌, ℕ, ◌+◌, ◌*◌, ◌<◌, ◌≤◌, ◌==◌, Bool, true, false, not, List, [], ◌∷◌, ◌++◌, map, filter, fold, sum_by, count_by, Option, Some, None, IsSomeAnd, cond, if◌then◌else◌}
 use Rattle.std.specs.List.{AllByRecursion}
-use Rattle.std.specs.Option.{option_map_or}
-use Rattle.std.proofs.Common.{inl, inr, refl, sym, ◌∙◌, ap, subst, arith}
+use Rattle.std.proofs.Common.{refl, sym, ◌∙◌, ap, subst, arith}
 use Rattle.std.proofs.lemmas.Bool.{not-true}
 use Rattle.std.proofs.lemmas.List.Sums.{sum_by_push}
 use Rattle.geo_base.specs.declared.request.Counts.{Counts}
 use Rattle.geo_model.specs.declared.step.Event.{Event}
 use Rattle.geo_model.specs.declared.step.Event.TheVariants as events
-use Rattle.geo_model.specs.Words.{change_where}
 use Rattle.geo_model.specs.Topology.{Topology, Provider, Consumer, provider_at, providers_of, attached_to, is_withering, set_error, set_withering, set_marks}
 use Rattle.geo_model.specs.Graph.{AreNumbers}
 use Rattle.geo_model.specs.World.{World, Config}

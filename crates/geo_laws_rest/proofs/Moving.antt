@@ -64,7 +64,8 @@ not_both phase not_done either = elim either [
 
 module _ (w : World) (firm : Firm w) (idle : NoneBusy w) where
   -- a child has a greater number than its parent
-  child_above : (y : Bio) (b : ℕ) (o : Owner) → ComesFromItsOwner w y o → is_child_of o b ≡ true → b < y.number
+  child_above : (y : Bio) (b : ℕ) (o : Owner) → ComesFromItsOwner w.handles w.taste y o → is_child_of o b ≡ true
+      → b < y.number
   child_above y b (owners.Child parent index) comes child =
       let is : parent ≡ b = eqb-true parent b child in subst (λ (n : ℕ). n < y.number) is comes
   child_above y b (owners.Line handle line) comes child = absurd (let no : ⊥ = cc in no)
@@ -114,14 +115,16 @@ module _ (w : World) (firm : Firm w) (idle : NoneBusy w) where
     none_waits zero x here waits high =
         let low : x.number < w.next_bio =
         at_contained (λ (y : Bio). y.number < w.next_bio) w.bios x
-        (each_below w.bios w.next_bio firm.sound.numbers.bios.1) here in
+        (each_below w.bios w.next_bio firm.sound.bio_numbers.1) here in
         omega (arith, high, low)
     none_waits (suc steps) x here waits high =
-        let family : IsFamilyInOrder w x = All-contains (IsFamilyInOrder w) w.bios x firm.sound.families here in
+        let family : IsFamilyInOrder w.topology w.bios x =
+        All-contains (IsFamilyInOrder w.topology w.bios) w.bios x firm.sound.families here in
         let o = one_fails (λ (y : Bio). is_done y.phase) (children_of w x.number) (family.not_complete waits) in
         let child = filter-Contains (λ (y : Bio). is_child_of y.owner x.number) w.bios o.item o.stands in
-        let comes : ComesFromItsOwner w o.item o.item.owner =
-        All-contains (λ (y : Bio). ComesFromItsOwner w y y.owner) w.bios o.item firm.steady.owners child.0 in
+        let comes : ComesFromItsOwner w.handles w.taste o.item o.item.owner =
+        All-contains (λ (y : Bio). ComesFromItsOwner w.handles w.taste y y.owner) w.bios o.item firm.steady.owners
+        child.0 in
         let above = child_above o.item x.number o.item.owner comes child.1 in
         none_waits steps o.item child.0 (not_both o.item.phase o.fact (stuck o.item child.0))
         (omega (arith, high, above))
@@ -129,15 +132,18 @@ module _ (w : World) (firm : Firm w) (idle : NoneBusy w) where
     -- no root is done
     root_done : (x : Bio) → Contains w.bios x → is_done x.phase ≡ true → is_root x.owner ≡ true → ⊥
     root_done x here done root =
-        let family : IsFamilyInOrder w x = All-contains (IsFamilyInOrder w) w.bios x firm.sound.families here in
+        let family : IsFamilyInOrder w.topology w.bios x =
+        All-contains (IsFamilyInOrder w.topology w.bios) w.bios x firm.sound.families here in
         let not_done : is_done x.phase ≡ false = family.root root in
         let no : ⊥ = cc in no
 
     -- nor is any done: its parent would wait
     none_done : (x : Bio) → Contains w.bios x → is_done x.phase ≡ true → (o : Owner) → x.owner ≡ o → ⊥
     none_done x here done (owners.Child parent index) own =
-        let family : IsFamilyInOrder w x = All-contains (IsFamilyInOrder w) w.bios x firm.sound.families here in
-        let parent_waits : HasItsParent w (owners.Child parent index) = subst (HasItsParent w) own family.parent in
+        let family : IsFamilyInOrder w.topology w.bios x =
+        All-contains (IsFamilyInOrder w.topology w.bios) w.bios x firm.sound.families here in
+        let parent_waits : HasItsParent w.bios (owners.Child parent index) =
+        subst (HasItsParent w.bios) own family.parent in
         let y = found-with (bio_at w parent) (λ z. IsTrue (is_waiting z.phase)) parent_waits in
         none_waits w.next_bio y.item (find-Contains (λ (z : Bio). z.number == parent) w.bios y.item y.is) y.fact
         (omega arith)

@@ -73,7 +73,7 @@ module _ (w : World) (firm : Firm w) where
   -- a bio that is found is the one of its number
   itself : (test : Bio → Bool) (x : Bio) → find test w.bios ≡ Some x → bio_at w x.number ≡ Some x
   itself test x found =
-      found_itself (λ (y : Bio). y.number) w.next_bio w.bios x firm.sound.numbers.bios
+      found_itself (λ (y : Bio). y.number) w.next_bio w.bios x firm.sound.bio_numbers
       (find-Contains test w.bios x found)
 
   -- one that is Up goes up

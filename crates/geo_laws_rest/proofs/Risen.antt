@@ -1,8 +1,8 @@
 -- An Up lowers the measure: a root goes, or a child is done, the last one with its parent up.
-use Rattle.std.specs.Prelude.{◌≡◌, ◌≢◌, ◌⊎◌, ℕ, ◌+◌, ◌<◌, ◌≤◌, ◌==◌, Bool, true, false, not, List, [], ◌∷◌, length, map, filter, find, sum_by, Option, Some, None, Contains, IsSomeAnd, is_ok, IsTrue, unwrap_or, if◌then◌else◌, option_map}
+use Rattle.std.specs.Prelude.{◌≡◌, ℕ, ◌+◌, ◌≤◌, ◌==◌, Bool, true, false, not, List, [], ◌∷◌, map, filter, sum_by, Option, Some, None, Contains, IsSomeAnd, is_ok, IsTrue, unwrap_or, if◌then◌else◌, option_map}
 use Rattle.std.specs.List.{AllByRecursion}
 use Rattle.std.specs.Option.{option_map_or}
-use Rattle.std.proofs.Common.{inl, inr, refl, sym, ◌∙◌, ap, subst, arith}
+use Rattle.std.proofs.Common.{refl, sym, ◌∙◌, ap, subst, arith}
 use Rattle.std.proofs.lemmas.Bool.{eq-eqb, eqb-true}
 use Rattle.std.proofs.lemmas.List.Elements.{All-contains}
 use Rattle.geo_model.specs.declared.step.BioResult.{BioResult}
@@ -12,8 +12,8 @@ use Rattle.geo_model.specs.declared.step.Owner.TheVariants as owners
 use Rattle.geo_model.specs.declared.step.Phase.{Phase}
 use Rattle.geo_model.specs.declared.step.Phase.TheVariants as phases
 use Rattle.geo_model.specs.declared.step.Step.TheVariants as steps
-use Rattle.geo_model.specs.World.{World, Bio, Taste, Asked, NoClass, NextSector, ReadOut, ReadBack, bio_at, change_bio, change_number, children_of, is_up, is_waiting, is_child_of}
-use Rattle.geo_model.specs.Bios.{up, up_to, up_line, up_taste, up_child, up_with, without_bio, without_children, complete_parent, is_complete, joined_result, child_results, taste_with, read_back}
+use Rattle.geo_model.specs.World.{World, Bio, Taste, Asked, NoClass, NextSector, ReadOut, ReadBack, bio_at, change_bio, change_number, is_up, is_waiting, is_child_of}
+use Rattle.geo_model.specs.Bios.{up, up_to, up_taste, up_child, up_with, complete_parent, is_complete, joined_result, child_results, taste_with}
 use Rattle.geo_model.specs.Step.{step, is_enabled, up_of}
 use Rattle.geo_model.specs.Log.{world_after}
 use Rattle.geo_model.specs.Order.{steps_left, taste_left}
@@ -120,9 +120,10 @@ module _ (w : World) (firm : Firm w) (x : Bio) (found : bio_at w x.number ≡ So
   parent_waits : IsSomeAnd (bio_at w parent) (λ y. IsTrue (is_waiting y.phase))
   parent_waits =
       let here : Contains w.bios x = find-Contains (λ (y : Bio). y.number == x.number) w.bios x found in
-      let family : IsFamilyInOrder w x = All-contains (IsFamilyInOrder w) w.bios x firm.sound.families here in
-      let has : HasItsParent w x.owner = family.parent in
-      subst (HasItsParent w) own has
+      let family : IsFamilyInOrder w.topology w.bios x =
+      All-contains (IsFamilyInOrder w.topology w.bios) w.bios x firm.sound.families here in
+      let has : HasItsParent w.bios x.owner = family.parent in
+      subst (HasItsParent w.bios) own has
 
   -- a bio that is found is done or as it was
   waits_by : (y : Bio) (o : Option Bio) → bio_at w parent ≡ o → IsSomeAnd o (λ z. IsTrue (is_waiting z.phase))
@@ -187,7 +188,7 @@ module _ (w : World) (firm : Firm w) (x : Bio) (found : bio_at w x.number ≡ So
   complete_falls y at =
       let r : BioResult = joined_result y.cmd (child_results gathered y.number) in
       let same = unique (λ (z : Bio). z.number) w.next_bio y.number gathered.bios y
-      (subst (λ (ns : List ℕ). AreNumbers ns w.next_bio) (sym gathered_numbers) firm.sound.numbers.bios)
+      (subst (λ (ns : List ℕ). AreNumbers ns w.next_bio) (sym gathered_numbers) firm.sound.bio_numbers)
       (found_there gathered parent y at) in
       let one = sum_kept (steps_of w) (steps_of w) (λ (z : Bio). not (is_child_of z.owner y.number))
       (change_number y.number (up_with r) gathered.bios)

@@ -1,5 +1,5 @@
 -- A Start lowers the measure: the bio is bounced, sent or split.
-use Rattle.std.specs.Prelude.{◌≡◌, ◌⊎◌, ℕ, zero, suc, ◌+◌, ◌<◌, ◌≤◌, ◌==◌, Bool, true, false, ◌||◌, if◌then◌else◌, option_map, List, [], ◌∷◌, ◌++◌, length, map, find, sum_by, Option, Some, None, Contains, IsSome, IsSomeAnd, is_ok, IsTrue, option_and_then, unwrap_or}
+use Rattle.std.specs.Prelude.{◌≡◌, ℕ, zero, suc, ◌+◌, ◌≤◌, ◌==◌, Bool, true, false, ◌||◌, if◌then◌else◌, option_map, List, [], ◌∷◌, length, map, find, sum_by, Option, Some, None, Contains, IsSome, IsSomeAnd, is_ok, IsTrue, option_and_then, unwrap_or}
 use Rattle.std.specs.List.{AllByRecursion, enumerate_from}
 use Rattle.std.proofs.Common.{inl, inr, refl, sym, ◌∙◌, ap, subst, arith}
 use Rattle.std.proofs.lemmas.Bool.{eq-eqb}
@@ -14,7 +14,7 @@ use Rattle.geo_model.specs.declared.step.Phase.TheVariants as phases
 use Rattle.geo_model.specs.declared.step.Step.TheVariants as steps
 use Rattle.geo_model.specs.Topology.{Topology, Geom, Provider, Consumer, geom_at, provider_at, consumer_at, provider_of_consumer, provider_with_geom, note_started}
 use Rattle.geo_model.specs.Rank.{rank}
-use Rattle.geo_model.specs.World.{World, Bio, Config, Nothing, Disk, Mbr, Ebr, Label, Concat, Stripe, Nop, bio_at, change_number, is_down, is_sent, is_busy}
+use Rattle.geo_model.specs.World.{World, Bio, Config, Nothing, Disk, Mbr, Ebr, Label, Concat, Stripe, Nop, bio_at, change_number, is_down, is_sent, is_busy, granted_in}
 use Rattle.geo_model.specs.Place.{components, disk_of}
 use Rattle.geo_model.specs.Bios.{Way, Bounces, Fails, Sends, Splits, Passes, PieceTarget, way_of, piece_targets, piece_child, piece_children, start, start_by, split_bio, up_with, disk_of_bio}
 use Rattle.geo_model.specs.Step.{step, is_enabled, start_of}
@@ -34,14 +34,14 @@ use Rattle.geo_laws_bios.proofs.Restarted.{noted_stays_firm}
 use Rattle.geo_laws_bios.proofs.Turning.{found_there}
 use Rattle.geo_laws_bios.proofs.Starting.{SplitsAt, splits_at, starts_stay_firm, counted_elsewhere, splits_by}
 use Rattle.geo_laws_life.proofs.Found.{one-found}
-use Rattle.geo_laws_maps.specs.Ways.{IsWays, GoesDown, LeadsInto, IsOpen}
+use Rattle.geo_laws_maps.specs.Ways.{GoesDown, LeadsInto, IsOpen}
 use Rattle.geo_laws_maps.proofs.Opened.{live-open, open-down}
 use Rattle.geo_laws_rest.specs.MeasureLaws.{StartsLower}
 use Rattle.geo_laws_rest.proofs.Falls.{tasting_of, bio_steps_of}
 use Rattle.geo_laws_rest.proofs.Targets.{IsThrough, all_through, IsDisk, StepsBelow, disk_or_below}
-use Rattle.geo_laws_rest.proofs.Walks.{Keeps, StandsAs, keeps_itself, IsLike, with_geom, down_most, two_steps}
+use Rattle.geo_laws_rest.proofs.Walks.{Keeps, StandsAs, keeps_itself, with_geom, down_most, two_steps}
 use Rattle.geo_laws_rest.proofs.Costs.{tasting_same, started_ranks}
-use Rattle.geo_laws_rest.proofs.Turned.{steps_of, BiosFall, falls_less, falls_twice, now_most, changed_falls, with_steps, steps_fall}
+use Rattle.geo_laws_rest.proofs.Turned.{steps_of, BiosFall, falls_less, now_most, changed_falls, with_steps, steps_fall}
 
 -- a bio that is Down needs its steps on the way down
 down_phase : (w : World) (x : Bio) (phase : Phase) → is_down phase ≡ true
@@ -141,7 +141,7 @@ module _ (w : World) (firm : Firm w) (x : Bio) (here : Contains w.bios x) where
 
   -- the rank of its geom is no greater than the number of geoms, since the bio's source is above it
   low_by : (o : Option Consumer) → consumer_at t x.source ≡ o
-      → IsSomeAnd o (λ c. (c.provider ≡ Some x.target) × HasCountFor w x c) → (p : Provider)
+      → IsSomeAnd o (λ c. (c.provider ≡ Some x.target) × HasCountFor (granted_in w) t x c) → (p : Provider)
       → provider_at t x.target ≡ Some p
       → rank t p.geom ≤ length t.geoms
   low_by None e source p found = absurd source
@@ -163,7 +163,8 @@ module _ (w : World) (firm : Firm w) (x : Bio) (here : Contains w.bios x) where
   -- so
   low : (p : Provider) → provider_at t x.target ≡ Some p → rank t p.geom ≤ length t.geoms
   low =
-      let order : IsBioInOrder w x = All-contains (IsBioInOrder w) w.bios x firm.sound.bios here in
+      let order : IsBioInOrder (granted_in w) t x =
+      All-contains (IsBioInOrder (granted_in w) t) w.bios x firm.sound.bios here in
       low_by (consumer_at t x.source) refl order.source
 
   module _ (p : Provider) (found : provider_at t x.target ≡ Some p) (g : Geom Config)

@@ -1,5 +1,5 @@
 -- The pieces of a request go down through components of the geom.
-use Rattle.std.specs.Prelude.{◌≡◌, ◌⊎◌, ℕ, ◌+◌, Bool, true, false, List, [], ◌∷◌, map, filter_map, sum_by, Option, Some, None, Contains, option_map}
+use Rattle.std.specs.Prelude.{◌≡◌, ◌⊎◌, ℕ, ◌+◌, Bool, true, false, map, sum_by, Option, Some, None, Contains, option_map}
 use Rattle.std.specs.List.{AllByRecursion}
 use Rattle.std.proofs.Common.{inl, inr, refl, subst}
 use Rattle.geo_model.specs.declared.span.Piece.{Piece}

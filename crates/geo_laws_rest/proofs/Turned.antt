@@ -1,22 +1,21 @@
 -- A step of bios lets the steps fall that bios still need.
-use Rattle.std.specs.Prelude.{◌≡◌, ◌⊎◌, ℕ, ◌+◌, ◌<◌, ◌≤◌, ◌==◌, Bool, true, false, List, [], ◌∷◌, length, map, find, sum_by, Option, Some, None, Contains, is_ok, IsTrue, if◌then◌else◌}
+use Rattle.std.specs.Prelude.{◌≡◌, ℕ, ◌+◌, ◌<◌, ◌≤◌, ◌==◌, Bool, true, false, List, [], ◌∷◌, length, sum_by, Option, Some, None, is_ok, IsTrue, if◌then◌else◌}
 use Rattle.std.specs.List.{AllByRecursion}
-use Rattle.std.proofs.Common.{inl, inr, refl, sym, ap, subst, arith}
+use Rattle.std.proofs.Common.{refl, sym, subst, arith}
 use Rattle.std.proofs.lemmas.Bool.{eq-eqb}
 use Rattle.geo_model.specs.declared.step.DeviceResult.{DeviceResult}
 use Rattle.geo_model.specs.declared.step.Found.{Found}
 use Rattle.geo_model.specs.declared.step.Phase.{Phase}
 use Rattle.geo_model.specs.declared.step.Phase.TheVariants as phases
 use Rattle.geo_model.specs.declared.step.Step.TheVariants as steps
-use Rattle.geo_model.specs.Words.{change_where}
 use Rattle.geo_model.specs.World.{World, Bio, bio_at, change_number, is_busy, is_sent}
 use Rattle.geo_model.specs.Bios.{deliver, take_bio, result_of_device, up_with}
 use Rattle.geo_model.specs.Step.{step, is_enabled, unless_found, deliver_found, deliver_of, take_found, take_of}
 use Rattle.geo_model.specs.Log.{world_after}
 use Rattle.geo_model.specs.Order.{steps_left, IsLess, measure}
-use Rattle.geo_model.specs.Laws.{world_by, Lowers}
+use Rattle.geo_model.specs.Laws.{world_by}
 use Rattle.geo_model.specs.Fitting.{Firm}
-use Rattle.geo_laws_graph.proofs.Members.{find-Contains, All-from_contained, Contains-map}
+use Rattle.geo_laws_graph.proofs.Members.{find-Contains, All-from_contained}
 use Rattle.geo_laws_graph.proofs.Numbered.{unique}
 use Rattle.geo_laws_bios.proofs.Phases.{can_take, can_deliver}
 use Rattle.geo_laws_bios.proofs.Turning.{found_there, takes_stay_firm, delivers_stay_firm}
@@ -74,7 +73,7 @@ pub changed_falls : (w : World) → Firm w → (x : Bio) → bio_at w x.number �
     → steps_of w (change x) + d ≤ steps_of w x
     → sum_by (steps_of w) (change_number x.number change w.bios) + d ≤ bio_steps_of w
 changed_falls w firm x found change d falls =
-    let same = unique (λ (y : Bio). y.number) w.next_bio x.number w.bios x firm.sound.numbers.bios found in
+    let same = unique (λ (y : Bio). y.number) w.next_bio x.number w.bios x firm.sound.bio_numbers found in
     let most : AllByRecursion (λ (y : Bio).
     steps_of w (if y.number == x.number then change y else y) ≤ steps_of w y) w.bios =
     by w.bios same in

@@ -1,15 +1,12 @@
 -- The steps of a bio that goes down, in a graph of which what stands stood in another.
-use Rattle.std.specs.Prelude.{◌≡◌, ◌⊎◌, ℕ, zero, suc, ◌+◌, ◌<◌, ◌≤◌, ◌==◌, List, [], ◌∷◌, length, sum_by, Option, Some, None, Contains, option_and_then, unwrap_or}
-use Rattle.std.specs.List.{AllByRecursion}
+use Rattle.std.specs.Prelude.{◌≡◌, ◌⊎◌, ℕ, zero, suc, ◌≤◌, ◌==◌, List, length, sum_by, Option, Some, None, Contains, option_and_then, unwrap_or}
 use Rattle.std.specs.Option.{option_map_or}
 use Rattle.std.proofs.Common.{inl, inr, refl, sym, ◌∙◌, ap, subst, arith}
-use Rattle.geo_base.specs.declared.request.BioCmd.{BioCmd}
 use Rattle.geo_model.specs.declared.step.Phase.{Phase}
 use Rattle.geo_model.specs.declared.step.Phase.TheVariants as phases
 use Rattle.geo_model.specs.Topology.{Topology, Geom, Provider, Consumer, geom_at, provider_at, consumer_at, provider_of_consumer, provider_with_geom}
 use Rattle.geo_model.specs.Rank.{rank, Ranked}
 use Rattle.geo_model.specs.World.{World, Config, Bio}
-use Rattle.geo_model.specs.Place.{components}
 use Rattle.geo_model.specs.Bios.{PieceTarget, piece_targets, piece_child}
 use Rattle.geo_model.specs.Order.{down_step, down_steps_within, steps_left}
 use Rattle.geo_model.specs.Fitting.{Firm}
@@ -21,7 +18,7 @@ use Rattle.geo_laws_graph.proofs.Climbing.{rank-falls}
 use Rattle.geo_laws_maps.specs.Ways.{IsWays, GoesDown, LeadsInto, IsOpen}
 use Rattle.geo_laws_maps.proofs.Opened.{live-open, open-down}
 use Rattle.geo_laws_rest.proofs.Sums.{sum_most}
-use Rattle.geo_laws_rest.proofs.Targets.{IsThrough, all_through, IsDisk, StepsBelow, disk_or_below}
+use Rattle.geo_laws_rest.proofs.Targets.{IsThrough, all_through, disk_or_below}
 
 -- Each bio needs two steps at least
 

@@ -1,5 +1,5 @@
 -- A Wash that isn't early lowers the measure.
-use Rattle.std.specs.Prelude.{◌≡◌, ◌≢◌, ◌⊎◌, ℕ, ◌+◌, ◌*◌, ◌<◌, ◌≤◌, ◌==◌, Bool, true, false, not, ◌&&◌, ◌||◌, List, [], ◌∷◌, length, map, filter, find, sum_by, count_by, Option, Some, None, Ok, Err, Contains, IsSomeAnd, is_ok, is_some, IsTrue, cond, if◌then◌else◌, option_map, option_and_then, ◌-◌}
+use Rattle.std.specs.Prelude.{◌≡◌, ℕ, ◌+◌, ◌≤◌, ◌==◌, Bool, true, false, not, ◌&&◌, ◌||◌, List, [], ◌∷◌, length, filter, find, sum_by, Option, Some, None, Ok, Err, Contains, is_ok, is_some, cond, if◌then◌else◌, option_map, option_and_then, ◌-◌}
 use Rattle.std.specs.List.{AllByRecursion, list_any}
 use Rattle.std.specs.Option.{option_map_or, option_or}
 use Rattle.std.proofs.Common.{inl, inr, refl, sym, ◌∙◌, ap, subst, arith}
@@ -13,20 +13,19 @@ use Rattle.geo_model.specs.declared.step.Found.{Found}
 use Rattle.geo_model.specs.declared.step.Found.TheVariants as refusals
 use Rattle.geo_model.specs.declared.step.Outcome.{Outcome}
 use Rattle.geo_model.specs.declared.step.Outcome.TheVariants as outcomes
-use Rattle.geo_model.specs.declared.step.Step.TheVariants as steps
 use Rattle.geo_model.specs.declared.step.WashWork.{WashWork}
 use Rattle.geo_model.specs.declared.step.WashWork.TheVariants as washes
 use Rattle.geo_model.specs.Words.{first_some}
 use Rattle.geo_model.specs.Topology.{Topology, Geom, Provider, Consumer, geom_at, provider_at, consumer_at, geom_of_provider, attached_to, providers_of, consumers_of, remove_provider, remove_consumer, remove_geom}
-use Rattle.geo_model.specs.World.{World, Config, Taste, granted_in, is_active}
+use Rattle.geo_model.specs.World.{World, Config, granted_in, is_active}
 use Rattle.geo_model.specs.Events.{provider_of_event, without_events_of}
-use Rattle.geo_model.specs.WorldEvents.{queued_of, with_queued}
+use Rattle.geo_model.specs.WorldEvents.{with_queued}
 use Rattle.geo_model.specs.Rank.{rank}
 use Rattle.geo_model.specs.Freeing.{is_idle, wash_work_of, first_wash, wash_work, wash}
-use Rattle.geo_model.specs.Step.{step, is_enabled, wash_next}
+use Rattle.geo_model.specs.Step.{step, wash_next}
 use Rattle.geo_model.specs.Log.{world_after}
 use Rattle.geo_model.specs.Order.{taste_weight, taste_weight_below, rank_of_provider, event_weight, taste_left, is_loss, IsLess, measure}
-use Rattle.geo_model.specs.Laws.{is_offer, is_of_consumer, is_early_wash}
+use Rattle.geo_model.specs.Laws.{is_offer, is_of_consumer}
 use Rattle.geo_model.specs.Fitting.{Firm}
 use Rattle.geo_laws_counts.proofs.Levels.{of_each}
 use Rattle.geo_laws_graph.proofs.Found.{removed-provider, removed-geom}
@@ -37,10 +36,10 @@ use Rattle.geo_laws_life.proofs.Found.{FoundWith}
 use Rattle.geo_laws_life.specs.LessLaws.{IsSpent}
 use Rattle.geo_laws_life.proofs.Removals.{IsBareGeom}
 use Rattle.geo_laws_life.proofs.Washed.{CanWash, washed-firm, found-can}
-use Rattle.geo_laws_rest.proofs.Falls.{commands_of, handles_of, tasting_of, losses_of, bio_steps_of, parts_of, parts_less}
+use Rattle.geo_laws_rest.proofs.Falls.{parts_less}
 use Rattle.geo_laws_rest.proofs.Sums.{sum_kept}
 use Rattle.geo_laws_rest.proofs.Costs.{weight_some, weights_same, left_same}
-use Rattle.geo_laws_rest.proofs.Walks.{Keeps, StandsAs}
+use Rattle.geo_laws_rest.proofs.Walks.{Keeps}
 use Rattle.geo_laws_rest.proofs.Turned.{now_most}
 use Rattle.geo_laws_rest.specs.LossLaws.{WashesLower}
 use Rattle.geo_laws_rest.proofs.Elsewhere.{rank_by, elsewhere, Cheaper, event_most, left_most, no_offers, left_out_length}

@@ -1,12 +1,10 @@
 -- In a legal log each open under a free handle name, and each append, is answered by what the mesh forbids.
-use Rattle.std.specs.Prelude.{◌≡◌, ℕ, List, ◌∷◌, ◌++◌, Result, Ok, Err, IsOkAnd}
+use Rattle.std.specs.Prelude.{◌≡◌, List, ◌∷◌, Ok, Err, IsOkAnd}
 use Rattle.std.proofs.Common.{refl, ◌∙◌, ap, subst}
 use Rattle.geo_model.specs.declared.step.Entry.{Entry}
-use Rattle.geo_model.specs.declared.step.Found.{Found}
-use Rattle.geo_model.specs.declared.step.Outcome.{Outcome}
 use Rattle.geo_model.specs.World.{World}
 use Rattle.geo_model.specs.Step.{Answer, step}
-use Rattle.geo_model.specs.Log.{replay, Legal, IsMade}
+use Rattle.geo_model.specs.Log.{replay, Legal}
 use Rattle.geo_model.specs.History.{AtEachEntry, OpensAreAnswered, AppendsAreAnswered}
 use Rattle.geo_model.specs.Laws.{OfEachLegalLog}
 use Rattle.geo_model.proofs.LogLemmas.{Legal-back}

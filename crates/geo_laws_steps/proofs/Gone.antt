@@ -1,16 +1,14 @@
 -- Each command keeps a firm mesh firm: it is one of a handle or one of geoms.
-use Rattle.std.specs.Prelude.{◌≡◌, ◌⊎◌, ℕ, Bool, true, Option, Some, None, IfSome}
+use Rattle.std.specs.Prelude.{◌≡◌, ◌⊎◌, ℕ, true, Option, Some, None, IfSome}
 use Rattle.std.proofs.Common.{inl, inr, refl}
 use Rattle.geo_model.specs.declared.command.Command.{Command}
 use Rattle.geo_model.specs.declared.command.Command.TheVariants as commands
 use Rattle.geo_model.specs.declared.command.LineCommand.{LineCommand}
-use Rattle.geo_model.specs.declared.step.Step.TheVariants as steps
 use Rattle.geo_model.specs.Plans.{IsCommand}
 use Rattle.geo_model.specs.World.{World}
 use Rattle.geo_model.specs.Commands.{do_command}
 use Rattle.geo_model.specs.Fitting.{Firm}
 use Rattle.geo_model.specs.History.{next_command}
-use Rattle.geo_model.specs.Laws.{world_by}
 use Rattle.geo_laws_handles.specs.CommandLaws.{EachStaysFirm, is_of_handles}
 use Rattle.geo_laws_handles.proofs.Commanded.{handle_commands_stay_firm, goes_stay_firm}
 use Rattle.geo_laws_making.specs.GeomCommandLaws.{is_of_geoms}

@@ -142,7 +142,7 @@ module _ (w : World) (firm : Firm w) (p : Provider) where
       → list_any is_none (places_of g.config) ≡ b → (IsBare t g.number → ⊥)
       → fill_place g.config k c size ≡ g.config
   stands_bare g here k c size free true some touched =
-      absurd (touched (All-contains (WaitsForPlaces w) t.geoms g firm.steady.partial here some))
+      absurd (touched (All-contains (WaitsForPlaces t) t.geoms g firm.steady.partial here some))
   stands_bare g here k c size free false full touched =
       let past = past_full (places_of g.config) k full free in
       let same = AllZip-long (FitsPlace t g.number) (places_of g.config) (sizes_of g.config)

@@ -1,10 +1,10 @@
 -- After every prefix of a legal log the mesh is firm.
-use Rattle.std.specs.Prelude.{◌≡◌, ℕ, List, [], ◌∷◌}
+use Rattle.std.specs.Prelude.{ℕ, List, [], ◌∷◌}
 use Rattle.geo_model.specs.declared.step.Entry.{Entry}
 use Rattle.geo_model.specs.World.{World, Plan}
 use Rattle.geo_model.specs.Plans.{IsPlan, FactsFit}
 use Rattle.geo_model.specs.Opening.{opening}
-use Rattle.geo_model.specs.Log.{replay, Legal, after_entry}
+use Rattle.geo_model.specs.Log.{replay, after_entry}
 use Rattle.geo_model.specs.Fitting.{Firm}
 use Rattle.geo_model.specs.History.{LegalAndSound}
 use Rattle.geo_model.specs.Laws.{OfEachLegalLog, LegalLogsStaySteady, LegalLogsStayFitting}

@@ -1,10 +1,6 @@
 -- Each of the nine steps keeps a firm mesh firm.
-use Rattle.std.specs.Prelude.{ℕ}
-use Rattle.geo_model.specs.declared.step.Step.{Step}
 use Rattle.geo_model.specs.declared.step.Step.TheVariants as steps
-use Rattle.geo_model.specs.World.{World}
-use Rattle.geo_model.specs.Fitting.{Firm}
-use Rattle.geo_model.specs.Laws.{world_by, StepsStayFirm}
+use Rattle.geo_model.specs.Laws.{StepsStayFirm}
 use Rattle.geo_laws_bios.proofs.BioSteps.{bio_steps_stay_firm}
 use Rattle.geo_laws_life.proofs.Begun.{event_step_keeps}
 use Rattle.geo_laws_life.proofs.Washed.{wash_step_keeps}

@@ -8,7 +8,6 @@ use Rattle.geo_model.specs.declared.step.Step.TheVariants as steps
 use Rattle.geo_model.specs.Words.{first_some}
 use Rattle.geo_model.specs.World.{World, is_up, is_down}
 use Rattle.geo_model.specs.Freeing.{reap_work, wash_work}
-use Rattle.geo_model.specs.Step.{step}
 use Rattle.geo_model.specs.declared.step.Entry.{Entry}
 use Rattle.geo_model.specs.Order.{is_at_rest}
 use Rattle.std.specs.List.{range_with_len}

@@ -4,7 +4,6 @@ use Rattle.std.specs.List.{AllByRecursion}
 use Rattle.std.proofs.Common.{refl, arith}
 use Rattle.std.proofs.lemmas.List.Elements.{All-from_recursion, All-contains}
 use Rattle.geo_model.proofs.BioLemmas.{read_moves}
-use Rattle.geo_base.specs.declared.request.BioCmd.TheVariants as cmds
 use Rattle.geo_base.specs.declared.limits.TheConstants.{MAX_REQUEST_BYTES}
 use Rattle.geo_model.specs.declared.step.DeviceResult.TheVariants as devices
 use Rattle.geo_model.specs.declared.step.Entry.{Entry}
@@ -14,7 +13,7 @@ use Rattle.geo_model.specs.declared.step.Step.{Step}
 use Rattle.geo_model.specs.declared.step.Step.TheVariants as steps
 use Rattle.geo_model.specs.Words.{is_flush}
 use Rattle.geo_model.specs.Topology.{provider_at}
-use Rattle.geo_model.specs.World.{World, Bio, bio_at}
+use Rattle.geo_model.specs.World.{World, Bio, bio_at, granted_in}
 use Rattle.geo_model.specs.Bios.{deliver, sector_of_bio}
 use Rattle.geo_model.specs.SoundBios.{IsBioInOrder, IsRangeInside}
 use Rattle.geo_model.specs.Step.{unless_found, deliver_found, deliver_of, step}
@@ -36,7 +35,8 @@ record AreFew (bytes : List ℕ) : Type 0 where
 fitting_few : (w : World) (x : Bio) (seat : ℕ) (bytes : List ℕ) → Firm w → Contains w.bios x
     → deliver_found w seat x (devices.Bytes bytes) x.phase ≡ None → AreFew bytes
 fitting_few w x seat bytes firm here none =
-    let order : IsBioInOrder w x = All-contains (IsBioInOrder w) w.bios x firm.sound.bios here in
+    let order : IsBioInOrder (granted_in w) w.topology x =
+    All-contains (IsBioInOrder (granted_in w) w.topology) w.bios x firm.sound.bios here in
     let fits = fitting_result (sector_of_bio w x) x (devices.Bytes bytes)
     (can_deliver w seat x (devices.Bytes bytes) x.phase none).1 in
     let p = found-with (provider_at w.topology x.target)

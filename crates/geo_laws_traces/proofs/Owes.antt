@@ -5,7 +5,6 @@ use Rattle.geo_laws_owed.proofs.Full.{begins_one}
 use Rattle.geo_model.proofs.OpeningLemmas.{opening_owes}
 use Rattle.geo_model.specs.declared.step.Entry.{Entry}
 use Rattle.geo_model.specs.declared.step.Step.{Step}
-use Rattle.geo_model.specs.declared.step.Step.TheVariants as steps
 use Rattle.geo_model.specs.World.{World}
 use Rattle.geo_model.specs.Step.{Answer, step}
 use Rattle.geo_model.specs.Log.{replay, world_after, after_entry, owed}

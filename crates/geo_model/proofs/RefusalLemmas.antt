@@ -1,5 +1,5 @@
 -- Where nothing is refused, each test fails.
-use Rattle.std.specs.Prelude.{◌≡◌, Bool, true, false, List, [], ◌∷◌, ◌++◌, Option, None}
+use Rattle.std.specs.Prelude.{◌≡◌, Bool, true, false, List, [], ◌∷◌, ◌++◌, None}
 use Rattle.std.proofs.Common.{refl}
 use Rattle.geo_model.specs.Words.{first_error}
 

@@ -19,7 +19,7 @@ use Rattle.geo_model.specs.declared.step.Reply.TheVariants as replies
 use Rattle.geo_model.specs.declared.step.Request.{Request}
 use Rattle.geo_model.specs.Words.{is_read, is_flush}
 use Rattle.geo_model.specs.Topology.{Topology, Geom, Provider, provider_at, geom_of_provider, provider_of_consumer, is_errored, note_started, provider_with_geom}
-use Rattle.geo_model.specs.World.{World, Config, Nop, Bio, BioOf, Taste, Asked, ReadOut, ReadBack, bio_at, change_bio, children_of, is_busy, is_done, is_child_of, Disk}
+use Rattle.geo_model.specs.World.{World, Config, Nop, Bio, BioOf, Taste, Asked, ReadOut, ReadBack, bio_at, change_bio, children_of, is_busy, is_done, is_child_of, children_among, Disk}
 use Rattle.geo_model.specs.declared.span.Piece.{Piece}
 use Rattle.geo_model.specs.Place.{pieces, component, components, disk_of}
 
@@ -260,8 +260,11 @@ complete_parent w parent =
     without_children (change_bio w parent.number (up_with result)) parent.number
 
 -- whether each child of a bio is Done
+abbrev pub are_children_done : List Bio → ℕ → Bool
+are_children_done bios parent = list_all (λ x. is_done x.phase) (children_among bios parent)
+
 abbrev pub is_complete : World → ℕ → Bool
-is_complete w parent = list_all (λ x. is_done x.phase) (children_of w parent)
+is_complete w parent = are_children_done w.bios parent
 
 -- a child goes up: it is Done, and its parent goes up where all children are
 abbrev pub up_child : World → Bio → ℕ → World × Outcome

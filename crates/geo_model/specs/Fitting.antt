@@ -1,7 +1,7 @@
 -- The headline doesn't rest on this file: its proofs keep these facts beside soundness.
 -- What else holds at every moment of sizes and sectors, of concats and their places, of the taste's read, and of the
 -- commands that are left. Soundness and steadiness alone aren't kept by each step.
-use Rattle.std.specs.Prelude.{◌≡◌, ◌≢◌, ◌⊎◌, ℕ, ◌/◌, ◌%◌, ◌<◌, ◌≤◌, List, [], length, count_by, Option, Some, IsSome, IsSomeAnd, IfSome, IsTrue, All, AllPairs, ⊤, option_and_then}
+use Rattle.std.specs.Prelude.{◌≡◌, ◌≢◌, ◌⊎◌, ℕ, ◌/◌, ◌%◌, ◌<◌, ◌≤◌, List, [], length, count_by, Option, IsSome, IsSomeAnd, IfSome, IsTrue, All, AllPairs, ⊤, option_and_then}
 use Rattle.std.specs.List.{AllZip}
 use Rattle.geo_base.specs.Sectors.{IsSectorSize}
 use Rattle.geo_base.specs.declared.kind.Kind.{Kind}
@@ -10,7 +10,7 @@ use Rattle.geo_base.specs.declared.limits.TheConstants.{MAX_COMPONENTS}
 use Rattle.geo_model.specs.declared.step.BioResult.{BioResult}
 use Rattle.geo_model.specs.declared.step.BioResult.TheVariants as results
 use Rattle.geo_model.specs.Topology.{Topology, Geom, Provider, Consumer, geom_at, provider_at, consumer_at, providers_of}
-use Rattle.geo_model.specs.World.{World, Config, Mbr, Ebr, Concat, Stripe, Nop, HeaderDisk, Taste, Asked, NoClass, NextSector, ReadOut, ReadBack, is_taste_root}
+use Rattle.geo_model.specs.World.{World, Config, Bio, Mbr, Ebr, Concat, Stripe, Nop, HeaderDisk, Asked, NoClass, NextSector, ReadOut, ReadBack, is_taste_root}
 use Rattle.geo_model.specs.Place.{components}
 use Rattle.geo_model.specs.Acceptance.{taste_where, places_of, joined_size}
 use Rattle.geo_model.specs.Tasting.{facts_of}
@@ -72,10 +72,10 @@ IsAskedInOrder t p (ReadOut kind) = AsksThere t p kind
 IsAskedInOrder t p (ReadBack kind got) = AsksThere t p kind × IsOneSector p got
 
 -- the read of a taste is one, and of one sector
-pub record TasteReadHolds (w : World) : Type 0 where
-  pub one : count_by (λ x. is_taste_root x.owner) w.bios ≤ 1
+pub record TasteReadHolds (t : Topology Config) (bios : List Bio) : Type 0 where
+  pub one : count_by (λ x. is_taste_root x.owner) bios ≤ 1
   pub sector : All (λ x. IsTrue (is_taste_root x.owner)
-      → IsSomeAnd (provider_at w.topology x.target) (λ p. x.len ≡ p.sector)) w.bios
+      → IsSomeAnd (provider_at t x.target) (λ p. x.len ≡ p.sector)) bios
 
 -- a CONCAT has at most one provider
 abbrev pub HasOneProvider : Topology Config → Geom Config → Type 0
@@ -103,7 +103,7 @@ pub record Fitting (w : World) : Type 0 where
   pub sums : All (HasItsSum w.topology) w.topology.geoms
   pub asked : IfSome w.taste
       (λ s. IfSome (provider_at w.topology s.provider) (λ p. IsAskedInOrder w.topology p s.asked))
-  pub read : TasteReadHolds w
+  pub read : TasteReadHolds w.topology w.bios
   pub commands : All (All (λ c. IsCommand c.command)) w.actors
 
 -- sound, steady and fitting: what each step is to keep

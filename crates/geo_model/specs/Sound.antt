@@ -1,16 +1,18 @@
 -- What holds of the mesh at every moment.
-use Rattle.std.specs.Prelude.{◌≡◌, ◌≢◌, ◌↔◌, ◌⊎◌, ℕ, ◌+◌, ◌/◌, ◌%◌, ◌<◌, ◌≤◌, ◌==◌, Bool, true, false, not, ◌&&◌, [], ◌∷◌, ◌++◌, length, map, count_by, Option, Some, None, ⊤, IsSome, IsSomeAnd, IfSome, MatchOption, IsTrue, All, AllPairs, option_and_then, slice_get}
+use Rattle.std.specs.Prelude.{◌≡◌, ◌≢◌, ◌↔◌, ◌⊎◌, ℕ, ◌+◌, ◌/◌, ◌%◌, ◌<◌, ◌≤◌, ◌==◌, Bool, true, false, not, ◌&&◌, List, [], ◌∷◌, ◌++◌, length, map, count_by, Option, Some, None, ⊤, IsSome, IsSomeAnd, IfSome, MatchOption, IsTrue, All, AllPairs, option_and_then, slice_get}
 use Rattle.std.specs.List.{list_any}
 use Rattle.std.specs.Option.{option_map_or}
+use Rattle.geo_base.specs.declared.request.Counts.{Counts}
 use Rattle.geo_base.specs.declared.kind.Kind.{Kind}
 use Rattle.geo_base.specs.declared.kind.Kind.TheVariants as kinds
 use Rattle.geo_base.specs.declared.limits.TheConstants.{MAX_LINKS, MAX_MEDIA_BYTES, MAX_RANK, UNTASTED_RANK}
+use Rattle.geo_model.specs.declared.step.Event.{Event}
 use Rattle.geo_model.specs.Words.{is_kind, names_number, same_name}
 use Rattle.geo_model.specs.Topology.{Topology, Geom, Provider, Consumer, geom_at, provider_at, consumer_at, geom_of_provider, providers_of, consumers_of, is_withering}
 use Rattle.geo_model.specs.Graph.{AreNumbers}
 use Rattle.geo_model.specs.Rank.{rank, Ranked}
 use Rattle.geo_model.specs.Demand.{have, is_zero, is_exclusive, fits_limit}
-use Rattle.geo_model.specs.World.{World, Config, Nothing, Disk, Mbr, Ebr, Label, Concat, Stripe, Nop, Handle, Taste, Asked, NoClass, NextSector, ReadOut, ReadBack, granted_in, is_read_out, is_taste_root}
+use Rattle.geo_model.specs.World.{World, Config, Bio, HeaderDisk, Nothing, Disk, Mbr, Ebr, Label, Concat, Stripe, Nop, Handle, Taste, Asked, NoClass, NextSector, ReadOut, ReadBack, granted_in, is_read_out, is_taste_root}
 use Rattle.geo_model.specs.Place.{Spot, place, component, disk_of}
 use Rattle.geo_model.specs.declared.class.EbrPart.{EbrPart}
 use Rattle.geo_model.specs.Chain.{Chain, BeginsAtZero}
@@ -35,9 +37,9 @@ pub record RanksHold (t : Topology Config) : Type 0 where
 -- Counts
 
 -- no writer stands beside another's exclusive count, and no count is above the limit
-pub record CountsHold (w : World) : Type 0 where
-  pub exclusive : IsTrue (is_exclusive (granted_in w) w.topology)
-  pub limited : IsTrue (fits_limit (granted_in w) w.topology)
+pub record CountsHold (granted : ℕ → Counts) (t : Topology Config) : Type 0 where
+  pub exclusive : IsTrue (is_exclusive granted t)
+  pub limited : IsTrue (fits_limit granted t)
 
 -- Names and sizes
 
@@ -84,32 +86,30 @@ abbrev pub DifferInDisk : Geom Config → Geom Config → Type 0
 DifferInDisk x y = (d : ℕ) → disk_of x.config ≡ Some d → disk_of y.config ≢ Some d
 
 -- a DISK geom is of a disk of the header, and each provider of it has that disk's sizes
-abbrev pub HasDiskSizes : World → Geom Config → Type 0
-HasDiskSizes w x =
-    IfSome (disk_of x.config) (λ d. IsSomeAnd (slice_get w.disks d) (λ disk.
-    All (λ p. (p.sector ≡ disk.sector) × (p.size ≡ disk.size)) (providers_of w.topology x.number)))
+abbrev pub HasDiskSizes : Topology Config → List HeaderDisk → Geom Config → Type 0
+HasDiskSizes t disks x =
+    IfSome (disk_of x.config) (λ d. IsSomeAnd (slice_get disks d) (λ disk.
+    All (λ p. (p.sector ≡ disk.sector) × (p.size ≡ disk.size)) (providers_of t x.number)))
 
-pub record NumbersHold (w : World) : Type 0 where
-  pub geoms : AreNumbers (map (λ x. x.number) w.topology.geoms) w.topology.next_geom
-  pub providers : AreNumbers (map (λ x. x.number) w.topology.providers) w.topology.next_provider
-  pub consumers : AreNumbers (map (λ x. x.number) w.topology.consumers) w.topology.next_consumer
-  pub handles : AreNumbers (map (λ x. x.number) w.handles) w.next_handle
-  pub bios : AreNumbers (map (λ x. x.number) w.bios) w.next_bio
-  pub classes : All IsOfItsClass w.topology.geoms
-  pub one_geom_of_disk : AllPairs DifferInDisk w.topology.geoms
-  pub disk_sizes : All (HasDiskSizes w) w.topology.geoms
+-- each part of the graph has a number of its own; each geom is of its class, and each disk has one geom at most
+pub record NumbersHold (t : Topology Config) (disks : List HeaderDisk) : Type 0 where
+  pub geoms : AreNumbers (map (λ x. x.number) t.geoms) t.next_geom
+  pub providers : AreNumbers (map (λ x. x.number) t.providers) t.next_provider
+  pub consumers : AreNumbers (map (λ x. x.number) t.consumers) t.next_consumer
+  pub classes : All IsOfItsClass t.geoms
+  pub one_geom_of_disk : AllPairs DifferInDisk t.geoms
+  pub disk_sizes : All (HasDiskSizes t disks) t.geoms
 
 -- Handles and the taste's consumer
 
 -- a consumer of DEV is attached, and is the consumer of exactly one handle
-pub record IsHandleConsumer (w : World) (c : Consumer) : Type 0 where
+pub record IsHandleConsumer (handles : List Handle) (c : Consumer) : Type 0 where
   pub attached : IsSome c.provider
-  pub one_handle : count_by (λ h. names_number h.consumer c.number) w.handles ≡ 1
+  pub one_handle : count_by (λ h. names_number h.consumer c.number) handles ≡ 1
 
 -- a reaped handle is dead; another one has a consumer of DEV
-abbrev pub HasItsConsumer : World → Handle → Type 0
-HasItsConsumer w h =
-    MatchOption h.consumer (h.dead ≡ true) (λ c. IsSomeAnd (consumer_at w.topology c) (λ x. x.geom ≡ 1))
+abbrev pub HasItsConsumer : Topology Config → Handle → Type 0
+HasItsConsumer t h = MatchOption h.consumer (h.dead ≡ true) (λ c. IsSomeAnd (consumer_at t c) (λ x. x.geom ≡ 1))
 
 -- the one consumer of TASTE is the taste's, attached to the tasted provider
 pub record IsTasting (t : Topology Config) (s : Taste) : Type 0 where
@@ -119,13 +119,14 @@ pub record IsTasting (t : Topology Config) (s : Taste) : Type 0 where
   pub attached : consumer.provider ≡ Some s.provider
 
 -- TASTE has one consumer while a taste is under way, and none else
-abbrev pub HasTasteConsumer : World → Type 0
-HasTasteConsumer w = MatchOption w.taste (consumers_of w.topology 2 ≡ []) (IsTasting w.topology)
+abbrev pub HasTasteConsumer : Topology Config → Option Taste → Type 0
+HasTasteConsumer t taste = MatchOption taste (consumers_of t 2 ≡ []) (IsTasting t)
 
-pub record HandlesHold (w : World) : Type 0 where
-  pub consumers : All (IsHandleConsumer w) (consumers_of w.topology 1)
-  pub handles : All (HasItsConsumer w) w.handles
-  pub taste : HasTasteConsumer w
+pub record HandlesHold (t : Topology Config) (hs : List Handle) (next : ℕ) (o : Option Taste) : Type 0 where
+  pub numbers : AreNumbers (map (λ x. x.number) hs) next
+  pub consumers : All (IsHandleConsumer hs) (consumers_of t 1)
+  pub handles : All (HasItsConsumer t) hs
+  pub taste : HasTasteConsumer t o
 
 -- Address maps
 
@@ -141,11 +142,10 @@ abbrev pub IsPlaced : Topology Config → Geom Config → Provider → Type 0
 IsPlaced t g p = (o : ℕ) → o < p.size → IsSomeAnd (place g.config p.name o) (IsPlaceInside t g p)
 
 -- a provider that is open, or whose geom isn't withering, is that of a disk or is placed
-abbrev pub LeadsDown : World → Provider → Type 0
-LeadsDown w p =
-    IsSomeAnd (geom_at w.topology p.geom) (λ g.
-    (is_zero (have (granted_in w) w.topology p.number) ≡ false) ⊎ (g.withering ≡ false)
-    → IsSome (disk_of g.config) ⊎ IsPlaced w.topology g p)
+abbrev pub LeadsDown : (ℕ → Counts) → Topology Config → Provider → Type 0
+LeadsDown granted t p =
+    IsSomeAnd (geom_at t p.geom) (λ g. (is_zero (have granted t p.number) ≡ false) ⊎ (g.withering ≡ false)
+    → IsSome (disk_of g.config) ⊎ IsPlaced t g p)
 
 -- Events and the taste
 
@@ -195,31 +195,32 @@ pub record ChainHolds (n : ℕ) (asked : Asked) (made : ℕ) (c : Chain) : Type 
   pub new : All (λ l. l.sector ≢ c.next) c.links
 
 -- so it is where EBR is asked
-abbrev pub HasItsChain : World → Taste → Type 0
-HasItsChain w s =
+abbrev pub HasItsChain : Topology Config → Taste → Type 0
+HasItsChain t s =
     class_asked s.asked ≡ Some kinds.Ebr
-    → IfSome (provider_at w.topology s.provider) (λ p. ChainHolds (p.size / p.sector) s.asked s.reads s.chain)
+    → IfSome (provider_at t s.provider) (λ p. ChainHolds (p.size / p.sector) s.asked s.reads s.chain)
 
-pub record IsTasteInOrder (w : World) (s : Taste) : Type 0 where
-  pub rank : IsSomeAnd (geom_of_provider w.topology s.provider) (λ g. rank w.topology g.number < UNTASTED_RANK)
+pub record IsTasteInOrder (t : Topology Config) (s : Taste) : Type 0 where
+  pub rank : IsSomeAnd (geom_of_provider t s.provider) (λ g. rank t g.number < UNTASTED_RANK)
   pub reads : AreReadsInOrder s.asked s.reads
-  pub chain : HasItsChain w s
+  pub chain : HasItsChain t s
 
-pub record EventsHold (w : World) : Type 0 where
-  pub living : All (λ e. IsSome (provider_at w.topology (provider_of_event e))) w.events
-  pub read_out : IsTrue (list_any (λ x. is_taste_root x.owner) w.bios)
-      ↔ IsTrue (option_map_or (λ s. is_read_out s.asked) w.taste false)
-  pub taste : IfSome w.taste (IsTasteInOrder w)
+pub record EventsHold (t : Topology Config) (es : List Event) (o : Option Taste) (bios : List Bio) : Type 0 where
+  pub living : All (λ e. IsSome (provider_at t (provider_of_event e))) es
+  pub read_out : IsTrue (list_any (λ x. is_taste_root x.owner) bios)
+      ↔ IsTrue (option_map_or (λ s. is_read_out s.asked) o false)
+  pub taste : IfSome o (IsTasteInOrder t)
 
--- all of it
+-- all of it; each fact is said of the parts of the world that it reads
 pub record Sound (w : World) : Type 0 where
   pub ranks : RanksHold w.topology
-  pub counts : CountsHold w
+  pub counts : CountsHold (granted_in w) w.topology
   pub providers : ProvidersHold w.topology
-  pub numbers : NumbersHold w
-  pub handles : HandlesHold w
-  pub places : All (LeadsDown w) w.topology.providers
-  pub bios : All (IsBioInOrder w) w.bios
-  pub families : All (IsFamilyInOrder w) w.bios
-  pub disks : DisksHold w
-  pub events : EventsHold w
+  pub numbers : NumbersHold w.topology w.disks
+  pub handles : HandlesHold w.topology w.handles w.next_handle w.taste
+  pub places : All (LeadsDown (granted_in w) w.topology) w.topology.providers
+  pub bio_numbers : AreNumbers (map (λ x. x.number) w.bios) w.next_bio
+  pub bios : All (IsBioInOrder (granted_in w) w.topology) w.bios
+  pub families : All (IsFamilyInOrder w.topology w.bios) w.bios
+  pub disks : DisksHold w.topology w.bios
+  pub events : EventsHold w.topology w.events w.taste w.bios

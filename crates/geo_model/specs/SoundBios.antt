@@ -2,14 +2,15 @@
 use Rattle.std.specs.Prelude.{◌≡◌, ◌≢◌, ℕ, ◌+◌, ◌%◌, ◌<◌, ◌≤◌, false, ◌||◌, List, length, map, Some, IsSome, IsSomeAnd, IsTrue, All, AllPairs, ⊤}
 use Rattle.std.specs.List.{enumerate_from}
 use Rattle.geo_base.specs.declared.request.BioCmd.{BioCmd}
+use Rattle.geo_base.specs.declared.request.Counts.{Counts}
 use Rattle.geo_base.specs.declared.limits.TheConstants.{MAX_REQUEST_BYTES}
 use Rattle.geo_model.specs.declared.step.Owner.{Owner}
 use Rattle.geo_model.specs.declared.step.Owner.TheVariants as owners
 use Rattle.geo_model.specs.Words.{is_read, is_write, is_flush}
-use Rattle.geo_model.specs.Topology.{Provider, Consumer, geom_at, provider_at, consumer_at}
+use Rattle.geo_model.specs.Topology.{Topology, Provider, Consumer, geom_at, provider_at, consumer_at}
 use Rattle.geo_model.specs.Demand.{want}
-use Rattle.geo_model.specs.World.{World, Bio, granted_in, bio_at, children_of, is_root, is_done, is_busy, is_sent, is_waiting}
-use Rattle.geo_model.specs.Bios.{PieceTarget, piece_targets, bytes_of_piece, disk_of_bio, is_complete}
+use Rattle.geo_model.specs.World.{Config, Bio, bio_among, children_among, is_root, is_done, is_busy, is_sent, is_waiting}
+use Rattle.geo_model.specs.Bios.{PieceTarget, piece_targets, bytes_of_piece, disk_at, are_children_done}
 
 -- the range is one or more whole sectors, inside the provider and no longer than the longest request
 pub record IsRangeInside (x : Bio) (p : Provider) : Type 0 where
@@ -20,15 +21,14 @@ pub record IsRangeInside (x : Bio) (p : Provider) : Type 0 where
   pub inside : x.offset + x.len ≤ p.size
 
 -- the counts that a consumer needs for a command: a read count for READ, else a write count
-abbrev pub HasCountFor : World → Bio → Consumer → Type 0
-HasCountFor w x c =
-    (IsTrue (is_read x.cmd) → 0 < (want (granted_in w) w.topology c).r)
-    × (is_read x.cmd ≡ false → 0 < (want (granted_in w) w.topology c).w)
+abbrev pub HasCountFor : (ℕ → Counts) → Topology Config → Bio → Consumer → Type 0
+HasCountFor granted t x c =
+    (IsTrue (is_read x.cmd) → 0 < (want granted t c).r) × (is_read x.cmd ≡ false → 0 < (want granted t c).w)
 
 -- a bio is from an attached consumer to that consumer's provider, with the count, the range and the bytes
-pub record IsBioInOrder (w : World) (x : Bio) : Type 0 where
-  pub source : IsSomeAnd (consumer_at w.topology x.source) (λ c. (c.provider ≡ Some x.target) × HasCountFor w x c)
-  pub target : IsSomeAnd (provider_at w.topology x.target) (λ p. is_flush x.cmd ≡ false → IsRangeInside x p)
+pub record IsBioInOrder (granted : ℕ → Counts) (t : Topology Config) (x : Bio) : Type 0 where
+  pub source : IsSomeAnd (consumer_at t x.source) (λ c. (c.provider ≡ Some x.target) × HasCountFor granted t x c)
+  pub target : IsSomeAnd (provider_at t x.target) (λ p. is_flush x.cmd ≡ false → IsRangeInside x p)
   pub bytes : IsTrue (is_write x.cmd) → length x.bytes ≡ x.len
 
 -- what a child is in its parent
@@ -66,28 +66,28 @@ shape_of_piece x k target = record {
 }
 
 -- the children of a Waiting bio are its pieces in order, each index once
-abbrev pub HasItsPieces : World → Bio → Type 0
-HasItsPieces w x =
-    IsSomeAnd (provider_at w.topology x.target) (λ p. IsSomeAnd (geom_at w.topology p.geom) (λ g.
-    map shape_of_child (children_of w x.number)
+abbrev pub HasItsPieces : Topology Config → List Bio → Bio → Type 0
+HasItsPieces t bios x =
+    IsSomeAnd (provider_at t x.target) (λ p. IsSomeAnd (geom_at t p.geom) (λ g.
+    map shape_of_child (children_among bios x.number)
     ≡ map (λ item. shape_of_piece x item.0 item.1) (enumerate_from 0 (piece_targets g.config p x))))
 
 -- a bio owned by a child's place names a Waiting parent
-abbrev pub HasItsParent : World → Owner → Type 0
-HasItsParent w (owners.Child parent index) = IsSomeAnd (bio_at w parent) (λ y. IsTrue (is_waiting y.phase))
-HasItsParent w owner = ⊤
+abbrev pub HasItsParent : List Bio → Owner → Type 0
+HasItsParent bios (owners.Child parent index) = IsSomeAnd (bio_among bios parent) (λ y. IsTrue (is_waiting y.phase))
+HasItsParent bios owner = ⊤
 
-pub record IsFamilyInOrder (w : World) (x : Bio) : Type 0 where
-  pub parent : HasItsParent w x.owner
-  pub pieces : IsTrue (is_waiting x.phase) → HasItsPieces w x
-  pub not_complete : IsTrue (is_waiting x.phase) → is_complete w x.number ≡ false
+pub record IsFamilyInOrder (t : Topology Config) (bios : List Bio) (x : Bio) : Type 0 where
+  pub parent : HasItsParent bios x.owner
+  pub pieces : IsTrue (is_waiting x.phase) → HasItsPieces t bios x
+  pub not_complete : IsTrue (is_waiting x.phase) → are_children_done bios x.number ≡ false
   pub root : IsTrue (is_root x.owner) → is_done x.phase ≡ false
 
 -- not both are Busy at one disk
-abbrev pub NotBothBusy : World → Bio → Bio → Type 0
-NotBothBusy w x y = IsTrue (is_busy x.phase) → IsTrue (is_busy y.phase) → (d : ℕ) → disk_of_bio w x ≡ Some d
-    → disk_of_bio w y ≢ Some d
+abbrev pub NotBothBusy : Topology Config → Bio → Bio → Type 0
+NotBothBusy t x y = IsTrue (is_busy x.phase) → IsTrue (is_busy y.phase) → (d : ℕ) → disk_at t x.target ≡ Some d
+    → disk_at t y.target ≢ Some d
 
-pub record DisksHold (w : World) : Type 0 where
-  pub at_disk : All (λ x. IsTrue (is_sent x.phase || is_busy x.phase) → IsSome (disk_of_bio w x)) w.bios
-  pub one_busy : AllPairs (NotBothBusy w) w.bios
+pub record DisksHold (t : Topology Config) (bios : List Bio) : Type 0 where
+  pub at_disk : All (λ x. IsTrue (is_sent x.phase || is_busy x.phase) → IsSome (disk_at t x.target)) bios
+  pub one_busy : AllPairs (NotBothBusy t) bios

@@ -113,16 +113,24 @@ abbrev pub taste_grant : Option Taste → ℕ → Counts
 taste_grant None c = no_counts
 taste_grant (Some t) c = if (t.consumer == c) && is_read_out t.asked then one_read else no_counts
 
--- what was granted to a consumer of DEV or TASTE
+-- what was granted to a consumer of DEV or TASTE: the grant of its handle, or the taste's
+abbrev pub granted_of : List Handle → Option Taste → ℕ → Counts
+granted_of handles taste c =
+    option_map_or (λ h. h.grant) (find (λ h. names_number h.consumer c) handles) (taste_grant taste c)
+
 abbrev pub granted_in : World → ℕ → Counts
-granted_in w c = option_map_or (λ h. h.grant) (find (λ h. names_number h.consumer c) w.handles) (taste_grant w.taste c)
+granted_in w = granted_of w.handles w.taste
 
 -- the handle of the actor with the name
 abbrev pub handle_of : World → ℕ → List ℕ → Option Handle
 handle_of w actor name = find (λ h. (h.actor == actor) && same_name h.name name) w.handles
 
+-- the bio of a number
+abbrev pub bio_among : {R : Type 0} → List (BioOf R) → ℕ → Option (BioOf R)
+bio_among bios b = find (λ x. x.number == b) bios
+
 abbrev pub bio_at : World → ℕ → Option Bio
-bio_at w b = find (λ x. x.number == b) w.bios
+bio_at w b = bio_among w.bios b
 
 -- tests of a phase and of an owner
 

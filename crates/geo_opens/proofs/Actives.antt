@@ -1,7 +1,7 @@
 -- Requests out, and the handle that is reaped next, by what is kept beside the parts.
-use Rattle.std.specs.Prelude.{◌≡◌, ◌≢◌, ℕ, ◌==◌, Bool, true, false, not, ◌&&◌, List, [], ◌∷◌, find, count_by, Option, Some, None, Ok, Err, Contains, IsSome, option_map}
+use Rattle.std.specs.Prelude.{◌≡◌, ℕ, ◌==◌, Bool, true, false, not, ◌&&◌, List, [], ◌∷◌, Option, Some, None, Ok, Err, Contains, IsSome, option_map}
 use Rattle.std.specs.List.{AllByRecursion, list_any}
-use Rattle.std.specs.Option.{option_map_or, option_and_then}
+use Rattle.std.specs.Option.{option_map_or}
 use Rattle.std.proofs.Common.{refl, sym, ◌∙◌, ap, subst}
 use Rattle.std.proofs.Math.Bool.{not-not}
 use Rattle.std.proofs.lemmas.Bool.{and_parts, eqb-true}
@@ -16,13 +16,12 @@ use Rattle.geo_model.specs.declared.step.Outcome.TheVariants as outcomes
 use Rattle.geo_model.specs.Topology.{consumer_at}
 use Rattle.geo_model.specs.World.{BioOf, Handle, World, Bio, is_active, is_done}
 use Rattle.geo_model.specs.Freeing.{is_to_reap, reap_work, reap}
-use Rattle.geo_model.specs.Step.{Answer, reap_next}
+use Rattle.geo_model.specs.Step.{reap_next}
 use Rattle.geo_model.proofs.DemandLemmas.{find_passes}
 use Rattle.geo_bio.specs.declared.bio.Held.{Held}
 use Rattle.geo_log.specs.Places.{delivered_at}
 use Rattle.geo_state.specs.Shown.{shown_bio, shown_bios}
 use Rattle.geo_slots.specs.Slots.{value_at}
-use Rattle.geo_mesh.specs.Topo.{TopoView}
 use Rattle.geo_laws_graph.proofs.Lists.{found_itself}
 use Rattle.geo_laws_graph.proofs.Members.{find-Contains}
 use Rattle.geo_laws_counts.proofs.Members.{in_head, in_tail}

@@ -1,7 +1,7 @@
 -- The steps of opens, from what their bodies know.
-use Rattle.std.specs.Prelude.{◌≡◌, ℕ, ◌+◌, ◌*◌, ◌≤◌, ◌==◌, Bool, true, false, not, ◌||◌, List, [], length, Option, Some, None, Result, Ok, Err, OnOk, OnErr, Contains, IsSome, IfSome, is_some, is_none, option_map, if◌then◌else◌}
+use Rattle.std.specs.Prelude.{◌≡◌, ℕ, Bool, true, false, ◌||◌, List, [], Option, Some, None, Result, Ok, Err, OnOk, OnErr, IfSome, is_some, is_none, option_map, if◌then◌else◌}
 use Rattle.std.specs.Option.{option_map_or}
-use Rattle.std.proofs.Common.{refl, sym, ◌∙◌, ap, subst, arith}
+use Rattle.std.proofs.Common.{refl, sym, ◌∙◌, ap, arith}
 use Rattle.geo_base.proofs.Options.{at-found, if-with}
 use Rattle.geo_base.specs.declared.request.Counts.{Counts}
 use Rattle.geo_base.specs.declared.errno.Errno.{Errno}
@@ -11,9 +11,9 @@ use Rattle.geo_model.specs.declared.step.Entry.{Entry}
 use Rattle.geo_model.specs.declared.step.Outcome.{Outcome}
 use Rattle.geo_model.specs.declared.step.Outcome.TheVariants as outcomes
 use Rattle.geo_model.specs.declared.step.Reply.TheVariants as replies
-use Rattle.geo_model.specs.Topology.{Topology, Consumer, find_provider, provider_at}
+use Rattle.geo_model.specs.Topology.{Consumer, find_provider}
 use Rattle.geo_model.specs.Opens.{grant_refusal, open_refusal_at, with_opener}
-use Rattle.geo_model.specs.World.{World, Config, Handle, granted_in, handle_of}
+use Rattle.geo_model.specs.World.{World, Config, Handle, granted_in}
 use Rattle.geo_model.specs.WorldEvents.{after_open}
 use Rattle.geo_model.specs.HandleCommands.{do_open, with_handle, without_number}
 use Rattle.geo_event.specs.EventQueue.{Queued}
@@ -21,12 +21,11 @@ use Rattle.geo_slots.specs.Slots.{value_at}
 use Rattle.geo_mesh.specs.Topo.{TopoView, IsButForRoom}
 use Rattle.geo_mesh.specs.Graph.{IsSoundGraph}
 use Rattle.geo_handles.specs.Handles.{HandlesView, named_handle, with_opened}
-use Rattle.geo_access.specs.Access.{granted_by, consumers_below}
 use Rattle.geo_access.specs.GoneLaws.{HasUsedNumber}
 use Rattle.geo_state.specs.declared.state.State.{State}
 use Rattle.geo_state.specs.Trips.{trips, out_through}
 use Rattle.geo_state.specs.Holds.{Holds}
-use Rattle.geo_state.specs.World.{world, StandsFirm}
+use Rattle.geo_state.specs.World.{world}
 use Rattle.geo_state.specs.Steps.{IsFirm, SameWorld}
 use Rattle.geo_state.specs.Changes.{KeptWithHandles}
 use Rattle.geo_opens.specs.Holders.{grants_with, holding_mesh, HasCome}

@@ -1,35 +1,32 @@
 -- A handle that goes, or its consumer: the world after it.
-use Rattle.std.specs.Prelude.{◌≡◌, ◌≢◌, ◌⊎◌, ℕ, ◌+◌, ◌≤◌, ◌==◌, Bool, true, false, not, ◌&&◌, cond, List, [], ◌∷◌, map, filter, find, Option, Some, None, IsSome, IsSomeAnd, MatchOption, All, Contains, option_and_then, if◌then◌else◌}
-use Rattle.std.specs.List.{AllByRecursion}
+use Rattle.std.specs.Prelude.{◌≡◌, ◌≢◌, ℕ, ◌≤◌, ◌==◌, Bool, true, false, not, ◌&&◌, cond, List, [], ◌∷◌, map, filter, find, Option, Some, None, IsSome, IsSomeAnd, MatchOption, Contains, option_and_then, if◌then◌else◌}
 use Rattle.std.specs.Option.{option_map_or}
 use Rattle.std.proofs.Common.{refl, sym, ◌∙◌, ap, subst, arith}
-use Rattle.std.proofs.lemmas.Bool.{eq-eqb, ne_eqb, eqb-true}
+use Rattle.std.proofs.lemmas.Bool.{eq-eqb, ne_eqb}
 use Rattle.std.proofs.lemmas.List.Elements.{All-contains, All-weaker}
 use Rattle.geo_base.proofs.Options.{some_and_of}
 use Rattle.geo_base.specs.declared.request.Counts.{Counts}
 use Rattle.geo_model.specs.declared.command.LineCommand.{LineCommand}
 use Rattle.geo_model.specs.declared.step.Entry.{Entry}
-use Rattle.geo_model.specs.Words.{names_number, change_where}
+use Rattle.geo_model.specs.Words.{names_number}
 use Rattle.geo_model.specs.Topology.{Topology, Provider, Consumer, provider_at, consumer_at, remove_consumer}
 use Rattle.geo_model.specs.Demand.{no_counts, have, fallen}
 use Rattle.geo_model.specs.Opens.{with_grant}
-use Rattle.geo_model.specs.Events.{QueuedTopology, announce_fallen}
+use Rattle.geo_model.specs.Events.{announce_fallen}
 use Rattle.geo_model.specs.World.{World, Config, Handle, granted_in, taste_grant}
 use Rattle.geo_model.specs.WorldEvents.{queued_of, with_queued, after_close}
 use Rattle.geo_model.specs.HandleCommands.{without_handle}
-use Rattle.geo_model.specs.Freeing.{reap, reap_consumer}
+use Rattle.geo_model.specs.Freeing.{reap}
 use Rattle.geo_model.specs.Sound.{HasItsConsumer}
-use Rattle.geo_model.specs.Steady.{AreAttached}
 use Rattle.geo_model.specs.Fitting.{Firm}
 use Rattle.geo_model.proofs.DemandLemmas.{all_weaker, names_some}
 use Rattle.geo_event.specs.EventQueue.{Queued}
 use Rattle.geo_mesh.specs.Topo.{TopoView}
 use Rattle.geo_mesh.specs.Graph.{IsSoundGraph}
 use Rattle.geo_laws_graph.proofs.Members.{find-Contains, All-from_contained}
-use Rattle.geo_laws_graph.proofs.Lists.{found_itself}
 use Rattle.geo_laws_graph.proofs.Numbered.{number_found, unique}
 use Rattle.geo_laws_graph.proofs.Spared.{IsSpared, find-spared, IsUntouched, find-untouched}
-use Rattle.geo_laws_counts.specs.CountWords.{AgreeExcept, DemandStays, HoldsGrants, IsOnlyOne}
+use Rattle.geo_laws_counts.specs.CountWords.{DemandStays, HoldsGrants}
 use Rattle.geo_laws_counts.proofs.Numbers.{number_is_only}
 use Rattle.geo_laws_counts.proofs.Openers.{went_quietly}
 use Rattle.geo_handles.specs.Handles.{HandlesView, handle_at, released, closed}
@@ -159,8 +156,8 @@ module _ (s : State) (kept : Holds s) where
     -- is that of each handle that has one
     pub held : (h : Handle) (c : ℕ) → Contains hs h → h.consumer ≡ Some c → IsHeld c
     held h c here names =
-        let its : HasItsConsumer w_at h =
-        All-contains (HasItsConsumer w_at) hs h firm.sound.handles.handles here in
+        let its : HasItsConsumer w_at.topology h =
+        All-contains (HasItsConsumer w_at.topology) hs h firm.sound.handles.handles here in
         let d = some_and_of (λ (x : Consumer). x.geom ≡ 1) (consumer_at t c)
         (subst (λ o. MatchOption o (h.dead ≡ true) (λ m. IsSomeAnd (consumer_at t m) (λ x. x.geom ≡ 1))) names its) in
         record {

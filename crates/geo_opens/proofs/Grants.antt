@@ -1,13 +1,12 @@
 -- What each consumer is granted once counts are taken anew, and once a consumer has come.
-use Rattle.std.specs.Prelude.{◌≡◌, ◌≢◌, ◌⊎◌, ℕ, ◌==◌, Bool, true, false, List, [], ◌∷◌, ◌++◌, map, find, Option, Some, None, IsSomeAnd, Contains, unwrap_or, if◌then◌else◌}
+use Rattle.std.specs.Prelude.{◌≡◌, ◌≢◌, ◌⊎◌, ℕ, ◌==◌, Bool, true, false, List, [], ◌∷◌, map, find, Option, Some, None, IsSomeAnd, unwrap_or, if◌then◌else◌}
 use Rattle.std.specs.Option.{option_map_or}
 use Rattle.std.proofs.Common.{refl, sym, ◌∙◌, ap, subst, arith, inl, inr}
 use Rattle.std.proofs.lemmas.Bool.{cases_eq, eqb-true}
 use Rattle.geo_base.specs.declared.request.Counts.{Counts}
 use Rattle.geo_model.specs.Words.{is_granted_kind}
-use Rattle.geo_model.specs.Topology.{Topology, Geom, Consumer, geom_at, consumer_at, add_consumer}
+use Rattle.geo_model.specs.Topology.{Topology, Geom, Consumer, geom_at, consumer_at}
 use Rattle.geo_model.specs.Demand.{no_counts, want}
-use Rattle.geo_model.specs.Opens.{with_opener}
 use Rattle.geo_model.proofs.DemandLemmas.{find_passes}
 use Rattle.geo_slots.specs.Slots.{value_at}
 use Rattle.geo_slots.proofs.RowLemmas.{value_at-other, value_at-last}

@@ -1,5 +1,5 @@
 -- A mesh in which a consumer of DEV has come, and one in which a consumer has given back what it was granted.
-use Rattle.std.specs.Prelude.{◌≡◌, ◌≢◌, ◌⊎◌, ℕ, ◌+◌, ◌≤◌, ◌==◌, Bool, true, false, not, ◌&&◌, List, [], ◌∷◌, ◌++◌, length, map, filter, Option, Some, None, IsSome, IsSomeAnd, IsTrue, All, Contains, unwrap_or, if◌then◌else◌}
+use Rattle.std.specs.Prelude.{◌≡◌, ◌⊎◌, ℕ, ◌+◌, ◌≤◌, ◌==◌, Bool, true, false, not, ◌&&◌, List, [], ◌∷◌, ◌++◌, length, map, filter, Some, None, IsSome, IsSomeAnd, IsTrue, All, unwrap_or, if◌then◌else◌}
 use Rattle.std.specs.Option.{option_and_then}
 use Rattle.std.proofs.Common.{refl, sym, ◌∙◌, ap, subst, arith}
 use Rattle.std.proofs.lemmas.Bool.{eq-eqb, ne_eqb, eqb-true}
@@ -12,7 +12,7 @@ use Rattle.geo_model.specs.Demand.{no_counts, have, want, is_exclusive, fits_lim
 use Rattle.geo_model.specs.Opens.{with_grant, with_opener, grant_refusal}
 use Rattle.geo_model.specs.Events.{announce_risen, announce_fallen}
 use Rattle.geo_model.proofs.DemandLemmas.{map_same, find_passes}
-use Rattle.geo_slots.specs.Slots.{value_at, without}
+use Rattle.geo_slots.specs.Slots.{value_at}
 use Rattle.geo_event.specs.EventQueue.{Queued}
 use Rattle.geo_mesh.specs.declared.records.Scratch.{Scratch}
 use Rattle.geo_mesh.specs.Topo.{TopoView, Room, Scratches, no_scratch, with_topology, without_consumer}
@@ -24,7 +24,7 @@ use Rattle.geo_laws_counts.proofs.Quiet.{granted_wants_nothing}
 use Rattle.geo_laws_counts.proofs.Stays.{consumer_came}
 use Rattle.geo_laws_counts.proofs.Flows.{each_of}
 use Rattle.geo_laws_counts.proofs.Openers.{wants_grant}
-use Rattle.geo_access.specs.Access.{granted_by, holds_grants, clear_scratches, noted, place_of, consumers_below, granted_view, released_view, comes_to_zero, IsCounted, IsQuiet, IsPlaced, IsHolder}
+use Rattle.geo_access.specs.Access.{granted_by, clear_scratches, noted, place_of, consumers_below, granted_view, released_view, IsCounted, IsQuiet, IsPlaced, IsHolder}
 use Rattle.geo_access.proofs.Clearing.{rows-same_on}
 use Rattle.geo_access.proofs.Decided.{item_at}
 use Rattle.geo_access.proofs.Granting.{Holder, holder_is}

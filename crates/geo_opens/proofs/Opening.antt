@@ -1,5 +1,5 @@
 -- A provider that is opened: what is decided before, and the world after it.
-use Rattle.std.specs.Prelude.{◌≡◌, ◌≢◌, ◌⊎◌, ℕ, ◌+◌, ◌≤◌, ◌==◌, Bool, true, false, not, ◌&&◌, List, [], ◌∷◌, ◌++◌, map, filter, find, Option, Some, None, Result, Ok, Err, IsSome, IsSomeAnd, is_some, IfSome, if◌then◌else◌}
+use Rattle.std.specs.Prelude.{◌≡◌, ◌≢◌, ◌⊎◌, ℕ, Bool, true, false, List, Option, Some, None, Result, Ok, Err, IsSome, IsSomeAnd, is_some, if◌then◌else◌}
 use Rattle.std.specs.Option.{option_map_or}
 use Rattle.std.proofs.Common.{refl, sym, ◌∙◌, ap, subst, inl, inr}
 use Rattle.std.proofs.lemmas.Bool.{cases_eq, eq-eqb, ne_eqb}
@@ -13,7 +13,7 @@ use Rattle.geo_model.specs.declared.step.Outcome.TheVariants as outcomes
 use Rattle.geo_model.specs.declared.step.Reply.TheVariants as replies
 use Rattle.geo_model.specs.Words.{same_name, names_number, unless}
 use Rattle.geo_model.specs.Topology.{Topology, Provider, provider_at, find_provider}
-use Rattle.geo_model.specs.Demand.{have, risen}
+use Rattle.geo_model.specs.Demand.{risen}
 use Rattle.geo_model.specs.Opens.{open_refusal, open_refusal_at, grant_refusal, with_opener}
 use Rattle.geo_model.specs.Events.{announce_risen}
 use Rattle.geo_model.specs.World.{World, Config, Handle, granted_in, taste_grant, handle_of}
@@ -26,7 +26,7 @@ use Rattle.geo_mesh.specs.Graph.{IsSoundGraph}
 use Rattle.geo_laws_graph.proofs.Members.{find-Contains}
 use Rattle.geo_laws_graph.proofs.Numbered.{find-pushed, find-pushed_hit}
 use Rattle.geo_laws_graph.proofs.Finding.{found_lives}
-use Rattle.geo_handles.specs.Handles.{HandlesView, named_handle, holding_handle, with_opened}
+use Rattle.geo_handles.specs.Handles.{HandlesView, holding_handle, with_opened}
 use Rattle.geo_access.specs.Access.{granted_by}
 use Rattle.geo_state.specs.declared.state.State.{State}
 use Rattle.geo_state.specs.Holds.{Holds}

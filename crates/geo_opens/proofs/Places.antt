@@ -1,12 +1,12 @@
 -- How many providers have a write count once some came to zero.
-use Rattle.std.specs.Prelude.{◌≡◌, ℕ, suc, ◌+◌, ◌≤◌, ◌==◌, Bool, true, false, not, ◌&&◌, cond, List, [], ◌∷◌, length, map, filter, count_by}
-use Rattle.std.proofs.Common.{refl, sym, ◌∙◌, ap, subst, arith}
+use Rattle.std.specs.Prelude.{◌≡◌, ℕ, ◌+◌, ◌≤◌, ◌==◌, Bool, true, false, not, ◌&&◌, cond, List, [], ◌∷◌, length, map, filter, count_by}
+use Rattle.std.proofs.Common.{refl, sym, ◌∙◌, ap, arith}
 use Rattle.std.proofs.lemmas.Bool.{eqb-true}
 use Rattle.std.proofs.lemmas.List.Sums.{length-filter}
 use Rattle.geo_base.specs.declared.request.Counts.{Counts}
 use Rattle.geo_model.specs.Topology.{Provider}
 use Rattle.geo_laws_counts.specs.CountWords.{IsAtMost}
-use Rattle.geo_access.specs.Access.{comes_to_zero, noted}
+use Rattle.geo_access.specs.Access.{comes_to_zero}
 use Rattle.geo_life.specs.Life.{notes}
 
 module _ (before after : ℕ → Counts) (less : (q : ℕ) → IsAtMost (after q) (before q)) where

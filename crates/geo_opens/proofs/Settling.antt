@@ -1,16 +1,15 @@
 -- What is kept beside the parts, after a consumer went or came, and with other room.
-use Rattle.std.specs.Prelude.{◌≡◌, ℕ, ◌+◌, ◌*◌, ◌≤◌, ◌==◌, not, List, length, map, count_by, Option, Some, None, IsSome}
+use Rattle.std.specs.Prelude.{◌≡◌, ℕ, ◌+◌, ◌*◌, ◌≤◌, ◌==◌, not, List, length, count_by}
 use Rattle.std.proofs.Common.{refl, sym, ◌∙◌, ap, subst, arith}
 use Rattle.std.proofs.lemmas.List.{length-map}
 use Rattle.std.proofs.lemmas.List.Sums.{count_by-le-length}
 use Rattle.geo_base.specs.declared.request.Counts.{Counts}
-use Rattle.geo_model.specs.declared.command.LineCommand.{LineCommand}
 use Rattle.geo_model.specs.declared.step.Entry.{Entry}
 use Rattle.geo_model.specs.Topology.{Topology, Provider}
 use Rattle.geo_model.specs.Demand.{have, risen}
 use Rattle.geo_model.specs.Opens.{with_opener}
-use Rattle.geo_model.specs.Events.{QueuedTopology, announce_risen}
-use Rattle.geo_model.specs.World.{Config, World}
+use Rattle.geo_model.specs.Events.{QueuedTopology}
+use Rattle.geo_model.specs.World.{Config}
 use Rattle.geo_model.specs.Fitting.{Firm}
 use Rattle.geo_event.specs.EventQueue.{Queued}
 use Rattle.geo_mesh.specs.Topo.{TopoView}
@@ -20,11 +19,11 @@ use Rattle.geo_state.specs.declared.state.State.{State}
 use Rattle.geo_state.specs.Parts.{SameParts}
 use Rattle.geo_state.specs.Holds.{Holds, owed_events}
 use Rattle.geo_state.specs.World.{world, StandsFirm}
-use Rattle.geo_state.specs.Changes.{Effects, IsSettled, HasComer, HasGoer}
+use Rattle.geo_state.specs.Changes.{IsSettled, HasComer, HasGoer}
 use Rattle.geo_state.specs.Steps.{SameWorld}
 use Rattle.geo_state.proofs.Frames.{parts-self, parts-count, parts-risen}
 use Rattle.geo_opens.specs.Holders.{written, grants_with, holding_mesh, HasGone, HasCome}
-use Rattle.geo_opens.specs.Handles.{IsRoomed, HasRoom}
+use Rattle.geo_opens.specs.Handles.{IsRoomed}
 
 -- how many providers carry no error
 abbrev good : Topology Config → ℕ

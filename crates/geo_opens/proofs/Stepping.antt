@@ -1,18 +1,17 @@
 -- The steps of closes and reaps, from what their bodies know.
-use Rattle.std.specs.Prelude.{◌≡◌, ℕ, ◌+◌, ◌≤◌, ◌==◌, Bool, true, false, not, List, filter, find, Option, Some, None, Result, Ok, Err, Contains, IsSome, IsSomeAnd, IfSome, option_map, if◌then◌else◌}
+use Rattle.std.specs.Prelude.{◌≡◌, ℕ, ◌==◌, Bool, true, false, List, Option, Some, None, Ok, Err, Contains, IsSome, IsSomeAnd, IfSome, option_map, if◌then◌else◌}
 use Rattle.std.specs.Option.{option_map_or, option_and_then}
-use Rattle.std.proofs.Common.{refl, sym, ◌∙◌, ap, subst, arith}
+use Rattle.std.proofs.Common.{refl, sym, ◌∙◌, ap, subst}
 use Rattle.geo_base.proofs.Options.{none-mapped, some_and_of, at-found, if-with}
 use Rattle.geo_base.specs.declared.errno.Errno.TheVariants.{EBADF, EBUSY}
 use Rattle.geo_model.specs.declared.command.LineCommand.{LineCommand}
 use Rattle.geo_model.specs.declared.step.Entry.{Entry}
-use Rattle.geo_model.specs.declared.step.Found.{Found}
 use Rattle.geo_model.specs.declared.step.Found.TheVariants as refusals
 use Rattle.geo_model.specs.declared.step.Outcome.{Outcome}
 use Rattle.geo_model.specs.declared.step.Outcome.TheVariants as outcomes
 use Rattle.geo_model.specs.declared.step.Reply.TheVariants as replies
 use Rattle.geo_model.specs.Words.{names_number}
-use Rattle.geo_model.specs.Topology.{Topology, consumer_at}
+use Rattle.geo_model.specs.Topology.{Topology}
 use Rattle.geo_model.specs.World.{World, Config, Handle, handle_of, is_active}
 use Rattle.geo_model.specs.WorldEvents.{after_close}
 use Rattle.geo_model.specs.HandleCommands.{close_handle, without_handle}
@@ -31,7 +30,7 @@ use Rattle.geo_life.specs.Life.{is_out, without_falls}
 use Rattle.geo_state.specs.declared.state.State.{State}
 use Rattle.geo_state.specs.Holds.{Holds}
 use Rattle.geo_state.specs.World.{world}
-use Rattle.geo_state.specs.Steps.{IsFirm, IsAgainst}
+use Rattle.geo_state.specs.Steps.{IsFirm}
 use Rattle.geo_state.specs.Changes.{KeptWithHandles}
 use Rattle.geo_opens.specs.Holders.{HasGone}
 use Rattle.geo_opens.specs.Handles.{IsIdle, counts_computed}

@@ -1,5 +1,5 @@
 -- What opens, closes and reaps say of a state (g_access(9)).
-use Rattle.std.specs.Prelude.{◌≡◌, ℕ, ◌*◌, ◌≤◌, List, length, Option, Some, None, is_some, IsSomeAnd, if◌then◌else◌}
+use Rattle.std.specs.Prelude.{◌≡◌, ℕ, ◌*◌, ◌≤◌, List, length, Option, Some, is_some, IsSomeAnd, if◌then◌else◌}
 use Rattle.std.specs.Option.{option_map_or}
 use Rattle.geo_base.specs.declared.request.Counts.{Counts}
 use Rattle.geo_base.specs.declared.errno.Errno.{Errno}

@@ -1,6 +1,6 @@
 -- Consumers of handles in the mesh: one that goes with what it was granted, and one that comes with a grant
 -- (g_access(9), g_attach(9), g_detach(9)).
-use Rattle.std.specs.Prelude.{◌≡◌, ℕ, ◌+◌, ◌≤◌, ◌==◌, not, List, length, count_by}
+use Rattle.std.specs.Prelude.{◌≡◌, ℕ, ◌+◌, ◌≤◌, ◌==◌, not, length, count_by}
 use Rattle.geo_base.specs.declared.request.Counts.{Counts}
 use Rattle.geo_model.specs.Topology.{remove_consumer}
 use Rattle.geo_model.specs.Demand.{no_counts, risen, fallen}

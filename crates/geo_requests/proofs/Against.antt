@@ -1,5 +1,5 @@
 -- What is against a step of a request in the world that a state stands for.
-use Rattle.std.specs.Prelude.{◌≡◌, ℕ, ◌==◌, Bool, true, false, ◌&&◌, List, find, Option, Some, None, Result, Ok, Err, Contains, IsSome, IsSomeAnd, IfSome, option_and_then, slice_get, if◌then◌else◌}
+use Rattle.std.specs.Prelude.{◌≡◌, ℕ, ◌==◌, Bool, true, false, ◌&&◌, List, find, Option, Some, None, Contains, IsSome, IsSomeAnd, option_and_then, slice_get}
 use Rattle.std.specs.Option.{option_map, option_map_or}
 use Rattle.std.proofs.Common.{refl, sym, ◌∙◌, ap, subst}
 use Rattle.std.proofs.lemmas.Bool.{eqb-true}
@@ -14,26 +14,25 @@ use Rattle.geo_model.specs.declared.step.Found.TheVariants as found
 use Rattle.geo_model.specs.declared.step.Outcome.{Outcome}
 use Rattle.geo_model.specs.declared.step.Phase.{Phase}
 use Rattle.geo_model.specs.declared.step.Phase.TheVariants as phases
-use Rattle.geo_model.specs.Topology.{Topology, Geom, Provider, geom_at, provider_at, geom_of_provider}
-use Rattle.geo_model.specs.World.{World, Bio, BioOf, Config, HeaderDisk, bio_at, is_down, is_sent, is_busy, is_up}
+use Rattle.geo_model.specs.Topology.{Geom, Provider, geom_at, provider_at}
+use Rattle.geo_model.specs.World.{World, Bio, BioOf, Config, HeaderDisk, bio_at, is_down, is_sent, is_busy, is_up, bio_among}
 use Rattle.geo_model.specs.Place.{disk_of}
-use Rattle.geo_model.specs.Bios.{start, up, take_bio, deliver, disk_at, disk_of_bio, busy_bio}
+use Rattle.geo_model.specs.Bios.{take_bio, deliver, disk_at, busy_bio}
 use Rattle.geo_model.specs.Fitting.{Firm}
 use Rattle.geo_model.specs.Sound.{HasDiskSizes}
-use Rattle.geo_model.specs.Step.{Answer, unless_found, start_of, take_of, deliver_of, up_of, take_found, disk_found, deliver_found}
+use Rattle.geo_model.specs.Step.{unless_found, start_of, take_of, deliver_of, up_of, take_found, disk_found, deliver_found}
 use Rattle.geo_laws_graph.proofs.Members.{find-Contains}
 use Rattle.geo_bio.specs.declared.bio.Held.{Held}
-use Rattle.geo_bio.specs.BioTable.{bio_among}
 use Rattle.geo_log.specs.Places.{delivered_at}
-use Rattle.geo_state.specs.Shown.{shown_bio, shown_bios}
+use Rattle.geo_state.specs.Shown.{shown_bio}
 use Rattle.geo_state.proofs.ShownLemmas.{shown_are_found}
 use Rattle.geo_state.proofs.StepLemmas.{world_shows_bios}
 use Rattle.geo_state.specs.declared.state.State.{State}
 use Rattle.geo_state.specs.declared.state.DiskSeat.{DiskSeat}
-use Rattle.geo_state.specs.Trips.{Trip, trip_of, trips, is_at_disk, busy_at}
+use Rattle.geo_state.specs.Trips.{Trip, trip_of, trips, is_at_disk}
 use Rattle.geo_state.specs.Holds.{Holds, IsSeat}
 use Rattle.geo_state.specs.World.{world, disk_of_seat}
-use Rattle.geo_state.specs.Steps.{IsFirm, against, IsAgainst}
+use Rattle.geo_state.specs.Steps.{IsFirm, against}
 use Rattle.geo_requests.specs.Founds.{phase_found, seat_found, way_found, sent_found, take_against, busy_found, deliver_against}
 
 -- what is against an answer is what was found
@@ -48,8 +47,8 @@ disk_geom : (w : World) → Firm w → (g : Geom Config) → Contains w.topology
     → disk_of g.config ≡ o → (disk : ℕ) → o ≡ Some disk → IsSome (slice_get w.disks disk)
 disk_geom w firm g here None e disk is = absurd cc
 disk_geom w firm g here (Some d) e disk is =
-    let sizes : HasDiskSizes w g =
-    All-contains (HasDiskSizes w) w.topology.geoms g firm.sound.numbers.disk_sizes here in
+    let sizes : HasDiskSizes w.topology w.disks g =
+    All-contains (HasDiskSizes w.topology w.disks) w.topology.geoms g firm.sound.numbers.disk_sizes here in
     let same : d ≡ disk = cc in
     subst (λ n. IsSome (slice_get w.disks n)) same (some_and _ (slice_get w.disks d) (rw e at sizes))
   where

@@ -1,24 +1,23 @@
 -- What a request through a handle does to the state it does to the world.
-use Rattle.std.specs.Prelude.{◌≡◌, ℕ, ◌+◌, ◌-◌, ◌==◌, ◌&&◌, Bool, true, false, List, [], ◌∷◌, ◌++◌, Option, Some, None, Result, Ok, Err, IsSome, IsSomeAnd, IsTrue, IfSome, IfOk, OnOk, OnErr, option_and_then, unwrap_or}
-use Rattle.std.specs.Option.{option_map, option_map_or}
+use Rattle.std.specs.Prelude.{◌≡◌, ℕ, ◌+◌, ◌-◌, ◌==◌, ◌&&◌, List, [], ◌∷◌, ◌++◌, Option, Some, None, Result, Ok, Err, IsSomeAnd, IfOk, OnOk, OnErr, option_and_then, unwrap_or}
+use Rattle.std.specs.Option.{option_map_or}
 use Rattle.std.proofs.Common.{refl, sym, ◌∙◌, ap, subst}
 use Rattle.geo_base.specs.declared.block.NoMemory.{NoMemory}
 use Rattle.geo_base.specs.declared.request.BioCmd.{BioCmd}
 use Rattle.geo_base.specs.declared.request.BioCmd.TheVariants as cmds
 use Rattle.geo_base.specs.declared.errno.Errno.{Errno}
-use Rattle.geo_base.specs.declared.errno.Errno.TheVariants.{EBADF, ENXIO}
 use Rattle.geo_model.specs.declared.command.LineCommand.{LineCommand}
 use Rattle.geo_model.specs.declared.step.Entry.{Entry}
 use Rattle.geo_model.specs.declared.step.Outcome.{Outcome}
 use Rattle.geo_model.specs.declared.step.Outcome.TheVariants as outcomes
 use Rattle.geo_model.specs.declared.step.Owner.TheVariants as owners
 use Rattle.geo_model.specs.declared.step.Reply.TheVariants as replies
-use Rattle.geo_model.specs.Topology.{Topology, Provider, provider_at, provider_of_consumer}
-use Rattle.geo_model.specs.World.{World, Bio, BioOf, Config, Handle, handle_of}
+use Rattle.geo_model.specs.Topology.{Provider}
+use Rattle.geo_model.specs.World.{World, BioOf, Handle, handle_of}
 use Rattle.geo_model.specs.Bios.{new_bio, submit}
 use Rattle.geo_model.specs.Commands.{asking, request, write_record}
-use Rattle.geo_model.specs.HandleCommands.{refused, request_answered, accept_request, record_request}
-use Rattle.geo_model.specs.Requests.{Asking, request_refusal, request_refusal_at, provider_of_handle}
+use Rattle.geo_model.specs.HandleCommands.{request_answered, accept_request, record_request}
+use Rattle.geo_model.specs.Requests.{Asking, request_refusal, provider_of_handle}
 use Rattle.geo_bio.specs.declared.bio.Held.{Held}
 use Rattle.geo_handles.specs.Handles.{named_handle, handle_at}
 use Rattle.geo_log.specs.Places.{delivered_at}

@@ -65,7 +65,8 @@ module _ (w : World) (firm : Firm w) (c : ℕ) (v : Consumer) (found : consumer_
   nobodys None e = refl
   nobodys (Some h) e =
       let stands = find-Contains (λ (x : Handle). names_number x.consumer c) w.handles h e in
-      let its : HasItsConsumer w h = All-contains (HasItsConsumer w) w.handles h firm.sound.handles.handles stands in
+      let its : HasItsConsumer w.topology h =
+      All-contains (HasItsConsumer w.topology) w.handles h firm.sound.handles.handles stands in
       absurd (held_by h h.consumer refl (find_passes (λ (x : Handle). names_number x.consumer c) w.handles h e) its)
 
 module _ (w : World) (firm : Firm w) (x : Bio) (here : Contains w.bios x) (p : Provider)
@@ -108,7 +109,8 @@ module _ (w : World) (firm : Firm w) (x : Bio) (here : Contains w.bios x) (p : P
   -- no place is free
   whole : list_any is_none (places_of g.config) ≡ false
   whole = false_from_ne_true (list_any is_none (places_of g.config)) (λ free.
-      let waits : WaitsForPlaces w g = All-contains (WaitsForPlaces w) t.geoms g firm.steady.partial g_stands in
+      let waits : WaitsForPlaces w.topology g =
+      All-contains (WaitsForPlaces w.topology) t.geoms g firm.steady.partial g_stands in
       nothing_in p (subst (λ ps. Contains ps p) (waits free) p_offered))
 
   -- a stripe is as long as its provider

@@ -1,30 +1,25 @@
 -- A Start, from what its way does to what the step does.
-use Rattle.std.specs.Prelude.{◌≡◌, ℕ, ◌+◌, ◌≤◌, Bool, true, false, List, length, map, Option, Some, None, Result, Ok, Err, IsTrue, IfSome, IfOk, OnErr}
+use Rattle.std.specs.Prelude.{◌≡◌, ℕ, ◌≤◌, false, List, length, Option, Some, None, Result, Ok, Err, IsTrue, IfSome, IfOk, OnErr}
 use Rattle.std.specs.List.{AllByRecursion}
 use Rattle.std.specs.Option.{option_map_or}
-use Rattle.std.proofs.Common.{refl, sym, ◌∙◌, ap, subst, arith}
+use Rattle.std.proofs.Common.{refl, sym, ◌∙◌, ap, subst}
 use Rattle.std.proofs.lemmas.List.{length-map}
 use Rattle.geo_base.specs.declared.block.NoMemory.{NoMemory}
-use Rattle.geo_model.specs.declared.command.LineCommand.{LineCommand}
 use Rattle.geo_model.specs.declared.step.Entry.{Entry}
 use Rattle.geo_model.specs.declared.step.Outcome.{Outcome}
-use Rattle.geo_model.specs.Topology.{Topology, note_started}
-use Rattle.geo_model.specs.World.{World, BioOf, Config, bio_at, is_down}
+use Rattle.geo_model.specs.World.{BioOf, bio_at, is_down, bio_among}
 use Rattle.geo_model.specs.Bios.{PieceTarget, Way, Fails, Splits, Passes, way_of}
 use Rattle.geo_model.specs.Step.{start_of}
 use Rattle.geo_bio.specs.declared.bio.Held.{Held}
-use Rattle.geo_bio.specs.BioTable.{bio_among, has_phase}
+use Rattle.geo_bio.specs.BioTable.{has_phase}
 use Rattle.geo_bio.specs.PieceLaws.{target_in}
-use Rattle.geo_log.specs.Places.{delivered_at}
-use Rattle.geo_state.specs.Shown.{shown_bios, AreLogged}
+use Rattle.geo_state.specs.Shown.{AreLogged}
 use Rattle.geo_state.specs.declared.state.State.{State}
-use Rattle.geo_state.specs.Bios.{OnlyBios, IsNoHandles}
-use Rattle.geo_state.specs.World.{world}
-use Rattle.geo_state.specs.Steps.{IsFirm, Makes, SameWorld}
+use Rattle.geo_state.specs.Bios.{IsNoHandles}
+use Rattle.geo_state.specs.Steps.{IsFirm, Makes}
 use Rattle.geo_requests.specs.declared.cut.Cut.{Cut}
 use Rattle.geo_requests.specs.Ways.{CanCount, CanGoDown, GoesBy, IsCut}
-use Rattle.geo_requests.specs.Started.{HasStarted, bios_after, next_after, graph_after, outcome_of}
-use Rattle.geo_requests.proofs.Serving.{world_moved}
+use Rattle.geo_requests.specs.Started.{HasStarted}
 use Rattle.geo_requests.proofs.Started.{SplitsWell, can_go_down, splits_well, passes_well, makes_started, logged_started}
 
 -- a bio that is there can go down

@@ -1,11 +1,11 @@
 -- One more started request of a geom is seen by nothing that is kept.
-use Rattle.std.specs.Prelude.{◌≡◌, ℕ, ◌+◌, ◌==◌, Option}
-use Rattle.std.proofs.Common.{refl, sym, ap}
+use Rattle.std.specs.Prelude.{◌≡◌, ℕ, ◌+◌, ◌==◌}
+use Rattle.std.proofs.Common.{refl, ap}
 use Rattle.geo_laws_counts.proofs.Unseen.{map-changed}
 use Rattle.geo_base.specs.declared.kind.Kind.{Kind}
 use Rattle.geo_model.specs.Topology.{Topology, Geom, note_started}
 use Rattle.geo_model.specs.World.{Config}
-use Rattle.geo_mesh.specs.Topo.{TopoView, with_topology}
+use Rattle.geo_mesh.specs.Topo.{with_topology}
 use Rattle.geo_laws_counts.specs.CountWords.{seen_by_counts}
 use Rattle.geo_life.proofs.Unseen.{unseen_stays}
 use Rattle.geo_state.specs.declared.state.State.{State}

@@ -1,9 +1,7 @@
 -- What each way does to the state.
-use Rattle.std.specs.Prelude.{◌≡◌, ℕ, ◌+◌, List, ◌++◌, length, map, Option, Some, None, IfSome, IfOk, IsTrue}
-use Rattle.std.specs.Option.{option_map_or}
-use Rattle.std.proofs.Common.{refl, sym, ◌∙◌, ap, subst}
+use Rattle.std.specs.Prelude.{◌≡◌, ℕ, ◌+◌, List, ◌++◌, length, Option, Some, None, IfSome}
+use Rattle.std.proofs.Common.{refl, sym, ◌∙◌, ap}
 use Rattle.std.proofs.lemmas.List.{length-map}
-use Rattle.geo_base.specs.declared.block.NoMemory.{NoMemory}
 use Rattle.geo_base.specs.declared.errno.Errno.{Errno}
 use Rattle.geo_base.specs.declared.errno.Errno.TheVariants.{EIO}
 use Rattle.geo_model.specs.declared.command.LineCommand.{LineCommand}
@@ -11,14 +9,13 @@ use Rattle.geo_model.specs.declared.step.Entry.{Entry}
 use Rattle.geo_model.specs.declared.step.Outcome.{Outcome}
 use Rattle.geo_model.specs.declared.step.Outcome.TheVariants as outcomes
 use Rattle.geo_model.specs.declared.step.Phase.TheVariants as phases
-use Rattle.geo_model.specs.Topology.{Topology, note_started}
-use Rattle.geo_model.specs.World.{World, BioOf, Config, change_number}
+use Rattle.geo_model.specs.Topology.{note_started}
+use Rattle.geo_model.specs.World.{World, BioOf, change_number, bio_among}
 use Rattle.geo_model.specs.Bios.{PieceTarget, Bounces, Fails, Sends, Splits, Passes, up_with}
 use Rattle.geo_mesh.specs.Topo.{with_topology}
 use Rattle.geo_bio.specs.declared.bio.Held.{Held}
 use Rattle.geo_bio.specs.declared.bio.Held.TheVariants as held
-use Rattle.geo_bio.specs.BioTable.{bio_among, with_phase}
-use Rattle.geo_bio.specs.PieceLaws.{target_in}
+use Rattle.geo_bio.specs.BioTable.{with_phase}
 use Rattle.geo_bio.specs.Split.{split_into}
 use Rattle.geo_log.specs.Places.{delivered_at}
 use Rattle.geo_state.specs.Shown.{shown_bios}

@@ -14,7 +14,7 @@ use Rattle.geo_model.specs.declared.step.Owner.TheVariants as owners
 use Rattle.geo_model.specs.Demand.{no_counts, one_read, want}
 use Rattle.geo_model.specs.Opens.{with_grant}
 use Rattle.geo_model.specs.Topology.{Topology, Consumer, provider_at, consumer_at}
-use Rattle.geo_model.specs.World.{World, Bio, BioOf, Config, Asked, NoClass, NextSector, ReadOut, ReadBack, Handle, Taste, bio_at, is_read_out, is_taste_root, is_up, taste_grant}
+use Rattle.geo_model.specs.World.{World, Bio, BioOf, Config, Asked, NoClass, NextSector, ReadOut, ReadBack, Handle, Taste, bio_at, is_read_out, is_taste_root, is_up, taste_grant, bio_among, granted_of}
 use Rattle.geo_model.specs.Bios.{read_back, taste_with, up, up_to}
 use Rattle.geo_model.specs.Sound.{IsTasting}
 use Rattle.geo_model.specs.Steady.{ComesFromItsOwner}
@@ -25,7 +25,7 @@ use Rattle.geo_laws_counts.proofs.Openers.{wants_grant}
 use Rattle.geo_laws_making.proofs.Tasters.{tasting, taster, taster_found, taster_holds, none_has}
 use Rattle.geo_slots.specs.Slots.{value_at}
 use Rattle.geo_bio.specs.declared.bio.Held.{Held}
-use Rattle.geo_bio.specs.BioTable.{bio_among, has_phase}
+use Rattle.geo_bio.specs.BioTable.{has_phase}
 use Rattle.geo_bio.specs.Up.{after_up, resolved, told_of_up}
 use Rattle.geo_mesh.specs.Topo.{TopoView}
 use Rattle.geo_access.specs.Access.{consumers_below, granted_by, released_view}
@@ -37,7 +37,7 @@ use Rattle.geo_state.proofs.StepLemmas.{world_shows_bios}
 use Rattle.geo_taste.specs.Taster.{IsSettled, IsTasteOf, held_by_taste, with_granted}
 use Rattle.geo_state.specs.declared.state.State.{State}
 use Rattle.geo_state.specs.Bios.{OnlyBios, CameThrough, IsOfItsOwner}
-use Rattle.geo_state.specs.Holds.{Holds, granted_of, owed_events}
+use Rattle.geo_state.specs.Holds.{Holds, owed_events}
 use Rattle.geo_state.specs.Steps.{IsFirm, Makes}
 use Rattle.geo_state.specs.Trips.{Trip, trip_of, trips}
 use Rattle.geo_state.specs.World.{world}
@@ -102,9 +102,9 @@ module _ (s : State) (firm : IsFirm s) (b : ℕ) (x : BioOf Held) (found : bio_a
   stands : Contains w.bios y
   stands = here s firm b x found
 
-  comes : ComesFromItsOwner w y owners.Taste
-  comes = subst (ComesFromItsOwner w y) owner
-      (All-contains (λ (v : Bio). ComesFromItsOwner w v v.owner) w.bios y firm.1.1.steady.owners stands)
+  comes : ComesFromItsOwner w.handles w.taste y owners.Taste
+  comes = subst (ComesFromItsOwner w.handles w.taste y) owner
+      (All-contains (λ (v : Bio). ComesFromItsOwner w.handles w.taste v v.owner) w.bios y firm.1.1.steady.owners stands)
 
   -- its read is out
   some_out : option_map_or (λ (a : Taste). is_read_out a.asked) s.taste false ≡ true

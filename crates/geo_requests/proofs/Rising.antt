@@ -1,19 +1,18 @@
 -- What a firm mesh tells of a bio that goes up: it came through a consumer that is there, of its owner.
-use Rattle.std.specs.Prelude.{◌≡◌, ◌≢◌, ℕ, zero, suc, ◌+◌, ◌≤◌, ◌==◌, true, false, List, [], ◌∷◌, map, count_by, Option, Some, None, Ok, Contains, IsSome, IsSomeAnd, IfSome, IsTrue}
+use Rattle.std.specs.Prelude.{◌≡◌, ℕ, ◌+◌, ◌==◌, true, false, List, [], ◌∷◌, map, Option, Some, None, Ok, Contains, IsSome, IsSomeAnd, IfSome, IsTrue}
 use Rattle.std.specs.List.{AllByRecursion, enumerate_from}
 use Rattle.std.specs.Option.{option_map, option_map_or}
-use Rattle.std.proofs.Common.{refl, sym, ◌∙◌, ap, subst, arith}
+use Rattle.std.proofs.Common.{refl, sym, ◌∙◌, ap, subst}
 use Rattle.std.proofs.lemmas.Bool.{eq-eqb}
 use Rattle.std.proofs.lemmas.List.Elements.{All-contains}
 use Rattle.geo_base.proofs.Options.{there_with_fact}
 use Rattle.geo_laws_bios.proofs.Serving.{no_pieces}
 use Rattle.geo_model.specs.declared.step.Owner.{Owner}
 use Rattle.geo_model.specs.declared.step.Owner.TheVariants as owners
-use Rattle.geo_model.specs.Topology.{Topology, Geom, Provider, Consumer, geom_at, provider_at, consumer_at, consumers_of}
-use Rattle.geo_model.specs.World.{World, Bio, Config, Handle, Taste, bio_at, children_of, is_child_of, is_waiting, is_taste_root}
+use Rattle.geo_model.specs.Topology.{Topology, Geom, Provider, geom_at, provider_at, consumer_at}
+use Rattle.geo_model.specs.World.{World, Bio, Config, Taste, bio_at, children_of, is_child_of, is_waiting, is_taste_root, granted_in, bio_among}
 use Rattle.geo_model.specs.Place.{disk_of}
 use Rattle.geo_model.specs.Bios.{PieceTarget, piece_targets}
-use Rattle.geo_model.specs.Sound.{HasTasteConsumer, IsTasting}
 use Rattle.geo_model.specs.SoundBios.{IsBioInOrder, IsFamilyInOrder, HasCountFor, ChildShape, shape_of_child, shape_of_piece}
 use Rattle.geo_model.specs.Steady.{ComesFromItsOwner}
 use Rattle.geo_model.specs.Fitting.{Firm}
@@ -28,7 +27,7 @@ use Rattle.geo_model.specs.Bios.{up, up_to}
 use Rattle.geo_model.specs.Step.{up_of}
 use Rattle.geo_bio.specs.declared.bio.Held.{Held}
 use Rattle.geo_bio.specs.declared.bio.Risen.{Risen}
-use Rattle.geo_bio.specs.BioTable.{bio_among, has_phase}
+use Rattle.geo_bio.specs.BioTable.{has_phase}
 use Rattle.geo_bio.specs.Up.{after_up, told_of_up}
 use Rattle.geo_log.specs.Places.{delivered_at}
 use Rattle.geo_state.specs.Shown.{shown_bios, shown_bio, AreLogged}
@@ -39,7 +38,7 @@ use Rattle.geo_state.specs.Bios.{OnlyBios, CameThrough, IsOfItsOwner}
 use Rattle.geo_state.specs.World.{world}
 use Rattle.geo_state.specs.Steps.{IsFirm, Makes}
 use Rattle.geo_requests.specs.Risen.{outcome_of_rise, owner_line}
-use Rattle.geo_requests.proofs.Descent.{all_through, nobodys}
+use Rattle.geo_requests.proofs.Descent.{all_through}
 use Rattle.geo_requests.proofs.Against.{there}
 use Rattle.geo_requests.proofs.Serving.{world_moved}
 use Rattle.geo_requests.proofs.Started.{here}
@@ -98,18 +97,21 @@ module _ (w : World) (firm : Firm w) where
 
     waits_for : is_waiting y.phase ≡ true → Nobodys z.source
     waits_for waits =
-        let family : IsFamilyInOrder w y = All-contains (IsFamilyInOrder w) w.bios y firm.sound.families y_here in
+        let family : IsFamilyInOrder w.topology w.bios y =
+        All-contains (IsFamilyInOrder w.topology w.bios) w.bios y firm.sound.families y_here in
         by_provider (provider_at t y.target) refl (family.pieces waits)
 
   module _ (x : Bio) (here : Contains w.bios x) where
-    comes : ComesFromItsOwner w x x.owner
-    comes = All-contains (λ (v : Bio). ComesFromItsOwner w v v.owner) w.bios x firm.steady.owners here
+    comes : ComesFromItsOwner w.handles w.taste x x.owner
+    comes = All-contains (λ (v : Bio). ComesFromItsOwner w.handles w.taste v v.owner) w.bios x firm.steady.owners here
 
     -- its consumer is there
     pub source_lives : IsSome (consumer_at t x.source)
     source_lives =
-        let order : IsBioInOrder w x = All-contains (IsBioInOrder w) w.bios x firm.sound.bios here in
-        there_with_fact (λ c. (c.provider ≡ Some x.target) × HasCountFor w x c) (consumer_at t x.source) order.source
+        let order : IsBioInOrder (granted_in w) w.topology x =
+        All-contains (IsBioInOrder (granted_in w) w.topology) w.bios x firm.sound.bios here in
+        there_with_fact (λ c. (c.provider ≡ Some x.target) × HasCountFor (granted_in w) w.topology x c)
+        (consumer_at t x.source) order.source
 
     by_parent : (parent index : ℕ) → x.owner ≡ owners.Child parent index → (o : Option Bio) → bio_at w parent ≡ o
         → IsSomeAnd o (λ y. IsTrue (is_waiting y.phase)) → Nobodys x.source
@@ -124,7 +126,8 @@ module _ (w : World) (firm : Firm w) where
     -- a child came through a consumer that no handle has
     pub child_nobodys : (parent index : ℕ) → x.owner ≡ owners.Child parent index → Nobodys x.source
     child_nobodys parent index owner =
-        let family : IsFamilyInOrder w x = All-contains (IsFamilyInOrder w) w.bios x firm.sound.families here in
+        let family : IsFamilyInOrder w.topology w.bios x =
+        All-contains (IsFamilyInOrder w.topology w.bios) w.bios x firm.sound.families here in
         by_parent parent index owner (bio_at w parent) refl (rw owner at family.parent)
 
     -- the root of a line came through the consumer of the line's handle

@@ -1,5 +1,5 @@
 -- What a Take and a Deliver do to the state they do to the world.
-use Rattle.std.specs.Prelude.{◌≡◌, ◌≢◌, ℕ, ◌+◌, ◌<◌, ◌≤◌, ◌==◌, Bool, true, false, ◌&&◌, ◌||◌, List, [], ◌∷◌, ◌++◌, length, map, find, Option, Some, None, Ok, Contains, IsSome, IsSomeAnd, IsTrue, IfSome, option_and_then, slice_get}
+use Rattle.std.specs.Prelude.{◌≡◌, ℕ, ◌+◌, ◌<◌, ◌==◌, Bool, true, false, ◌&&◌, ◌||◌, List, [], ◌∷◌, ◌++◌, length, map, Option, Some, None, Ok, Contains, IsSome, IsSomeAnd, IsTrue, option_and_then, slice_get}
 use Rattle.std.specs.List.{AllByRecursion}
 use Rattle.std.specs.Option.{option_map, option_map_or}
 use Rattle.std.proofs.Common.{inl, inr, refl, sym, ◌∙◌, ap, subst, arith, length-append}
@@ -11,27 +11,23 @@ use Rattle.geo_base.specs.declared.errno.Errno.{Errno}
 use Rattle.geo_model.specs.declared.command.LineCommand.{LineCommand}
 use Rattle.geo_model.specs.declared.step.DeviceResult.{DeviceResult}
 use Rattle.geo_model.specs.declared.step.Entry.{Entry}
-use Rattle.geo_model.specs.declared.step.Found.{Found}
 use Rattle.geo_model.specs.declared.step.Found.TheVariants as founds
-use Rattle.geo_model.specs.declared.step.Outcome.{Outcome}
 use Rattle.geo_model.specs.declared.step.Outcome.TheVariants as outcomes
 use Rattle.geo_model.specs.declared.step.Phase.TheVariants as phases
 use Rattle.geo_model.specs.declared.step.Request.{Request}
 use Rattle.geo_model.specs.declared.step.Step.TheVariants as steps
 use Rattle.geo_model.specs.Graph.{AreNumbers}
-use Rattle.geo_model.specs.Topology.{Topology}
-use Rattle.geo_model.specs.World.{World, Bio, BioOf, Config, bio_at, change_number, is_busy, is_sent}
-use Rattle.geo_model.specs.Bios.{take_bio, deliver, disk_at, disk_of_bio, busy_bio, sector_at, sector_of_bio, fits_bio, device_request, request_of_bio, result_of_device}
-use Rattle.geo_model.specs.Fitting.{Firm}
-use Rattle.geo_model.specs.SoundBios.{DisksHold, NotBothBusy}
+use Rattle.geo_model.specs.World.{World, Bio, BioOf, bio_at, change_number, is_busy, is_sent, bio_among}
+use Rattle.geo_model.specs.Bios.{take_bio, deliver, disk_at, disk_of_bio, busy_bio, sector_at, fits_bio, device_request, request_of_bio, result_of_device}
+use Rattle.geo_model.specs.SoundBios.{NotBothBusy}
 use Rattle.geo_model.specs.Step.{unless_found, take_of, deliver_of, take_found, deliver_found}
-use Rattle.geo_laws_graph.proofs.Members.{find-Contains, Contains-cases, at_contained}
+use Rattle.geo_laws_graph.proofs.Members.{Contains-cases, at_contained}
 use Rattle.geo_laws_graph.proofs.Numbered.{number_found}
 use Rattle.geo_laws_life.proofs.Standers.{PairsByRecursion, recursion-from_pairs}
 use Rattle.geo_laws_bios.proofs.Phases.{CanTake, can_take, CanDeliver, can_deliver}
 use Rattle.geo_model.proofs.DemandLemmas.{all_weaker}
 use Rattle.geo_bio.specs.declared.bio.Held.{Held}
-use Rattle.geo_bio.specs.BioTable.{BioTableView, bio_among, has_phase, with_phase, delivered, delivered_result}
+use Rattle.geo_bio.specs.BioTable.{BioTableView, has_phase, with_phase, delivered, delivered_result}
 use Rattle.geo_bio.specs.Up.{resolved}
 use Rattle.geo_log.specs.Places.{delivered_at}
 use Rattle.geo_state.specs.Shown.{shown_bios, shown_bio, errno_of, AreLogged}
@@ -40,9 +36,9 @@ use Rattle.geo_state.proofs.LoggedLemmas.{grown_log_shows_the_same, places_stay_
 use Rattle.geo_state.specs.declared.state.State.{State}
 use Rattle.geo_state.specs.declared.state.DiskSeat.{DiskSeat}
 use Rattle.geo_state.specs.Bios.{OnlyBios, GoesTo, IsFree, IsAloneAt}
-use Rattle.geo_state.specs.Trips.{Trip, trip_of, trips, is_at_disk}
+use Rattle.geo_state.specs.Trips.{Trip, trips, is_at_disk}
 use Rattle.geo_state.specs.Holds.{Holds, IsSeat}
-use Rattle.geo_state.specs.World.{world, disk_of_seat, HasBytes}
+use Rattle.geo_state.specs.World.{world, HasBytes}
 use Rattle.geo_state.specs.Steps.{IsFirm, against, IsAgainst, Makes}
 use Rattle.geo_requests.proofs.Against.{against_unless, has_seat, there, seat_same}
 use Rattle.geo_requests.proofs.Started.{here}
@@ -145,25 +141,25 @@ module _ (s : State) (firm : IsFirm s) (b : ℕ) where
     goes_there (Some d) is = ap (λ n. Some n) (eqb-true d disk is)
 
     -- two of them can't stand in this order
-    never : (y z : Bio) → NotBothBusy w y z → at y ≡ true → at z ≡ true → ⊥
+    never : (y z : Bio) → NotBothBusy w.topology y z → at y ≡ true → at z ≡ true → ⊥
     never y z apart first second =
         let a = and_parts (is_busy y.phase) (option_map_or (λ d. d == disk) (disk_of_bio w y) false) first in
         let c = and_parts (is_busy z.phase) (option_map_or (λ d. d == disk) (disk_of_bio w z) false) second in
         apart a.0 c.0 disk (goes_there (disk_of_bio w y) a.1) (goes_there (disk_of_bio w z) c.1)
 
     module _ (x : Bio) (busy : at x ≡ true) where
-      alone_by : (ys : List Bio) → PairsByRecursion (NotBothBusy w) ys → Contains ys x
+      alone_by : (ys : List Bio) → PairsByRecursion (NotBothBusy w.topology) ys → Contains ys x
           → AllByRecursion (λ y. at y ≡ true → y ≡ x) ys
       alone_by [] pairs stands = tt
       alone_by (y ∷ ys) pairs stands =
           elim (Contains-cases y x ys stands) [
             | inl same ↦ (
               (λ _. same),
-              all_weaker (NotBothBusy w y) (λ z. at z ≡ true → z ≡ x)
+              all_weaker (NotBothBusy w.topology y) (λ z. at z ≡ true → z ≡ x)
                   (λ z apart is. absurd (never y z apart (subst (λ v. at v ≡ true) (sym same) busy) is)) ys pairs.0,
             )
             | inr rest ↦ (
-              (λ is. absurd (never y x (at_contained (NotBothBusy w y) ys x pairs.0 rest) is busy)),
+              (λ is. absurd (never y x (at_contained (NotBothBusy w.topology y) ys x pairs.0 rest) is busy)),
               alone_by ys pairs.1 rest,
             )
           ]
@@ -184,7 +180,7 @@ module _ (s : State) (firm : IsFirm s) (b : ℕ) where
         let one : at (shown_bio l x) ≡ true = rw (busy, goes, eq-eqb disk disk refl) refl in
         seen_alone x (number_found (λ (y : BioOf Held). y.number) s.traffic.bios b x is) s.traffic.bios
         (alone_by (shown_bio l x) one (shown_bios l s.traffic.bios)
-        (recursion-from_pairs (NotBothBusy w) (shown_bios l s.traffic.bios) firm.1.1.sound.disks.one_busy)
+        (recursion-from_pairs (NotBothBusy w.topology) (shown_bios l s.traffic.bios) firm.1.1.sound.disks.one_busy)
         (here s firm b x is))
 
 -- A Take
@@ -256,7 +252,7 @@ module _ (s new : State) (b seat : ℕ) (x : BioOf Held) (is : bio_among s.traff
       let numbers : AreNumbers (map (λ (z : BioOf Held). z.number) s.traffic.bios) s.traffic.next =
       subst (λ ns. AreNumbers ns s.traffic.next)
       (map-map (λ (z : Bio). z.number) (shown_bio (delivered_at firm.0)) s.traffic.bios)
-      firm.1.1.sound.numbers.bios in
+      firm.1.1.sound.bio_numbers in
       let answer : resolved more (Some (delivered_result x.cmd (length log) (errno_of got))) ≡ result_of_device got =
       place_is_answer log [] e b (sector_at s.topo.topology x.target) x got step fits in
       let made : deliver v y got ≡ (

@@ -1,20 +1,17 @@
 -- What a Start does to the state it does to the world.
-use Rattle.std.specs.Prelude.{◌≡◌, ℕ, ◌+◌, ◌≤◌, ◌==◌, Bool, true, false, List, [], ◌∷◌, ◌++◌, length, map, Option, Some, None, Ok, Contains, IsSome, IsTrue, IfSome, if◌then◌else◌}
+use Rattle.std.specs.Prelude.{◌≡◌, ℕ, ◌≤◌, ◌==◌, true, List, length, map, Option, Some, None, Ok, Contains, IsSome}
 use Rattle.std.specs.List.{AllByRecursion}
-use Rattle.std.specs.Option.{option_map, option_map_or}
-use Rattle.std.proofs.Common.{refl, sym, ◌∙◌, ap, subst, arith}
+use Rattle.std.specs.Option.{option_map}
+use Rattle.std.proofs.Common.{refl, sym, ◌∙◌, ap, subst}
 use Rattle.geo_base.proofs.AllLists.{all_mapped}
 use Rattle.geo_base.specs.declared.errno.Errno.TheVariants.{EIO}
-use Rattle.geo_model.specs.declared.command.LineCommand.{LineCommand}
 use Rattle.geo_model.specs.declared.step.Entry.{Entry}
 use Rattle.geo_model.specs.declared.step.Outcome.{Outcome}
 use Rattle.geo_model.specs.declared.step.Phase.TheVariants as phases
-use Rattle.geo_model.specs.Topology.{Topology, Geom, Provider, geom_at, provider_at, consumer_at, note_started}
-use Rattle.geo_model.specs.Place.{disk_of}
-use Rattle.geo_model.specs.World.{World, Bio, BioOf, Config, bio_at, is_down}
-use Rattle.geo_model.specs.Bios.{PieceTarget, Way, Bounces, Fails, Sends, Splits, Passes, start, start_by, way_of, piece_targets}
-use Rattle.geo_model.specs.Fitting.{Firm}
-use Rattle.geo_model.specs.Step.{Answer, start_of}
+use Rattle.geo_model.specs.Topology.{consumer_at, note_started}
+use Rattle.geo_model.specs.World.{World, Bio, BioOf, bio_at, is_down, bio_among}
+use Rattle.geo_model.specs.Bios.{PieceTarget, Way, Bounces, Fails, Sends, Splits, Passes, start, start_by, way_of}
+use Rattle.geo_model.specs.Step.{start_of}
 use Rattle.geo_model.proofs.WayLemmas.{starts_in_parts}
 use Rattle.geo_model.proofs.DemandLemmas.{all_weaker}
 use Rattle.geo_laws_graph.proofs.Members.{find-Contains}
@@ -22,7 +19,6 @@ use Rattle.geo_laws_graph.proofs.Numbered.{number_found}
 use Rattle.geo_laws_bios.proofs.Starting.{SplitsAt, splits_at}
 use Rattle.geo_bio.specs.declared.bio.Held.{Held}
 use Rattle.geo_bio.specs.declared.bio.Held.TheVariants as held
-use Rattle.geo_bio.specs.BioTable.{bio_among, has_phase, with_phase}
 use Rattle.geo_bio.specs.PieceLaws.{target_in}
 use Rattle.geo_log.specs.Places.{delivered_at}
 use Rattle.geo_handles.specs.Handles.{holding_handle}
@@ -30,13 +26,13 @@ use Rattle.geo_state.specs.Shown.{shown_bios, shown_bio, AreLogged}
 use Rattle.geo_state.proofs.StepLemmas.{world_shows_bios}
 use Rattle.geo_state.proofs.LoggedLemmas.{places_stay_logged}
 use Rattle.geo_state.specs.declared.state.State.{State}
-use Rattle.geo_state.specs.Bios.{OnlyBios, IsNoHandles}
-use Rattle.geo_state.specs.World.{world, disk_of_seat, HasBytes}
+use Rattle.geo_state.specs.Bios.{IsNoHandles}
+use Rattle.geo_state.specs.World.{world}
 use Rattle.geo_state.specs.Steps.{IsFirm, Makes}
-use Rattle.geo_requests.specs.Ways.{CanGoDown, IsCut, through}
+use Rattle.geo_requests.specs.Ways.{CanGoDown, through}
 use Rattle.geo_requests.specs.Started.{HasStarted, bios_after, next_after, graph_after, outcome_of}
-use Rattle.geo_requests.proofs.Descent.{can_be_cut, some_targets, all_through, GoesThrough}
-use Rattle.geo_requests.proofs.Ways.{plain, way_plain}
+use Rattle.geo_requests.proofs.Descent.{can_be_cut, some_targets, all_through}
+use Rattle.geo_requests.proofs.Ways.{way_plain}
 
 -- The world after a way
 

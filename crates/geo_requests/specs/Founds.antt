@@ -10,7 +10,6 @@ use Rattle.geo_model.specs.Topology.{Topology}
 use Rattle.geo_model.specs.World.{BioOf, Config, is_sent}
 use Rattle.geo_model.specs.Bios.{disk_at, sector_at, fits_bio}
 use Rattle.geo_bio.specs.declared.bio.Held.{Held}
-use Rattle.geo_state.specs.declared.state.State.{State}
 use Rattle.geo_state.specs.declared.state.DiskSeat.{DiskSeat}
 
 -- what is against a step that wants a phase

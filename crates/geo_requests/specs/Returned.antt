@@ -5,11 +5,10 @@ use Rattle.geo_model.specs.declared.step.BioResult.{BioResult}
 use Rattle.geo_model.specs.declared.step.BioResult.TheVariants as results
 use Rattle.geo_model.specs.Demand.{no_counts}
 use Rattle.geo_model.specs.Topology.{Topology}
-use Rattle.geo_model.specs.World.{BioOf, Config, Taste, is_read_out, is_taste_root}
+use Rattle.geo_model.specs.World.{BioOf, Config, Taste, is_read_out, is_taste_root, bio_among}
 use Rattle.geo_bio.specs.declared.bio.Held.{Held}
 use Rattle.geo_bio.specs.declared.bio.Risen.{Risen}
 use Rattle.geo_bio.specs.declared.bio.Risen.TheVariants as risen
-use Rattle.geo_bio.specs.BioTable.{bio_among}
 use Rattle.geo_mesh.specs.Topo.{TopoView}
 use Rattle.geo_access.specs.Access.{consumers_below}
 use Rattle.geo_taste.specs.Taster.{IsTasteOf, with_granted}

@@ -7,7 +7,7 @@ use Rattle.geo_model.specs.declared.step.Outcome.{Outcome}
 use Rattle.geo_model.specs.declared.step.Outcome.TheVariants as outcomes
 use Rattle.geo_model.specs.declared.step.Phase.TheVariants as phases
 use Rattle.geo_model.specs.Topology.{Topology, note_started}
-use Rattle.geo_model.specs.World.{BioOf, Config, World, change_number}
+use Rattle.geo_model.specs.World.{BioOf, Config, change_number}
 use Rattle.geo_model.specs.Bios.{PieceTarget, Way, Bounces, Fails, Sends, Splits, Passes, up_with}
 use Rattle.geo_bio.specs.declared.bio.Held.{Held}
 use Rattle.geo_bio.specs.declared.bio.Held.TheVariants as held

@@ -1,7 +1,7 @@
 //! What a request asks of its disk, and which answers fit it.
 ghost use Rattle.std.specs.Prelude.{◌≡◌, ◌<◌, IfOk, IfSome, option_and_then};
 ghost use Rattle.geo_model.specs.Bios.{disk_at, sector_at, fits_bio, device_request};
-ghost use Rattle.geo_bio.specs.BioTable.{bio_among};
+ghost use Rattle.geo_model.specs.World.{bio_among};
 ghost use Rattle.geo_bio.specs.Rows.{as_bio};
 
 use geo_base::{BioCmd, BioId, NoMemory, ProvId};

@@ -1,9 +1,8 @@
 //! What is against a step of a request.
 ghost use Rattle.std.specs.Prelude.{ℕ, ◌≡◌};
-ghost use Rattle.geo_model.specs.World.{bio_at, is_down, is_up};
+ghost use Rattle.geo_model.specs.World.{bio_at, is_down, is_up, bio_among};
 ghost use Rattle.geo_model.specs.Bios.{disk_at};
 ghost use Rattle.geo_model.specs.Step.{start_of, take_of, deliver_of, up_of};
-ghost use Rattle.geo_bio.specs.BioTable.{bio_among};
 ghost use Rattle.geo_bio.specs.Rows.{as_bio};
 ghost use Rattle.geo_state.specs.Holds.{Holds};
 ghost use Rattle.geo_state.specs.Steps.{IsFirm, IsAgainst};

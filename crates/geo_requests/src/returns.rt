@@ -1,10 +1,10 @@
 //! The taste's read is back (geom(4), g_bio(9)).
 ghost use Rattle.std.specs.Prelude.{◌≡◌, ◌+◌, ◌≤◌, true, List, IfOk, OnErr, IsTrue};
 ghost use Rattle.geo_model.specs.declared.step.Entry.{Entry};
-ghost use Rattle.geo_model.specs.World.{bio_at, is_up};
+ghost use Rattle.geo_model.specs.World.{bio_at, is_up, bio_among};
 ghost use Rattle.geo_model.specs.Bios.{taste_with};
 ghost use Rattle.geo_model.specs.Step.{up_of};
-ghost use Rattle.geo_bio.specs.BioTable.{bio_among, has_phase};
+ghost use Rattle.geo_bio.specs.BioTable.{has_phase};
 ghost use Rattle.geo_taste.specs.Taster.{IsSettled};
 ghost use Rattle.geo_state.specs.Holds.{Holds};
 ghost use Rattle.geo_state.specs.World.{HasBytes};

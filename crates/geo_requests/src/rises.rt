@@ -1,10 +1,10 @@
 //! A request goes up to its parent or to its line (g_io_deliver, g_bio(9)).
 ghost use Rattle.std.specs.Prelude.{◌≡◌, false, List, IfOk, IfSome, OnErr, IsTrue};
 ghost use Rattle.geo_model.specs.declared.step.Entry.{Entry};
-ghost use Rattle.geo_model.specs.World.{bio_at, is_taste_root, is_up};
+ghost use Rattle.geo_model.specs.World.{bio_at, is_taste_root, is_up, bio_among};
 ghost use Rattle.geo_model.specs.Bios.{reply_of_result};
 ghost use Rattle.geo_model.specs.Step.{up_of};
-ghost use Rattle.geo_bio.specs.BioTable.{bio_among, has_phase};
+ghost use Rattle.geo_bio.specs.BioTable.{has_phase};
 ghost use Rattle.geo_state.specs.Holds.{Holds};
 ghost use Rattle.geo_state.specs.World.{HasBytes};
 ghost use Rattle.geo_state.specs.Steps.{IsFirm, Makes, SameWorld};

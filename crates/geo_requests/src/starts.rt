@@ -2,10 +2,10 @@
 ghost use Rattle.std.specs.Prelude.{◌≡◌, ◌≤◌, List, length, IfOk, IfSome, OnErr, IsTrue, ℕ};
 ghost use Rattle.std.specs.List.{AllByRecursion};
 ghost use Rattle.geo_model.specs.declared.step.Entry.{Entry};
-ghost use Rattle.geo_model.specs.World.{bio_at, is_down};
+ghost use Rattle.geo_model.specs.World.{bio_at, is_down, bio_among};
 ghost use Rattle.geo_model.specs.Bios.{PieceTarget, Bounces, Fails, Sends, Splits, Passes, way_of};
 ghost use Rattle.geo_model.specs.Step.{start_of};
-ghost use Rattle.geo_bio.specs.BioTable.{bio_among, has_phase};
+ghost use Rattle.geo_bio.specs.BioTable.{has_phase};
 ghost use Rattle.geo_state.specs.Bios.{IsNoHandles};
 ghost use Rattle.geo_state.specs.Holds.{Holds};
 ghost use Rattle.geo_state.specs.World.{HasBytes};

@@ -1,9 +1,9 @@
 //! A request goes up to its owner (g_io_deliver, g_bio(9)).
 ghost use Rattle.std.specs.Prelude.{◌≡◌, ◌+◌, ◌≤◌, List, IfOk, OnErr, IsTrue};
 ghost use Rattle.geo_model.specs.declared.step.Entry.{Entry};
-ghost use Rattle.geo_model.specs.World.{bio_at, is_up};
+ghost use Rattle.geo_model.specs.World.{bio_at, is_up, bio_among};
 ghost use Rattle.geo_model.specs.Step.{up_of};
-ghost use Rattle.geo_bio.specs.BioTable.{bio_among, has_phase};
+ghost use Rattle.geo_bio.specs.BioTable.{has_phase};
 ghost use Rattle.geo_state.specs.Holds.{Holds};
 ghost use Rattle.geo_state.specs.World.{HasBytes};
 ghost use Rattle.geo_state.specs.Steps.{IsFirm, Makes, SameWorld};

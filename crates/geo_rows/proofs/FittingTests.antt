@@ -18,7 +18,7 @@ use Rattle.geo_model.specs.declared.step.BioResult.{BioResult}
 use Rattle.geo_model.specs.declared.step.BioResult.TheVariants as results
 use Rattle.geo_model.specs.Words.{is_kind}
 use Rattle.geo_model.specs.Topology.{Topology, Geom, Provider, Consumer, geom_at, provider_at, consumer_at, providers_of}
-use Rattle.geo_model.specs.World.{World, Config, Nothing, Disk, Mbr, Ebr, Label, Concat, Stripe, Nop, HeaderDisk, Asked, NoClass, NextSector, ReadOut, ReadBack, is_taste_root}
+use Rattle.geo_model.specs.World.{World, Config, Nothing, Disk, Mbr, Ebr, Label, Concat, Stripe, Nop, Bio, HeaderDisk, Asked, NoClass, NextSector, ReadOut, ReadBack, is_taste_root}
 use Rattle.geo_model.specs.Place.{components}
 use Rattle.geo_model.specs.Acceptance.{places_of, joined_size}
 use Rattle.geo_model.specs.Plans.{IsGrant, IsRunsBytes, AreComponents, IsMark, IsStripe, IsNamedClass, IsCommand}
@@ -173,17 +173,17 @@ asked_in_order t p (ReadBack kind got) =
     Decides-and (asks_there t p kind) (is_one_sector p got) (asks t p kind) (one_sector p got)
 
 -- the read of a taste
-taste_read : (w : World) → Decides (taste_read_holds w) (TasteReadHolds w)
-taste_read w =
+taste_read : (t : Topology Config) (bios : List Bio) → Decides (taste_read_holds t bios) (TasteReadHolds t bios)
+taste_read t bios =
     Decides-like _
     (λ h. record { one = h.0; sector = h.1 })
     (λ h. (h.one, h.sector))
     (Decides-and _ _
-    (at_most (count_by (λ x. is_taste_root x.owner) w.bios) 1)
+    (at_most (count_by (λ x. is_taste_root x.owner) bios) 1)
     (each _ _ (λ x.
     under (is_taste_root x.owner) _ (itself (is_taste_root x.owner))
-    (there_and (provider_at w.topology x.target) _ _ (λ p. Decides-eqb x.len p.sector)))
-    w.bios))
+    (there_and (provider_at t x.target) _ _ (λ p. Decides-eqb x.len p.sector)))
+    bios))
 
 -- Commands
 
@@ -302,5 +302,5 @@ fitting_tested w =
     (Decides-and _ _
     (if_there w.taste _ _ (λ s.
     if_there (provider_at w.topology s.provider) _ _ (λ p. asked_in_order w.topology p s.asked)))
-    (Decides-and _ _ (taste_read w)
+    (Decides-and _ _ (taste_read w.topology w.bios)
     (Decides-and _ _ (each _ _ (each _ _ (λ c. formed c.command)) w.actors) always))))))))))

@@ -22,8 +22,10 @@ use Rattle.geo_base.specs.declared.kind.Kind.{Kind}
 use Rattle.geo_base.specs.declared.kind.Kind.TheVariants as kinds
 use Rattle.geo_base.specs.declared.request.BioCmd.{BioCmd}
 use Rattle.geo_base.specs.declared.request.BioCmd.TheVariants as cmds
+use Rattle.geo_base.specs.declared.request.Counts.{Counts}
 use Rattle.geo_base.specs.declared.limits.TheConstants.{MAX_LINKS, MAX_RANK, MAX_REQUEST_BYTES, UNTASTED_RANK}
 use Rattle.geo_model.specs.declared.class.EbrPart.{EbrPart}
+use Rattle.geo_model.specs.declared.step.Event.{Event}
 use Rattle.geo_model.specs.declared.step.Owner.{Owner}
 use Rattle.geo_model.specs.declared.step.Owner.TheVariants as owners
 use Rattle.geo_model.specs.Words.{◌>>=◌, is_read, is_write, is_flush, is_kind, same_cmd, names_number, same_name}
@@ -31,13 +33,13 @@ use Rattle.geo_model.specs.Topology.{Topology, Geom, Provider, Consumer, geom_at
 use Rattle.geo_model.specs.Graph.{AreNumbers}
 use Rattle.geo_model.specs.Rank.{rank}
 use Rattle.geo_model.specs.Demand.{have, want, is_zero, is_exclusive, fits_limit}
-use Rattle.geo_model.specs.World.{World, Config, Bio, Taste, Asked, NoClass, NextSector, ReadOut, ReadBack, granted_in, bio_at, is_read_out, is_root, is_taste_root, is_done, is_busy, is_sent, is_waiting}
+use Rattle.geo_model.specs.World.{Config, Bio, Handle, HeaderDisk, Taste, Asked, NoClass, NextSector, ReadOut, ReadBack, granted_in, bio_among, is_read_out, is_root, is_taste_root, is_done, is_busy, is_sent, is_waiting}
 use Rattle.geo_model.specs.Place.{Spot, place, component, disk_of}
-use Rattle.geo_model.specs.Bios.{disk_of_bio, is_complete}
+use Rattle.geo_model.specs.Bios.{disk_at, are_children_done}
 use Rattle.geo_model.specs.Chain.{Chain, BeginsAtZero}
 use Rattle.geo_model.specs.Events.{provider_of_event}
 use Rattle.geo_model.specs.Order.{reads_limit}
-use Rattle.geo_model.specs.Sound.{StandsBare, RanksHold, CountsHold, ProvidersHold, fits_kind, IsOfItsClass, DifferInDisk, HasDiskSizes, NumbersHold, IsHandleConsumer, IsTasting, HandlesHold, AreReadsInOrder, class_asked, reads_out, IsNext, IsPartOf, ChainHolds, HasItsChain, IsTasteInOrder, EventsHold, IsPlaceInside, IsPlaced, LeadsDown}
+use Rattle.geo_model.specs.Sound.{StandsBare, RanksHold, CountsHold, ProvidersHold, fits_kind, IsOfItsClass, DifferInDisk, HasDiskSizes, NumbersHold, IsHandleConsumer, HasTasteConsumer, HandlesHold, AreReadsInOrder, class_asked, reads_out, IsNext, IsPartOf, ChainHolds, HasItsChain, IsTasteInOrder, EventsHold, IsPlaceInside, IsPlaced, LeadsDown}
 use Rattle.geo_model.specs.SoundBios.{IsRangeInside, HasCountFor, IsBioInOrder, ChildShape, HasItsPieces, HasItsParent, IsFamilyInOrder, NotBothBusy, DisksHold}
 use Rattle.geo_rows.specs.WorkedSound.{some_and, none_or, all_pairs, same_test, stands_bare, ranks_hold, counts_hold, providers_hold, are_numbers, has_disk_sizes, differ_in_disk, is_of_its_class, numbers_hold, has_taste_consumer, handles_hold, has_count_for, is_range_inside, is_bio_in_order, same_shape, same_shapes, has_its_pieces, has_its_parent, is_family_in_order, not_both_busy, disks_hold, are_reads_in_order, is_next, begins_at_zero, is_part_of, chain_holds, has_its_chain, is_taste_in_order, events_hold, is_place_inside, is_placed, leads_down, is_sound, TestsSound}
 
@@ -98,12 +100,12 @@ ranks t =
     (Decides-and _ _ (stands t 1) (Decides-and _ _ (stands t 2) always))))
 
 -- access counts
-counts : (w : World) → Decides (counts_hold w) (CountsHold w)
-counts w =
+counts : (granted : ℕ → Counts) (t : Topology Config) → Decides (counts_hold granted t) (CountsHold granted t)
+counts granted t =
     Decides-like _
     (λ h. record { exclusive = h.0; limited = h.1 })
     (λ h. (h.exclusive, h.limited))
-    (Decides-and _ _ (itself (is_exclusive (granted_in w) w.topology)) (itself (fits_limit (granted_in w) w.topology)))
+    (Decides-and _ _ (itself (is_exclusive granted t)) (itself (fits_limit granted t)))
 
 -- names, errors and sizes of providers
 providers : (t : Topology Config) → Decides (providers_hold t) (ProvidersHold t)
@@ -144,57 +146,51 @@ of_class x =
 other_disk : (x y : Geom Config) → Decides (differ_in_disk x y) (DifferInDisk x y)
 other_disk x y = of_named (disk_of x.config) _ _ (λ d. Decides-not _ (named (disk_of y.config) d))
 
-disk_sizes : (w : World) (x : Geom Config) → Decides (has_disk_sizes w x) (HasDiskSizes w x)
-disk_sizes w x =
-    if_there (disk_of x.config) _ _ (λ d. there_and (slice_get w.disks d) _ _ (λ disk.
+disk_sizes : (t : Topology Config) (ds : List HeaderDisk) (x : Geom Config)
+    → Decides (has_disk_sizes t ds x) (HasDiskSizes t ds x)
+disk_sizes t ds x =
+    if_there (disk_of x.config) _ _ (λ d. there_and (slice_get ds d) _ _ (λ disk.
     each _ _ (λ p. Decides-and _ _ (Decides-eqb p.sector disk.sector) (Decides-eqb p.size disk.size))
-    (providers_of w.topology x.number)))
+    (providers_of t x.number)))
 
 -- all of NumbersHold
-all_numbers : (w : World) → Decides (numbers_hold w) (NumbersHold w)
-all_numbers w =
+all_numbers : (t : Topology Config) (ds : List HeaderDisk) → Decides (numbers_hold t ds) (NumbersHold t ds)
+all_numbers t ds =
     Decides-like _
     (λ h. record {
       geoms = h.0;
       providers = h.1.0;
       consumers = h.1.1.0;
-      handles = h.1.1.1.0;
-      bios = h.1.1.1.1.0;
-      classes = h.1.1.1.1.1.0;
-      one_geom_of_disk = h.1.1.1.1.1.1.0;
-      disk_sizes = h.1.1.1.1.1.1.1.0;
+      classes = h.1.1.1.0;
+      one_geom_of_disk = h.1.1.1.1.0;
+      disk_sizes = h.1.1.1.1.1.0;
     })
-    (λ h. (
-      h.geoms,
-      (h.providers, (h.consumers, (h.handles, (h.bios, (h.classes, (h.one_geom_of_disk, (h.disk_sizes, tt))))))),
-    ))
+    (λ h. (h.geoms, (h.providers, (h.consumers, (h.classes, (h.one_geom_of_disk, (h.disk_sizes, tt)))))))
     (Decides-and _ _ (numbers _ _)
     (Decides-and _ _ (numbers _ _)
     (Decides-and _ _ (numbers _ _)
-    (Decides-and _ _ (numbers _ _)
-    (Decides-and _ _ (numbers _ _)
-    (Decides-and _ _ (each _ _ of_class w.topology.geoms)
-    (Decides-and _ _ (pairs _ _ other_disk w.topology.geoms)
-    (Decides-and _ _ (each _ _ (disk_sizes w) w.topology.geoms) always))))))))
+    (Decides-and _ _ (each _ _ of_class t.geoms)
+    (Decides-and _ _ (pairs _ _ other_disk t.geoms)
+    (Decides-and _ _ (each _ _ (disk_sizes t ds) t.geoms) always))))))
 
 -- Handles and the taste's consumer
 
 -- a consumer of DEV, and the consumer of a handle
-handle_consumer : (w : World) (c : Consumer)
-    → Decides (is_some c.provider && (count_by (λ h. names_number h.consumer c.number) w.handles == 1))
-    (IsHandleConsumer w c)
-handle_consumer w c =
+handle_consumer : (hs : List Handle) (c : Consumer)
+    → Decides (is_some c.provider && (count_by (λ h. names_number h.consumer c.number) hs == 1))
+    (IsHandleConsumer hs c)
+handle_consumer hs c =
     Decides-like _
     (λ h. record { attached = h.0; one_handle = h.1 })
     (λ h. (h.attached, h.one_handle))
     (Decides-and _ _ (itself (is_some c.provider))
-    (Decides-eqb (count_by (λ h. names_number h.consumer c.number) w.handles) 1))
+    (Decides-eqb (count_by (λ h. names_number h.consumer c.number) hs) 1))
 
-consumer_of : (w : World) (dead : Bool) (o : Option ℕ)
-    → Decides (option_map_or (λ c. some_and (consumer_at w.topology c) (λ x. x.geom == 1)) o dead)
-    (MatchOption o (dead ≡ true) (λ c. IsSomeAnd (consumer_at w.topology c) (λ x. x.geom ≡ 1)))
-consumer_of w dead None = itself dead
-consumer_of w dead (Some c) = there_and (consumer_at w.topology c) _ _ (λ x. Decides-eqb x.geom 1)
+consumer_of : (t : Topology Config) (dead : Bool) (o : Option ℕ)
+    → Decides (option_map_or (λ c. some_and (consumer_at t c) (λ x. x.geom == 1)) o dead)
+    (MatchOption o (dead ≡ true) (λ c. IsSomeAnd (consumer_at t c) (λ x. x.geom ≡ 1)))
+consumer_of t dead None = itself dead
+consumer_of t dead (Some c) = there_and (consumer_at t c) _ _ (λ x. Decides-eqb x.geom 1)
 
 -- a list with an item isn't empty
 not_longer : {A : Type 0} → (x : A) (xs : List A) → (x ∷ xs) ≡ [] → ⊥
@@ -211,7 +207,7 @@ rest_of (x ∷ xs) = xs
 
 -- the consumers of TASTE, one list of them after another
 taste_consumer : (t : Topology Config) (xs : List Consumer) (s : Option Taste) → consumers_of t 2 ≡ xs
-    → Decides (has_taste_consumer xs s) (MatchOption s (consumers_of t 2 ≡ []) (IsTasting t))
+    → Decides (has_taste_consumer xs s) (HasTasteConsumer t s)
 taste_consumer t [] None it = (λ e. it, λ h. refl)
 taste_consumer t (c ∷ []) None same = (λ e. absurd (true≢false (sym e)), λ h. absurd (not_longer c [] (sym same ∙ h)))
 taste_consumer t (c ∷ d ∷ cs) None same =
@@ -228,14 +224,16 @@ taste_consumer t (c ∷ d ∷ cs) (Some s) same =
     (λ e. absurd (true≢false (sym e)), λ h. absurd (not_longer d cs (ap (λ ys. rest_of ys) (sym same ∙ h.alone))))
 
 -- all of HandlesHold
-handles : (w : World) → Decides (handles_hold w) (HandlesHold w)
-handles w =
+handles : (t : Topology Config) (hs : List Handle) (next : ℕ) (o : Option Taste)
+    → Decides (handles_hold t hs next o) (HandlesHold t hs next o)
+handles t hs next o =
     Decides-like _
-    (λ h. record { consumers = h.0; handles = h.1.0; taste = h.1.1.0 })
-    (λ h. (h.consumers, (h.handles, (h.taste, tt))))
-    (Decides-and _ _ (each _ _ (handle_consumer w) (consumers_of w.topology 1))
-    (Decides-and _ _ (each _ _ (λ h. consumer_of w h.dead h.consumer) w.handles)
-    (Decides-and _ _ (taste_consumer w.topology (consumers_of w.topology 2) w.taste refl) always)))
+    (λ h. record { numbers = h.0; consumers = h.1.0; handles = h.1.1.0; taste = h.1.1.1.0 })
+    (λ h. (h.numbers, (h.consumers, (h.handles, (h.taste, tt)))))
+    (Decides-and _ _ (numbers _ _)
+    (Decides-and _ _ (each _ _ (handle_consumer hs) (consumers_of t 1))
+    (Decides-and _ _ (each _ _ (λ h. consumer_of t h.dead h.consumer) hs)
+    (Decides-and _ _ (taste_consumer t (consumers_of t 2) o refl) always))))
 
 -- Bios
 
@@ -257,22 +255,24 @@ range_inside x p =
     (Decides-and _ _ (Decides-eqb (x.len % p.sector) 0)
     (Decides-and _ _ (at_most (x.offset + x.len) p.size) always)))))
 
-count_for : (w : World) (x : Bio) (c : Consumer) → Decides (has_count_for w x c) (HasCountFor w x c)
-count_for w x c =
+count_for : (granted : ℕ → Counts) (t : Topology Config) (x : Bio) (c : Consumer)
+    → Decides (has_count_for granted t x c) (HasCountFor granted t x c)
+count_for granted t x c =
     Decides-and _ _
-    (under (is_read x.cmd) _ (itself (is_read x.cmd)) (Decides-ltb 0 (want (granted_in w) w.topology c).r))
-    (unless_true (is_read x.cmd) _ (Decides-ltb 0 (want (granted_in w) w.topology c).w))
+    (under (is_read x.cmd) _ (itself (is_read x.cmd)) (Decides-ltb 0 (want granted t c).r))
+    (unless_true (is_read x.cmd) _ (Decides-ltb 0 (want granted t c).w))
 
-bio_in_order : (w : World) (x : Bio) → Decides (is_bio_in_order w x) (IsBioInOrder w x)
-bio_in_order w x =
+bio_in_order : (granted : ℕ → Counts) (t : Topology Config) (x : Bio)
+    → Decides (is_bio_in_order granted t x) (IsBioInOrder granted t x)
+bio_in_order granted t x =
     Decides-like _
     (λ h. record { source = h.0; target = h.1.0; bytes = h.1.1.0 })
     (λ h. (h.source, (h.target, (h.bytes, tt))))
     (Decides-and _ _
-    (there_and (consumer_at w.topology x.source) _ _
-    (λ c. Decides-and _ _ (named c.provider x.target) (count_for w x c)))
+    (there_and (consumer_at t x.source) _ _
+    (λ c. Decides-and _ _ (named c.provider x.target) (count_for granted t x c)))
     (Decides-and _ _
-    (there_and (provider_at w.topology x.target) _ _ (λ p. unless_true (is_flush x.cmd) _ (range_inside x p)))
+    (there_and (provider_at t x.target) _ _ (λ p. unless_true (is_flush x.cmd) _ (range_inside x p)))
     (Decides-and _ _
     (under (is_write x.cmd) _ (itself (is_write x.cmd)) (Decides-eqb (length x.bytes) x.len))
     always)))
@@ -365,42 +365,45 @@ there_both None geom test P one = (λ e. from_false_true e, λ h. absurd h)
 there_both (Some p) geom test P one = there_with p (geom p) test P one
 
 -- a bio's pieces, its parent, its family
-pieces_there : (w : World) (x : Bio) → Decides (has_its_pieces w x) (HasItsPieces w x)
-pieces_there w x = there_both (provider_at w.topology x.target) (λ p. geom_at w.topology p.geom) _ _ (λ p g. shapes _ _)
+pieces_there : (t : Topology Config) (bios : List Bio) (x : Bio)
+    → Decides (has_its_pieces t bios x) (HasItsPieces t bios x)
+pieces_there t bios x = there_both (provider_at t x.target) (λ p. geom_at t p.geom) _ _ (λ p g. shapes _ _)
 
-parent_there : (w : World) (o : Owner) → Decides (has_its_parent w o) (HasItsParent w o)
-parent_there w (owners.Child parent index) = there_and (bio_at w parent) _ _ (λ y. itself (is_waiting y.phase))
-parent_there w (owners.Line handle line) = always
-parent_there w owners.Taste = always
+parent_there : (bios : List Bio) (o : Owner) → Decides (has_its_parent bios o) (HasItsParent bios o)
+parent_there bios (owners.Child parent index) = there_and (bio_among bios parent) _ _ (λ y. itself (is_waiting y.phase))
+parent_there bios (owners.Line handle line) = always
+parent_there bios owners.Taste = always
 
-family : (w : World) (x : Bio) → Decides (is_family_in_order w x) (IsFamilyInOrder w x)
-family w x =
+family : (t : Topology Config) (bios : List Bio) (x : Bio)
+    → Decides (is_family_in_order t bios x) (IsFamilyInOrder t bios x)
+family t bios x =
     Decides-like _
     (λ h. record { parent = h.0; pieces = h.1.0; not_complete = h.1.1.0; root = h.1.1.1.0 })
     (λ h. (h.parent, (h.pieces, (h.not_complete, (h.root, tt)))))
-    (Decides-and _ _ (parent_there w x.owner)
-    (Decides-and _ _ (under (is_waiting x.phase) _ (itself (is_waiting x.phase)) (pieces_there w x))
-    (Decides-and _ _ (under (is_waiting x.phase) _ (itself (is_waiting x.phase)) (untrue (is_complete w x.number)))
+    (Decides-and _ _ (parent_there bios x.owner)
+    (Decides-and _ _ (under (is_waiting x.phase) _ (itself (is_waiting x.phase)) (pieces_there t bios x))
+    (Decides-and _ _
+    (under (is_waiting x.phase) _ (itself (is_waiting x.phase)) (untrue (are_children_done bios x.number)))
     (Decides-and _ _ (under (is_root x.owner) _ (itself (is_root x.owner)) (untrue (is_done x.phase))) always))))
 
 -- one Busy bio at a disk
-one_busy : (w : World) (x y : Bio) → Decides (not_both_busy w x y) (NotBothBusy w x y)
-one_busy w x y =
+one_busy : (t : Topology Config) (x y : Bio) → Decides (not_both_busy t x y) (NotBothBusy t x y)
+one_busy t x y =
     under (is_busy x.phase) _ (itself (is_busy x.phase))
     (under (is_busy y.phase) _ (itself (is_busy y.phase))
-    (of_named (disk_of_bio w x) _ _ (λ d. Decides-not _ (named (disk_of_bio w y) d))))
+    (of_named (disk_at t x.target) _ _ (λ d. Decides-not _ (named (disk_at t y.target) d))))
 
-disks : (w : World) → Decides (disks_hold w) (DisksHold w)
-disks w =
+disks : (t : Topology Config) (bios : List Bio) → Decides (disks_hold t bios) (DisksHold t bios)
+disks t bios =
     Decides-like _
     (λ h. record { at_disk = h.0; one_busy = h.1 })
     (λ h. (h.at_disk, h.one_busy))
     (Decides-and _ _
     (each _ _ (λ x.
     under (is_sent x.phase || is_busy x.phase) _ (itself (is_sent x.phase || is_busy x.phase))
-    (itself (is_some (disk_of_bio w x))))
-    w.bios)
-    (pairs _ _ (one_busy w) w.bios))
+    (itself (is_some (disk_at t x.target))))
+    bios)
+    (pairs _ _ (one_busy t) bios))
 
 -- Events and the taste
 
@@ -481,30 +484,31 @@ ebr_asked (Some k) = (
 )
 
 -- the chain, and all of the taste
-its_chain : (w : World) (s : Taste) → Decides (has_its_chain w s) (HasItsChain w s)
-its_chain w s =
+its_chain : (t : Topology Config) (s : Taste) → Decides (has_its_chain t s) (HasItsChain t s)
+its_chain t s =
     under (some_and (class_asked s.asked) (λ k. is_kind k kinds.Ebr)) _ (ebr_asked (class_asked s.asked))
-    (if_there (provider_at w.topology s.provider) _ _ (λ p. one_chain (p.size / p.sector) s.asked s.reads s.chain))
+    (if_there (provider_at t s.provider) _ _ (λ p. one_chain (p.size / p.sector) s.asked s.reads s.chain))
 
-taste : (w : World) (s : Taste) → Decides (is_taste_in_order w s) (IsTasteInOrder w s)
-taste w s =
+taste : (t : Topology Config) (s : Taste) → Decides (is_taste_in_order t s) (IsTasteInOrder t s)
+taste t s =
     Decides-like _
     (λ h. record { rank = h.0; reads = h.1.0; chain = h.1.1.0 })
     (λ h. (h.rank, (h.reads, (h.chain, tt))))
     (Decides-and _ _
-    (there_and (geom_of_provider w.topology s.provider) _ _ (λ g. Decides-ltb (rank w.topology g.number) UNTASTED_RANK))
-    (Decides-and _ _ (reads s.asked s.reads) (Decides-and _ _ (its_chain w s) always)))
+    (there_and (geom_of_provider t s.provider) _ _ (λ g. Decides-ltb (rank t g.number) UNTASTED_RANK))
+    (Decides-and _ _ (reads s.asked s.reads) (Decides-and _ _ (its_chain t s) always)))
 
 -- all of EventsHold
-events : (w : World) → Decides (events_hold w) (EventsHold w)
-events w =
+events : (t : Topology Config) (es : List Event) (o : Option Taste) (bios : List Bio)
+    → Decides (events_hold t es o bios) (EventsHold t es o bios)
+events t es o bios =
     Decides-like _
     (λ h. record { living = h.0; read_out = h.1.0; taste = h.1.1.0 })
     (λ h. (h.living, (h.read_out, (h.taste, tt))))
-    (Decides-and _ _ (each _ _ (λ e. itself (is_some (provider_at w.topology (provider_of_event e)))) w.events)
+    (Decides-and _ _ (each _ _ (λ e. itself (is_some (provider_at t (provider_of_event e)))) es)
     (Decides-and _ _
-    (both_ways (list_any (λ x. is_taste_root x.owner) w.bios) (some_and w.taste (λ s. is_read_out s.asked)))
-    (Decides-and _ _ (if_there w.taste _ _ (taste w)) always)))
+    (both_ways (list_any (λ x. is_taste_root x.owner) bios) (some_and o (λ s. is_read_out s.asked)))
+    (Decides-and _ _ (if_there o _ _ (taste t)) always)))
 
 -- Places: each beginning of a sector is an offset
 
@@ -562,19 +566,20 @@ leads t p g false withers h = down t p g (h (inl refl))
 leads t p g true false h = down t p g (h (inr refl))
 
 -- the same where the geom is looked up
-leads_there : (w : World) (p : Provider) (o : Option (Geom Config))
-    → IsSomeAnd o (λ g. (is_zero (have (granted_in w) w.topology p.number) ≡ false) ⊎ (g.withering ≡ false)
-    → IsSome (disk_of g.config) ⊎ IsPlaced w.topology g p)
-    → some_and o (λ g. (is_zero (have (granted_in w) w.topology p.number) && g.withering)
-    || (is_some (disk_of g.config) || is_placed w.topology g p)) ≡ true
-leads_there w p None h = absurd h
-leads_there w p (Some g) h = leads w.topology p g (is_zero (have (granted_in w) w.topology p.number)) g.withering h
+leads_there : (granted : ℕ → Counts) (t : Topology Config) (p : Provider) (o : Option (Geom Config))
+    → IsSomeAnd o (λ g. (is_zero (have granted t p.number) ≡ false) ⊎ (g.withering ≡ false)
+    → IsSome (disk_of g.config) ⊎ IsPlaced t g p)
+    → some_and o (λ g. (is_zero (have granted t p.number) && g.withering)
+    || (is_some (disk_of g.config) || is_placed t g p)) ≡ true
+leads_there granted t p None h = absurd h
+leads_there granted t p (Some g) h = leads t p g (is_zero (have granted t p.number)) g.withering h
 
 -- each provider's way down
-all_lead : (w : World) (ps : List Provider) → All (LeadsDown w) ps → list_all (leads_down w) ps ≡ true
-all_lead w ps h =
-    list_all-from_AllPass (leads_down w) ps (λ i d lt. let one = h i d lt in
-    leads_there w (get_or ps i d) (geom_at w.topology (get_or ps i d).geom) one)
+all_lead : (granted : ℕ → Counts) (t : Topology Config) (ps : List Provider) → All (LeadsDown granted t) ps
+    → list_all (leads_down granted t) ps ≡ true
+all_lead granted t ps h =
+    list_all-from_AllPass (leads_down granted t) ps (λ i d lt. let one = h i d lt in
+    leads_there granted t (get_or ps i d) (geom_at t (get_or ps i d).geom) one)
 
 -- All of it
 
@@ -582,14 +587,17 @@ pub sound_tested : TestsSound
 unfolding is_sound
 sound_tested w =
     let d1 = ranks w.topology in
-    let d2 = counts w in
+    let d2 = counts (granted_in w) w.topology in
     let d3 = providers w.topology in
-    let d4 = all_numbers w in
-    let d5 = handles w in
-    let d7 = each (is_bio_in_order w) (IsBioInOrder w) (bio_in_order w) w.bios in
-    let d8 = each (is_family_in_order w) (IsFamilyInOrder w) (family w) w.bios in
-    let d9 = disks w in
-    let d10 = events w in (
+    let d4 = all_numbers w.topology w.disks in
+    let d5 = handles w.topology w.handles w.next_handle w.taste in
+    let d7 = numbers (map (λ (x : Bio). x.number) w.bios) w.next_bio in
+    let d8 = each (is_bio_in_order (granted_in w) w.topology) (IsBioInOrder (granted_in w) w.topology)
+    (bio_in_order (granted_in w) w.topology) w.bios in
+    let d9 = each (is_family_in_order w.topology w.bios) (IsFamilyInOrder w.topology w.bios)
+    (family w.topology w.bios) w.bios in
+    let d10 = disks w.topology w.bios in
+    let d11 = events w.topology w.events w.taste w.bios in (
       λ e places.
           let h1 = and_parts _ _ e in
           let h2 = and_parts _ _ h1.1 in
@@ -601,6 +609,7 @@ sound_tested w =
           let h8 = and_parts _ _ h7.1 in
           let h9 = and_parts _ _ h8.1 in
           let h10 = and_parts _ _ h9.1 in
+          let h11 = and_parts _ _ h10.1 in
           record {
             ranks = d1.0 h1.0;
             counts = d2.0 h2.0;
@@ -608,10 +617,11 @@ sound_tested w =
             numbers = d4.0 h4.0;
             handles = d5.0 h5.0;
             places = places;
-            bios = d7.0 h7.0;
-            families = d8.0 h8.0;
-            disks = d9.0 h9.0;
-            events = d10.0 h10.0;
+            bio_numbers = d7.0 h7.0;
+            bios = d8.0 h8.0;
+            families = d9.0 h9.0;
+            disks = d10.0 h10.0;
+            events = d11.0 h11.0;
           },
       λ h.
           and_from _ _ (d1.1 h.ranks)
@@ -619,9 +629,10 @@ sound_tested w =
           (and_from _ _ (d3.1 h.providers)
           (and_from _ _ (d4.1 h.numbers)
           (and_from _ _ (d5.1 h.handles)
-          (and_from _ _ (all_lead w w.topology.providers h.places)
-          (and_from _ _ (d7.1 h.bios)
-          (and_from _ _ (d8.1 h.families)
-          (and_from _ _ (d9.1 h.disks)
-          (and_from _ _ (d10.1 h.events) refl))))))))),
+          (and_from _ _ (all_lead (granted_in w) w.topology w.topology.providers h.places)
+          (and_from _ _ (d7.1 h.bio_numbers)
+          (and_from _ _ (d8.1 h.bios)
+          (and_from _ _ (d9.1 h.families)
+          (and_from _ _ (d10.1 h.disks)
+          (and_from _ _ (d11.1 h.events) refl)))))))))),
     )

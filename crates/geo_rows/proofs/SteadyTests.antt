@@ -6,13 +6,14 @@ use Rattle.std.proofs.lemmas.Bool.{true≢false, eqb-true}
 use Rattle.std.proofs.lemmas.Bool.Decides.{Decides-and, Decides-or, Decides-like, Decides-eqb, Decides-ltb}
 use Rattle.std.proofs.lemmas.Option.{same_Some}
 use Rattle.geo_rows.proofs.TestFacts.{always, itself, under, each, there_and}
+use Rattle.geo_base.specs.declared.request.Counts.{Counts}
 use Rattle.geo_model.specs.declared.step.BioResult.{BioResult}
 use Rattle.geo_model.specs.declared.step.BioResult.TheVariants as results
 use Rattle.geo_model.specs.declared.step.Owner.{Owner}
 use Rattle.geo_model.specs.declared.step.Owner.TheVariants as owners
 use Rattle.geo_model.specs.Words.{is_read, names_number}
 use Rattle.geo_model.specs.Topology.{Topology, Geom, geom_at, provider_at, consumer_at, providers_of, consumers_of}
-use Rattle.geo_model.specs.World.{World, Config, Bio, is_up, is_done}
+use Rattle.geo_model.specs.World.{World, Config, Bio, Handle, Taste, is_up, is_done, granted_in}
 use Rattle.geo_model.specs.Place.{components}
 use Rattle.geo_model.specs.Steady.{AreMade, PartsHaveGeoms, AreAttached, has_free_place, has_open_provider, HasItsComponents, WaitsForPlaces, ComesFromItsOwner, FitsBio, HasItsResult, Steady}
 use Rattle.geo_rows.specs.WorkedSteady.{are_made, parts_have_geoms, are_attached, has_its_components, waits_for_places, comes_from_its_owner, result_fits, has_its_result, is_steady}
@@ -60,28 +61,31 @@ attached : (t : Topology Config) → Decides (are_attached t) (AreAttached t)
 attached t = each _ _ (λ c. itself (is_some (option_and_then (provider_at t) c.provider))) t.consumers
 
 -- components are attached consumers of the geom
-its_components : (w : World) (g : Geom Config) → Decides (has_its_components w g) (HasItsComponents w g)
-its_components w g =
-    under (not g.withering || has_open_provider w g) _
-    (Decides-or (not g.withering) (has_open_provider w g) (untrue g.withering) (itself (has_open_provider w g)))
+its_components : (granted : ℕ → Counts) (t : Topology Config) (g : Geom Config)
+    → Decides (has_its_components granted t g) (HasItsComponents granted t g)
+its_components granted t g =
+    under (not g.withering || has_open_provider granted t g) _
+    (Decides-or (not g.withering) (has_open_provider granted t g) (untrue g.withering)
+    (itself (has_open_provider granted t g)))
     (each _ _ (λ c.
-    there_and (consumer_at w.topology c) _ _ (λ x.
+    there_and (consumer_at t c) _ _ (λ x.
     Decides-and (x.geom == g.number) (is_some x.provider) (Decides-eqb x.geom g.number) (itself (is_some x.provider))))
     (components g.config))
 
 -- an assembly with a free place has no provider
-partial_waits : (w : World) (g : Geom Config) → Decides (waits_for_places w g) (WaitsForPlaces w g)
-partial_waits w g = under (has_free_place g) _ (itself (has_free_place g)) (bare (providers_of w.topology g.number))
+partial_waits : (t : Topology Config) (g : Geom Config) → Decides (waits_for_places t g) (WaitsForPlaces t g)
+partial_waits t g = under (has_free_place g) _ (itself (has_free_place g)) (bare (providers_of t g.number))
 
 -- a root comes from its owner
-from_owner : (w : World) (x : Bio) (o : Owner) → Decides (comes_from_its_owner w x o) (ComesFromItsOwner w x o)
-from_owner w x (owners.Line handle line) =
-    there_and (find (λ h. h.number == handle) w.handles) _ _ (λ h. named h.consumer x.source)
-from_owner w x owners.Taste =
-    there_and w.taste _ _ (λ s.
+from_owner : (hs : List Handle) (taste : Option Taste) (x : Bio) (o : Owner)
+    → Decides (comes_from_its_owner hs taste x o) (ComesFromItsOwner hs taste x o)
+from_owner hs taste x (owners.Line handle line) =
+    there_and (find (λ h. h.number == handle) hs) _ _ (λ h. named h.consumer x.source)
+from_owner hs taste x owners.Taste =
+    there_and taste _ _ (λ s.
     Decides-and (s.consumer == x.source) (s.provider == x.target) (Decides-eqb s.consumer x.source)
     (Decides-eqb s.provider x.target))
-from_owner w x (owners.Child parent index) = Decides-ltb parent x.number
+from_owner hs taste x (owners.Child parent index) = Decides-ltb parent x.number
 
 -- a result is one that the bio can have
 of_bio : (x : Bio) (got : BioResult) → Decides (result_fits x got) (FitsBio x got)
@@ -114,8 +118,8 @@ steady_tested w =
     (Decides-and _ _ (made w.topology)
     (Decides-and _ _ (parts w.topology)
     (Decides-and _ _ (attached w.topology)
-    (Decides-and _ _ (each _ _ (its_components w) w.topology.geoms)
-    (Decides-and _ _ (each _ _ (partial_waits w) w.topology.geoms)
-    (Decides-and _ _ (each _ _ (λ x. from_owner w x x.owner) w.bios)
+    (Decides-and _ _ (each _ _ (its_components (granted_in w) w.topology) w.topology.geoms)
+    (Decides-and _ _ (each _ _ (partial_waits w.topology) w.topology.geoms)
+    (Decides-and _ _ (each _ _ (λ x. from_owner w.handles w.taste x x.owner) w.bios)
     (Decides-and _ _ (each _ _ its_result w.bios)
     (Decides-and _ _ (each _ _ (λ c. untrue c.spoiled) (consumers_of w.topology 1)) always))))))))

@@ -15,7 +15,7 @@ use Rattle.geo_model.specs.declared.step.BioResult.TheVariants as results
 use Rattle.geo_model.specs.declared.step.Entry.{Entry}
 use Rattle.geo_model.specs.Words.{is_kind}
 use Rattle.geo_model.specs.Topology.{Topology, Geom, Provider, Consumer, geom_at, provider_at, consumer_at, providers_of}
-use Rattle.geo_model.specs.World.{World, Config, Mbr, Ebr, Stripe, Nop, Plan, HeaderDisk, Asked, NoClass, NextSector, ReadOut, ReadBack, is_taste_root}
+use Rattle.geo_model.specs.World.{World, Config, Mbr, Ebr, Stripe, Nop, Plan, Bio, HeaderDisk, Asked, NoClass, NextSector, ReadOut, ReadBack, is_taste_root}
 use Rattle.geo_model.specs.Place.{components}
 use Rattle.geo_model.specs.Acceptance.{taste_where, places_of, joined_size}
 use Rattle.geo_model.specs.Tasting.{facts_of}
@@ -77,12 +77,10 @@ is_asked_in_order t p (ReadOut kind) = asks_there t p kind
 is_asked_in_order t p (ReadBack kind got) = asks_there t p kind && is_one_sector p got
 
 -- whether the read of a taste is one, and of one sector
-abbrev pub taste_read_holds : World → Bool
-taste_read_holds w =
-    nat_le (count_by (λ x. is_taste_root x.owner) w.bios) 1
-    && list_all
-    (λ x. not (is_taste_root x.owner) || some_and (provider_at w.topology x.target) (λ p. x.len == p.sector))
-    w.bios
+abbrev pub taste_read_holds : Topology Config → List Bio → Bool
+taste_read_holds t bios =
+    nat_le (count_by (λ x. is_taste_root x.owner) bios) 1
+    && list_all (λ x. not (is_taste_root x.owner) || some_and (provider_at t x.target) (λ p. x.len == p.sector)) bios
 
 -- whether a CONCAT has at most one provider
 abbrev pub has_one_provider : Topology Config → Geom Config → Bool
@@ -163,7 +161,7 @@ is_fitting_world w = all_hold
     ∷ list_all places_hold w.topology.geoms
     ∷ list_all (has_its_sum w.topology) w.topology.geoms
     ∷ none_or w.taste (λ s. none_or (provider_at w.topology s.provider) (λ p. is_asked_in_order w.topology p s.asked))
-    ∷ taste_read_holds w
+    ∷ taste_read_holds w.topology w.bios
     ∷ list_all (λ rest. list_all (λ c. is_command c.command) rest) w.actors
     ∷ [])
 

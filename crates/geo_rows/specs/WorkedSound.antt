@@ -4,18 +4,20 @@ use Rattle.std.specs.Prelude.{◌≡◌, All, ℕ, ◌+◌, ◌*◌, ◌/◌, �
 use Rattle.std.specs.List.{list_all, list_any, enumerate_from, range_with_len}
 use Rattle.std.specs.Option.{option_map_or}
 use Rattle.geo_base.specs.declared.kind.Kind.TheVariants as kinds
+use Rattle.geo_base.specs.declared.request.Counts.{Counts}
 use Rattle.geo_base.specs.declared.limits.TheConstants.{MAX_LINKS, MAX_MEDIA_BYTES, MAX_RANK, MAX_REQUEST_BYTES, UNTASTED_RANK}
 use Rattle.geo_model.specs.declared.class.EbrPart.{EbrPart}
 use Rattle.geo_model.specs.declared.step.Entry.{Entry}
+use Rattle.geo_model.specs.declared.step.Event.{Event}
 use Rattle.geo_model.specs.Words.{is_read, is_write, is_flush, is_kind, same_cmd, names_number, same_name}
 use Rattle.geo_model.specs.Topology.{Topology, Geom, Provider, Consumer, geom_at, provider_at, consumer_at, geom_of_provider, provider_with_geom, providers_of, consumers_of, is_withering}
 use Rattle.geo_model.specs.Rank.{rank}
 use Rattle.geo_model.specs.Demand.{have, want, is_zero, is_exclusive, fits_limit}
-use Rattle.geo_model.specs.World.{World, Config, Plan, Bio, Taste, Asked, NoClass, NextSector, granted_in, bio_at, children_of, is_read_out, is_root, is_taste_root, is_done, is_busy, is_sent, is_waiting}
+use Rattle.geo_model.specs.World.{World, Config, Plan, Bio, Handle, HeaderDisk, Taste, Asked, NoClass, NextSector, granted_in, bio_among, children_among, is_read_out, is_root, is_taste_root, is_done, is_busy, is_sent, is_waiting}
 use Rattle.geo_model.specs.declared.step.Owner.{Owner}
 use Rattle.geo_model.specs.declared.step.Owner.TheVariants as owners
 use Rattle.geo_model.specs.Place.{Spot, place, component, disk_of}
-use Rattle.geo_model.specs.Bios.{piece_targets, disk_of_bio, is_complete}
+use Rattle.geo_model.specs.Bios.{piece_targets, disk_at, are_children_done}
 use Rattle.geo_model.specs.Chain.{Chain}
 use Rattle.geo_model.specs.Events.{provider_of_event}
 use Rattle.geo_model.specs.Order.{reads_limit}
@@ -59,8 +61,8 @@ ranks_hold t = all_hold
     ∷ stands_bare t 2
     ∷ [])
 
-abbrev pub counts_hold : World → Bool
-counts_hold w = is_exclusive (granted_in w) w.topology && fits_limit (granted_in w) w.topology
+abbrev pub counts_hold : (ℕ → Counts) → Topology Config → Bool
+counts_hold granted t = is_exclusive granted t && fits_limit granted t
 
 abbrev pub providers_hold : Topology Config → Bool
 providers_hold t = all_hold
@@ -72,10 +74,10 @@ providers_hold t = all_hold
 abbrev pub are_numbers : List ℕ → ℕ → Bool
 are_numbers numbers next = all_pairs nat_lt numbers && list_all (λ n. nat_lt n next) numbers
 
-abbrev pub has_disk_sizes : World → Geom Config → Bool
-has_disk_sizes w x =
-    none_or (disk_of x.config) (λ d. some_and (slice_get w.disks d) (λ disk.
-    list_all (λ p. (p.sector == disk.sector) && (p.size == disk.size)) (providers_of w.topology x.number)))
+abbrev pub has_disk_sizes : Topology Config → List HeaderDisk → Geom Config → Bool
+has_disk_sizes t ds x =
+    none_or (disk_of x.config) (λ d. some_and (slice_get ds d) (λ disk.
+    list_all (λ p. (p.sector == disk.sector) && (p.size == disk.size)) (providers_of t x.number)))
 
 abbrev pub differ_in_disk : Geom Config → Geom Config → Bool
 differ_in_disk x y = none_or (disk_of x.config) (λ d. not (names_number (disk_of y.config) d))
@@ -87,16 +89,14 @@ is_of_its_class x = all_hold
     ∷ same_test (is_kind x.kind kinds.Taste) (x.number == 2)
     ∷ [])
 
-abbrev pub numbers_hold : World → Bool
-numbers_hold w = all_hold
-    (are_numbers (map (λ x. x.number) w.topology.geoms) w.topology.next_geom
-    ∷ are_numbers (map (λ x. x.number) w.topology.providers) w.topology.next_provider
-    ∷ are_numbers (map (λ x. x.number) w.topology.consumers) w.topology.next_consumer
-    ∷ are_numbers (map (λ x. x.number) w.handles) w.next_handle
-    ∷ are_numbers (map (λ x. x.number) w.bios) w.next_bio
-    ∷ list_all is_of_its_class w.topology.geoms
-    ∷ all_pairs differ_in_disk w.topology.geoms
-    ∷ list_all (has_disk_sizes w) w.topology.geoms
+abbrev pub numbers_hold : Topology Config → List HeaderDisk → Bool
+numbers_hold t ds = all_hold
+    (are_numbers (map (λ x. x.number) t.geoms) t.next_geom
+    ∷ are_numbers (map (λ x. x.number) t.providers) t.next_provider
+    ∷ are_numbers (map (λ x. x.number) t.consumers) t.next_consumer
+    ∷ list_all is_of_its_class t.geoms
+    ∷ all_pairs differ_in_disk t.geoms
+    ∷ list_all (has_disk_sizes t ds) t.geoms
     ∷ [])
 
 abbrev pub has_taste_consumer : List Consumer → Option Taste → Bool
@@ -104,14 +104,14 @@ has_taste_consumer [] None = true
 has_taste_consumer (c ∷ []) (Some s) = (c.number == s.consumer) && names_number c.provider s.provider
 has_taste_consumer _ _ = false
 
-abbrev pub handles_hold : World → Bool
-handles_hold w = all_hold
-    (list_all
-    (λ c. is_some c.provider && (count_by (λ h. names_number h.consumer c.number) w.handles == 1))
-    (consumers_of w.topology 1)
-    ∷ list_all (λ h. option_map_or (λ c. some_and (consumer_at w.topology c) (λ x. x.geom == 1)) h.consumer
-    h.dead) w.handles
-    ∷ has_taste_consumer (consumers_of w.topology 2) w.taste
+abbrev pub handles_hold : Topology Config → List Handle → ℕ → Option Taste → Bool
+handles_hold t hs next o = all_hold
+    (are_numbers (map (λ x. x.number) hs) next
+    ∷ list_all
+    (λ c. is_some c.provider && (count_by (λ h. names_number h.consumer c.number) hs == 1))
+    (consumers_of t 1)
+    ∷ list_all (λ h. option_map_or (λ c. some_and (consumer_at t c) (λ x. x.geom == 1)) h.consumer h.dead) hs
+    ∷ has_taste_consumer (consumers_of t 2) o
     ∷ [])
 
 abbrev pub is_place_inside : Topology Config → Geom Config → Provider → Spot → Bool
@@ -126,16 +126,14 @@ is_placed t g p =
     (λ k. some_and (place g.config p.name (k * p.sector)) (is_place_inside t g p))
     (range_with_len 0 (p.size / p.sector))
 
-abbrev pub leads_down : World → Provider → Bool
-leads_down w p =
-    some_and (geom_at w.topology p.geom) (λ g.
-    (is_zero (have (granted_in w) w.topology p.number) && g.withering)
-    || (is_some (disk_of g.config) || is_placed w.topology g p))
+abbrev pub leads_down : (ℕ → Counts) → Topology Config → Provider → Bool
+leads_down granted t p =
+    some_and (geom_at t p.geom) (λ g.
+    (is_zero (have granted t p.number) && g.withering) || (is_some (disk_of g.config) || is_placed t g p))
 
-abbrev pub has_count_for : World → Bio → Consumer → Bool
-has_count_for w x c =
-    (not (is_read x.cmd) || nat_lt 0 (want (granted_in w) w.topology c).r)
-    && (is_read x.cmd || nat_lt 0 (want (granted_in w) w.topology c).w)
+abbrev pub has_count_for : (ℕ → Counts) → Topology Config → Bio → Consumer → Bool
+has_count_for granted t x c =
+    (not (is_read x.cmd) || nat_lt 0 (want granted t c).r) && (is_read x.cmd || nat_lt 0 (want granted t c).w)
 
 abbrev pub is_range_inside : Bio → Provider → Bool
 is_range_inside x p = all_hold
@@ -146,10 +144,10 @@ is_range_inside x p = all_hold
     ∷ nat_le (x.offset + x.len) p.size
     ∷ [])
 
-abbrev pub is_bio_in_order : World → Bio → Bool
-is_bio_in_order w x = all_hold
-    (some_and (consumer_at w.topology x.source) (λ c. names_number c.provider x.target && has_count_for w x c)
-    ∷ some_and (provider_at w.topology x.target) (λ p. is_flush x.cmd || is_range_inside x p)
+abbrev pub is_bio_in_order : (ℕ → Counts) → Topology Config → Bio → Bool
+is_bio_in_order granted t x = all_hold
+    (some_and (consumer_at t x.source) (λ c. names_number c.provider x.target && has_count_for granted t x c)
+    ∷ some_and (provider_at t x.target) (λ p. is_flush x.cmd || is_range_inside x p)
     ∷ (not (is_write x.cmd) || (length x.bytes == x.len))
     ∷ [])
 
@@ -168,34 +166,34 @@ same_shapes [] [] = true
 same_shapes (a ∷ as') (b ∷ bs) = same_shape a b && same_shapes as' bs
 same_shapes _ _ = false
 
-abbrev pub has_its_pieces : World → Bio → Bool
-has_its_pieces w x =
-    some_and (provider_with_geom w.topology x.target) (λ here.
+abbrev pub has_its_pieces : Topology Config → List Bio → Bio → Bool
+has_its_pieces t bios x =
+    some_and (provider_with_geom t x.target) (λ here.
     same_shapes
-    (map shape_of_child (children_of w x.number))
+    (map shape_of_child (children_among bios x.number))
     (map (λ item. shape_of_piece x item.0 item.1) (enumerate_from 0 (piece_targets here.1.config here.0 x))))
 
-abbrev pub has_its_parent : World → Owner → Bool
-has_its_parent w (owners.Child parent index) = some_and (bio_at w parent) (λ y. is_waiting y.phase)
-has_its_parent w _ = true
+abbrev pub has_its_parent : List Bio → Owner → Bool
+has_its_parent bios (owners.Child parent index) = some_and (bio_among bios parent) (λ y. is_waiting y.phase)
+has_its_parent bios _ = true
 
-abbrev pub is_family_in_order : World → Bio → Bool
-is_family_in_order w x = all_hold
-    (has_its_parent w x.owner
-    ∷ (not (is_waiting x.phase) || has_its_pieces w x)
-    ∷ (not (is_waiting x.phase) || not (is_complete w x.number))
+abbrev pub is_family_in_order : Topology Config → List Bio → Bio → Bool
+is_family_in_order t bios x = all_hold
+    (has_its_parent bios x.owner
+    ∷ (not (is_waiting x.phase) || has_its_pieces t bios x)
+    ∷ (not (is_waiting x.phase) || not (are_children_done bios x.number))
     ∷ (not (is_root x.owner) || not (is_done x.phase))
     ∷ [])
 
-abbrev pub not_both_busy : World → Bio → Bio → Bool
-not_both_busy w x y =
+abbrev pub not_both_busy : Topology Config → Bio → Bio → Bool
+not_both_busy t x y =
     not (is_busy x.phase)
-    || (not (is_busy y.phase) || none_or (disk_of_bio w x) (λ d. not (names_number (disk_of_bio w y) d)))
+    || (not (is_busy y.phase) || none_or (disk_at t x.target) (λ d. not (names_number (disk_at t y.target) d)))
 
-abbrev pub disks_hold : World → Bool
-disks_hold w =
-    list_all (λ x. not (is_sent x.phase || is_busy x.phase) || is_some (disk_of_bio w x)) w.bios
-    && all_pairs (not_both_busy w) w.bios
+abbrev pub disks_hold : Topology Config → List Bio → Bool
+disks_hold t bios =
+    list_all (λ x. not (is_sent x.phase || is_busy x.phase) || is_some (disk_at t x.target)) bios
+    && all_pairs (not_both_busy t) bios
 
 abbrev pub are_reads_in_order : Asked → ℕ → Bool
 are_reads_in_order NoClass reads = reads == 0
@@ -231,44 +229,46 @@ chain_holds n asked made c = all_hold
     ∷ [])
 
 -- whether it is where EBR is asked
-abbrev pub has_its_chain : World → Taste → Bool
-has_its_chain w s =
+abbrev pub has_its_chain : Topology Config → Taste → Bool
+has_its_chain t s =
     not (some_and (class_asked s.asked) (λ kind. is_kind kind kinds.Ebr))
-    || none_or (provider_at w.topology s.provider) (λ p. chain_holds (p.size / p.sector) s.asked s.reads s.chain)
+    || none_or (provider_at t s.provider) (λ p. chain_holds (p.size / p.sector) s.asked s.reads s.chain)
 
-abbrev pub is_taste_in_order : World → Taste → Bool
-is_taste_in_order w s = all_hold
-    (some_and (geom_of_provider w.topology s.provider) (λ g. nat_lt (rank w.topology g.number) UNTASTED_RANK)
+abbrev pub is_taste_in_order : Topology Config → Taste → Bool
+is_taste_in_order t s = all_hold
+    (some_and (geom_of_provider t s.provider) (λ g. nat_lt (rank t g.number) UNTASTED_RANK)
     ∷ are_reads_in_order s.asked s.reads
-    ∷ has_its_chain w s
+    ∷ has_its_chain t s
     ∷ [])
 
-abbrev pub events_hold : World → Bool
-events_hold w = all_hold
-    (list_all (λ e. is_some (provider_at w.topology (provider_of_event e))) w.events
-    ∷ same_test (list_any (λ x. is_taste_root x.owner) w.bios) (some_and w.taste (λ s. is_read_out s.asked))
-    ∷ none_or w.taste (is_taste_in_order w)
+abbrev pub events_hold : Topology Config → List Event → Option Taste → List Bio → Bool
+events_hold t es o bios = all_hold
+    (list_all (λ e. is_some (provider_at t (provider_of_event e))) es
+    ∷ same_test (list_any (λ x. is_taste_root x.owner) bios) (some_and o (λ s. is_read_out s.asked))
+    ∷ none_or o (is_taste_in_order t)
     ∷ [])
 
 -- whether the world is sound
 unfoldable pub is_sound : World → Bool
 is_sound w = all_hold
     (ranks_hold w.topology
-    ∷ counts_hold w
+    ∷ counts_hold (granted_in w) w.topology
     ∷ providers_hold w.topology
-    ∷ numbers_hold w
-    ∷ handles_hold w
-    ∷ list_all (leads_down w) w.topology.providers
-    ∷ list_all (is_bio_in_order w) w.bios
-    ∷ list_all (is_family_in_order w) w.bios
-    ∷ disks_hold w
-    ∷ events_hold w
+    ∷ numbers_hold w.topology w.disks
+    ∷ handles_hold w.topology w.handles w.next_handle w.taste
+    ∷ list_all (leads_down (granted_in w) w.topology) w.topology.providers
+    ∷ are_numbers (map (λ x. x.number) w.bios) w.next_bio
+    ∷ list_all (is_bio_in_order (granted_in w) w.topology) w.bios
+    ∷ list_all (is_family_in_order w.topology w.bios) w.bios
+    ∷ disks_hold w.topology w.bios
+    ∷ events_hold w.topology w.events w.taste w.bios
     ∷ [])
 
 -- a sound world passes the test, and a world that does is sound where the way down from each offset leads on, also from
 -- those inside a sector
 abbrev pub TestsSound : Type 0
-TestsSound = (w : World) → (is_sound w ≡ true → All (LeadsDown w) w.topology.providers → Sound w)
+TestsSound = (w : World)
+    → (is_sound w ≡ true → All (LeadsDown (granted_in w) w.topology) w.topology.providers → Sound w)
     × (Sound w → is_sound w ≡ true)
 
 -- whether each world of a log is sound

@@ -1,7 +1,8 @@
 -- The facts of Steady as tests, so that they can be computed at each moment of the worked runs.
-use Rattle.std.specs.Prelude.{ℕ, ◌==◌, nat_lt, Bool, true, not, ◌&&◌, ◌||◌, List, [], ◌∷◌, length, count_by, is_some, option_and_then, find}
+use Rattle.std.specs.Prelude.{ℕ, ◌==◌, nat_lt, Bool, true, not, ◌&&◌, ◌||◌, List, [], ◌∷◌, length, count_by, Option, is_some, option_and_then, find}
 use Rattle.std.specs.Bool.{Decides}
 use Rattle.std.specs.List.{list_all}
+use Rattle.geo_base.specs.declared.request.Counts.{Counts}
 use Rattle.geo_model.specs.declared.step.BioResult.{BioResult}
 use Rattle.geo_model.specs.declared.step.BioResult.TheVariants as results
 use Rattle.geo_model.specs.declared.step.Entry.{Entry}
@@ -9,7 +10,7 @@ use Rattle.geo_model.specs.declared.step.Owner.{Owner}
 use Rattle.geo_model.specs.declared.step.Owner.TheVariants as owners
 use Rattle.geo_model.specs.Words.{is_read, names_number}
 use Rattle.geo_model.specs.Topology.{Topology, Geom, geom_at, provider_at, consumer_at, providers_of, consumers_of}
-use Rattle.geo_model.specs.World.{World, Config, Plan, Bio, is_up, is_done}
+use Rattle.geo_model.specs.World.{World, Config, Plan, Bio, Handle, Taste, is_up, is_done, granted_in}
 use Rattle.geo_model.specs.Place.{components}
 use Rattle.geo_model.specs.Steady.{Steady, has_free_place, has_open_provider, is_offer_of}
 use Rattle.geo_model.specs.Log.{moments, replay, after_entry}
@@ -27,21 +28,21 @@ parts_have_geoms t =
 abbrev pub are_attached : Topology Config → Bool
 are_attached t = list_all (λ c. is_some (option_and_then (provider_at t) c.provider)) t.consumers
 
-abbrev pub has_its_components : World → Geom Config → Bool
-has_its_components w g =
-    not (not g.withering || has_open_provider w g)
+abbrev pub has_its_components : (ℕ → Counts) → Topology Config → Geom Config → Bool
+has_its_components granted t g =
+    not (not g.withering || has_open_provider granted t g)
     || list_all
-    (λ c. some_and (consumer_at w.topology c) (λ x. (x.geom == g.number) && is_some x.provider))
+    (λ c. some_and (consumer_at t c) (λ x. (x.geom == g.number) && is_some x.provider))
     (components g.config)
 
-abbrev pub waits_for_places : World → Geom Config → Bool
-waits_for_places w g = not (has_free_place g) || (length (providers_of w.topology g.number) == 0)
+abbrev pub waits_for_places : Topology Config → Geom Config → Bool
+waits_for_places t g = not (has_free_place g) || (length (providers_of t g.number) == 0)
 
-abbrev pub comes_from_its_owner : World → Bio → Owner → Bool
-comes_from_its_owner w x (owners.Line handle line) =
-    some_and (find (λ h. h.number == handle) w.handles) (λ h. names_number h.consumer x.source)
-comes_from_its_owner w x owners.Taste = some_and w.taste (λ s. (s.consumer == x.source) && (s.provider == x.target))
-comes_from_its_owner w x (owners.Child parent index) = nat_lt parent x.number
+abbrev pub comes_from_its_owner : List Handle → Option Taste → Bio → Owner → Bool
+comes_from_its_owner hs o x (owners.Line handle line) =
+    some_and (find (λ h. h.number == handle) hs) (λ h. names_number h.consumer x.source)
+comes_from_its_owner hs o x owners.Taste = some_and o (λ s. (s.consumer == x.source) && (s.provider == x.target))
+comes_from_its_owner hs o x (owners.Child parent index) = nat_lt parent x.number
 
 abbrev pub result_fits : Bio → BioResult → Bool
 result_fits x (results.Bytes bytes) = is_read x.cmd && (length bytes == x.len)
@@ -57,9 +58,9 @@ is_steady w = all_hold
     (are_made w.topology
     ∷ parts_have_geoms w.topology
     ∷ are_attached w.topology
-    ∷ list_all (has_its_components w) w.topology.geoms
-    ∷ list_all (waits_for_places w) w.topology.geoms
-    ∷ list_all (λ x. comes_from_its_owner w x x.owner) w.bios
+    ∷ list_all (has_its_components (granted_in w) w.topology) w.topology.geoms
+    ∷ list_all (waits_for_places w.topology) w.topology.geoms
+    ∷ list_all (λ x. comes_from_its_owner w.handles w.taste x x.owner) w.bios
     ∷ list_all has_its_result w.bios
     ∷ list_all (λ c. not c.spoiled) (consumers_of w.topology 1)
     ∷ [])

@@ -26,7 +26,7 @@ use Rattle.geo_model.specs.declared.step.Reply.TheVariants as replies
 use Rattle.geo_model.specs.declared.step.Step.{Step}
 use Rattle.geo_model.specs.declared.step.Step.TheVariants as steps
 use Rattle.geo_model.specs.Append.{Growing, append_joined, append_tested, component_refusal, do_append, growing_concat}
-use Rattle.geo_model.specs.Bios.{PieceTarget, bounce, deliver, piece_targets, reply_of_result, split_bio, start, start_at, start_at_nop, start_found, take_bio, up, up_child, up_line, up_taste, up_to}
+use Rattle.geo_model.specs.Bios.{PieceTarget, bounce, deliver, piece_targets, reply_of_result, split_bio, start, start_at, start_found, take_bio, up, up_to}
 use Rattle.geo_model.specs.Commands.{do_command}
 use Rattle.geo_model.specs.Freeing.{reap, reap_work, wash, wash_work}
 use Rattle.geo_model.specs.GeomCommands.{do_destroy, do_insert, do_nop, do_pull, found_provider, header_disk, named_geom, wither_found}

@@ -5,9 +5,9 @@ use Rattle.std.proofs.Common.{refl, sym, ◌∙◌, ap, subst}
 use Rattle.geo_base.proofs.Options.{at-found, at-some}
 use Rattle.geo_model.specs.Graph.{AreNumbers}
 use Rattle.geo_model.specs.Topology.{consumer_at}
-use Rattle.geo_model.specs.World.{BioOf, Config, Handle, is_up}
+use Rattle.geo_model.specs.World.{BioOf, Config, Handle, is_up, bio_among}
 use Rattle.geo_bio.specs.declared.bio.Held.{Held}
-use Rattle.geo_bio.specs.BioTable.{BioTableView, HasParent, bio_among, has_phase}
+use Rattle.geo_bio.specs.BioTable.{BioTableView, HasParent, has_phase}
 use Rattle.geo_bio.specs.Up.{after_up}
 use Rattle.geo_slots.specs.Slots.{value_at}
 use Rattle.geo_mesh.specs.Topo.{TopoView, with_active}

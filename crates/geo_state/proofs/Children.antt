@@ -9,9 +9,9 @@ use Rattle.geo_base.proofs.Options.{at-found}
 use Rattle.geo_model.specs.declared.span.Piece.{Piece}
 use Rattle.geo_model.specs.declared.step.Phase.TheVariants as phases
 use Rattle.geo_model.specs.Graph.{AreNumbers}
-use Rattle.geo_model.specs.World.{BioOf, Config, change_number, is_down}
+use Rattle.geo_model.specs.World.{BioOf, Config, change_number, is_down, bio_among}
 use Rattle.geo_bio.specs.declared.bio.Held.{Held}
-use Rattle.geo_bio.specs.BioTable.{BioTableView, bio_among, has_phase, with_phase}
+use Rattle.geo_bio.specs.BioTable.{BioTableView, has_phase, with_phase}
 use Rattle.geo_bio.specs.Split.{split_into}
 use Rattle.geo_slots.specs.Slots.{value_at}
 use Rattle.geo_mesh.specs.Rows.{change_at}

@@ -8,9 +8,8 @@ use Rattle.std.proofs.lemmas.List.Sums.{sum_by-append, sum_by-cons}
 use Rattle.geo_model.specs.declared.span.Piece.{Piece}
 use Rattle.geo_model.specs.declared.step.Phase.{Phase}
 use Rattle.geo_model.specs.declared.step.Phase.TheVariants as phases
-use Rattle.geo_model.specs.World.{BioOf, change_number, is_down, is_sent, is_busy, is_up}
+use Rattle.geo_model.specs.World.{BioOf, change_number, is_down, is_sent, is_busy, is_up, bio_among}
 use Rattle.geo_bio.specs.declared.bio.Held.{Held}
-use Rattle.geo_bio.specs.BioTable.{bio_among}
 use Rattle.geo_bio.specs.Split.{split_into}
 use Rattle.geo_state.specs.declared.cursor.Cursor.{Cursor}
 use Rattle.geo_state.specs.Traffic.{first_in, count_in}

@@ -7,9 +7,9 @@ use Rattle.std.proofs.lemmas.List.{length-append}
 use Rattle.std.proofs.lemmas.List.Sums.{count_by-le-length}
 use Rattle.geo_base.proofs.FindLists.{find_agree}
 use Rattle.geo_model.specs.declared.step.Phase.{Phase}
-use Rattle.geo_model.specs.World.{BioOf, change_number}
+use Rattle.geo_model.specs.World.{BioOf, change_number, bio_among}
 use Rattle.geo_bio.specs.declared.bio.Held.{Held}
-use Rattle.geo_bio.specs.BioTable.{bio_among, has_phase, bio_from}
+use Rattle.geo_bio.specs.BioTable.{has_phase, bio_from}
 use Rattle.geo_laws_graph.proofs.Lists.{length-changed}
 use Rattle.geo_state.specs.declared.cursor.Cursor.{Cursor}
 use Rattle.geo_state.specs.Traffic.{first_in, count_in}

@@ -6,13 +6,14 @@ use Rattle.std.proofs.lemmas.Bool.{eqb-true}
 use Rattle.std.proofs.lemmas.List.Elements.{recursion_from_All}
 use Rattle.geo_base.proofs.AllLists.{all_weaker, two_facts}
 use Rattle.geo_base.proofs.Options.{there_with_fact, some_weaker}
+use Rattle.geo_base.specs.declared.request.Counts.{Counts}
 use Rattle.geo_model.specs.declared.command.LineCommand.{LineCommand}
 use Rattle.geo_model.specs.declared.step.Entry.{Entry}
 use Rattle.geo_model.specs.declared.step.Owner.{Owner}
 use Rattle.geo_model.specs.declared.step.Owner.TheVariants as owners
 use Rattle.geo_model.specs.Graph.{AreNumbers}
 use Rattle.geo_model.specs.Topology.{Topology, Consumer, consumer_at, provider_at}
-use Rattle.geo_model.specs.World.{Bio, BioOf, Config, Handle, is_root, is_of_handle}
+use Rattle.geo_model.specs.World.{Bio, BioOf, Config, Handle, is_root, is_of_handle, granted_of}
 use Rattle.geo_model.specs.Fitting.{Firm}
 use Rattle.geo_model.specs.Sound.{HasItsConsumer}
 use Rattle.geo_model.specs.SoundBios.{IsBioInOrder, IsFamilyInOrder, HasCountFor}
@@ -30,31 +31,36 @@ use Rattle.geo_state.proofs.Lists.{count-none, find-none}
 use Rattle.geo_state.proofs.Owned.{none-counted}
 
 module _ (log : List Entry) (s : State) (actors : List (List LineCommand)) where
-  one : (x : BioOf Held) → IsBioInOrder (world actors log s) (shown_bio (delivered_at log) x)
-      → ComesFromItsOwner (world actors log s) (shown_bio (delivered_at log) x) x.owner
-      → IsFamilyInOrder (world actors log s) (shown_bio (delivered_at log) x)
+  -- what was granted to a consumer of DEV or TASTE
+  abbrev granted : ℕ → Counts
+  granted = granted_of s.handles.handles s.taste
+
+  one : (x : BioOf Held)
+      → IsBioInOrder granted s.topo.topology (shown_bio (delivered_at log) x)
+      → ComesFromItsOwner s.handles.handles s.taste (shown_bio (delivered_at log) x) x.owner
+      → IsFamilyInOrder s.topo.topology (world actors log s).bios (shown_bio (delivered_at log) x)
       → IsUnderWay s.topo.topology s.handles.handles (trip_of x)
   one x order owner family = record {
     source =
         some_weaker (λ (c : Consumer). (c.provider ≡ Some x.target)
-        × HasCountFor (world actors log s) (shown_bio (delivered_at log) x) c) (λ c. c.provider ≡ Some x.target)
+        × HasCountFor granted s.topo.topology (shown_bio (delivered_at log) x) c) (λ c. c.provider ≡ Some x.target)
         (λ c facts. facts.0) (consumer_at s.topo.topology x.source) order.source;
     target = there_with_fact _ (provider_at s.topo.topology x.target) order.target;
     owner = of x.owner owner;
     root = family.root;
   }
     where
-      of : (o : Owner) → ComesFromItsOwner (world actors log s) (shown_bio (delivered_at log) x) o
+      of : (o : Owner) → ComesFromItsOwner s.handles.handles s.taste (shown_bio (delivered_at log) x) o
           → HasLineHandle s.handles.handles x.source o
       of (owners.Line hd line) fact = fact
       of owners.Taste fact = tt
       of (owners.Child parent index) fact = tt
 
   each : (bios : List (BioOf Held))
-      → AllByRecursion (IsBioInOrder (world actors log s)) (shown_bios (delivered_at log) bios)
-      → AllByRecursion (λ (x : Bio). ComesFromItsOwner (world actors log s) x x.owner)
+      → AllByRecursion (IsBioInOrder granted s.topo.topology) (shown_bios (delivered_at log) bios)
+      → AllByRecursion (λ (x : Bio). ComesFromItsOwner s.handles.handles s.taste x x.owner)
       (shown_bios (delivered_at log) bios)
-      → AllByRecursion (IsFamilyInOrder (world actors log s)) (shown_bios (delivered_at log) bios)
+      → AllByRecursion (IsFamilyInOrder s.topo.topology (world actors log s).bios) (shown_bios (delivered_at log) bios)
       → AreUnderWay s.topo.topology s.handles.handles (trips bios)
   each [] order owners_are families = tt
   each (x ∷ xs) order owners_are families =
@@ -63,22 +69,23 @@ module _ (log : List Entry) (s : State) (actors : List (List LineCommand)) where
   pub under-way_in : Firm (world actors log s) → AreUnderWay s.topo.topology s.handles.handles (trips s.traffic.bios)
   under-way_in firm =
       each s.traffic.bios
-      (recursion_from_All (IsBioInOrder (world actors log s)) (world actors log s).bios firm.sound.bios)
-      (recursion_from_All (λ (x : Bio). ComesFromItsOwner (world actors log s) x x.owner) (world actors log s).bios
+      (recursion_from_All (IsBioInOrder granted s.topo.topology) (world actors log s).bios firm.sound.bios)
+      (recursion_from_All (λ (x : Bio). ComesFromItsOwner s.handles.handles s.taste x x.owner) (world actors log s).bios
       firm.steady.owners)
-      (recursion_from_All (IsFamilyInOrder (world actors log s)) (world actors log s).bios firm.sound.families)
+      (recursion_from_All (IsFamilyInOrder s.topo.topology (world actors log s).bios) (world actors log s).bios
+      firm.sound.families)
 
   -- each handle's consumer lives
   pub holders-live : Firm (world actors log s)
       → AllByRecursion (λ (h : Handle). (c : ℕ) → h.consumer ≡ Some c → IsSome (consumer_at s.topo.topology c))
       s.handles.handles
   holders-live firm =
-      all_weaker (HasItsConsumer (world actors log s))
+      all_weaker (HasItsConsumer s.topo.topology)
       (λ h. (c : ℕ) → h.consumer ≡ Some c → IsSome (consumer_at s.topo.topology c))
       (λ h has c is. lives h c is has) s.handles.handles
-      (recursion_from_All (HasItsConsumer (world actors log s)) s.handles.handles firm.sound.handles.handles)
+      (recursion_from_All (HasItsConsumer s.topo.topology) s.handles.handles firm.sound.handles.handles)
     where
-      lives : (h : Handle) (c : ℕ) → h.consumer ≡ Some c → HasItsConsumer (world actors log s) h
+      lives : (h : Handle) (c : ℕ) → h.consumer ≡ Some c → HasItsConsumer s.topo.topology h
           → IsSome (consumer_at s.topo.topology c)
       lives h c is has =
           there_with_fact (λ (x : Consumer). x.geom ≡ 1) (consumer_at s.topo.topology c)

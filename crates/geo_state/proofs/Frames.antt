@@ -12,7 +12,7 @@ use Rattle.geo_model.specs.World.{Config}
 use Rattle.geo_model.specs.Place.{disk_of}
 use Rattle.geo_model.specs.Bios.{disk_at}
 use Rattle.geo_model.specs.GeomCommands.{is_geom_of_disk}
-use Rattle.geo_model.specs.Events.{QueuedTopology, post, mark_spoiled, spoil_at, orphan_provider, wither, wither_unless_withering, offer_again, announce_risen, announce_fallen, spoil, spoil_consumer, is_of_dev, orphan, orphan_consumer, resize, is_outgrown, outgrow_consumer}
+use Rattle.geo_model.specs.Events.{QueuedTopology, post, spoil_at, orphan_provider, wither, wither_unless_withering, offer_again, announce_risen, announce_fallen, spoil, spoil_consumer, is_of_dev, orphan, orphan_consumer, resize, is_outgrown, outgrow_consumer}
 use Rattle.geo_laws_graph.proofs.Lists.{map-changed}
 use Rattle.geo_state.specs.Parts.{SameParts, disk_row, geom_of_disk, owner_row}
 

@@ -9,12 +9,11 @@ use Rattle.geo_model.specs.Words.{names_number}
 use Rattle.geo_model.specs.Topology.{Consumer, consumer_at}
 use Rattle.geo_model.specs.Demand.{no_counts, one_read, want}
 use Rattle.geo_model.specs.Opens.{with_grant}
-use Rattle.geo_model.specs.World.{Config, Handle, is_read_out, taste_grant}
+use Rattle.geo_model.specs.World.{Config, Handle, is_read_out, taste_grant, granted_of}
 use Rattle.geo_slots.specs.Slots.{value_at}
 use Rattle.geo_mesh.specs.Topo.{TopoView}
 use Rattle.geo_access.specs.Access.{IsCounted, granted_by, holds_grants}
 use Rattle.geo_handles.specs.Handles.{holding_handle}
-use Rattle.geo_state.specs.Holds.{granted_of}
 use Rattle.geo_state.specs.Changes.{with_consumer_at, coming}
 use Rattle.geo_state.specs.Grants.{ComersHoldNothing, TastesGrantNothing, TastesGrantReads, GrantsFollow}
 use Rattle.geo_state.proofs.Lists.{find-before, find-past}

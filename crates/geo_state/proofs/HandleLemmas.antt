@@ -12,7 +12,7 @@ use Rattle.geo_model.specs.Graph.{AreNumbers}
 use Rattle.geo_model.specs.Words.{names_number}
 use Rattle.geo_model.specs.Demand.{no_counts}
 use Rattle.geo_model.specs.Opens.{with_grant}
-use Rattle.geo_model.specs.World.{Handle, Taste, is_of_handle, taste_grant}
+use Rattle.geo_model.specs.World.{Handle, Taste, is_of_handle, taste_grant, granted_of}
 use Rattle.geo_slots.specs.Slots.{with_value}
 use Rattle.geo_handles.specs.Handles.{handle_at, released, closed}
 use Rattle.geo_handles.specs.HandleLaws.{noted_handles}
@@ -20,7 +20,7 @@ use Rattle.geo_handles.proofs.HandleLawLemmas.{notes_follow}
 use Rattle.geo_laws_graph.proofs.Lists.{find-changed}
 use Rattle.geo_state.specs.declared.state.OwnBios.{OwnBios}
 use Rattle.geo_state.specs.Trips.{Trip, can_be_reaped, is_own, IsOwnCount}
-use Rattle.geo_state.specs.Holds.{AreOwn, granted_of}
+use Rattle.geo_state.specs.Holds.{AreOwn}
 use Rattle.geo_state.proofs.Lists.{Around, around, around-all, around-count, count-append, count-same, count-step, counts, find-before, find-kept_by, find-past}
 use Rattle.geo_state.proofs.Owned.{none-counted}
 use Rattle.geo_state.proofs.GrantLemmas.{grant-at}

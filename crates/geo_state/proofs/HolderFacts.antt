@@ -130,8 +130,8 @@ module _ (log : List Entry) (s : State) (actors : List (List LineCommand)) (firm
       stands =
           subst (λ o. MatchOption o (h.dead ≡ true) (λ d. IsSomeAnd (consumer_at s.topo.topology d) (λ x. x.geom ≡ 1)))
           has
-          (found-fact (HasItsConsumer (world actors log s)) (λ (k : Handle). k.number == n) s.handles.handles h
-          (recursion_from_All (HasItsConsumer (world actors log s)) s.handles.handles firm.sound.handles.handles) found)
+          (found-fact (HasItsConsumer s.topo.topology) (λ (k : Handle). k.number == n) s.handles.handles h
+          (recursion_from_All (HasItsConsumer s.topo.topology) s.handles.handles firm.sound.handles.handles) found)
 
       on : (o : Option Consumer) → consumer_at s.topo.topology c ≡ o → IsSomeAnd o (λ x. x.geom ≡ 1) → IsHeld s c
       on None e never = absurd never
@@ -139,10 +139,10 @@ module _ (log : List Entry) (s : State) (actors : List (List LineCommand)) (firm
           let number : x.number ≡ c =
           eqb-true x.number c (found_passes (λ (y : Consumer). y.number == c) s.topo.topology.consumers x e) in
           let of_one : (x.geom == 1) ≡ true = ap (λ g. g == 1) dev in
-          let facts : IsHandleConsumer (world actors log s) x =
-          kept-fact (IsHandleConsumer (world actors log s)) (λ (y : Consumer). y.geom == 1) (λ y. y.number == c)
+          let facts : IsHandleConsumer s.handles.handles x =
+          kept-fact (IsHandleConsumer s.handles.handles) (λ (y : Consumer). y.geom == 1) (λ y. y.number == c)
           s.topo.topology.consumers x
-          (recursion_from_All (IsHandleConsumer (world actors log s)) (consumers_of s.topo.topology 1)
+          (recursion_from_All (IsHandleConsumer s.handles.handles) (consumers_of s.topo.topology 1)
           firm.sound.handles.consumers) e of_one in
           record {
             consumer = x;

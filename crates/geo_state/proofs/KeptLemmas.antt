@@ -13,7 +13,7 @@ use Rattle.geo_model.specs.Graph.{AreNumbers}
 use Rattle.geo_model.specs.Opens.{with_grant}
 use Rattle.geo_model.specs.Words.{names_number}
 use Rattle.geo_model.specs.Topology.{Topology, Consumer, consumer_at}
-use Rattle.geo_model.specs.World.{Config, Handle}
+use Rattle.geo_model.specs.World.{Config, Handle, granted_of}
 use Rattle.geo_model.specs.Bios.{disk_at}
 use Rattle.geo_model.proofs.DemandLemmas.{names_some}
 use Rattle.geo_slots.specs.Slots.{value_at, without, with_value}
@@ -29,7 +29,7 @@ use Rattle.geo_laws_graph.proofs.Lists.{found_fresh, numbers-push, numbers-kept,
 use Rattle.geo_state.specs.declared.state.State.{State}
 use Rattle.geo_state.specs.Parts.{SameParts, DisksStay, disk_row, owner_row}
 use Rattle.geo_state.specs.Trips.{Trip, trips, out_through, can_be_reaped, is_own}
-use Rattle.geo_state.specs.Holds.{Holds, OutAreCounted, ReapableAreNoted, AreOwn, granted_of, owed_events}
+use Rattle.geo_state.specs.Holds.{Holds, OutAreCounted, ReapableAreNoted, AreOwn, owed_events}
 use Rattle.geo_state.specs.Changes.{Effects, IsSettled, HasGoer, with_consumer_at, coming, KeptAfterOpen, KeptAfterRefusal, KeptAfterClose, KeptAfterForget, KeptAfterReap, KeptWithHandles}
 use Rattle.geo_state.proofs.Lists.{find-before, find-none, find-past}
 use Rattle.geo_state.proofs.Frames.{parts-geom, parts-disk}

@@ -10,7 +10,7 @@ use Rattle.geo_base.proofs.Options.{if_some_weaker}
 use Rattle.geo_model.specs.Graph.{AreNumbers}
 use Rattle.geo_model.specs.Topology.{consumer_at}
 use Rattle.geo_model.specs.Words.{names_number}
-use Rattle.geo_model.specs.World.{Config, Handle, Taste, is_of_handle, taste_grant}
+use Rattle.geo_model.specs.World.{Config, Handle, Taste, is_of_handle, taste_grant, granted_of}
 use Rattle.geo_slots.specs.Slots.{value_at, with_value}
 use Rattle.geo_mesh.specs.Topo.{TopoView}
 use Rattle.geo_handles.specs.Handles.{HandlesView, HoldsAlone, holding_handle, killed}
@@ -21,7 +21,7 @@ use Rattle.geo_state.specs.declared.state.State.{State}
 use Rattle.geo_state.specs.declared.state.OwnBios.{OwnBios}
 use Rattle.geo_state.specs.Trips.{Trip, trips, out_through, can_be_reaped, is_own, IsOwnCount}
 use Rattle.geo_state.specs.Ready.{is_idle_now, renoted, refreshed}
-use Rattle.geo_state.specs.Holds.{Holds, AreOwn, ReapableAreNoted, granted_of}
+use Rattle.geo_state.specs.Holds.{Holds, AreOwn, ReapableAreNoted}
 use Rattle.geo_state.proofs.Lists.{count-same}
 use Rattle.geo_state.proofs.ReadyLemmas.{IsHolder, holder}
 use Rattle.geo_state.proofs.Rises.{active-at}

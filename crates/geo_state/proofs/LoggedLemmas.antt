@@ -13,11 +13,11 @@ use Rattle.geo_model.specs.declared.step.Owner.{Owner}
 use Rattle.geo_model.specs.declared.step.Owner.TheVariants as owners
 use Rattle.geo_model.specs.declared.step.Phase.TheVariants as phases
 use Rattle.geo_model.specs.Words.{is_read}
-use Rattle.geo_model.specs.World.{BioOf, change_number, is_child_of}
+use Rattle.geo_model.specs.World.{BioOf, change_number, is_child_of, bio_among}
 use Rattle.geo_model.specs.Bios.{new_bio, up_with}
 use Rattle.geo_bio.specs.declared.bio.Held.{Held}
 use Rattle.geo_bio.specs.declared.bio.Held.TheVariants as held
-use Rattle.geo_bio.specs.BioTable.{bio_among, with_phase, delivered, delivered_result}
+use Rattle.geo_bio.specs.BioTable.{with_phase, delivered, delivered_result}
 use Rattle.geo_bio.specs.Split.{split_into}
 use Rattle.geo_bio.specs.Up.{held_as, gathered, are_in, completed, after_up}
 use Rattle.geo_laws_graph.proofs.Lists.{all-changed}

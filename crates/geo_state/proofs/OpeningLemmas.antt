@@ -3,7 +3,7 @@ use Rattle.std.specs.Prelude.{◌≡◌, ℕ, zero, suc, ◌≤◌, List, [], �
 use Rattle.std.specs.List.{AllByRecursion}
 use Rattle.std.proofs.Common.{refl, sym, ◌∙◌, ap, subst, arith}
 use Rattle.geo_model.specs.Graph.{AreNumbers}
-use Rattle.geo_model.specs.World.{Config, Nothing, Handle}
+use Rattle.geo_model.specs.World.{Config, Nothing, Handle, granted_of}
 use Rattle.geo_event.specs.EventQueue.{Queued}
 use Rattle.geo_mesh.specs.Topo.{TopoView, first_mesh}
 use Rattle.geo_access.specs.Access.{IsCounted, IsQuiet, granted_by}
@@ -15,7 +15,7 @@ use Rattle.geo_state.specs.declared.state.State.{State}
 use Rattle.geo_state.specs.declared.state.DiskSeat.{DiskSeat}
 use Rattle.geo_state.specs.declared.state.OwnBios.{OwnBios}
 use Rattle.geo_state.specs.Trips.{trips, taste_read, IsOwnCount}
-use Rattle.geo_state.specs.Holds.{Holds, OutAreCounted, ReapableAreNoted, IsSeat, granted_of, owed_events}
+use Rattle.geo_state.specs.Holds.{Holds, OutAreCounted, ReapableAreNoted, IsSeat, owed_events}
 use Rattle.geo_state.specs.Opening.{IsFreeSeat}
 
 -- what holds of each holds of the one at a place, and so does what follows from it

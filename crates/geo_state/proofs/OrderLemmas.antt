@@ -7,9 +7,9 @@ use Rattle.std.proofs.lemmas.List.{map-append}
 use Rattle.std.proofs.lemmas.List.Elements.{filter-append, recursion_from_All}
 use Rattle.geo_base.proofs.FilterLists.{keeps_all}
 use Rattle.geo_model.specs.declared.step.Phase.{Phase}
-use Rattle.geo_model.specs.World.{BioOf, change_number}
+use Rattle.geo_model.specs.World.{BioOf, change_number, bio_among}
 use Rattle.geo_bio.specs.declared.bio.Held.{Held}
-use Rattle.geo_bio.specs.BioTable.{BioTableView, AreInOrder, bio_among, has_phase}
+use Rattle.geo_bio.specs.BioTable.{BioTableView, AreInOrder, has_phase}
 use Rattle.geo_laws_graph.proofs.Finding.{found_fact}
 use Rattle.geo_laws_graph.proofs.Lists.{unhit}
 use Rattle.geo_state.specs.Cursors.{others}

@@ -9,11 +9,11 @@ use Rattle.geo_model.specs.declared.step.Owner.{Owner}
 use Rattle.geo_model.specs.declared.step.Owner.TheVariants as owners
 use Rattle.geo_model.specs.declared.step.Phase.{Phase}
 use Rattle.geo_model.specs.declared.step.Phase.TheVariants as phases
-use Rattle.geo_model.specs.World.{BioOf, change_number, children_among, is_child_of, is_down, is_sent, is_busy, is_up, is_waiting, is_done}
+use Rattle.geo_model.specs.World.{BioOf, change_number, children_among, is_child_of, is_down, is_sent, is_busy, is_up, is_waiting, is_done, bio_among}
 use Rattle.geo_model.specs.Bios.{up_with}
 use Rattle.geo_bio.specs.declared.bio.Held.{Held}
 use Rattle.geo_bio.specs.declared.bio.Risen.TheVariants as risen
-use Rattle.geo_bio.specs.BioTable.{HasParent, bio_among, with_phase}
+use Rattle.geo_bio.specs.BioTable.{HasParent, with_phase}
 use Rattle.geo_bio.specs.Up.{gathered, are_in, completed, after_up, told_of_up}
 use Rattle.geo_laws_graph.proofs.Lists.{all-changed}
 use Rattle.geo_laws_graph.proofs.Numbered.{at-unchanged}

@@ -15,10 +15,10 @@ use Rattle.geo_model.specs.declared.step.Phase.TheVariants as phases
 use Rattle.geo_model.specs.Graph.{AreNumbers}
 use Rattle.geo_model.specs.Topology.{Topology, Consumer, consumer_at}
 use Rattle.geo_model.specs.Words.{change_where, names_number}
-use Rattle.geo_model.specs.World.{BioOf, Config, Handle, change_number, is_done, is_up, is_waiting, is_child_of, is_of_handle, is_taste_root}
+use Rattle.geo_model.specs.World.{BioOf, Config, Handle, change_number, is_done, is_up, is_waiting, is_child_of, is_of_handle, is_taste_root, bio_among}
 use Rattle.geo_model.specs.Bios.{up_with}
 use Rattle.geo_bio.specs.declared.bio.Held.{Held}
-use Rattle.geo_bio.specs.BioTable.{HasParent, bio_among, has_phase, with_phase}
+use Rattle.geo_bio.specs.BioTable.{HasParent, has_phase, with_phase}
 use Rattle.geo_bio.specs.Up.{after_up, are_in, completed, gathered}
 use Rattle.geo_slots.specs.Slots.{value_at}
 use Rattle.geo_mesh.specs.Topo.{TopoView, with_active}

@@ -14,7 +14,7 @@ use Rattle.geo_base.proofs.PlaceLists.{slot-same, slot-other}
 use Rattle.geo_model.specs.declared.step.Entry.{Entry}
 use Rattle.geo_model.specs.Words.{names_number}
 use Rattle.geo_model.specs.Topology.{Topology, Geom, Provider, Consumer, attached_to, consumer_at, geom_at, provider_at, providers_of}
-use Rattle.geo_model.specs.World.{Config, Handle, Taste}
+use Rattle.geo_model.specs.World.{Config, Handle, Taste, granted_of}
 use Rattle.geo_model.specs.Place.{disk_of}
 use Rattle.geo_model.specs.Bios.{disk_at}
 use Rattle.geo_model.specs.GeomCommands.{is_geom_of_disk}
@@ -29,7 +29,7 @@ use Rattle.geo_state.specs.Parts.{IsUnderWay, AreUnderWay, DisksStay, disk_row, 
 use Rattle.geo_state.specs.Seats.{change_seat, with_disk_geom}
 use Rattle.geo_state.specs.Trips.{Trip, trips, out_through, is_at_disk, busy_at}
 use Rattle.geo_state.specs.World.{StandsFirm}
-use Rattle.geo_state.specs.Holds.{Holds, OutAreCounted, AreSeats, IsSeat, granted_of}
+use Rattle.geo_state.specs.Holds.{Holds, OutAreCounted, AreSeats, IsSeat}
 use Rattle.geo_state.specs.Changes.{IsSettled}
 use Rattle.geo_state.specs.Sites.{AreFresh, no_row, seats_without, KeptAfterComers, KeptAfterInsert, KeptAfterProvider, KeptAfterConsumer, KeptAfterGeom, KeptWithSites}
 use Rattle.geo_state.proofs.Lists.{Around, around, around-all, find-before, find-past, find-kept_by}

@@ -16,12 +16,12 @@ use Rattle.geo_model.specs.declared.step.Outcome.TheVariants as outcomes
 use Rattle.geo_model.specs.declared.step.Owner.TheVariants as owners
 use Rattle.geo_model.specs.declared.step.Phase.TheVariants as phases
 use Rattle.geo_model.specs.Topology.{Topology}
-use Rattle.geo_model.specs.World.{World, Config, Bio, BioOf, bio_at, children_among, change_number, is_done, is_child_of}
+use Rattle.geo_model.specs.World.{World, Config, Bio, BioOf, bio_at, children_among, change_number, is_done, is_child_of, bio_among}
 use Rattle.geo_model.specs.Words.{is_read}
 use Rattle.geo_model.specs.Bios.{PieceTarget, new_bio, piece_child, up_with, split_bio, take_bio, deliver, up_to, is_complete, complete_parent, child_results, joined_result, taste_with, reply_of_result, request_of_bio, result_of_device, fits_bio}
 use Rattle.geo_bio.specs.declared.bio.Held.{Held}
 use Rattle.geo_bio.specs.declared.bio.Held.TheVariants as held
-use Rattle.geo_bio.specs.BioTable.{bio_among, with_phase, delivered, delivered_result}
+use Rattle.geo_bio.specs.BioTable.{with_phase, delivered, delivered_result}
 use Rattle.geo_bio.specs.PieceLaws.{target_in}
 use Rattle.geo_bio.specs.Split.{split_into}
 use Rattle.geo_bio.specs.Up.{resolved, held_as, gathered, are_in, completed, after_up}

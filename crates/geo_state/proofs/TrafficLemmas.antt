@@ -7,10 +7,10 @@ use Rattle.geo_model.proofs.BioLemmas.{phase_down}
 use Rattle.geo_model.specs.declared.span.Piece.{Piece}
 use Rattle.geo_model.specs.declared.step.Phase.{Phase}
 use Rattle.geo_model.specs.declared.step.Phase.TheVariants as phases
-use Rattle.geo_model.specs.World.{BioOf, change_number, is_down, is_up}
+use Rattle.geo_model.specs.World.{BioOf, change_number, is_down, is_up, bio_among}
 use Rattle.geo_bio.specs.declared.bio.Held.{Held}
 use Rattle.geo_bio.specs.declared.bio.Risen.{Risen}
-use Rattle.geo_bio.specs.BioTable.{BioTableView, AreInOrder, HasParent, bio_among, bio_from, has_phase, with_phase}
+use Rattle.geo_bio.specs.BioTable.{BioTableView, AreInOrder, HasParent, bio_from, has_phase, with_phase}
 use Rattle.geo_bio.specs.Split.{split_into}
 use Rattle.geo_bio.specs.Up.{after_up, told_of_up}
 use Rattle.geo_state.specs.declared.cursor.Cursor.{Cursor}

@@ -8,11 +8,11 @@ use Rattle.geo_model.specs.declared.step.Phase.{Phase}
 use Rattle.geo_model.specs.declared.step.Phase.TheVariants as phases
 use Rattle.geo_model.specs.Graph.{AreNumbers}
 use Rattle.geo_model.specs.Words.{change_where}
-use Rattle.geo_model.specs.World.{BioOf, change_number, is_down, is_sent, is_busy}
+use Rattle.geo_model.specs.World.{BioOf, change_number, is_down, is_sent, is_busy, bio_among}
 use Rattle.geo_model.specs.Bios.{up_with, disk_at}
 use Rattle.geo_bio.specs.declared.bio.Held.{Held}
 use Rattle.geo_bio.specs.declared.bio.Held.TheVariants as held
-use Rattle.geo_bio.specs.BioTable.{BioTableView, bio_among, has_phase, with_phase, delivered}
+use Rattle.geo_bio.specs.BioTable.{BioTableView, has_phase, with_phase, delivered}
 use Rattle.geo_state.specs.declared.state.State.{State}
 use Rattle.geo_state.specs.declared.state.DiskSeat.{DiskSeat}
 use Rattle.geo_state.specs.Trips.{Trip, trip_of, trips, busy_at}

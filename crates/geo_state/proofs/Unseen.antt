@@ -10,8 +10,8 @@ use Rattle.geo_model.specs.declared.step.Phase.TheVariants as phases
 use Rattle.geo_model.specs.Graph.{AreNumbers}
 use Rattle.geo_model.specs.Topology.{Topology}
 use Rattle.geo_model.specs.Words.{change_where}
-use Rattle.geo_model.specs.World.{BioOf, Config, Handle, is_busy, is_done, is_down, is_sent, is_up, is_waiting, is_taste_root}
-use Rattle.geo_bio.specs.BioTable.{bio_among, has_phase}
+use Rattle.geo_model.specs.World.{BioOf, Config, Handle, is_busy, is_done, is_down, is_sent, is_up, is_waiting, is_taste_root, bio_among}
+use Rattle.geo_bio.specs.BioTable.{has_phase}
 use Rattle.geo_laws_graph.proofs.Lists.{changed-keeps, find-changed, all-changed}
 use Rattle.geo_state.specs.Trips.{Trip, trip_of, trips, is_out, out_through, taste_read, is_at_disk, busy_at, is_own, IsOwnCount}
 use Rattle.geo_state.proofs.Lists.{Around, around, counts, count-step, count-kept, find-kept_by}

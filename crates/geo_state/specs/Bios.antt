@@ -4,9 +4,8 @@ use Rattle.std.specs.List.{AllByRecursion}
 use Rattle.geo_model.specs.declared.step.Owner.{Owner}
 use Rattle.geo_model.specs.declared.step.Owner.TheVariants as owners
 use Rattle.geo_model.specs.Topology.{consumer_at}
-use Rattle.geo_model.specs.World.{Config, Handle, is_taste_root}
+use Rattle.geo_model.specs.World.{Config, Handle, is_taste_root, bio_among}
 use Rattle.geo_model.specs.Bios.{disk_at}
-use Rattle.geo_bio.specs.BioTable.{bio_among}
 use Rattle.geo_handles.specs.Handles.{handle_at, holding_handle}
 use Rattle.geo_mesh.specs.Topo.{TopoView, with_active}
 use Rattle.geo_state.specs.declared.state.State.{State}

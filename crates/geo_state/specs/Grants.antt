@@ -4,12 +4,11 @@ use Rattle.geo_base.specs.declared.request.Counts.{Counts}
 use Rattle.geo_model.specs.Topology.{consumer_at}
 use Rattle.geo_model.specs.Demand.{one_read}
 use Rattle.geo_model.specs.Opens.{with_grant}
-use Rattle.geo_model.specs.World.{Config, Handle, Taste, is_read_out}
+use Rattle.geo_model.specs.World.{Config, Handle, Taste, is_read_out, granted_of}
 use Rattle.geo_mesh.specs.Topo.{TopoView}
 use Rattle.geo_laws_counts.specs.CountWords.{HoldsGrants}
 use Rattle.geo_access.specs.Access.{IsCounted, counted_view, granted_by}
 use Rattle.geo_handles.specs.Handles.{holding_handle}
-use Rattle.geo_state.specs.Holds.{granted_of}
 use Rattle.geo_state.specs.Changes.{with_consumer_at, coming}
 
 -- a consumer that comes is granted nothing, and takes no one's grant

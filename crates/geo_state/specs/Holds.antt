@@ -1,11 +1,9 @@
 -- What is kept beside the parts of the mesh, so that nothing has to be searched.
-use Rattle.std.specs.Prelude.{◌≡◌, ℕ, ◌+◌, ◌==◌, ◌≤◌, not, List, Option, length, map, find, count_by, slice_get, IfSome}
-use Rattle.std.specs.Option.{option_map_or}
+use Rattle.std.specs.Prelude.{◌≡◌, ℕ, ◌+◌, ◌==◌, ◌≤◌, not, List, Option, length, map, count_by, slice_get, IfSome}
 use Rattle.geo_base.specs.declared.request.Counts.{Counts}
 use Rattle.geo_model.specs.Graph.{AreNumbers}
-use Rattle.geo_model.specs.Words.{names_number}
 use Rattle.geo_model.specs.Topology.{Topology, Provider, Consumer}
-use Rattle.geo_model.specs.World.{Config, Handle, Taste, taste_grant}
+use Rattle.geo_model.specs.World.{Config, Handle, Taste, granted_of}
 use Rattle.geo_mesh.specs.Topo.{TopoView}
 use Rattle.geo_access.specs.Access.{IsCounted, IsQuiet, granted_by}
 use Rattle.geo_handles.specs.HandleLaws.{noted_handles}
@@ -17,12 +15,6 @@ use Rattle.geo_state.specs.Parts.{geom_of_disk}
 use Rattle.geo_state.specs.Trips.{Trip, trips, out_through, can_be_reaped, taste_read, busy_at, IsOwnCount}
 
 -- Grants
-
--- what was granted to a consumer of DEV or TASTE: the grant of its handle, or the taste's, as in the model's
--- `granted_in`
-abbrev pub granted_of : List Handle → Option Taste → ℕ → Counts
-granted_of handles taste c =
-    option_map_or (λ h. h.grant) (find (λ h. names_number h.consumer c) handles) (taste_grant taste c)
 
 -- the stored counts of the consumers of DEV and TASTE are those grants
 abbrev pub GrantsAgree : TopoView Config → List Handle → Option Taste → Type 0

@@ -1,9 +1,8 @@
 -- The first request of an actor's own lines, found from a number on.
 use Rattle.std.specs.Prelude.{ℕ, nat_le, Bool, false, ◌&&◌, List, Option, find}
 use Rattle.std.specs.Option.{option_map, option_map_or}
-use Rattle.geo_model.specs.World.{BioOf}
+use Rattle.geo_model.specs.World.{BioOf, bio_among}
 use Rattle.geo_bio.specs.declared.bio.Held.{Held}
-use Rattle.geo_bio.specs.BioTable.{bio_among}
 
 -- whether the bio of a number is there and passes
 abbrev pub passes : (BioOf Held → Bool) → List (BioOf Held) → ℕ → Bool

@@ -14,11 +14,11 @@ use Rattle.geo_model.specs.declared.step.Phase.TheVariants as phases
 use Rattle.geo_model.specs.declared.step.Step.TheVariants as steps
 use Rattle.geo_model.specs.Graph.{AreNumbers}
 use Rattle.geo_model.specs.declared.span.Piece.{Piece}
-use Rattle.geo_model.specs.World.{World, Bio, BioOf, bio_at, children_of, children_among, change_number}
+use Rattle.geo_model.specs.World.{World, Bio, BioOf, bio_at, children_of, children_among, change_number, bio_among}
 use Rattle.geo_model.specs.Bios.{PieceTarget, new_bio, up_with, submit, bounce, send, split_bio, take_bio, deliver, up_to, taste_with, reply_of_result, request_of_bio, result_of_device, fits_bio}
 use Rattle.geo_bio.specs.declared.bio.Held.{Held}
 use Rattle.geo_bio.specs.declared.bio.Held.TheVariants as held
-use Rattle.geo_bio.specs.BioTable.{bio_among, with_phase, delivered, delivered_result}
+use Rattle.geo_bio.specs.BioTable.{with_phase, delivered, delivered_result}
 use Rattle.geo_bio.specs.PieceLaws.{target_in}
 use Rattle.geo_bio.specs.Split.{split_into}
 use Rattle.geo_bio.specs.Up.{resolved, are_in, after_up}

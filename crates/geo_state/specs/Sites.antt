@@ -3,7 +3,7 @@ use Rattle.std.specs.Prelude.{◌≡◌, ℕ, ◌+◌, List, [], ◌∷◌, ◌+
 use Rattle.std.specs.List.{AllByRecursion}
 use Rattle.geo_model.specs.declared.step.Entry.{Entry}
 use Rattle.geo_model.specs.Topology.{Geom, Consumer, attached_to, geom_at, providers_of}
-use Rattle.geo_model.specs.World.{Config, Taste}
+use Rattle.geo_model.specs.World.{Config, Taste, granted_of}
 use Rattle.geo_model.specs.Place.{disk_of}
 use Rattle.geo_event.specs.EventQueue.{Queued}
 use Rattle.geo_mesh.specs.Topo.{TopoView, IsButForRoom, without_geom, without_provider, without_consumer}
@@ -14,7 +14,7 @@ use Rattle.geo_state.specs.declared.state.DiskSeat.{DiskSeat}
 use Rattle.geo_state.specs.Parts.{disk_row, owner_row, geom_of_disk}
 use Rattle.geo_state.specs.Seats.{with_disk_geom}
 use Rattle.geo_state.specs.World.{StandsFirm}
-use Rattle.geo_state.specs.Holds.{Holds, granted_of}
+use Rattle.geo_state.specs.Holds.{Holds}
 use Rattle.geo_state.specs.Changes.{IsSettled}
 
 -- the rows of consumers, geoms and providers that come, at the ends: nothing is out through the consumers

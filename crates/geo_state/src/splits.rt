@@ -3,8 +3,8 @@ ghost use Rattle.std.specs.Prelude.{ℕ, ◌≡◌, ◌+◌, ◌≤◌, ◌<◌,
 ghost use Rattle.std.specs.List.{AllByRecursion};
 ghost use Rattle.geo_model.specs.declared.step.Phase.TheVariants as phases;
 ghost use Rattle.geo_model.specs.Topology.{consumer_at};
-ghost use Rattle.geo_model.specs.World.{change_number, is_down};
-ghost use Rattle.geo_bio.specs.BioTable.{bio_among, has_phase, with_phase};
+ghost use Rattle.geo_model.specs.World.{change_number, is_down, bio_among};
+ghost use Rattle.geo_bio.specs.BioTable.{has_phase, with_phase};
 ghost use Rattle.geo_bio.specs.Split.{split_into};
 ghost use Rattle.geo_slots.specs.Slots.{value_at};
 ghost use Rattle.geo_state.specs.Holds.{Holds};

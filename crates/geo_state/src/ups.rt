@@ -1,8 +1,8 @@
 //! A request goes up to its owner (g_io_deliver, g_bio(9)).
 ghost use Rattle.std.specs.Prelude.{◌≡◌, ◌-◌, ◌≤◌, IsSome, IfSome, IfOk, OnOk, OnErr, IsTrue, option_map, slice_get};
 ghost use Rattle.geo_model.specs.Topology.{consumer_at};
-ghost use Rattle.geo_model.specs.World.{is_up};
-ghost use Rattle.geo_bio.specs.BioTable.{bio_among, has_phase};
+ghost use Rattle.geo_model.specs.World.{is_up, bio_among};
+ghost use Rattle.geo_bio.specs.BioTable.{has_phase};
 ghost use Rattle.geo_bio.specs.Up.{told_of_up, after_up};
 ghost use Rattle.geo_slots.specs.Slots.{value_at};
 ghost use Rattle.geo_mesh.specs.Topo.{with_active};

@@ -86,8 +86,8 @@ module _ (w : World) (s : Taste) (p : Provider) (kind : Kind) (bytes : List ℕ)
   -- its geom isn't too high
   not_high : rank t p.geom < MAX_RANK
   not_high =
-      let tasting : IsTasteInOrder w s =
-      at-found w.taste (IsTasteInOrder w) s has.taste firm.sound.events.taste in
+      let tasting : IsTasteInOrder w.topology s =
+      at-found w.taste (IsTasteInOrder w.topology) s has.taste firm.sound.events.taste in
       let h = found-with (geom_of_provider t s.provider) (λ (g : Geom Config). rank t g.number < UNTASTED_RANK)
       tasting.rank in
       let x = through (λ (x : Provider). geom_at t x.geom) (provider_at t s.provider) h.item h.is in

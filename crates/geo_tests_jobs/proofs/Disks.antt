@@ -1,11 +1,11 @@
 -- The disk of a disk worker.
-use Rattle.std.specs.Prelude.{◌≡◌, ℕ, zero, suc, ◌+◌, ◌<◌, ◌/◌, List, [], ◌∷◌, ◌++◌, drop, length, All, AllPairs, Some, slice_get}
-use Rattle.std.proofs.Common.{ap, arith, refl, subst, sym, ◌∙◌}
+use Rattle.std.specs.Prelude.{◌≡◌, ℕ, zero, suc, ◌<◌, ◌/◌, List, [], ◌∷◌, drop, length, All, Some, slice_get}
+use Rattle.std.proofs.Common.{ap, arith, refl, sym, ◌∙◌}
 use Rattle.geo_base.specs.Sectors.{cut_into, sectors_of}
 use Rattle.geo_disk.specs.Memory.{Memory}
 use Rattle.geo_disk.specs.declared.drive.Drive.{Drive}
 use Rattle.geo_disk.specs.declared.drive.Drive.TheVariants.{Ram}
-use Rattle.geo_work.specs.Drives.{HasDrives, disks_of}
+use Rattle.geo_work.specs.Drives.{HasDrives}
 use Rattle.geo_tests_jobs.specs.Benches.{IsSmall, seen_drive, two_facts}
 
 -- bytes are cut into as many sectors as is said

@@ -1,6 +1,6 @@
 -- Roles of jobs that made no step yet.
 use Rattle.std.specs.Prelude.{◌≡◌, ℕ, ◌*◌, ◌≤◌, List, [], length}
-use Rattle.std.proofs.Common.{arith, refl, subst, sym}
+use Rattle.std.proofs.Common.{arith, subst, sym}
 use Rattle.atomic_table.specs.Seated.{TableId}
 use Rattle.geo_model.specs.declared.step.Entry.{Entry}
 use Rattle.geo_lane.specs.declared.ticket.Ticket.{Ticket}

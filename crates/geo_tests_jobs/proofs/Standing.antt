@@ -1,5 +1,5 @@
 -- Workers that stand by their numbers.
-use Rattle.std.specs.Prelude.{◌≡◌, ℕ, zero, suc, ◌+◌, ◌<◌, List, [], ◌∷◌, ◌++◌, drop, length, map, Some, slice_get, slice_index_or, slice_set, take}
+use Rattle.std.specs.Prelude.{◌≡◌, ℕ, zero, suc, ◌+◌, ◌<◌, List, [], ◌∷◌, ◌++◌, drop, length, Some, slice_get, slice_index_or, slice_set, take}
 use Rattle.std.specs.List.{AllZip}
 use Rattle.std.proofs.Common.{ap, arith, refl, subst, sym, ◌∙◌}
 use Rattle.std.proofs.lemmas.List.{append-nil, length-map, take_all}

@@ -1,5 +1,5 @@
 -- Steps that are made one after the other.
-use Rattle.std.specs.Prelude.{◌≡◌, ℕ, ◌+◌, ◌<◌, ◌≤◌, nat_lt, true, false, Bool, List, [], ◌∷◌, ◌++◌, length, Option, Some, None, Result, Ok, Err, IsErr, IsTrue, if◌then◌else◌}
+use Rattle.std.specs.Prelude.{◌≡◌, ℕ, ◌+◌, ◌<◌, ◌≤◌, nat_lt, true, false, List, [], ◌∷◌, ◌++◌, length, Some, None, Result, Ok, Err, IsErr, IsTrue}
 use Rattle.std.proofs.Common.{refl, sym, ◌∙◌, ap, arith, subst}
 use Rattle.std.proofs.lemmas.Bool.{le-ltb, lt-ltb}
 use Rattle.std.proofs.lemmas.List.{append_assoc, append-nil, length-append}
@@ -9,7 +9,7 @@ use Rattle.geo_model.specs.declared.step.Outcome.{Outcome}
 use Rattle.geo_model.specs.declared.step.Step.{Step}
 use Rattle.geo_model.specs.Words.{same_name}
 use Rattle.geo_model.specs.World.{World}
-use Rattle.geo_model.specs.Log.{made, entry_by, replay, world_after, owed, is_full, is_full_after}
+use Rattle.geo_model.specs.Log.{made, entry_by, world_after, owed, is_full, is_full_after}
 use Rattle.geo_model.specs.Step.{Answer, step}
 use Rattle.geo_model.specs.Fitting.{Firm}
 use Rattle.geo_laws_traces.proofs.Legal.{firm_after}
@@ -20,7 +20,7 @@ use Rattle.geo_core.specs.declared.refusal.ApplyRefusal.{ApplyRefusal}
 use Rattle.geo_core.specs.declared.refusal.ApplyRefusal.TheVariants as refusals
 use Rattle.geo_verify.specs.declared.place.Place.{Place}
 use Rattle.geo_verify.specs.Forms.{steps_from}
-use Rattle.geo_verify.specs.Making.{MakesSteps, Tries, TriesLine, stop_of}
+use Rattle.geo_verify.specs.Making.{MakesSteps, TriesLine}
 use Rattle.geo_verify.proofs.StepsRead.{Rest, line_read, mark_read}
 
 -- a log of few entries has a place for each step

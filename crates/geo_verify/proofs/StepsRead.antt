@@ -1,15 +1,13 @@
 -- Steps that are read one after the other.
 use Rattle.std.specs.Prelude.{◌≡◌, ℕ, ◌+◌, ◌≤◌, true, false, List, [], ◌∷◌, ◌++◌, length, Result, Ok, Err, IsErr}
-use Rattle.std.proofs.Common.{refl, sym, ◌∙◌, ap, arith, subst}
+use Rattle.std.proofs.Common.{refl, sym, ◌∙◌, ap, arith}
 use Rattle.std.proofs.lemmas.List.{append_assoc}
 use Rattle.geo_model.specs.declared.command.Cause.{Cause}
 use Rattle.geo_model.specs.declared.step.Step.{Step}
 use Rattle.geo_model.specs.Words.{same_name}
 use Rattle.geo_headline.specs.Traces.{Reading, then_read, line_says, read_steps, report_mark, parts_of, joined_parts, marked, seat_and_step}
 use Rattle.geo_laws_traces.proofs.Lines.{some_part, joined_back}
-use Rattle.geo_verify.specs.declared.refusal.VerifyRefusal.{VerifyRefusal}
 use Rattle.geo_verify.specs.declared.refusal.VerifyRefusal.TheVariants as refusals
-use Rattle.geo_verify.specs.Forms.{IsFormFault}
 
 -- steps before others
 abbrev pub Rest : Type 0

@@ -1,7 +1,7 @@
 -- A trace that is read and replayed.
-use Rattle.std.specs.Prelude.{◌≡◌, ℕ, ◌+◌, ◌≤◌, List, [], ◌∷◌, length, Option, Result, Ok, Err, MatchResult}
+use Rattle.std.specs.Prelude.{◌≡◌, ℕ, ◌+◌, List, [], length, Option, Result, Ok, Err, MatchResult}
 use Rattle.std.specs.List.{AllByRecursion}
-use Rattle.std.proofs.Common.{refl, sym, ◌∙◌, ap, arith, subst}
+use Rattle.std.proofs.Common.{refl, sym, ◌∙◌, ap, subst}
 use Rattle.geo_model.specs.declared.step.Step.{Step}
 use Rattle.geo_model.specs.World.{Plan}
 use Rattle.geo_model.specs.Log.{made}
@@ -9,9 +9,9 @@ use Rattle.geo_model.specs.Plans.{IsDiskDecl, FactsFit}
 use Rattle.geo_model.specs.Script.{Fault, script, lines_of}
 use Rattle.geo_headline.specs.declared.verified.Verified.{Verified}
 use Rattle.geo_headline.specs.Traces.{Trace, ReadTrace, TraceFault, InScript, Reading, then_read, Sized, read_sizes, read_steps, read_behind, read_after, read_trace, told_line, script_part, marked_part, parts_of}
-use Rattle.geo_headline.specs.Verifying.{found_of, found_read, verified, found_unless, log_of, stopped_at, found_of_log}
+use Rattle.geo_headline.specs.Verifying.{found_of, found_read, verified, found_unless, log_of, stopped_at}
 use Rattle.geo_laws_traces.proofs.Lines.{some_part}
-use Rattle.geo_laws_traces.proofs.Sizes.{AreSizes, sizes_tell}
+use Rattle.geo_laws_traces.proofs.Sizes.{sizes_tell}
 use Rattle.geo_core.specs.Mesh.{MeshView, opened}
 use Rattle.geo_verify.specs.declared.place.Place.{Place}
 use Rattle.geo_verify.specs.declared.refusal.VerifyRefusal.{VerifyRefusal}

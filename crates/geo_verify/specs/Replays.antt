@@ -1,5 +1,5 @@
 -- What is found where the steps of a trace are made again.
-use Rattle.std.specs.Prelude.{◌≡◌, ℕ, List, Bool, not, Option, Result, Ok, Err, MatchResult, bytes_eq, if◌then◌else◌}
+use Rattle.std.specs.Prelude.{◌≡◌, ℕ, List, not, Result, Ok, Err, MatchResult, bytes_eq, if◌then◌else◌}
 use Rattle.geo_model.specs.World.{Plan}
 use Rattle.geo_model.specs.Order.{is_at_rest}
 use Rattle.geo_model.specs.Report.{report}

@@ -1,10 +1,10 @@
-use Rattle.std.specs.Prelude.{◌≡◌, Option, Some, None, false, IsSomeAnd}
+use Rattle.std.specs.Prelude.{◌≡◌, false, IsSomeAnd}
 use Rattle.std.specs.Option.{option_map_or}
-use Rattle.std.proofs.Common.{arith, subst}
+use Rattle.std.proofs.Common.{subst}
 use Rattle.geo_model.specs.World.{Handle}
 use Rattle.geo_handles.specs.Handles.{handle_at}
 use Rattle.geo_life.specs.Life.{is_out}
-use Rattle.geo_opens.proofs.Stepping.{forget-steps, forget-idle}
+use Rattle.geo_opens.proofs.Stepping.{forget-idle}
 use Rattle.geo_opens.proofs.closes.forget.Goals as goal
 
 pub forget_held-requires-clause-idle : goal.forget_held-requires-clause-idle

@@ -1,7 +1,7 @@
 use Rattle.std.proofs.Common.{sym, ◌∙◌}
 use Rattle.geo_opens.proofs.Settling.{roomed-firm}
 use Rattle.geo_opens.proofs.Opening.{found-there}
-use Rattle.geo_opens.proofs.Admitting.{free-found, free-name, free-allowed, roomed-made, made-then, same-then}
+use Rattle.geo_opens.proofs.Admitting.{free-found, free-name, free-allowed, made-then, same-then}
 use Rattle.geo_opens.proofs.opens.admit.Goals as goal
 
 pub unreachable-requires : goal.unreachable-requires

@@ -1,4 +1,4 @@
-use Rattle.std.proofs.Common.{sym, ◌∙◌, ap, subst}
+use Rattle.std.proofs.Common.{subst}
 use Rattle.geo_opens.specs.Handles.{IsOpenRefusal}
 use Rattle.geo_opens.proofs.Admitting.{open-refused, open-done}
 use Rattle.geo_opens.proofs.opens.open.Goals as goal

@@ -1,4 +1,4 @@
-use Rattle.std.specs.Prelude.{◌≡◌, Some, None, []}
+use Rattle.std.specs.Prelude.{[]}
 use Rattle.std.proofs.Common.{sym, ◌∙◌}
 use Rattle.geo_opens.proofs.Actives.{none-to-reap}
 use Rattle.geo_opens.proofs.reaps.next_dead.Goals as goal

@@ -1,4 +1,4 @@
-use Rattle.std.proofs.Common.{◌≡◌, length, []}
+use Rattle.std.proofs.Common.{length, []}
 use Rattle.geo_model.specs.Commands.{asking}
 use Rattle.geo_requests.proofs.Asking.{asks, does_refuse, accept_does, accept_logged, accept_same}
 use Rattle.geo_requests.proofs.requests.request.Goals as goal

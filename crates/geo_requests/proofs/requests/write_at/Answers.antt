@@ -1,4 +1,4 @@
-use Rattle.std.proofs.Common.{◌≡◌, ◌∙◌, length, sym, ap, Some}
+use Rattle.std.proofs.Common.{◌∙◌, length, sym, ap, Some}
 use Rattle.geo_base.specs.declared.request.BioCmd.TheVariants as cmds
 use Rattle.geo_model.specs.declared.span.Span.{Span}
 use Rattle.geo_model.specs.Commands.{asking}

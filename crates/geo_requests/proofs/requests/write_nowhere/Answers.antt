@@ -1,4 +1,4 @@
-use Rattle.std.proofs.Common.{◌≡◌, sym, None}
+use Rattle.std.proofs.Common.{sym, None}
 use Rattle.geo_base.specs.declared.request.BioCmd.TheVariants as cmds
 use Rattle.geo_model.specs.Commands.{asking}
 use Rattle.geo_requests.proofs.Asking.{record_does}

@@ -1,6 +1,5 @@
-use Rattle.std.proofs.Common.{◌≡◌, ◌∙◌, ap, length, sym}
+use Rattle.std.proofs.Common.{ap, length}
 use Rattle.geo_bio.specs.BioTable.{BioTableView}
-use Rattle.geo_model.specs.Bios.{device_request, sector_at}
 use Rattle.geo_requests.proofs.Serving.{taken_bio, take_sent, take_goes, take_free, makes_taken, logged_taken}
 use Rattle.geo_requests.proofs.serve.take.Goals as goal
 

@@ -1,10 +1,10 @@
-use Rattle.std.proofs.Common.{◌≡◌, sym, subst}
+use Rattle.std.proofs.Common.{sym, subst}
 use Rattle.std.specs.Prelude.{IsTrue}
 use Rattle.geo_base.proofs.Options.{if-any}
 use Rattle.geo_model.specs.declared.step.Outcome.TheVariants as outcomes
-use Rattle.geo_model.specs.World.{is_down}
+use Rattle.geo_model.specs.World.{is_down, bio_among}
 use Rattle.geo_model.specs.Bios.{Fails}
-use Rattle.geo_bio.specs.BioTable.{bio_among, has_phase}
+use Rattle.geo_bio.specs.BioTable.{has_phase}
 use Rattle.geo_state.specs.declared.state.State.{State}
 use Rattle.geo_requests.specs.Started.{HasStarted}
 use Rattle.geo_requests.proofs.Parting.{failed_started}

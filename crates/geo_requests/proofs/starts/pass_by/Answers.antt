@@ -1,4 +1,4 @@
-use Rattle.std.proofs.Common.{◌≡◌, sym, subst}
+use Rattle.std.proofs.Common.{sym, subst}
 use Rattle.geo_model.specs.Topology.{Topology}
 use Rattle.geo_model.specs.World.{Config}
 use Rattle.geo_requests.specs.Ways.{CanCount}

@@ -1,8 +1,7 @@
-use Rattle.std.proofs.Common.{◌≡◌}
 use Rattle.geo_base.proofs.Options.{if-any}
 use Rattle.geo_model.specs.declared.step.Outcome.TheVariants as outcomes
 use Rattle.geo_model.specs.Bios.{Sends}
-use Rattle.geo_bio.specs.BioTable.{bio_among}
+use Rattle.geo_model.specs.World.{bio_among}
 use Rattle.geo_requests.specs.Started.{HasStarted}
 use Rattle.geo_requests.proofs.Parting.{sent_started}
 use Rattle.geo_requests.proofs.starts.send_down.Goals as goal

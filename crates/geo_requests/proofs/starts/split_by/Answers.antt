@@ -1,7 +1,5 @@
-use Rattle.std.proofs.Common.{◌≡◌, ◌∙◌, sym, ap, length, refl}
+use Rattle.std.proofs.Common.{ap, length}
 use Rattle.geo_base.proofs.Options.{on_error}
-use Rattle.geo_model.specs.Topology.{Topology}
-use Rattle.geo_model.specs.World.{Config}
 use Rattle.geo_state.specs.Steps.{SameWorld}
 use Rattle.geo_requests.proofs.Parting.{split_there, same_moved}
 use Rattle.geo_requests.proofs.starts.split_by.Goals as goal

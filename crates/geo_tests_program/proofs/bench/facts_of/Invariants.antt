@@ -1,4 +1,4 @@
-use Rattle.std.proofs.Common.{◌≡◌, ◌+◌, ◌≤◌, length, take}
+use Rattle.std.proofs.Common.{◌+◌, ◌≤◌, length, take}
 use Rattle.std.specs.List.{AllZip}
 use Rattle.geo_model.specs.Plans.{IsFact}
 use Rattle.geo_tests_program.proofs.bench.facts_of.Given as goal

@@ -1,7 +1,6 @@
 use Rattle.std.specs.Prelude.{ℕ, List, Contains, Ok}
 use Rattle.std.proofs.Common.{◌∙◌, ap, sym, subst}
 use Rattle.std.proofs.lemmas.List.Elements.{Contains-push}
-use Rattle.geo_disk.specs.declared.shelf.Taken.{Taken}
 use Rattle.geo_disk.specs.Shelf.{lent_by}
 use Rattle.geo_tests_program.proofs.calls.fail_after.Goals as goal
 

@@ -1,7 +1,3 @@
-use Rattle.std.proofs.Common.{List, ℕ, ◌≡◌, sym, subst, ap, ◌∙◌}
-use Rattle.geo_model.specs.Script.{words_of, next_word}
-use Rattle.geo_script.proofs.WordsLemmas.{next_word-cons}
-use Rattle.geo_headline.specs.Traces.{size_words}
 use Rattle.geo_verify.proofs.line.size_of_line.Goals as goal
 use Rattle.geo_verify.proofs.Marks.{read_size}
 

@@ -1,4 +1,4 @@
-use Rattle.std.proofs.Common.{arith, sym, ap}
+use Rattle.std.proofs.Common.{arith}
 use Rattle.std.proofs.lemmas.List.Elements.{recursion_from_All}
 use Rattle.std.proofs.lemmas.Result.{err_from_is_err_and}
 use Rattle.geo_model.specs.Plans.{IsDiskDecl}

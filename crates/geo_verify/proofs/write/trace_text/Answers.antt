@@ -1,6 +1,6 @@
-use Rattle.std.proofs.Common.{sym, ◌∙◌, ap, subst, ◌++◌, List, ℕ, All, ◌≡◌}
+use Rattle.std.proofs.Common.{sym, ◌∙◌, ap, subst, ◌++◌, List, ℕ, All}
 use Rattle.geo_model.specs.declared.step.Entry.{Entry}
-use Rattle.geo_headline.specs.Traces.{IsTrace, trace_text, steps_of}
+use Rattle.geo_headline.specs.Traces.{IsTrace, steps_of}
 use Rattle.geo_laws_traces.specs.TraceLaws.{AreWritable, FewBytes}
 use Rattle.geo_laws_traces.proofs.Delivers.{delivers_are_short}
 use Rattle.geo_laws_traces.proofs.Written.{written_is_read}

@@ -1,8 +1,8 @@
 use Rattle.std.proofs.Common.{◌≡◌, true, sym, ap, subst, ◌∙◌, IfSome}
 use Rattle.std.specs.Option.{option_map, option_copied}
-use Rattle.geo_model.specs.World.{is_waiting, children_among}
+use Rattle.geo_model.specs.World.{is_waiting, children_among, bio_among}
 use Rattle.geo_slots.specs.Slots.{value_at}
-use Rattle.geo_bio.specs.BioTable.{BioTableView, AreInOrder, HasParent, bio_among}
+use Rattle.geo_bio.specs.BioTable.{BioTableView, AreInOrder, HasParent}
 use Rattle.geo_bio.specs.Rows.{as_bio, KnowsChildren}
 use Rattle.geo_bio.proofs.GetLemmas.{family_told, parent_told}
 use Rattle.geo_bio.proofs.OrderLemmas.{in_order}
