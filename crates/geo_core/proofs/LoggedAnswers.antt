@@ -46,25 +46,7 @@ answered old new seat s (Err refusals.NoMemory) made fine = absurd (let bad : �
 -- a close has a name
 named : (c : Command) → is_close c ≡ true → (name : List ℕ) × (c ≡ commands.Close name)
 named (commands.Close name) e = (name, refl)
-named (commands.Open name prov grant) e = absurd (let bad : ⊥ = cc in bad)
-named (commands.Read name offset len) e = absurd (let bad : ⊥ = cc in bad)
-named (commands.Write name offset bytes) e = absurd (let bad : ⊥ = cc in bad)
-named (commands.Delete name offset len) e = absurd (let bad : ⊥ = cc in bad)
-named (commands.Flush name) e = absurd (let bad : ⊥ = cc in bad)
-named commands.Sync e = absurd (let bad : ⊥ = cc in bad)
-named commands.Settle e = absurd (let bad : ⊥ = cc in bad)
-named (commands.Insert disk) e = absurd (let bad : ⊥ = cc in bad)
-named (commands.Pull disk) e = absurd (let bad : ⊥ = cc in bad)
-named (commands.Nop prov offset size fail) e = absurd (let bad : ⊥ = cc in bad)
-named (commands.Concat name provs) e = absurd (let bad : ⊥ = cc in bad)
-named (commands.Stripe name stripe provs) e = absurd (let bad : ⊥ = cc in bad)
-named (commands.Append name prov) e = absurd (let bad : ⊥ = cc in bad)
-named (commands.Destroy kind name) e = absurd (let bad : ⊥ = cc in bad)
-named (commands.Label name label) e = absurd (let bad : ⊥ = cc in bad)
-named (commands.Relabel name label) e = absurd (let bad : ⊥ = cc in bad)
-named (commands.MarkConcat name label id place count) e = absurd (let bad : ⊥ = cc in bad)
-named (commands.MarkStripe name label id place count stripe) e = absurd (let bad : ⊥ = cc in bad)
-named commands.Mesh e = absurd (let bad : ⊥ = cc in bad)
+named _ e = absurd (let bad : ⊥ = cc in bad)
 
 -- an answer of ok to a line
 ok_to : (line : ℕ) (a : Answer) → is_ok_to line a ≡ true

@@ -189,25 +189,7 @@ module _ (r : Running) (is : IsMesh r) where
 -- a command that doesn't print has nothing
 is_quiet : (c : Command) → (c ≡ commands.Mesh → ⊥) → prints c ≡ false
 is_quiet commands.Mesh other = absurd (other refl)
-is_quiet (commands.Open name prov grant) other = refl
-is_quiet (commands.Close name) other = refl
-is_quiet (commands.Read name offset len) other = refl
-is_quiet (commands.Write name offset bytes) other = refl
-is_quiet (commands.Delete name offset len) other = refl
-is_quiet (commands.Flush name) other = refl
-is_quiet commands.Sync other = refl
-is_quiet commands.Settle other = refl
-is_quiet (commands.Insert disk) other = refl
-is_quiet (commands.Pull disk) other = refl
-is_quiet (commands.Nop prov offset size fail) other = refl
-is_quiet (commands.Concat name provs) other = refl
-is_quiet (commands.Stripe name stripe provs) other = refl
-is_quiet (commands.Append name prov) other = refl
-is_quiet (commands.Destroy kind name) other = refl
-is_quiet (commands.Label name label) other = refl
-is_quiet (commands.Relabel name label) other = refl
-is_quiet (commands.MarkConcat name label id place count) other = refl
-is_quiet (commands.MarkStripe name label id place count stripe) other = refl
+is_quiet _ other = refl
 
 pub quiet_command : (s : State) (c : Command) (spare : Spare) → (c ≡ commands.Mesh → ⊥) → HasCommand s c spare
 quiet_command s c spare other actors log line actor =

@@ -1,12 +1,8 @@
 -- What the outcomes of steps have that takes memory.
-use Rattle.std.specs.Prelude.{◌≡◌, ℕ, Bool, true, false, not, ◌&&◌, List, [], ◌∷◌, find, Option, Some, None, Ok, Err, IfSome, ⊤, is_some, if◌then◌else◌}
+use Rattle.std.specs.Prelude.{◌≡◌, ℕ, Bool, true, false, List, [], ◌∷◌, Option, Some, None, Ok, Err, IfSome, ⊤, if◌then◌else◌}
 use Rattle.std.specs.Option.{option_map_or, unwrap_or}
 use Rattle.std.proofs.Common.{refl, sym, subst}
-use Rattle.geo_base.specs.declared.errno.Errno.{Errno}
-use Rattle.geo_base.specs.declared.errno.Errno.TheVariants.{ENXIO}
-use Rattle.geo_base.specs.declared.request.Counts.{Counts}
 use Rattle.geo_model.specs.declared.command.Command.{Command}
-use Rattle.geo_model.specs.declared.command.Command.TheVariants as commands
 use Rattle.geo_model.specs.declared.command.LineCommand.{LineCommand}
 use Rattle.geo_model.specs.declared.class.Judged.{Judged}
 use Rattle.geo_model.specs.declared.class.Judged.TheVariants as judgings
@@ -19,139 +15,32 @@ use Rattle.geo_model.specs.declared.step.Outcome.{Outcome}
 use Rattle.geo_model.specs.declared.step.Outcome.TheVariants as outcomes
 use Rattle.geo_model.specs.declared.step.Owner.{Owner}
 use Rattle.geo_model.specs.declared.step.Owner.TheVariants as owners
-use Rattle.geo_model.specs.Words.{first_error}
-use Rattle.geo_model.specs.Names.{nop_name}
-use Rattle.geo_model.specs.Topology.{Geom, Provider, find_provider}
-use Rattle.geo_model.specs.Opens.{open_refusal}
-use Rattle.geo_model.specs.World.{World, Config, Handle, HeaderDisk, Taste, Bio, granted_in, handle_of, is_active, is_down, is_up, is_read_out}
-use Rattle.geo_model.specs.HandleCommands.{answer, open_answered, close_handle, request_answered, do_request}
-use Rattle.geo_model.specs.Requests.{Asking, request_refusal}
-use Rattle.geo_model.specs.GeomCommands.{header_disk, is_geom_of_disk, insert_tests, stand, do_insert, wither_found, do_pull, nop_tests, do_nop, destroy_tests, do_destroy, found_provider, named_geom}
-use Rattle.geo_model.specs.Append.{Growing, growing_concat, append_tests, component_refusal, append_joined, append_tested, do_append}
+use Rattle.geo_model.specs.World.{World, Taste, Bio, granted_in, is_down, is_up, is_read_out}
 use Rattle.geo_model.specs.Commands.{do_command}
 use Rattle.geo_model.specs.Bios.{Way, Bounces, Fails, Sends, Splits, Passes, start, start_by, way_of, take_bio, deliver, up, up_to, reply_of_result}
 use Rattle.geo_model.specs.Tasting.{Judging, taste_step, judged_world, judge_step}
 use Rattle.geo_model.specs.WorldEvents.{queued_of}
 use Rattle.geo_model.specs.Step.{Answer, unless_found, event_of, judge_of, taste_bio, start_of, take_found, take_of, deliver_found, deliver_of, up_of, go_of, waits_for, with_commands}
+use Rattle.geo_model.proofs.CommandWalk.{any_graph_by}
 use Rattle.geo_model.proofs.WayLemmas.{starts_in_parts}
 use Rattle.geo_core.specs.declared.twin.Spare.{Spare}
 use Rattle.geo_core.specs.declared.twin.Spare.TheVariants as spares
 use Rattle.geo_core.specs.Left.{next_command_of, rest_of}
 use Rattle.geo_core.specs.Twins.{HasReply, HasTwin, prints}
 
-module _ (w : World) (spare : Spare) where
-  -- the outcome has nothing that takes memory
-  abbrev Plain : World × Outcome → Type 0
-  Plain made = HasTwin made.1 spare
-
-  -- one of two answers
-  either : (b : Bool) (m n : World × Outcome) → Plain m → Plain n → Plain (if b then m else n)
-  either true m n one two = one
-  either false m n one two = two
-
-  -- an answer, by what refuses it
-  answered : (line : ℕ) (o : Option Errno) (after : World) → Plain (answer w line o after)
-  answered line None after = tt
-  answered line (Some e) after = tt
-
-  -- a request
-  requested : (line : ℕ) (h : Option Handle) (a : Asking) (e : Option Errno) → Plain (request_answered w line h a e)
-  requested line h a (Some e) = tt
-  requested line None a None = tt
-  requested line (Some h) a None = tt
-
-  -- through a handle of the name
-  asked : (line : ℕ) (h : Option Handle) (a : Asking) → Plain (do_request w line h a)
-  asked line h a = requested line h a (request_refusal w h a)
-
-  -- insert
-  inserted : (line : ℕ) (o : Option (ℕ × HeaderDisk)) → Plain (do_insert w line o)
-  inserted line None = tt
-  inserted line (Some item) = answered line (first_error (insert_tests w.topology item)) (stand w item)
-
-  -- a geom that withers
-  withered : (line : ℕ) (o : Option (Geom Config)) (e : Errno) → Plain (wither_found w line o e)
-  withered line None e = tt
-  withered line (Some g) e = tt
-
-  -- pull
-  pulled : (line : ℕ) (o : Option (ℕ × HeaderDisk)) → Plain (do_pull w line o)
-  pulled line None = tt
-  pulled line (Some item) =
-      withered line (find (λ (g : Geom Config). is_geom_of_disk item.0 g && not g.withering) w.topology.geoms) ENXIO
-
-  -- nop
-  windowed : (line : ℕ) (name : List ℕ) (offset size fail : ℕ) (o : Option Provider)
-      → Plain (do_nop w line name offset size fail o)
-  windowed line name offset size fail None = tt
-  windowed line name offset size fail (Some p) =
-      answered line (first_error (nop_tests w.topology name offset size p)) _
-
-  -- destroy
-  destroyed : (line : ℕ) (o : Option (Geom Config)) → Plain (do_destroy w line o)
-  destroyed line None = tt
-  destroyed line (Some g) = answered line (first_error (destroy_tests (granted_in w) w.topology g.number)) _
-
-  -- append, by what refuses the new consumer
-  joined : (line : ℕ) (x : Growing) (q : Provider) (o : Option Errno) → Plain (append_joined w line x q o)
-  joined line x q None = tt
-  joined line x q (Some e) = tt
-
-  -- and by what refuses it before
-  tested : (line : ℕ) (x : Growing) (q : Provider) (o : Option Errno) → Plain (append_tested w line x q o)
-  tested line x q None = joined line x q (component_refusal w x q)
-  tested line x q (Some e) = tt
-
-  -- append
-  appended : (line : ℕ) (a : Option Growing) (b : Option Provider) → Plain (do_append w line a b)
-  appended line (Some x) (Some q) = tested line x q (first_error (append_tests w x q))
-  appended line (Some x) None = tt
-  appended line None b = tt
-
-  -- open, by what is found and what refuses it
-  opened : (line actor : ℕ) (name : List ℕ) (o : Option ℕ) (grant : Counts) (e : Option Errno)
-      → Plain (open_answered w line actor name o grant e)
-  opened line actor name None grant e = answered line e w
-  opened line actor name (Some p) grant None = tt
-  opened line actor name (Some p) grant (Some e) = tt
-
-  -- close
-  closed : (line : ℕ) (o : Option Handle) → Plain (close_handle w line o)
-  closed line None = tt
-  closed line (Some h) = either (option_map_or (is_active w) h.consumer false) _ _ tt tt
-
 -- each command but the one that prints the mesh
 pub plain_command : (w : World) (spare : Spare) (line actor : ℕ) (c : Command) → prints c ≡ false
     → HasTwin (do_command w line actor c).1 spare
-unfolding do_command
-plain_command w spare line actor (commands.Open name prov grant) quiet =
-    either w spare (is_some (handle_of w actor name)) _ _ tt
-    (opened w spare line actor name (find_provider w.topology prov) grant
-    (open_refusal (granted_in w) w.topology prov grant))
-plain_command w spare line actor (commands.Close name) quiet = closed w spare line (handle_of w actor name)
-plain_command w spare line actor (commands.Read name offset len) quiet = asked w spare line (handle_of w actor name) _
-plain_command w spare line actor (commands.Write name offset bytes) quiet =
-    asked w spare line (handle_of w actor name) _
-plain_command w spare line actor (commands.Delete name offset len) quiet = asked w spare line (handle_of w actor name) _
-plain_command w spare line actor (commands.Flush name) quiet = asked w spare line (handle_of w actor name) _
-plain_command w spare line actor commands.Sync quiet = tt
-plain_command w spare line actor commands.Settle quiet = tt
-plain_command w spare line actor (commands.Insert disk) quiet = inserted w spare line (header_disk w disk)
-plain_command w spare line actor (commands.Pull disk) quiet = pulled w spare line (header_disk w disk)
-plain_command w spare line actor (commands.Nop prov offset size fail) quiet =
-    windowed w spare line (nop_name prov) offset size fail (found_provider w prov)
-plain_command w spare line actor (commands.Concat name provs) quiet = answered w spare line _ _
-plain_command w spare line actor (commands.Stripe name stripe provs) quiet = answered w spare line _ _
-plain_command w spare line actor (commands.Append name prov) quiet =
-    appended w spare line (growing_concat w.topology name) (found_provider w prov)
-plain_command w spare line actor (commands.Destroy kind name) quiet = destroyed w spare line (named_geom w kind name)
-plain_command w spare line actor (commands.Label name label) quiet = asked w spare line (handle_of w actor name) _
-plain_command w spare line actor (commands.Relabel name label) quiet = asked w spare line (handle_of w actor name) _
-plain_command w spare line actor (commands.MarkConcat name label id place count) quiet =
-    asked w spare line (handle_of w actor name) _
-plain_command w spare line actor (commands.MarkStripe name label id place count stripe) quiet =
-    asked w spare line (handle_of w actor name) _
-plain_command w spare line actor commands.Mesh quiet = absurd (let wrong : ⊥ = cc in wrong)
+plain_command w spare line actor =
+    any_graph_by w line actor (λ c made. prints c ≡ false → HasTwin made.1 spare)
+    (λ c q e quiet. tt) (λ c q quiet. tt)
+    (record {
+      waits = λ c is quiet. tt;
+      lists = λ quiet. absurd (let wrong : ⊥ = cc in wrong);
+      opens = λ name prov grant p is quiet. tt;
+      closes = λ name h is quiet. tt;
+      accepts = λ c h a is quiet. tt;
+    })
 
 -- Steps
 

@@ -14,7 +14,6 @@ pub fn line_ups_stay_firm()
 {}
 
 /// The root of a taste that is Up goes, and the taste has its result.
-#[tactic(auto, using(crate::proofs::Tasted::taste_ups_stay_firm))]
 pub fn taste_ups_stay_firm()
     ensures { TasteUpsStayFirm }
 {}

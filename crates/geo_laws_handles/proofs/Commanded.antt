@@ -1,78 +1,72 @@
 -- Each command of a handle, and the step by which an actor does its next command, keep a firm mesh firm.
-use Rattle.std.specs.Prelude.{◌≡◌, ℕ, Bool, true, List, [], ◌∷◌, length, Option, Some, None, IfSome, option_and_then, slice_get}
-use Rattle.std.proofs.Common.{refl}
-use Rattle.geo_base.specs.declared.request.BioCmd.TheVariants as cmds
+use Rattle.std.specs.Prelude.{◌≡◌, ℕ, ◌==◌, ◌&&◌, Bool, true, false, List, [], ◌∷◌, Option, Some, None, Contains, IfSome, option_and_then, slice_get}
+use Rattle.std.proofs.Common.{refl, subst}
+use Rattle.std.proofs.lemmas.Bool.{not-true}
 use Rattle.geo_model.specs.declared.command.Command.{Command}
-use Rattle.geo_model.specs.declared.command.Command.TheVariants as commands
 use Rattle.geo_model.specs.declared.command.LineCommand.{LineCommand}
 use Rattle.geo_model.specs.declared.step.Found.{Found}
 use Rattle.geo_model.specs.declared.step.Outcome.{Outcome}
 use Rattle.geo_model.specs.declared.step.Step.TheVariants as steps
-use Rattle.geo_model.specs.World.{World}
-use Rattle.geo_model.specs.Records.{label_sector, concat_sector, stripe_sector}
-use Rattle.geo_model.specs.Commands.{asking, do_command}
+use Rattle.geo_model.specs.Words.{same_name}
+use Rattle.geo_model.specs.World.{World, Handle, handle_of}
+use Rattle.geo_model.specs.WorldEvents.{after_close}
+use Rattle.geo_model.specs.Requests.{Asking}
+use Rattle.geo_model.specs.HandleCommands.{without_handle, accept_request}
+use Rattle.geo_model.specs.Commands.{do_command}
+use Rattle.geo_model.specs.CommandEffects.{is_of_geoms, IsClosed, IsAsked}
 use Rattle.geo_model.specs.Plans.{IsCommand}
 use Rattle.geo_model.specs.Step.{unless_found, waits_for, with_commands, go_of, go, step}
 use Rattle.geo_model.specs.Log.{world_after}
 use Rattle.geo_model.specs.History.{first_command, next_command}
 use Rattle.geo_model.specs.Laws.{world_by}
 use Rattle.geo_model.specs.Fitting.{Firm}
+use Rattle.geo_model.proofs.CommandWalk.{request_is, close_is, handles_by}
+use Rattle.geo_laws_graph.proofs.Members.{find-Contains}
 use Rattle.geo_laws_handles.proofs.Closed.{closes_stay_firm}
-use Rattle.geo_laws_handles.proofs.Opening.{opens_stay_firm}
+use Rattle.geo_laws_handles.proofs.Opening.{opened_on-firm, opens_stay_firm}
 use Rattle.geo_laws_handles.specs.CommandLaws.{is_of_handles, EachStaysFirm, HandleCommandsStayFirm, GoesStayFirm}
 use Rattle.geo_laws_handles.proofs.Left.{commands_left_stay_firm}
 use Rattle.geo_laws_handles.proofs.Requested.{requests_stay_firm}
-use Rattle.geo_laws_handles.proofs.Sectors.{records_fill_sectors}
 
--- each command of a handle
-done-firm : (w : World) (line actor : ℕ) (c : Command) → is_of_handles c ≡ true → IsCommand c → Firm w
-    → Firm (do_command w line actor c).0
-unfolding do_command
-done-firm w line actor (commands.Open name prov grant) of is firm =
-    opens_stay_firm.answered w line actor name prov grant firm
-done-firm w line actor (commands.Close name) of is firm = closes_stay_firm.named w line actor name firm
-done-firm w line actor (commands.Read name offset len) of is firm =
-    requests_stay_firm.named w line actor name (asking cmds.Read offset len [])
-    (λ writes. absurd (let bad : ⊥ = cc in bad)) firm
-done-firm w line actor (commands.Write name offset bytes) of is firm =
-    requests_stay_firm.named w line actor name (asking cmds.Write offset (length bytes) bytes) (λ writes. refl) firm
-done-firm w line actor (commands.Delete name offset len) of is firm =
-    requests_stay_firm.named w line actor name (asking cmds.Delete offset len [])
-    (λ writes. absurd (let bad : ⊥ = cc in bad)) firm
-done-firm w line actor (commands.Flush name) of is firm =
-    requests_stay_firm.named w line actor name (asking cmds.Flush 0 0 []) (λ writes. refl) firm
-done-firm w line actor commands.Sync of is firm = firm
-done-firm w line actor commands.Settle of is firm = firm
-done-firm w line actor (commands.Insert disk) of is firm = absurd (let bad : ⊥ = cc in bad)
-done-firm w line actor (commands.Pull disk) of is firm = absurd (let bad : ⊥ = cc in bad)
-done-firm w line actor (commands.Nop prov offset size fail) of is firm = absurd (let bad : ⊥ = cc in bad)
-done-firm w line actor (commands.Concat name provs) of is firm = absurd (let bad : ⊥ = cc in bad)
-done-firm w line actor (commands.Stripe name stripe provs) of is firm = absurd (let bad : ⊥ = cc in bad)
-done-firm w line actor (commands.Append name prov) of is firm = absurd (let bad : ⊥ = cc in bad)
-done-firm w line actor (commands.Destroy kind name) of is firm = absurd (let bad : ⊥ = cc in bad)
-done-firm w line actor (commands.Label name label) of is firm =
-    requests_stay_firm.recorded w line actor name
-    (λ p. label_sector p.sector (record { name = label; size = None }))
-    (λ p size. records_fill_sectors.label p.sector (record { name = label; size = None }) size is.1) firm
-done-firm w line actor (commands.Relabel name label) of is firm =
-    requests_stay_firm.recorded w line actor name
-    (λ p. label_sector p.sector (record { name = label; size = Some p.size }))
-    (λ p size. records_fill_sectors.label p.sector (record { name = label; size = Some p.size }) size is.1) firm
-done-firm w line actor (commands.MarkConcat name label id place count) of is firm =
-    requests_stay_firm.recorded w line actor name
-    (λ p. concat_sector p.sector (record { name = label; id = id; place = place; count = count }))
-    (λ p size. records_fill_sectors.concat p.sector
-    (record { name = label; id = id; place = place; count = count }) size is.1) firm
-done-firm w line actor (commands.MarkStripe name label id place count stripe) of is firm =
-    requests_stay_firm.recorded w line actor name
-    (λ p. stripe_sector p.sector (record { name = label; id = id; place = place; count = count; stripe = stripe }))
-    (λ p size. records_fill_sectors.stripe p.sector
-    (record { name = label; id = id; place = place; count = count; stripe = stripe }) size is.1) firm
-done-firm w line actor commands.Mesh of is firm = firm
+module _ (w : World) (firm : Firm w) (line actor : ℕ) where
+  -- the handle of a name stands
+  handle_stands : (name : List ℕ) (h : Handle) → handle_of w actor name ≡ Some h → Contains w.handles h
+  handle_stands name h found =
+      find-Contains (λ (x : Handle). (x.actor == actor) && same_name x.name name) w.handles h found
+
+  -- a handle is closed
+  closed-firm : (name : List ℕ) (h : Handle) → IsClosed w actor name h
+      → Firm (after_close w (without_handle w h))
+  closed-firm name h is =
+      subst (λ (made : World × Outcome). Firm made.0) (close_is w line h is.idle)
+      (closes_stay_firm.handle w line h (handle_stands name h is.found) firm)
+
+  -- a request is accepted
+  accepted-firm : (c : Command) (h : Handle) (a : Asking) → IsAsked w actor c h a → IsCommand c
+      → Firm (accept_request w line h a).0
+  accepted-firm c h a is form =
+      subst (λ (made : World × Outcome). Firm made.0) (request_is w line h a is.passes)
+      (requests_stay_firm.handle w line h a (handle_stands is.name h is.found)
+      (is.formed.bytes form firm.fitting.sectors) firm)
+
+  -- each command of a handle
+  done-firm : (c : Command) → is_of_geoms c ≡ false → IsCommand c → Firm (do_command w line actor c).0
+  done-firm =
+      handles_by w line actor (λ c made. IsCommand c → Firm made.0)
+      (record { refuses = λ c e form. firm; numbers = λ c e form. opens_stay_firm.number w firm })
+      (record {
+        waits = λ c is form. firm;
+        lists = λ form. firm;
+        opens = λ name prov grant p is form. opened_on-firm w actor name prov p grant is.found is.passes firm;
+        closes = λ name h is form. closed-firm name h is;
+        accepts = λ c h a is form. accepted-firm c h a is form;
+      })
 
 -- commands of handles keep a firm mesh firm
 pub handle_commands_stay_firm : HandleCommandsStayFirm
-handle_commands_stay_firm = record { done = done-firm }
+handle_commands_stay_firm = record {
+  done = λ w line actor c of form firm. done-firm w firm line actor c (not-true (is_of_geoms c) of) form;
+}
 
 -- Go
 

@@ -1,33 +1,31 @@
 -- What a Reap, and a Go of a command of a handle, destroy was closed, detached and idle.
-use Rattle.std.specs.Prelude.{◌≡◌, ◌≢◌, ℕ, ◌==◌, Bool, true, false, not, ◌&&◌, List, [], ◌∷◌, length, Option, Some, None, Ok, Err, All, Contains, IfSome, is_some, option_and_then, slice_get}
+use Rattle.std.specs.Prelude.{◌≡◌, ◌≢◌, ℕ, ◌==◌, true, false, not, ◌&&◌, List, [], ◌∷◌, Option, Some, None, Ok, Err, All, Contains, IfSome, option_and_then, slice_get}
 use Rattle.std.specs.Option.{option_map_or}
 use Rattle.std.proofs.Common.{inr, refl, sym, ◌∙◌, ap, subst}
-use Rattle.std.proofs.lemmas.Bool.{eqb-true, and_parts}
+use Rattle.std.proofs.lemmas.Bool.{eqb-true, and_parts, not-true}
 use Rattle.std.proofs.lemmas.Slice.Eq.{bytes_eq-Decides}
-use Rattle.geo_base.specs.declared.request.BioCmd.TheVariants as cmds
-use Rattle.geo_base.specs.declared.request.Counts.{Counts}
-use Rattle.geo_base.specs.declared.errno.Errno.{Errno}
 use Rattle.geo_model.specs.declared.command.Command.{Command}
 use Rattle.geo_model.specs.declared.command.Command.TheVariants as commands
 use Rattle.geo_model.specs.declared.command.LineCommand.{LineCommand}
 use Rattle.geo_model.specs.declared.step.Entry.{Entry}
 use Rattle.geo_model.specs.declared.step.Found.{Found}
 use Rattle.geo_model.specs.declared.step.Found.TheVariants as refusals
+use Rattle.geo_model.specs.declared.step.Outcome.{Outcome}
 use Rattle.geo_model.specs.declared.step.Outcome.TheVariants as outcomes
 use Rattle.geo_model.specs.declared.step.Step.TheVariants as steps
 use Rattle.geo_model.specs.Words.{same_name}
-use Rattle.geo_model.specs.Records.{label_sector, concat_sector, stripe_sector}
-use Rattle.geo_model.specs.Topology.{Consumer, find_provider}
-use Rattle.geo_model.specs.Opens.{open_refusal}
-use Rattle.geo_model.specs.Requests.{Asking, request_refusal}
-use Rattle.geo_model.specs.World.{World, Handle, granted_in, handle_of, is_active}
-use Rattle.geo_model.specs.HandleCommands.{close_handle, without_number, open_answered, do_open, request_answered, record_request}
+use Rattle.geo_model.specs.Topology.{Consumer}
+use Rattle.geo_model.specs.World.{World, Handle, is_active}
+use Rattle.geo_model.specs.HandleCommands.{with_handle, without_handle, close_handle, without_number, accept_request}
+use Rattle.geo_model.specs.WorldEvents.{after_open, after_close}
 use Rattle.geo_model.specs.Freeing.{is_to_reap, reap_work, reap_handle, reap}
-use Rattle.geo_model.specs.Commands.{asking, request, do_command}
+use Rattle.geo_model.specs.Commands.{do_command}
+use Rattle.geo_model.specs.CommandEffects.{is_of_geoms, IsClosed}
 use Rattle.geo_model.specs.Step.{unless_found, waits_for, with_commands, go_of, go, step, reap_next}
 use Rattle.geo_model.specs.Log.{world_after, after_entry}
 use Rattle.geo_model.specs.History.{first_command, next_command, GivesUp, GoesIdle, FreesOnlyIdle}
 use Rattle.geo_model.specs.Fitting.{Firm}
+use Rattle.geo_model.proofs.CommandWalk.{close_is, handles_by}
 use Rattle.geo_model.proofs.DemandLemmas.{find_passes}
 use Rattle.geo_laws_graph.proofs.Members.{find-Contains}
 use Rattle.geo_laws_life.proofs.Found.{some-with}
@@ -114,43 +112,6 @@ module _ (w : World) (firm : Firm w) where
 
 -- A Go
 
--- an open lets nothing go
-module _ (w : World) (firm : Firm w) (Lost : Consumer → Type 0) where
-  -- by what refuses it
-  open-answered : (line actor : ℕ) (name : List ℕ) (grant : Counts) (o : Option ℕ) (e : Option Errno)
-      → LosesOnly w (open_answered w line actor name o grant e).0 Lost
-  open-answered line actor name grant None None = same-goes w firm w Lost refl
-  open-answered line actor name grant None (Some e) = same-goes w firm w Lost refl
-  open-answered line actor name grant (Some p) None = open-goes w firm actor name p grant Lost
-  open-answered line actor name grant (Some p) (Some e) =
-      nothing-goes w firm (without_number w) Lost
-      (record { geoms = refl; providers = refl; consumers = λ n gone. gone })
-
-  -- by whether the actor has a handle of the name
-  open-by : (line actor : ℕ) (name prov : List ℕ) (grant : Counts) (b : Bool) → is_some (handle_of w actor name) ≡ b
-      → LosesOnly w (do_open w line actor name prov grant).0 Lost
-  open-by line actor name prov grant true e = same-goes w firm (do_open w line actor name prov grant).0 Lost
-      (rw e refl)
-  open-by line actor name prov grant false e =
-      let is : (do_open w line actor name prov grant).0
-      ≡ (open_answered w line actor name (find_provider w.topology prov) grant
-      (open_refusal (granted_in w) w.topology prov grant)).0 = rw e refl in
-      subst (λ (v : World). LosesOnly w v Lost) (sym is)
-      (open-answered line actor name grant (find_provider w.topology prov)
-      (open_refusal (granted_in w) w.topology prov grant))
-
-  -- nor does a request, by what refuses it
-  request-by : (line : ℕ) (o : Option Handle) (a : Asking) (e : Option Errno)
-      → LosesOnly w (request_answered w line o a e).0 Lost
-  request-by line o a (Some e) = same-goes w firm w Lost refl
-  request-by line None a None = same-goes w firm w Lost refl
-  request-by line (Some h) a None = same-goes w firm (request_answered w line (Some h) a None).0 Lost refl
-
-  -- so any
-  request-goes : (line actor : ℕ) (name : List ℕ) (a : Asking) → LosesOnly w (request w line actor name a).0 Lost
-  request-goes line actor name a =
-      request-by line (handle_of w actor name) a (request_refusal w (handle_of w actor name) a)
-
 module _ (w : World) (firm : Firm w) (e : Entry) (actor : ℕ) (is : e.step ≡ steps.Go actor) (c : LineCommand)
     (rest : List LineCommand) (left : slice_get w.actors actor ≡ Some (c ∷ rest)) where
   -- the world in which the command is done
@@ -178,86 +139,61 @@ module _ (w : World) (firm : Firm w) (e : Entry) (actor : ℕ) (is : e.step ≡ 
     none_after = go.none_after;
   }
 
-  -- a close, by the handle
-  close-idle : (name : List ℕ) → c.command ≡ commands.Close name → (o : Option Handle) → handle_of v actor name ≡ o
-      → after_entry w e ≡ (close_handle v c.line o).0 → FreesOnlyIdle w e
-  close-idle name of None found after =
-      kept-idle w firm e v after (same-goes w firm v (GoesIdle w e) refl)
-  close-idle name of (Some h) found after =
+  -- a handle is closed
+  closed-idle : (name : List ℕ) (h : Handle) → IsClosed v actor name h → c.command ≡ commands.Close name
+      → after_entry w e ≡ after_close v (without_handle v h) → FreesOnlyIdle w e
+  closed-idle name h closes of after =
       let here : Contains w.handles h =
-      find-Contains (λ (x : Handle). (x.actor == actor) && same_name x.name name) w.handles h found in
+      find-Contains (λ (x : Handle). (x.actor == actor) && same_name x.name name) w.handles h closes.found in
       let parts = and_parts (h.actor == actor) (same_name h.name name)
-      (find_passes (λ (x : Handle). (x.actor == actor) && same_name x.name name) w.handles h found) in
+      (find_passes (λ (x : Handle). (x.actor == actor) && same_name x.name name) w.handles h closes.found) in
       let named : h.name ≡ name = (bytes_eq-Decides h.name name).0 parts.1 in
       let next : next_command w actor ≡ Some c = ap (λ o. option_and_then first_command o) left in
-      let closes : c.command ≡ commands.Close h.name = of ∙ ap (λ n. commands.Close n) (sym named) in
+      let by_name : c.command ≡ commands.Close h.name = of ∙ ap (λ n. commands.Close n) (sym named) in
       let gives : GivesUp w e.step h = subst (λ s. GivesUp w s h) (sym is) (
         eqb-true h.actor actor parts.0,
-        some-with (next_command w actor) (λ x. x.command ≡ commands.Close h.name) c next closes,
+        some-with (next_command w actor) (λ x. x.command ≡ commands.Close h.name) c next by_name,
       ) in
-      let after_it : World = (close_handle v c.line (Some h)).0 in
-      let_go-idle w firm e (close_handle v c.line (Some h)).0 h here gives after
+      let_go-idle w firm e (close_handle v c.line (Some h)).0 h here gives
+      (after ∙ sym (ap (λ (made : World × Outcome). made.0) (close_is v c.line h closes.idle)))
       (loses-weaker w (close_handle v c.line (Some h)).0 (IsLetGo v (close_handle v c.line (Some h)).0 h)
       (IsLetGo w (close_handle v c.line (Some h)).0 h) (lets-too (close_handle v c.line (Some h)).0 h)
       (loses-too (close_handle v c.line (Some h)).0 (IsLetGo v (close_handle v c.line (Some h)).0 h)
       (close-goes v v-firm h here c.line)))
 
-  -- a request
-  asked-idle : (name : List ℕ) (a : Asking) → after_entry w e ≡ (request v c.line actor name a).0
-      → FreesOnlyIdle w e
-  asked-idle name a after =
-      kept-idle w firm e (request v c.line actor name a).0 after
-      (loses-too (request v c.line actor name a).0 (GoesIdle w e)
-      (request-goes v v-firm (GoesIdle w e) c.line actor name a))
+  -- where nothing goes
+  none-idle : (u : World) → LosesOnly v u (GoesIdle w e) → after_entry w e ≡ u → FreesOnlyIdle w e
+  none-idle u loses after = kept-idle w firm e u after (loses-too u (GoesIdle w e) loses)
 
-  -- an answer alone
-  answer-idle : after_entry w e ≡ v → FreesOnlyIdle w e
-  answer-idle after = kept-idle w firm e v after (same-goes w firm v (GoesIdle w e) refl)
+  -- where the graph stays
+  same-idle : (u : World) → u.topology ≡ w.topology → after_entry w e ≡ u → FreesOnlyIdle w e
+  same-idle u same after = kept-idle w firm e u after (same-goes w firm u (GoesIdle w e) same)
 
-  -- by the command
-  command-idle : (x : Command) → c.command ≡ x → is_of_handles x ≡ true
+  -- each command of a handle
+  command-idle : (x : Command) → is_of_geoms x ≡ false → c.command ≡ x
       → after_entry w e ≡ (do_command v c.line actor x).0 → FreesOnlyIdle w e
-  unfolding do_command
-  command-idle (commands.Open name prov grant) of kind after =
-      kept-idle w firm e (do_open v c.line actor name prov grant).0 after
-      (loses-too (do_open v c.line actor name prov grant).0 (GoesIdle w e)
-      (open-by v v-firm (GoesIdle w e) c.line actor name prov grant (is_some (handle_of v actor name)) refl))
-  command-idle (commands.Close name) of kind after = close-idle name of (handle_of v actor name) refl after
-  command-idle (commands.Read name offset len) of kind after =
-      asked-idle name (asking cmds.Read offset len []) after
-  command-idle (commands.Write name offset bytes) of kind after =
-      asked-idle name (asking cmds.Write offset (length bytes) bytes) after
-  command-idle (commands.Delete name offset len) of kind after =
-      asked-idle name (asking cmds.Delete offset len []) after
-  command-idle (commands.Flush name) of kind after = asked-idle name (asking cmds.Flush 0 0 []) after
-  command-idle commands.Sync of kind after = answer-idle after
-  command-idle commands.Settle of kind after = answer-idle after
-  command-idle (commands.Insert disk) of kind after = absurd (let bad : ⊥ = cc in bad)
-  command-idle (commands.Pull disk) of kind after = absurd (let bad : ⊥ = cc in bad)
-  command-idle (commands.Nop prov offset size fail) of kind after = absurd (let bad : ⊥ = cc in bad)
-  command-idle (commands.Concat name provs) of kind after = absurd (let bad : ⊥ = cc in bad)
-  command-idle (commands.Stripe name stripe provs) of kind after = absurd (let bad : ⊥ = cc in bad)
-  command-idle (commands.Append name prov) of kind after = absurd (let bad : ⊥ = cc in bad)
-  command-idle (commands.Destroy kind_of name) of kind after = absurd (let bad : ⊥ = cc in bad)
-  command-idle (commands.Label name label) of kind after =
-      asked-idle name (record_request v (handle_of v actor name)
-      (λ p. label_sector p.sector (record { name = label; size = None }))) after
-  command-idle (commands.Relabel name label) of kind after =
-      asked-idle name (record_request v (handle_of v actor name)
-      (λ p. label_sector p.sector (record { name = label; size = Some p.size }))) after
-  command-idle (commands.MarkConcat name label id place count) of kind after =
-      asked-idle name (record_request v (handle_of v actor name)
-      (λ p. concat_sector p.sector (record { name = label; id = id; place = place; count = count }))) after
-  command-idle (commands.MarkStripe name label id place count stripe) of kind after =
-      asked-idle name (record_request v (handle_of v actor name)
-      (λ p. stripe_sector p.sector
-      (record { name = label; id = id; place = place; count = count; stripe = stripe }))) after
-  command-idle commands.Mesh of kind after = answer-idle after
+  command-idle =
+      handles_by v c.line actor (λ x made. c.command ≡ x → after_entry w e ≡ made.0 → FreesOnlyIdle w e)
+      (record {
+        refuses = λ x error of. same-idle v refl;
+        numbers = λ x error of.
+            none-idle (without_number v) (nothing-goes v v-firm (without_number v) (GoesIdle w e)
+            (record { geoms = refl; providers = refl; consumers = λ n gone. gone }));
+      })
+      (record {
+        waits = λ x waits of. same-idle v refl;
+        lists = λ of. same-idle v refl;
+        opens = λ name prov grant p opens of.
+            none-idle (after_open v (with_handle v actor name p grant))
+            (open-goes v v-firm actor name p grant (GoesIdle w e));
+        closes = λ name h closes of. closed-idle name h closes of;
+        accepts = λ x h a asks of. same-idle (accept_request v c.line h a).0 refl;
+      })
 
   -- by what it waits for
   waits-idle : (o : Option Found) → is_of_handles c.command ≡ true
       → after_entry w e ≡ world_after w (unless_found o (do_command v c.line actor c.command)) → FreesOnlyIdle w e
-  waits-idle None kind after = command-idle c.command refl kind after
+  waits-idle None kind after = command-idle c.command (not-true (is_of_geoms c.command) kind) refl after
   waits-idle (Some f) kind after = kept-idle w firm e w after (same-goes w firm w (GoesIdle w e) refl)
 
 -- the world after a Go

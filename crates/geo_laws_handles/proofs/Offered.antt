@@ -1,13 +1,10 @@
 -- What a close, a reap and each other command of a handle offer for taste lives.
-use Rattle.std.specs.Prelude.{◌≡◌, ℕ, ◌<◌, ◌==◌, nat_lt, Bool, true, false, ◌||◌, List, [], ◌∷◌, length, count_by, Option, Some, None, Ok, Err, IfSome, IsSomeAnd, is_some, option_and_then, slice_get, if◌then◌else◌}
+use Rattle.std.specs.Prelude.{◌≡◌, ℕ, ◌<◌, ◌==◌, nat_lt, Bool, true, false, ◌||◌, List, [], ◌∷◌, count_by, Option, Some, None, Ok, Err, IfSome, IsSomeAnd, option_and_then, slice_get, if◌then◌else◌}
 use Rattle.std.specs.Option.{option_map_or}
 use Rattle.std.proofs.Common.{refl, sym, ◌∙◌, ap, subst, arith}
-use Rattle.std.proofs.lemmas.Bool.{eqb-true, or_parts, ltb-true, ltb-false}
-use Rattle.geo_base.specs.declared.errno.Errno.{Errno}
-use Rattle.geo_base.specs.declared.request.BioCmd.TheVariants as cmds
+use Rattle.std.proofs.lemmas.Bool.{eqb-true, or_parts, ltb-true, ltb-false, not-true}
 use Rattle.geo_base.specs.declared.request.Counts.{Counts}
 use Rattle.geo_model.specs.declared.command.Command.{Command}
-use Rattle.geo_model.specs.declared.command.Command.TheVariants as commands
 use Rattle.geo_model.specs.declared.command.LineCommand.{LineCommand}
 use Rattle.geo_model.specs.declared.step.Event.{Event}
 use Rattle.geo_model.specs.declared.step.Event.TheVariants as events
@@ -16,22 +13,21 @@ use Rattle.geo_model.specs.declared.step.Found.TheVariants as refusals
 use Rattle.geo_model.specs.declared.step.Outcome.{Outcome}
 use Rattle.geo_model.specs.declared.step.Outcome.TheVariants as outcomes
 use Rattle.geo_model.specs.declared.step.Step.TheVariants as steps
-use Rattle.geo_model.specs.Topology.{Topology, Geom, geom_of_provider, find_provider, is_errored}
+use Rattle.geo_model.specs.Topology.{Topology, Geom, geom_of_provider, is_errored}
 use Rattle.geo_model.specs.Demand.{risen, fallen}
-use Rattle.geo_model.specs.Opens.{open_refusal}
 use Rattle.geo_model.specs.Events.{QueuedTopology, post, offer_again, spoil_at, announce_risen, announce_fallen}
-use Rattle.geo_model.specs.World.{World, Config, Handle, granted_in, handle_of, is_active}
+use Rattle.geo_model.specs.World.{World, Config, Handle, granted_in}
 use Rattle.geo_model.specs.WorldEvents.{queued_of, after_open, after_close}
-use Rattle.geo_model.specs.Records.{label_sector, concat_sector, stripe_sector}
-use Rattle.geo_model.specs.Requests.{Asking, request_refusal}
-use Rattle.geo_model.specs.HandleCommands.{close_handle, without_handle, with_handle, open_answered, do_open, request_answered, record_request}
-use Rattle.geo_model.specs.Commands.{asking, request, do_command}
+use Rattle.geo_model.specs.HandleCommands.{without_number, accept_request, without_handle, with_handle}
+use Rattle.geo_model.specs.Commands.{do_command}
 use Rattle.geo_model.specs.Freeing.{reap_work, reap_consumer, reap_handle, reap}
+use Rattle.geo_model.specs.CommandEffects.{is_of_geoms}
 use Rattle.geo_model.specs.Step.{unless_found, waits_for, with_commands, go_of, go, step, reap_next}
 use Rattle.geo_model.specs.Log.{world_after}
 use Rattle.geo_model.specs.History.{first_command, next_command}
 use Rattle.geo_model.specs.Laws.{world_by}
 use Rattle.geo_model.specs.Steady.{is_offer_of, OffersOnlyLiving}
+use Rattle.geo_model.proofs.CommandWalk.{handles_by}
 use Rattle.geo_laws_offers.proofs.Quiet.{not-counted}
 use Rattle.geo_laws_offers.proofs.Offers.{stands-by}
 use Rattle.geo_laws_handles.specs.CommandLaws.{is_of_handles}
@@ -151,93 +147,19 @@ reap-offers w seat = reap-found w (reap_work w)
 
 -- Commands
 
--- a close, by whether its consumer is active
-close-by : (w : World) (line : ℕ) (h : Handle) (b : Bool) → option_map_or (is_active w) h.consumer false ≡ b
-    → OffersOnlyLiving w (close_handle w line (Some h)).0
-close-by w line h true active =
-    let is : (close_handle w line (Some h)).0 ≡ w = rw active refl in
-    same-offers w (close_handle w line (Some h)).0 (ap (λ (v : World). v.events) is)
-close-by w line h false idle =
-    let is : (close_handle w line (Some h)).0 ≡ after_close w (without_handle w h) = rw idle refl in
-    subst (OffersOnlyLiving w) (sym is) (closed-offers w (without_handle w h) refl)
-
--- by the handle
-close-offers : (w : World) (line : ℕ) (o : Option Handle) → OffersOnlyLiving w (close_handle w line o).0
-close-offers w line None = same-offers w w refl
-close-offers w line (Some h) = close-by w line h (option_map_or (is_active w) h.consumer false) refl
-
--- an open, by what refuses it
-open-answered : (w : World) (line actor : ℕ) (name : List ℕ) (grant : Counts) (o : Option ℕ) (e : Option Errno)
-    → OffersOnlyLiving w (open_answered w line actor name o grant e).0
-open-answered w line actor name grant None None = same-offers w w refl
-open-answered w line actor name grant None (Some e) = same-offers w w refl
-open-answered w line actor name grant (Some p) None = opened-offers w (with_handle w actor name p grant) refl
-open-answered w line actor name grant (Some p) (Some e) =
-    same-offers w (open_answered w line actor name (Some p) grant (Some e)).0 refl
-
--- by whether the actor has a handle of the name
-open-offers : (w : World) (line actor : ℕ) (name prov : List ℕ) (grant : Counts) (b : Bool)
-    → is_some (handle_of w actor name) ≡ b → OffersOnlyLiving w (do_open w line actor name prov grant).0
-open-offers w line actor name prov grant true e =
-    let is : (do_open w line actor name prov grant).0 ≡ w = rw e refl in
-    same-offers w (do_open w line actor name prov grant).0 (ap (λ (v : World). v.events) is)
-open-offers w line actor name prov grant false e =
-    let is : (do_open w line actor name prov grant).0
-    ≡ (open_answered w line actor name (find_provider w.topology prov) grant
-    (open_refusal (granted_in w) w.topology prov grant)).0 = rw e refl in
-    subst (OffersOnlyLiving w) (sym is)
-    (open-answered w line actor name grant (find_provider w.topology prov)
-    (open_refusal (granted_in w) w.topology prov grant))
-
--- a request, by what refuses it
-request-by : (w : World) (line : ℕ) (o : Option Handle) (a : Asking) (e : Option Errno)
-    → OffersOnlyLiving w (request_answered w line o a e).0
-request-by w line o a (Some e) = same-offers w w refl
-request-by w line None a None = same-offers w w refl
-request-by w line (Some h) a None = same-offers w (request_answered w line (Some h) a None).0 refl
-
--- so any
-request-offers : (w : World) (line actor : ℕ) (name : List ℕ) (a : Asking)
-    → OffersOnlyLiving w (request w line actor name a).0
-request-offers w line actor name a =
-    request-by w line (handle_of w actor name) a (request_refusal w (handle_of w actor name) a)
-
 -- each command of a handle
-done-offers : (w : World) (line actor : ℕ) (c : Command) → is_of_handles c ≡ true
+done-offers : (w : World) (line actor : ℕ) (c : Command) → is_of_geoms c ≡ false
     → OffersOnlyLiving w (do_command w line actor c).0
-unfolding do_command
-done-offers w line actor (commands.Open name prov grant) of =
-    open-offers w line actor name prov grant (is_some (handle_of w actor name)) refl
-done-offers w line actor (commands.Close name) of = close-offers w line (handle_of w actor name)
-done-offers w line actor (commands.Read name offset len) of =
-    request-offers w line actor name (asking cmds.Read offset len [])
-done-offers w line actor (commands.Write name offset bytes) of =
-    request-offers w line actor name (asking cmds.Write offset (length bytes) bytes)
-done-offers w line actor (commands.Delete name offset len) of =
-    request-offers w line actor name (asking cmds.Delete offset len [])
-done-offers w line actor (commands.Flush name) of = request-offers w line actor name (asking cmds.Flush 0 0 [])
-done-offers w line actor commands.Sync of = same-offers w w refl
-done-offers w line actor commands.Settle of = same-offers w w refl
-done-offers w line actor (commands.Insert disk) of = absurd (let bad : ⊥ = cc in bad)
-done-offers w line actor (commands.Pull disk) of = absurd (let bad : ⊥ = cc in bad)
-done-offers w line actor (commands.Nop prov offset size fail) of = absurd (let bad : ⊥ = cc in bad)
-done-offers w line actor (commands.Concat name provs) of = absurd (let bad : ⊥ = cc in bad)
-done-offers w line actor (commands.Stripe name stripe provs) of = absurd (let bad : ⊥ = cc in bad)
-done-offers w line actor (commands.Append name prov) of = absurd (let bad : ⊥ = cc in bad)
-done-offers w line actor (commands.Destroy kind name) of = absurd (let bad : ⊥ = cc in bad)
-done-offers w line actor (commands.Label name label) of =
-    request-offers w line actor name (record_request w (handle_of w actor name)
-    (λ p. label_sector p.sector (record { name = label; size = None })))
-done-offers w line actor (commands.Relabel name label) of =
-    request-offers w line actor name (record_request w (handle_of w actor name)
-    (λ p. label_sector p.sector (record { name = label; size = Some p.size })))
-done-offers w line actor (commands.MarkConcat name label id place count) of =
-    request-offers w line actor name (record_request w (handle_of w actor name)
-    (λ p. concat_sector p.sector (record { name = label; id = id; place = place; count = count })))
-done-offers w line actor (commands.MarkStripe name label id place count stripe) of =
-    request-offers w line actor name (record_request w (handle_of w actor name)
-    (λ p. stripe_sector p.sector (record { name = label; id = id; place = place; count = count; stripe = stripe })))
-done-offers w line actor commands.Mesh of = same-offers w w refl
+done-offers w line actor =
+    handles_by w line actor (λ c made. OffersOnlyLiving w made.0)
+    (record { refuses = λ c e. same-offers w w refl; numbers = λ c e. same-offers w (without_number w) refl })
+    (record {
+      waits = λ c is. same-offers w w refl;
+      lists = same-offers w w refl;
+      opens = λ name prov grant p is. opened-offers w (with_handle w actor name p grant) refl;
+      closes = λ name h is. closed-offers w (without_handle w h) refl;
+      accepts = λ c h a is. same-offers w (accept_request w line h a).0 refl;
+    })
 
 -- unless something is against it
 unless-offers : (w : World) (o : Option Found) (made : World × Outcome) → OffersOnlyLiving w made.0
@@ -253,7 +175,7 @@ go-by w actor None of = same-offers w w refl
 go-by w actor (Some []) of = same-offers w w refl
 go-by w actor (Some (c ∷ rest)) of =
     unless-offers w (waits_for w actor c.command) (do_command (with_commands w actor rest) c.line actor c.command)
-    (done-offers (with_commands w actor rest) c.line actor c.command of)
+    (done-offers (with_commands w actor rest) c.line actor c.command (not-true (is_of_geoms c.command) of))
 
 -- a Go
 go-offers : (w : World) (seat actor : ℕ) → IfSome (next_command w actor) (λ c. is_of_handles c.command ≡ true)

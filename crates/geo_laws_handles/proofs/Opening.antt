@@ -7,6 +7,7 @@ use Rattle.geo_model.specs.Words.{same_name}
 use Rattle.geo_model.specs.Topology.{Provider, provider_at, find_provider}
 use Rattle.geo_model.specs.Opens.{open_refusal, with_opener}
 use Rattle.geo_model.specs.World.{World, granted_in, handle_of}
+use Rattle.geo_model.specs.WorldEvents.{after_open}
 use Rattle.geo_model.specs.HandleCommands.{with_handle, open_answered, do_open}
 use Rattle.geo_model.specs.Fitting.{Firm}
 use Rattle.geo_laws_graph.proofs.Finding.{found_lives}
@@ -49,6 +50,14 @@ all_live w firm actor name p grant =
     (found_itself (λ (y : Provider). y.number) w.topology.next_provider w.topology.providers x
     (sound-order w firm.sound.numbers).providers here))
 
+-- a new handle, and what follows
+pub opened_on-firm : (w : World) (actor : ℕ) (name prov : List ℕ) (p : ℕ) (grant : Counts)
+    → find_provider w.topology prov ≡ Some p → open_refusal (granted_in w) w.topology prov grant ≡ None → Firm w
+    → Firm (after_open w (with_handle w actor name p grant))
+opened_on-firm w actor name prov p grant named passes firm =
+    announces_keep.opened w (with_handle w actor name p grant) (all_live w firm actor name p grant)
+    (with_handle-firm w actor name prov p grant named passes firm)
+
 -- by what refuses it
 answered-firm : (w : World) (line actor : ℕ) (name prov : List ℕ) (grant : Counts) (o : Option ℕ)
     → find_provider w.topology prov ≡ o → (e : Option Errno)
@@ -57,8 +66,7 @@ answered-firm : (w : World) (line actor : ℕ) (name prov : List ℕ) (grant : C
 answered-firm w line actor name prov grant None named None passes firm = firm
 answered-firm w line actor name prov grant None named (Some e) passes firm = firm
 answered-firm w line actor name prov grant (Some p) named None passes firm =
-    announces_keep.opened w (with_handle w actor name p grant) (all_live w firm actor name p grant)
-    (with_handle-firm w actor name prov p grant named passes firm)
+    opened_on-firm w actor name prov p grant named passes firm
 answered-firm w line actor name prov grant (Some p) named (Some e) passes firm = number_firm w firm
 
 -- by whether the actor has a handle of the name

@@ -1,15 +1,12 @@
 -- A request through a handle keeps a firm mesh firm, whether it is refused or not.
-use Rattle.std.specs.Prelude.{◌≡◌, ◌≢◌, ℕ, ◌+◌, ◌-◌, ◌<◌, ◌≤◌, ◌%◌, ◌==◌, nat_lt, Bool, true, false, not, ◌&&◌, ◌||◌, List, [], ◌∷◌, find, Option, Some, None, Contains, IsTrue, option_and_then, if◌then◌else◌, unwrap_or}
+use Rattle.std.specs.Prelude.{◌≡◌, ◌≢◌, ℕ, ◌+◌, ◌<◌, ◌≤◌, ◌%◌, ◌==◌, nat_lt, Bool, true, false, not, ◌&&◌, ◌||◌, List, [], ◌∷◌, find, Option, Some, None, Contains, IsTrue, option_and_then, if◌then◌else◌, unwrap_or}
 use Rattle.std.specs.Option.{option_map_or}
 use Rattle.std.proofs.Common.{inl, refl, sym, ◌∙◌, ap, subst, arith}
 use Rattle.std.proofs.lemmas.Bool.{eq-eqb, eqb-true, eqb-false, or_parts, not-false, ltb-false, not-true}
-use Rattle.std.proofs.lemmas.List.Elements.{All-contains}
 use Rattle.geo_base.proofs.FindLists.{none_passes}
-use Rattle.geo_base.specs.declared.request.BioCmd.TheVariants as cmds
 use Rattle.geo_base.specs.declared.request.Counts.{Counts}
 use Rattle.geo_base.specs.declared.errno.Errno.{Errno}
 use Rattle.geo_base.specs.declared.errno.Errno.TheVariants.{ENXIO, EPERM, EINVAL, EIO}
-use Rattle.geo_base.specs.Sectors.{IsSectorSize}
 use Rattle.geo_base.specs.declared.limits.TheConstants.{MAX_REQUEST_BYTES}
 use Rattle.geo_model.specs.declared.step.Owner.TheVariants as owners
 use Rattle.geo_model.specs.Words.{first_error, same_name, names_number, is_read, is_flush}
@@ -20,8 +17,10 @@ use Rattle.geo_model.specs.Bios.{new_bio, submit}
 use Rattle.geo_model.specs.Requests.{Asking, provider_of_handle, is_allowed, is_invalid_range, request_refusal_at, request_refusal}
 use Rattle.geo_model.specs.HandleCommands.{request_answered, do_request, record_request}
 use Rattle.geo_model.specs.Commands.{request, write_record}
+use Rattle.geo_model.specs.CommandEffects.{HasItsBytes, FillsSectors}
 use Rattle.geo_model.specs.SoundBios.{IsRangeInside, IsBioInOrder, HasCountFor}
 use Rattle.geo_model.specs.Fitting.{Firm}
+use Rattle.geo_model.proofs.CommandWalk.{record_bytes}
 use Rattle.geo_model.proofs.DemandLemmas.{find_passes}
 use Rattle.geo_laws_graph.proofs.Members.{find-Contains}
 use Rattle.geo_laws_graph.proofs.Lists.{found_itself}
@@ -33,7 +32,7 @@ use Rattle.geo_laws_life.proofs.Found.{some-with}
 use Rattle.geo_laws_handles.proofs.Devs.{holds_grants}
 use Rattle.geo_laws_handles.proofs.Closed.{has_dev, one_holder}
 use Rattle.geo_laws_graph.proofs.Members.{at_contained}
-use Rattle.geo_laws_handles.specs.RequestLaws.{HasItsBytes, FillsSectors, RequestsStayFirm}
+use Rattle.geo_laws_handles.specs.RequestLaws.{RequestsStayFirm}
 use Rattle.geo_laws_handles.proofs.Submitted.{submitted-firm}
 
 -- no error comes where no test holds
@@ -63,12 +62,6 @@ may true g e =
 may false g e =
     let some : 1 ≤ g.w = not_zero g.w (not-true (g.w == 0) (not-false (not (g.w == 0)) e)) in
     ((λ is. absurd (let bad : ⊥ = cc in bad)), (λ other. omega arith))
-
--- what is found by an option stands
-and_then-stands : (t : Topology Config) (o : Option ℕ) (p : Provider) → option_and_then (provider_at t) o ≡ Some p
-    → Contains t.providers p
-and_then-stands t None p e = absurd (let bad : ⊥ = cc in bad)
-and_then-stands t (Some n) p e = find-Contains (λ (x : Provider). x.number == n) t.providers p e
 
 module _ (w : World) (firm : Firm w) (line : ℕ) (h : Handle) (here : Contains w.handles h) (a : Asking)
     (bytes : HasItsBytes a) where
@@ -239,32 +232,13 @@ named-firm : (w : World) (line actor : ℕ) (name : List ℕ) (a : Asking) → H
     → Firm (request w line actor name a).0
 named-firm w line actor name a bytes firm = named-by w line actor name a (handle_of w actor name) refl bytes firm
 
--- the provider of a handle stands
-handle-stands : (w : World) (o : Option Handle) (p : Provider) → option_and_then (provider_of_handle w) o ≡ Some p
-    → Contains w.topology.providers p
-handle-stands w None p e = absurd (let bad : ⊥ = cc in bad)
-handle-stands w (Some h) p e =
-    and_then-stands w.topology (option_and_then (provider_of_consumer w.topology) h.consumer) p e
-
--- a record has its bytes
-record_bytes : (w : World) (sector_of : Provider → List ℕ) → FillsSectors sector_of → Firm w → (o : Option Provider)
-    → ((p : Provider) → o ≡ Some p → Contains w.topology.providers p)
-    → HasItsBytes (option_map_or
-    (λ p. record { cmd = cmds.Write; offset = p.size - p.sector; len = p.sector; bytes = sector_of p }) o
-    (record { cmd = cmds.Write; offset = 0; len = 0; bytes = [] }))
-record_bytes w sector_of fills firm None stands = λ writes. refl
-record_bytes w sector_of fills firm (Some p) stands = λ writes.
-    fills p (All-contains (λ (x : Provider). IsSectorSize x.sector) w.topology.providers p firm.fitting.sectors
-    (stands p refl))
-
 -- the write of a record
 recorded-firm : (w : World) (line actor : ℕ) (name : List ℕ) (sector_of : Provider → List ℕ)
     → FillsSectors sector_of
     → Firm w → Firm (write_record w line actor name sector_of).0
 recorded-firm w line actor name sector_of fills firm =
     named-firm w line actor name (record_request w (handle_of w actor name) sector_of)
-    (record_bytes w sector_of fills firm (option_and_then (provider_of_handle w) (handle_of w actor name))
-    (λ p e. handle-stands w (handle_of w actor name) p e)) firm
+    (record_bytes w (handle_of w actor name) sector_of fills firm.fitting.sectors) firm
 
 -- requests keep a firm mesh firm
 pub requests_stay_firm : RequestsStayFirm

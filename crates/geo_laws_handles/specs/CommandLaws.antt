@@ -1,10 +1,10 @@
 -- Commands of handles, and the step by which an actor does its next command, keep a mesh sound, steady and fitting.
-use Rattle.std.specs.Prelude.{◌≡◌, ℕ, Bool, true, false, IfSome}
+use Rattle.std.specs.Prelude.{◌≡◌, ℕ, Bool, true, not, IfSome}
 use Rattle.geo_model.specs.declared.command.Command.{Command}
-use Rattle.geo_model.specs.declared.command.Command.TheVariants as commands
 use Rattle.geo_model.specs.declared.step.Step.TheVariants as steps
 use Rattle.geo_model.specs.World.{World}
 use Rattle.geo_model.specs.Commands.{do_command}
+use Rattle.geo_model.specs.CommandEffects.{is_of_geoms}
 use Rattle.geo_model.specs.Plans.{IsCommand}
 use Rattle.geo_model.specs.History.{next_command}
 use Rattle.geo_model.specs.Laws.{world_by}
@@ -12,14 +12,7 @@ use Rattle.geo_model.specs.Fitting.{Firm}
 
 -- whether a command is one of a handle, or only answers; the others make geoms, or let them grow or end
 abbrev pub is_of_handles : Command → Bool
-is_of_handles (commands.Insert disk) = false
-is_of_handles (commands.Pull disk) = false
-is_of_handles (commands.Nop prov offset size fail) = false
-is_of_handles (commands.Concat name provs) = false
-is_of_handles (commands.Stripe name stripe provs) = false
-is_of_handles (commands.Append name prov) = false
-is_of_handles (commands.Destroy kind name) = false
-is_of_handles _ = true
+is_of_handles c = not (is_of_geoms c)
 
 -- each command that passes a test leaves a firm mesh firm, whatever it answers
 pub record EachStaysFirm (test : Command → Bool) : Type 0 where

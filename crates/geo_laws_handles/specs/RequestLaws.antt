@@ -1,26 +1,18 @@
 -- A request keeps a mesh sound, steady and fitting (g_bio(9)).
-use Rattle.std.specs.Prelude.{◌≡◌, ℕ, List, length, Some, Contains, IsTrue}
+use Rattle.std.specs.Prelude.{◌≡◌, ℕ, List, length, Some, Contains}
 use Rattle.geo_base.specs.Sectors.{IsSectorSize}
 use Rattle.geo_model.specs.declared.class.ConcatRecord.{ConcatRecord}
 use Rattle.geo_model.specs.declared.class.LabelRecord.{LabelRecord}
 use Rattle.geo_model.specs.declared.class.StripeRecord.{StripeRecord}
-use Rattle.geo_model.specs.Words.{is_write}
 use Rattle.geo_model.specs.Topology.{Provider}
 use Rattle.geo_model.specs.World.{World, Handle}
 use Rattle.geo_model.specs.Requests.{Asking}
 use Rattle.geo_model.specs.Records.{label_sector, concat_sector, stripe_sector}
 use Rattle.geo_model.specs.HandleCommands.{do_request}
 use Rattle.geo_model.specs.Commands.{request, write_record}
+use Rattle.geo_model.specs.CommandEffects.{HasItsBytes, FillsSectors}
 use Rattle.geo_model.specs.Plans.{IsShortName}
 use Rattle.geo_model.specs.Fitting.{Firm}
-
--- a WRITE has as many bytes as it says
-abbrev pub HasItsBytes : Asking → Type 0
-HasItsBytes a = IsTrue (is_write a.cmd) → length a.bytes ≡ a.len
-
--- the bytes for a provider fill one sector of it
-abbrev pub FillsSectors : (Provider → List ℕ) → Type 0
-FillsSectors sector_of = (p : Provider) → IsSectorSize p.sector → length (sector_of p) ≡ p.sector
 
 -- a request through a handle leaves a firm mesh firm, and so does one through the handle which an actor has under a
 -- name, if any, and the write of a record: whether it is refused or not

@@ -6,6 +6,7 @@ use Rattle.geo_model.specs.Names.{nop_name}
 use Rattle.geo_model.specs.World.{World}
 use Rattle.geo_model.specs.GeomCommands.{header_disk}
 use Rattle.geo_model.specs.Commands.{do_command}
+use Rattle.geo_model.specs.CommandEffects.{is_of_geoms}
 use Rattle.geo_model.specs.Plans.{IsCommand}
 use Rattle.geo_model.specs.Fitting.{Firm}
 use Rattle.geo_laws_making.proofs.Over.{false_true}
@@ -13,7 +14,7 @@ use Rattle.geo_laws_making.proofs.Pulled.{pulls_stay, destroys_stay}
 use Rattle.geo_laws_making.proofs.Inserted.{inserts_stay}
 use Rattle.geo_laws_making.proofs.Nopped.{nops_stay}
 use Rattle.geo_laws_making.proofs.Joined.{concats_stay, stripes_stay}
-use Rattle.geo_laws_making.specs.GeomCommandLaws.{is_of_geoms, GeomCommandsStayFirm}
+use Rattle.geo_laws_making.specs.GeomCommandLaws.{GeomCommandsStayFirm}
 use Rattle.geo_laws_making.proofs.Appended.{appends_stay}
 
 -- each of them keeps a firm world firm

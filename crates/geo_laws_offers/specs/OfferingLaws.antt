@@ -1,7 +1,5 @@
 -- Steps that destroy nothing, and what they offer for taste lives (g_event(9), g_wither_geom(9)).
 use Rattle.std.specs.Prelude.{◌≡◌, ◌⊎◌, ℕ, ◌<◌, Bool, true, false, Some, None, IfSome, IsSomeAnd, count_by}
-use Rattle.geo_model.specs.declared.command.Command.{Command}
-use Rattle.geo_model.specs.declared.command.Command.TheVariants as commands
 use Rattle.geo_model.specs.declared.step.Entry.{Entry}
 use Rattle.geo_model.specs.declared.step.Step.{Step}
 use Rattle.geo_model.specs.declared.step.Step.TheVariants as steps
@@ -11,6 +9,7 @@ use Rattle.geo_model.specs.World.{World, Config, Taste, is_read_out}
 use Rattle.geo_model.specs.WorldEvents.{queued_of}
 use Rattle.geo_model.specs.Tasting.{abort_taste}
 use Rattle.geo_model.specs.History.{next_command, FreesOnlyIdle}
+use Rattle.geo_model.specs.CommandEffects.{is_of_geoms}
 use Rattle.geo_model.specs.Log.{after_entry}
 use Rattle.geo_model.specs.Laws.{world_by}
 use Rattle.geo_model.specs.Steady.{is_offer_of, OffersOnlyLiving}
@@ -43,17 +42,6 @@ is_of_bio (steps.Take disk b) = true
 is_of_bio (steps.Deliver b got) = true
 is_of_bio (steps.Up b) = true
 is_of_bio _ = false
-
--- whether the command is one of geoms
-abbrev pub is_of_geoms : Command → Bool
-is_of_geoms (commands.Insert disk) = true
-is_of_geoms (commands.Pull disk) = true
-is_of_geoms (commands.Nop prov offset size fail) = true
-is_of_geoms (commands.Concat name provs) = true
-is_of_geoms (commands.Stripe name stripe provs) = true
-is_of_geoms (commands.Append name prov) = true
-is_of_geoms (commands.Destroy kind name) = true
-is_of_geoms _ = false
 
 -- the steps of bios, an event, and a Go of a command of geoms destroy nothing, and what they offer lives
 pub record StepsOnlyAdd : Type 0 where

@@ -5,23 +5,19 @@ use Rattle.std.proofs.Common.{refl, arith}
 use Rattle.std.proofs.lemmas.List.{length-append}
 use Rattle.std.proofs.lemmas.List.Sums.{sum_by_push}
 use Rattle.geo_base.specs.declared.errno.Errno.{Errno}
-use Rattle.geo_base.specs.declared.errno.Errno.TheVariants.{ENXIO}
 use Rattle.geo_base.specs.declared.request.Counts.{Counts}
 use Rattle.geo_model.specs.declared.command.Command.{Command}
 use Rattle.geo_model.specs.declared.command.Command.TheVariants as commands
 use Rattle.geo_model.specs.declared.step.Outcome.{Outcome}
-use Rattle.geo_model.specs.Words.{first_error, same_name}
-use Rattle.geo_model.specs.Names.{nop_name}
-use Rattle.geo_model.specs.Topology.{Geom, Provider, find_provider}
+use Rattle.geo_model.specs.Words.{same_name}
+use Rattle.geo_model.specs.Topology.{find_provider}
 use Rattle.geo_model.specs.Opens.{open_refusal_at}
-use Rattle.geo_model.specs.World.{World, Config, Handle, HeaderDisk, Bio, granted_in, handle_of, is_active}
+use Rattle.geo_model.specs.World.{World, Handle, Bio, granted_in, handle_of, is_active}
 use Rattle.geo_model.specs.Graph.{AreNumbers}
-use Rattle.geo_model.specs.HandleCommands.{answer, open_answered, do_open, close_handle, request_answered, do_request}
-use Rattle.geo_model.specs.Requests.{Asking, request_refusal}
-use Rattle.geo_model.specs.GeomCommands.{header_disk, is_geom_of_disk, insert_tests, stand, do_insert, wither_found, do_pull, nop_tests, do_nop, destroy_tests, do_destroy, found_provider, named_geom}
-use Rattle.geo_model.specs.Append.{Growing, growing_concat, append_tests, component_refusal, append_joined, append_tested, do_append}
+use Rattle.geo_model.specs.HandleCommands.{open_answered, do_open, close_handle}
 use Rattle.geo_model.specs.Commands.{do_command}
 use Rattle.geo_model.specs.Log.{owed}
+use Rattle.geo_model.proofs.CommandWalk.{any_graph_by}
 use Rattle.geo_laws_graph.proofs.Lists.{found_itself}
 use Rattle.geo_laws_graph.proofs.Members.{find-Contains}
 use Rattle.geo_laws_owed.specs.OwedLaws.{is_open, is_close, is_ok_outcome}
@@ -41,72 +37,6 @@ module _ (w : World) where
   -- as much is owed as before
   abbrev Same : World × Outcome → Type 0
   Same made = owed made.0 ≡ owed w
-
-  -- one of two answers
-  either : (b : Bool) (m n : World × Outcome) → Same m → Same n → Same (if b then m else n)
-  either true m n one two = one
-  either false m n one two = two
-
-  -- an answer, by what refuses it
-  answered : (line : ℕ) (o : Option Errno) (after : World) → owed after ≡ owed w → Same (answer w line o after)
-  answered line None after same = same
-  answered line (Some e) after same = refl
-
-  -- a request
-  requested : (line : ℕ) (h : Option Handle) (a : Asking) (e : Option Errno) → Same (request_answered w line h a e)
-  requested line h a (Some e) = refl
-  requested line None a None = refl
-  requested line (Some h) a None = submit_owes w _ refl
-
-  -- through a handle of the name
-  asked : (line : ℕ) (h : Option Handle) (a : Asking) → Same (do_request w line h a)
-  asked line h a = requested line h a (request_refusal w h a)
-
-  -- insert
-  inserted : (line : ℕ) (o : Option (ℕ × HeaderDisk)) → Same (do_insert w line o)
-  inserted line None = refl
-  inserted line (Some item) = answered line (first_error (insert_tests w.topology item)) (stand w item) refl
-
-  -- a geom that withers
-  withered : (line : ℕ) (o : Option (Geom Config)) (e : Errno) → Same (wither_found w line o e)
-  withered line None e = refl
-  withered line (Some g) e = refl
-
-  -- pull
-  pulled : (line : ℕ) (o : Option (ℕ × HeaderDisk)) → Same (do_pull w line o)
-  pulled line None = refl
-  pulled line (Some item) =
-      withered line (find (λ (g : Geom Config). is_geom_of_disk item.0 g && not g.withering) w.topology.geoms) ENXIO
-
-  -- nop
-  windowed : (line : ℕ) (name : List ℕ) (offset size fail : ℕ) (o : Option Provider)
-      → Same (do_nop w line name offset size fail o)
-  windowed line name offset size fail None = refl
-  windowed line name offset size fail (Some p) =
-      answered line (first_error (nop_tests w.topology name offset size p)) _ refl
-
-  -- destroy
-  destroyed : (line : ℕ) (o : Option (Geom Config)) → Same (do_destroy w line o)
-  destroyed line None = refl
-  destroyed line (Some g) = answered line (first_error (destroy_tests (granted_in w) w.topology g.number)) _ refl
-
-  -- append, by what refuses the new consumer
-  joined : (line : ℕ) (x : Growing) (q : Provider) (o : Option Errno) → Same (append_joined w line x q o)
-  joined line x q None = refl
-  joined line x q (Some e) = refl
-
-  -- and by what refuses it before
-  tested : (line : ℕ) (x : Growing) (q : Provider) (o : Option Errno) → Same (append_tested w line x q o)
-  tested line x q None = joined line x q (component_refusal w x q)
-  tested line x q (Some e) = refl
-
-  -- append
-  appended : (line : ℕ) (a : Option Growing) (b : Option Provider) → Same (do_append w line a b)
-  appended line (Some x) (Some q) = tested line x q (first_error (append_tests w x q))
-  appended line (Some x) None = refl
-  appended line None b = refl
-
-  -- Open and close
 
   -- the places that an answer begins to owe, and those that it pays
   abbrev Owes : (begun paid : ℕ) → World × Outcome → Type 0
@@ -183,31 +113,16 @@ CommandOwes w c made =
 -- a command that is no open and no close owes as much as before
 others_owe : (w : World) (line actor : ℕ) (c : Command) → is_open c ≡ false → is_close c ≡ false
     → Same w (do_command w line actor c)
-unfolding do_command
-others_owe w line actor (commands.Open name prov grant) opens closes = absurd (let no : ⊥ = cc in no)
-others_owe w line actor (commands.Close name) opens closes = absurd (let no : ⊥ = cc in no)
-others_owe w line actor (commands.Read name offset len) opens closes = asked w line (handle_of w actor name) _
-others_owe w line actor (commands.Write name offset bytes) opens closes = asked w line (handle_of w actor name) _
-others_owe w line actor (commands.Delete name offset len) opens closes = asked w line (handle_of w actor name) _
-others_owe w line actor (commands.Flush name) opens closes = asked w line (handle_of w actor name) _
-others_owe w line actor commands.Sync opens closes = refl
-others_owe w line actor commands.Settle opens closes = refl
-others_owe w line actor (commands.Insert disk) opens closes = inserted w line (header_disk w disk)
-others_owe w line actor (commands.Pull disk) opens closes = pulled w line (header_disk w disk)
-others_owe w line actor (commands.Nop prov offset size fail) opens closes =
-    windowed w line (nop_name prov) offset size fail (found_provider w prov)
-others_owe w line actor (commands.Concat name provs) opens closes = answered w line _ _ refl
-others_owe w line actor (commands.Stripe name stripe provs) opens closes = answered w line _ _ refl
-others_owe w line actor (commands.Append name prov) opens closes =
-    appended w line (growing_concat w.topology name) (found_provider w prov)
-others_owe w line actor (commands.Destroy kind name) opens closes = destroyed w line (named_geom w kind name)
-others_owe w line actor (commands.Label name label) opens closes = asked w line (handle_of w actor name) _
-others_owe w line actor (commands.Relabel name label) opens closes = asked w line (handle_of w actor name) _
-others_owe w line actor (commands.MarkConcat name label id place count) opens closes =
-    asked w line (handle_of w actor name) _
-others_owe w line actor (commands.MarkStripe name label id place count stripe) opens closes =
-    asked w line (handle_of w actor name) _
-others_owe w line actor commands.Mesh opens closes = refl
+others_owe w line actor =
+    any_graph_by w line actor (λ c made. is_open c ≡ false → is_close c ≡ false → Same w made)
+    (λ c q e opens closes. refl) (λ c q opens closes. refl)
+    (record {
+      waits = λ c is opens closes. refl;
+      lists = λ opens closes. refl;
+      opens = λ name prov grant p is opens closes. absurd (let no : ⊥ = cc in no);
+      closes = λ name h is opens closes. absurd (let no : ⊥ = cc in no);
+      accepts = λ c h a is opens closes. submit_owes w _ refl;
+    })
 
 -- so it begins to owe nothing and pays nothing
 others_change : (w : World) (line actor : ℕ) (c : Command) → is_open c ≡ false → is_close c ≡ false

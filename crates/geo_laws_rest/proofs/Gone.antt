@@ -1,34 +1,24 @@
 -- A Go lowers the measure, since a command less is left; and so does a Reap, since a handle less is open.
-use Rattle.std.specs.Prelude.{◌≡◌, ℕ, ◌+◌, ◌≤◌, Bool, true, false, not, ◌&&◌, List, [], ◌∷◌, length, find, map, sum_by, slice_get, Option, Some, None, Ok, Err, Contains, is_ok, is_some, cond, if◌then◌else◌}
+use Rattle.std.specs.Prelude.{◌≡◌, ℕ, ◌+◌, ◌≤◌, Bool, true, false, not, List, [], ◌∷◌, length, find, map, sum_by, slice_get, Option, Some, None, Ok, Err, Contains, is_ok, is_some, cond, if◌then◌else◌}
 use Rattle.std.specs.Option.{option_map_or}
 use Rattle.std.proofs.Common.{refl, ap, arith}
 use Rattle.std.proofs.lemmas.Bool.{eq-eqb, and_parts}
 use Rattle.std.proofs.lemmas.List.Sums.{sum_by-set}
 use Rattle.std.proofs.lemmas.Option.{slice_get_within, get_or_from_slice_get}
-use Rattle.geo_base.specs.declared.errno.Errno.{Errno}
-use Rattle.geo_base.specs.declared.errno.Errno.TheVariants.{ENXIO}
-use Rattle.geo_base.specs.declared.request.Counts.{Counts}
 use Rattle.geo_model.specs.declared.command.Command.{Command}
-use Rattle.geo_model.specs.declared.command.Command.TheVariants as commands
 use Rattle.geo_model.specs.declared.command.LineCommand.{LineCommand}
 use Rattle.geo_model.specs.declared.step.Found.{Found}
 use Rattle.geo_model.specs.declared.step.Found.TheVariants as refusals
 use Rattle.geo_model.specs.declared.step.Outcome.{Outcome}
 use Rattle.geo_model.specs.declared.step.Outcome.TheVariants as outcomes
-use Rattle.geo_model.specs.Words.{names_number, first_error}
-use Rattle.geo_model.specs.Names.{nop_name}
-use Rattle.geo_model.specs.Topology.{Geom, Provider, find_provider}
-use Rattle.geo_model.specs.Opens.{open_refusal}
-use Rattle.geo_model.specs.World.{World, Config, Handle, HeaderDisk, granted_in, handle_of, is_active}
-use Rattle.geo_model.specs.HandleCommands.{answer, open_answered, close_handle, request_answered, do_request}
-use Rattle.geo_model.specs.Requests.{Asking, request_refusal}
-use Rattle.geo_model.specs.GeomCommands.{header_disk, is_geom_of_disk, insert_tests, stand, do_insert, wither_found, do_pull, nop_tests, do_nop, destroy_tests, do_destroy, found_provider, named_geom}
-use Rattle.geo_model.specs.Append.{Growing, growing_concat, append_tests, component_refusal, append_joined, append_tested, do_append}
+use Rattle.geo_model.specs.Words.{names_number}
+use Rattle.geo_model.specs.World.{World, Handle, is_active}
 use Rattle.geo_model.specs.Commands.{do_command}
 use Rattle.geo_model.specs.Freeing.{is_to_reap, reap_work, reap, reap_handle}
 use Rattle.geo_model.specs.Step.{step, waits_for, with_commands, go_of, go, unless_found, reap_next}
 use Rattle.geo_model.specs.Log.{world_after}
 use Rattle.geo_model.specs.Order.{IsLess, measure}
+use Rattle.geo_model.proofs.CommandWalk.{any_graph_by}
 use Rattle.geo_laws_graph.proofs.Members.{find-Contains}
 use Rattle.geo_laws_graph.proofs.Finding.{found_fact}
 use Rattle.geo_laws_counts.proofs.Levels.{of_each}
@@ -43,110 +33,17 @@ module _ (w : World) where
   abbrev pub Keeps : World × Outcome → Type 0
   Keeps made = made.0.actors ≡ w.actors
 
-  -- one of two answers
-  either : (b : Bool) (m n : World × Outcome) → Keeps m → Keeps n → Keeps (if b then m else n)
-  either true m n one two = one
-  either false m n one two = two
-
-  -- an answer, by what refuses it
-  answered : (line : ℕ) (o : Option Errno) (after : World) → after.actors ≡ w.actors → Keeps (answer w line o after)
-  answered line None after same = same
-  answered line (Some e) after same = refl
-
-  -- open
-  opened : (line actor : ℕ) (name : List ℕ) (o : Option ℕ) (grant : Counts) (e : Option Errno)
-      → Keeps (open_answered w line actor name o grant e)
-  opened line actor name None grant e = answered line e w refl
-  opened line actor name (Some p) grant None = refl
-  opened line actor name (Some p) grant (Some e) = refl
-
-  -- close
-  closed : (line : ℕ) (o : Option Handle) → Keeps (close_handle w line o)
-  closed line None = refl
-  closed line (Some h) = either (option_map_or (is_active w) h.consumer false) _ _ refl refl
-
-  -- a request
-  requested : (line : ℕ) (h : Option Handle) (a : Asking) (e : Option Errno) → Keeps (request_answered w line h a e)
-  requested line h a (Some e) = refl
-  requested line None a None = refl
-  requested line (Some h) a None = refl
-
-  -- through a handle of the name
-  asked : (line : ℕ) (h : Option Handle) (a : Asking) → Keeps (do_request w line h a)
-  asked line h a = requested line h a (request_refusal w h a)
-
-  -- insert
-  inserted : (line : ℕ) (o : Option (ℕ × HeaderDisk)) → Keeps (do_insert w line o)
-  inserted line None = refl
-  inserted line (Some item) = answered line (first_error (insert_tests w.topology item)) (stand w item) refl
-
-  -- a geom that withers
-  withered : (line : ℕ) (o : Option (Geom Config)) (e : Errno) → Keeps (wither_found w line o e)
-  withered line None e = refl
-  withered line (Some g) e = refl
-
-  -- pull
-  pulled : (line : ℕ) (o : Option (ℕ × HeaderDisk)) → Keeps (do_pull w line o)
-  pulled line None = refl
-  pulled line (Some item) =
-      withered line (find (λ (g : Geom Config). is_geom_of_disk item.0 g && not g.withering) w.topology.geoms) ENXIO
-
-  -- nop
-  windowed : (line : ℕ) (name : List ℕ) (offset size fail : ℕ) (o : Option Provider)
-      → Keeps (do_nop w line name offset size fail o)
-  windowed line name offset size fail None = refl
-  windowed line name offset size fail (Some p) =
-      answered line (first_error (nop_tests w.topology name offset size p)) _ refl
-
-  -- destroy
-  destroyed : (line : ℕ) (o : Option (Geom Config)) → Keeps (do_destroy w line o)
-  destroyed line None = refl
-  destroyed line (Some g) = answered line (first_error (destroy_tests (granted_in w) w.topology g.number)) _ refl
-
-  -- append, by what refuses the new consumer
-  joined : (line : ℕ) (x : Growing) (q : Provider) (o : Option Errno) → Keeps (append_joined w line x q o)
-  joined line x q None = refl
-  joined line x q (Some e) = refl
-
-  -- and by what refuses it before
-  tested : (line : ℕ) (x : Growing) (q : Provider) (o : Option Errno) → Keeps (append_tested w line x q o)
-  tested line x q None = joined line x q (component_refusal w x q)
-  tested line x q (Some e) = refl
-
-  -- append
-  appended : (line : ℕ) (a : Option Growing) (b : Option Provider) → Keeps (do_append w line a b)
-  appended line (Some x) (Some q) = tested line x q (first_error (append_tests w x q))
-  appended line (Some x) None = refl
-  appended line None b = refl
-
   -- each command
   pub keeps : (line actor : ℕ) (c : Command) → Keeps (do_command w line actor c)
-  unfolding do_command
-  keeps line actor (commands.Open name prov grant) =
-      either (is_some (handle_of w actor name)) _ _ refl
-      (opened line actor name (find_provider w.topology prov) grant (open_refusal
-      (granted_in w) w.topology prov grant))
-  keeps line actor (commands.Close name) = closed line (handle_of w actor name)
-  keeps line actor (commands.Read name offset len) = asked line (handle_of w actor name) _
-  keeps line actor (commands.Write name offset bytes) = asked line (handle_of w actor name) _
-  keeps line actor (commands.Delete name offset len) = asked line (handle_of w actor name) _
-  keeps line actor (commands.Flush name) = asked line (handle_of w actor name) _
-  keeps line actor commands.Sync = refl
-  keeps line actor commands.Settle = refl
-  keeps line actor (commands.Insert disk) = inserted line (header_disk w disk)
-  keeps line actor (commands.Pull disk) = pulled line (header_disk w disk)
-  keeps line actor (commands.Nop prov offset size fail) =
-      windowed line (nop_name prov) offset size fail (found_provider w prov)
-  keeps line actor (commands.Concat name provs) = answered line _ _ refl
-  keeps line actor (commands.Stripe name stripe provs) = answered line _ _ refl
-  keeps line actor (commands.Append name prov) =
-      appended line (growing_concat w.topology name) (found_provider w prov)
-  keeps line actor (commands.Destroy kind name) = destroyed line (named_geom w kind name)
-  keeps line actor (commands.Label name label) = asked line (handle_of w actor name) _
-  keeps line actor (commands.Relabel name label) = asked line (handle_of w actor name) _
-  keeps line actor (commands.MarkConcat name label id place count) = asked line (handle_of w actor name) _
-  keeps line actor (commands.MarkStripe name label id place count stripe) = asked line (handle_of w actor name) _
-  keeps line actor commands.Mesh = refl
+  keeps line actor =
+      any_graph_by w line actor (λ c made. Keeps made) (λ c q e. refl) (λ c q. refl)
+      (record {
+        waits = λ c is. refl;
+        lists = refl;
+        opens = λ name prov grant p is. refl;
+        closes = λ name h is. refl;
+        accepts = λ c h a is. refl;
+      })
 
 -- the next command goes
 taken : (w : World) (actor : ℕ) (c : LineCommand) (rest : List LineCommand)

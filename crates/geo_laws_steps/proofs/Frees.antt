@@ -8,11 +8,12 @@ use Rattle.geo_model.specs.declared.step.Step.TheVariants as steps
 use Rattle.geo_model.specs.World.{World}
 use Rattle.geo_model.specs.History.{next_command, FreesOnlyIdle}
 use Rattle.geo_model.specs.Laws.{world_by}
+use Rattle.geo_model.specs.CommandEffects.{is_of_geoms}
 use Rattle.geo_model.specs.Fitting.{Firm}
 use Rattle.geo_laws_life.proofs.Washed.{wash_step_keeps}
 use Rattle.geo_laws_handles.specs.CommandLaws.{is_of_handles}
 use Rattle.geo_laws_handles.proofs.Idle.{handles_free_idle}
-use Rattle.geo_laws_offers.specs.OfferingLaws.{StaysThere, Adds, EndsTaste, is_of_geoms}
+use Rattle.geo_laws_offers.specs.OfferingLaws.{StaysThere, Adds, EndsTaste}
 use Rattle.geo_laws_offers.proofs.Bios.{bios-add}
 use Rattle.geo_laws_offers.proofs.Events.{events-add}
 use Rattle.geo_laws_offers.proofs.Geoms.{geoms-add}

@@ -7,10 +7,11 @@ use Rattle.geo_model.specs.World.{World}
 use Rattle.geo_model.specs.History.{next_command}
 use Rattle.geo_model.specs.Laws.{world_by}
 use Rattle.geo_model.specs.Steady.{OffersOnlyLiving}
+use Rattle.geo_model.specs.CommandEffects.{is_of_geoms}
 use Rattle.geo_model.specs.Fitting.{Firm}
 use Rattle.geo_laws_handles.specs.CommandLaws.{is_of_handles}
 use Rattle.geo_laws_handles.proofs.Offered.{handles_offer_living}
-use Rattle.geo_laws_offers.specs.OfferingLaws.{Adds, EndsTaste, is_of_geoms}
+use Rattle.geo_laws_offers.specs.OfferingLaws.{Adds, EndsTaste}
 use Rattle.geo_laws_offers.proofs.Bios.{bios-add}
 use Rattle.geo_laws_offers.proofs.Events.{events-add}
 use Rattle.geo_laws_offers.proofs.Geoms.{geoms-add}

@@ -39,27 +39,7 @@ module _ (w : World) (firm : Firm w) (line actor : ℕ) where
   -- each command
   command_kept : (c : Command) → Keeps w (do_command w line actor c).0
   command_kept (commands.Append name prov) = append_kept name prov
-  command_kept (commands.Open name prov grant) = other_kept (commands.Open name prov grant) refl
-  command_kept (commands.Close name) = other_kept (commands.Close name) refl
-  command_kept (commands.Read name offset len) = other_kept (commands.Read name offset len) refl
-  command_kept (commands.Write name offset bytes) = other_kept (commands.Write name offset bytes) refl
-  command_kept (commands.Delete name offset len) = other_kept (commands.Delete name offset len) refl
-  command_kept (commands.Flush name) = other_kept (commands.Flush name) refl
-  command_kept commands.Sync = other_kept commands.Sync refl
-  command_kept commands.Settle = other_kept commands.Settle refl
-  command_kept (commands.Insert disk) = other_kept (commands.Insert disk) refl
-  command_kept (commands.Pull disk) = other_kept (commands.Pull disk) refl
-  command_kept (commands.Nop prov offset size fail) = other_kept (commands.Nop prov offset size fail) refl
-  command_kept (commands.Concat name provs) = other_kept (commands.Concat name provs) refl
-  command_kept (commands.Stripe name stripe provs) = other_kept (commands.Stripe name stripe provs) refl
-  command_kept (commands.Destroy kind name) = other_kept (commands.Destroy kind name) refl
-  command_kept (commands.Label name label) = other_kept (commands.Label name label) refl
-  command_kept (commands.Relabel name label) = other_kept (commands.Relabel name label) refl
-  command_kept (commands.MarkConcat name label id place count) =
-      other_kept (commands.MarkConcat name label id place count) refl
-  command_kept (commands.MarkStripe name label id place count stripe) =
-      other_kept (commands.MarkStripe name label id place count stripe) refl
-  command_kept commands.Mesh = other_kept commands.Mesh refl
+  command_kept c = other_kept c refl
 
 -- unless something is against it
 unless_kept : (w : World) (o : Option Found) (m : World × Outcome) → Keeps w m.0

@@ -1,14 +1,10 @@
 -- A Start alone queues to a disk, and a Take alone asks one.
-use Rattle.std.specs.Prelude.{◌≡◌, ℕ, Bool, true, false, not, ◌&&◌, List, [], ◌∷◌, find, slice_get, Option, Some, None, Ok, Err, ⊤, is_some, if◌then◌else◌}
+use Rattle.std.specs.Prelude.{◌≡◌, ℕ, Bool, true, false, List, [], ◌∷◌, slice_get, Option, Some, None, Ok, Err, ⊤, is_some, if◌then◌else◌}
 use Rattle.std.specs.Option.{option_map_or}
 use Rattle.std.proofs.Common.{refl}
-use Rattle.geo_base.specs.declared.errno.Errno.{Errno}
-use Rattle.geo_base.specs.declared.errno.Errno.TheVariants.{ENXIO}
-use Rattle.geo_base.specs.declared.request.Counts.{Counts}
 use Rattle.geo_model.specs.declared.class.Judged.{Judged}
 use Rattle.geo_model.specs.declared.class.Judged.TheVariants.{Read, Next, Made, Ended}
 use Rattle.geo_model.specs.declared.command.Command.{Command}
-use Rattle.geo_model.specs.declared.command.Command.TheVariants as commands
 use Rattle.geo_model.specs.declared.command.LineCommand.{LineCommand}
 use Rattle.geo_model.specs.declared.step.DeviceResult.{DeviceResult}
 use Rattle.geo_model.specs.declared.step.Event.{Event}
@@ -21,21 +17,14 @@ use Rattle.geo_model.specs.declared.step.Owner.TheVariants as owners
 use Rattle.geo_model.specs.declared.step.Step.{Step}
 use Rattle.geo_model.specs.declared.step.Step.TheVariants as steps
 use Rattle.geo_model.specs.declared.step.WashWork.{WashWork}
-use Rattle.geo_model.specs.Words.{first_error}
-use Rattle.geo_model.specs.Names.{nop_name}
-use Rattle.geo_model.specs.Topology.{Geom, Provider, find_provider}
-use Rattle.geo_model.specs.Opens.{open_refusal}
-use Rattle.geo_model.specs.World.{World, Config, Handle, HeaderDisk, Bio, Taste, bio_at, granted_in, handle_of, is_active, is_up, is_read_out}
+use Rattle.geo_model.specs.World.{World, Handle, Bio, Taste, bio_at, granted_in, is_up, is_read_out}
 use Rattle.geo_model.specs.Bios.{up, up_to, deliver}
 use Rattle.geo_model.specs.WorldEvents.{queued_of}
-use Rattle.geo_model.specs.HandleCommands.{answer, open_answered, close_handle, request_answered, do_request}
-use Rattle.geo_model.specs.Requests.{Asking, request_refusal}
-use Rattle.geo_model.specs.GeomCommands.{header_disk, is_geom_of_disk, insert_tests, stand, do_insert, wither_found, do_pull, nop_tests, do_nop, destroy_tests, do_destroy, found_provider, named_geom}
-use Rattle.geo_model.specs.Append.{Growing, growing_concat, append_tests, component_refusal, append_joined, append_tested, do_append}
 use Rattle.geo_model.specs.Tasting.{Judging, taste_step, judged_world, judge_step}
 use Rattle.geo_model.specs.Freeing.{reap, reap_work, wash, wash_work}
 use Rattle.geo_model.specs.Commands.{do_command}
 use Rattle.geo_model.specs.Step.{Answer, unless_found, waits_for, with_commands, go_of, go, event_of, event, taste_bio, judge_of, judge_next, reap_next, wash_next, deliver_found, deliver_of, up_of, step}
+use Rattle.geo_model.proofs.CommandWalk.{any_graph_by}
 
 -- whether an outcome queues to a disk or asks one
 abbrev pub is_to_disk : Outcome → Bool
@@ -49,112 +38,17 @@ Quiet made = is_to_disk made.1 ≡ false
 
 -- Commands
 
-module _ (w : World) where
-  -- one of two answers
-  either : (b : Bool) (m n : World × Outcome) → Quiet m → Quiet n → Quiet (if b then m else n)
-  either true m n one two = one
-  either false m n one two = two
-
-  -- an answer, by what refuses it
-  answered : (line : ℕ) (o : Option Errno) (after : World) → Quiet (answer w line o after)
-  answered line None after = refl
-  answered line (Some e) after = refl
-
-  -- open
-  opened : (line actor : ℕ) (name : List ℕ) (o : Option ℕ) (grant : Counts) (e : Option Errno)
-      → Quiet (open_answered w line actor name o grant e)
-  opened line actor name None grant e = answered line e w
-  opened line actor name (Some p) grant None = refl
-  opened line actor name (Some p) grant (Some e) = refl
-
-  -- close
-  closed : (line : ℕ) (o : Option Handle) → Quiet (close_handle w line o)
-  closed line None = refl
-  closed line (Some h) = either (option_map_or (is_active w) h.consumer false) _ _ refl refl
-
-  -- a request
-  requested : (line : ℕ) (h : Option Handle) (a : Asking) (e : Option Errno) → Quiet (request_answered w line h a e)
-  requested line h a (Some e) = refl
-  requested line None a None = refl
-  requested line (Some h) a None = refl
-
-  -- through a handle of the name
-  asked : (line : ℕ) (h : Option Handle) (a : Asking) → Quiet (do_request w line h a)
-  asked line h a = requested line h a (request_refusal w h a)
-
-  -- insert
-  inserted : (line : ℕ) (o : Option (ℕ × HeaderDisk)) → Quiet (do_insert w line o)
-  inserted line None = refl
-  inserted line (Some item) = answered line (first_error (insert_tests w.topology item)) (stand w item)
-
-  -- a geom that withers
-  withered : (line : ℕ) (o : Option (Geom Config)) (e : Errno) → Quiet (wither_found w line o e)
-  withered line None e = refl
-  withered line (Some g) e = refl
-
-  -- pull
-  pulled : (line : ℕ) (o : Option (ℕ × HeaderDisk)) → Quiet (do_pull w line o)
-  pulled line None = refl
-  pulled line (Some item) =
-      withered line (find (λ (g : Geom Config). is_geom_of_disk item.0 g && not g.withering) w.topology.geoms) ENXIO
-
-  -- nop
-  windowed : (line : ℕ) (name : List ℕ) (offset size fail : ℕ) (o : Option Provider)
-      → Quiet (do_nop w line name offset size fail o)
-  windowed line name offset size fail None = refl
-  windowed line name offset size fail (Some p) =
-      answered line (first_error (nop_tests w.topology name offset size p)) _
-
-  -- destroy
-  destroyed : (line : ℕ) (o : Option (Geom Config)) → Quiet (do_destroy w line o)
-  destroyed line None = refl
-  destroyed line (Some g) = answered line (first_error (destroy_tests (granted_in w) w.topology g.number)) _
-
-  -- append, by what refuses the new consumer
-  joined : (line : ℕ) (x : Growing) (q : Provider) (o : Option Errno) → Quiet (append_joined w line x q o)
-  joined line x q None = refl
-  joined line x q (Some e) = refl
-
-  -- and by what refuses it before
-  tested : (line : ℕ) (x : Growing) (q : Provider) (o : Option Errno) → Quiet (append_tested w line x q o)
-  tested line x q None = joined line x q (component_refusal w x q)
-  tested line x q (Some e) = refl
-
-  -- append
-  appended : (line : ℕ) (a : Option Growing) (b : Option Provider) → Quiet (do_append w line a b)
-  appended line (Some x) (Some q) = tested line x q (first_error (append_tests w x q))
-  appended line (Some x) None = refl
-  appended line None b = refl
-
-  -- each command
-  commanded : (line actor : ℕ) (c : Command) → Quiet (do_command w line actor c)
-  unfolding do_command
-  commanded line actor (commands.Open name prov grant) =
-      either (is_some (handle_of w actor name)) _ _ refl
-      (opened line actor name (find_provider w.topology prov) grant (open_refusal
-      (granted_in w) w.topology prov grant))
-  commanded line actor (commands.Close name) = closed line (handle_of w actor name)
-  commanded line actor (commands.Read name offset len) = asked line (handle_of w actor name) _
-  commanded line actor (commands.Write name offset bytes) = asked line (handle_of w actor name) _
-  commanded line actor (commands.Delete name offset len) = asked line (handle_of w actor name) _
-  commanded line actor (commands.Flush name) = asked line (handle_of w actor name) _
-  commanded line actor commands.Sync = refl
-  commanded line actor commands.Settle = refl
-  commanded line actor (commands.Insert disk) = inserted line (header_disk w disk)
-  commanded line actor (commands.Pull disk) = pulled line (header_disk w disk)
-  commanded line actor (commands.Nop prov offset size fail) =
-      windowed line (nop_name prov) offset size fail (found_provider w prov)
-  commanded line actor (commands.Concat name provs) = answered line _ _
-  commanded line actor (commands.Stripe name stripe provs) = answered line _ _
-  commanded line actor (commands.Append name prov) =
-      appended line (growing_concat w.topology name) (found_provider w prov)
-  commanded line actor (commands.Destroy kind name) = destroyed line (named_geom w kind name)
-  commanded line actor (commands.Label name label) = asked line (handle_of w actor name) _
-  commanded line actor (commands.Relabel name label) = asked line (handle_of w actor name) _
-  commanded line actor (commands.MarkConcat name label id place count) = asked line (handle_of w actor name) _
-  commanded line actor (commands.MarkStripe name label id place count stripe) =
-      asked line (handle_of w actor name) _
-  commanded line actor commands.Mesh = refl
+-- each command
+commanded : (w : World) (line actor : ℕ) (c : Command) → Quiet (do_command w line actor c)
+commanded w line actor =
+    any_graph_by w line actor (λ c made. Quiet made) (λ c q e. refl) (λ c q. refl)
+    (record {
+      waits = λ c is. refl;
+      lists = refl;
+      opens = λ name prov grant p is. refl;
+      closes = λ name h is. refl;
+      accepts = λ c h a is. refl;
+    })
 
 -- Steps
 

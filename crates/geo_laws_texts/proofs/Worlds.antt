@@ -2,9 +2,8 @@
 use Rattle.std.specs.Prelude.{◌≡◌, ℕ, Bool, true, false, List, Option, Some, None, if◌then◌else◌}
 use Rattle.std.specs.List.{AllByRecursion}
 use Rattle.std.specs.Option.{option_map_or}
-use Rattle.std.proofs.Common.{refl, sym, subst}
+use Rattle.std.proofs.Common.{sym, subst}
 use Rattle.geo_base.specs.Name.{is_name}
-use Rattle.geo_base.specs.declared.errno.Errno.{Errno}
 use Rattle.geo_model.specs.declared.command.LineCommand.{LineCommand}
 use Rattle.geo_model.specs.declared.step.Found.{Found}
 use Rattle.geo_model.specs.declared.step.Outcome.{Outcome}
@@ -14,7 +13,6 @@ use Rattle.geo_model.specs.Demand.{risen, fallen}
 use Rattle.geo_model.specs.World.{World, Config, HeaderDisk, granted_in}
 use Rattle.geo_model.specs.Events.{QueuedTopology}
 use Rattle.geo_model.specs.WorldEvents.{queued_of, with_queued, after_open, after_close}
-use Rattle.geo_model.specs.HandleCommands.{answer}
 use Rattle.geo_model.specs.Step.{Answer, unless_found}
 use Rattle.geo_model.specs.Log.{world_after}
 use Rattle.geo_laws_texts.proofs.Graphs.{Named, risen_named, fallen_named}
@@ -61,12 +59,6 @@ closed_keeps w v keeps =
 pub removed_named : (t : Topology Config) (o : Option ℕ) → Named t → Named (option_map_or (remove_consumer t) o t)
 removed_named t None named = named
 removed_named t (Some c) named = named
-
--- an answer, by what refuses it
-pub answer_keeps : (w : World) (line : ℕ) (o : Option Errno) (after : World) → KeepsNames w
-    → (o ≡ None → KeepsNames after) → KeepsNames (answer w line o after).0
-answer_keeps w line None after keeps so = so refl
-answer_keeps w line (Some e) after keeps so = keeps
 
 -- what a step makes, by what is against it
 pub unless_keeps : (w : World) (o : Option Found) (made : World × Outcome) → KeepsNames w → KeepsNames made.0

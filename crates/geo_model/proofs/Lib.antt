@@ -18,3 +18,5 @@ pub mod RankLemmas
 pub mod PlaceLemmas
 pub mod PartitionLemmas
 pub mod WayLemmas
+pub mod SectorLemmas
+pub mod CommandWalk

@@ -56,7 +56,7 @@ name-read : (name rest : List ℕ) → length name ≤ 16 → list_all is_word_b
 name-read name rest short all = rw (field-take name rest short) (name-taken name (16 - length name) all)
 
 -- what a short name is
-short-length : (name : List ℕ) → is_short_name name ≡ true → length name ≤ 16
+pub short-length : (name : List ℕ) → is_short_name name ≡ true → length name ≤ 16
 short-length name e =
     let parts = and_parts (nat_le 1 (length name) && nat_le (length name) 16) (list_all is_word_byte name) e in
     leb-true (length name) 16 (and_parts (nat_le 1 (length name)) (nat_le (length name) 16) parts.0).1
@@ -176,18 +176,24 @@ concat-read size x short fits =
     ∙ place-none bytes x.place x.count place count fits.some_place fits.few_places fits.inside in
     rw (tests, name, id, place, count) refl
 
+-- a number of 32 bits is written in four bytes
+pub bytes_4 : (n : ℕ) → length (to_le_bytes w32 n) ≡ 4
+bytes_4 n = refl
+
 -- how long the head of a record is, and a record in a sector
-head-length : (magic name : List ℕ) → length magic ≡ 16 → length name ≤ 16 → length (record_head magic 1 name) ≡ 36
-head-length magic name m short =
+pub head-length : (magic : List ℕ) (version : ℕ) (name : List ℕ) → length magic ≡ 16 → length name ≤ 16
+    → length (record_head magic version name) ≡ 36
+head-length magic version name m short =
     omega (
       arith,
-      length-append magic (to_le_bytes w32 1 ++ padded 16 name),
-      length-append (to_le_bytes w32 1) (padded 16 name),
+      length-append magic (to_le_bytes w32 version ++ padded 16 name),
+      length-append (to_le_bytes w32 version) (padded 16 name),
       m,
+      bytes_4 version,
       length-padded 16 name short,
     )
 
-sector-large : (size : ℕ) → IsSectorSize size → 512 ≤ size
+pub sector-large : (size : ℕ) → IsSectorSize size → 512 ≤ size
 sector-large size (inl e) = omega (arith, e)
 sector-large size (inr e) = omega (arith, e)
 
@@ -211,7 +217,7 @@ stripe-read size x sector short fits good =
     (omega (
       arith,
       length-append (record_head stripe_magic 1 x.name) fields,
-      head-length stripe_magic x.name refl low,
+      head-length stripe_magic 1 x.name refl low,
       sector-large size sector,
     )) in
     let sizes = and_parts (nat_le 1 x.stripe) (nat_le x.stripe MAX_STRIPE_BYTES && (x.stripe % size == 0)) good in

@@ -42,6 +42,7 @@ pub mod Fitting
 pub mod Passes
 pub mod History
 pub mod FixedOrder
+pub mod CommandEffects
 pub mod Laws
 pub mod FormatLaws
 pub use Rattle.geo_base.specs.Sectors

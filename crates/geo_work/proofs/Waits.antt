@@ -50,25 +50,7 @@ holds_back w actor commands.Settle after found is = record {
   waits = tt;
   goes_on = unsettled (is_unsettled w) found (held_back (waits_for w actor commands.Settle) after found is);
 }
-holds_back w actor (commands.Open name prov grant) after found is = absurd (let bad : ⊥ = cc in bad)
-holds_back w actor (commands.Close name) after found is = absurd (let bad : ⊥ = cc in bad)
-holds_back w actor (commands.Read name offset len) after found is = absurd (let bad : ⊥ = cc in bad)
-holds_back w actor (commands.Write name offset bytes) after found is = absurd (let bad : ⊥ = cc in bad)
-holds_back w actor (commands.Delete name offset len) after found is = absurd (let bad : ⊥ = cc in bad)
-holds_back w actor (commands.Flush name) after found is = absurd (let bad : ⊥ = cc in bad)
-holds_back w actor (commands.Insert disk) after found is = absurd (let bad : ⊥ = cc in bad)
-holds_back w actor (commands.Pull disk) after found is = absurd (let bad : ⊥ = cc in bad)
-holds_back w actor (commands.Nop prov offset size fail) after found is = absurd (let bad : ⊥ = cc in bad)
-holds_back w actor (commands.Concat name provs) after found is = absurd (let bad : ⊥ = cc in bad)
-holds_back w actor (commands.Stripe name stripe provs) after found is = absurd (let bad : ⊥ = cc in bad)
-holds_back w actor (commands.Append name prov) after found is = absurd (let bad : ⊥ = cc in bad)
-holds_back w actor (commands.Destroy kind name) after found is = absurd (let bad : ⊥ = cc in bad)
-holds_back w actor (commands.Label name label) after found is = absurd (let bad : ⊥ = cc in bad)
-holds_back w actor (commands.Relabel name label) after found is = absurd (let bad : ⊥ = cc in bad)
-holds_back w actor (commands.MarkConcat name label id place count) after found is = absurd (let bad : ⊥ = cc in bad)
-holds_back w actor (commands.MarkStripe name label id place count stripe) after found is =
-    absurd (let bad : ⊥ = cc in bad)
-holds_back w actor commands.Mesh after found is = absurd (let bad : ⊥ = cc in bad)
+holds_back w actor _ after found is = absurd (let bad : ⊥ = cc in bad)
 
 -- what the commands that an actor has left tell of what was found
 record FindsNext (left : Option (List LineCommand)) (found : Found) : Type 0 where
