@@ -118,35 +118,35 @@ ends_with old taken disk bio o q made asked = record {
 }
 
 -- so the request of the last entry is the one that can be served
-pub takes_last : (old taken : MeshView) (drives : List DriveView) (disk bio : ℕ) (o : Outcome) (q : Request)
-    → IsHistory old → IsHistory taken → DrivesFit old drives → Made old taken 0 (steps.Take disk bio) o
-    → EndsWithRequest taken.log q → TakesRequest old taken drives bio o q
-takes_last old taken drives disk bio o q history after fit made ends =
-    let some : (r : Request) × TakesRequest old taken drives bio o r =
-    takes_request old taken drives disk bio o history after fit made in
-    subst (λ (r : Request). TakesRequest old taken drives bio o r)
-    (same_request taken.log some.0 q (ends_with old taken disk bio o some.0 made some.1.asked) ends) some.1
+module _ {old taken : MeshView} (drives : List DriveView) {disk bio : ℕ} {o : Outcome} {q : Request}
+    (history : IsHistory old) (after : IsHistory taken) (fit : DrivesFit old drives)
+    (made : Made old taken 0 (steps.Take disk bio) o) (ends : EndsWithRequest taken.log q) where
+  pub takes_last : TakesRequest old taken drives bio o q
+  takes_last =
+      let some : (r : Request) × TakesRequest old taken drives bio o r =
+      takes_request old taken drives disk bio o history after fit made in
+      subst (λ (r : Request). TakesRequest old taken drives bio o r)
+      (same_request taken.log some.0 q (ends_with old taken disk bio o some.0 made some.1.asked) ends) some.1
 
--- its drive can serve it
-pub last_can : (old taken : MeshView) (drives : List DriveView) (bio : ℕ) (o : Outcome) (q : Request)
-    → TakesRequest old taken drives bio o q → IsSomeAnd (slice_get drives q.disk) (λ d. CanServe d q)
-last_can old taken drives bio o q it = subst (λ x. IsSomeAnd x (λ d. CanServe d q)) (sym it.is_its) it.can
+module _ {old taken : MeshView} {drives : List DriveView} {bio : ℕ} {o : Outcome} {q : Request}
+    (it : TakesRequest old taken drives bio o q) where
+  -- its drive can serve it
+  pub last_can : IsSomeAnd (slice_get drives q.disk) (λ d. CanServe d q)
+  last_can = subst (λ x. IsSomeAnd x (λ d. CanServe d q)) (sym it.is_its) it.can
 
--- in room of as many bytes as the bio reads
-pub last_room : (old taken : MeshView) (drives : List DriveView) (bio : ℕ) (o : Outcome) (q : Request)
-    (block : List ℕ) → TakesRequest old taken drives bio o q → length block ≡ bytes_read_by (world_of old) bio
-    → IsSomeAnd (slice_get drives q.disk) (λ d. HasRoom d q block)
-last_room old taken drives bio o q block it long =
-    subst (λ x. IsSomeAnd x (λ d. HasRoom d q block)) (sym it.is_its) (it.room block long)
+  -- in room of as many bytes as the bio reads
+  pub last_room : (block : List ℕ) → length block ≡ bytes_read_by (world_of old) bio
+      → IsSomeAnd (slice_get drives q.disk) (λ d. HasRoom d q block)
+  last_room block long =
+      subst (λ x. IsSomeAnd x (λ d. HasRoom d q block)) (sym it.is_its) (it.room block long)
 
--- and its answer can be delivered
-pub last_enabled : (old taken : MeshView) (drives after : List DriveView) (bio : ℕ) (o : Outcome) (q : Request)
-    (got : DeviceResult) → TakesRequest old taken drives bio o q → AnswersRequest q drives after got
-    → IsTrue (is_enabled (world_of taken) 0 (steps.Deliver bio got))
-last_enabled old taken drives after bio o q got it answers =
-    let both : Some it.drive ≡ Some answers.old = sym it.is_its ∙ answers.is_its in
-    let same : it.drive ≡ answers.old = cc in
-    it.fits got (subst (λ (d : DriveView). IsTrue (fits_request d.sector q got)) (sym same) answers.serves.fits)
+  -- and its answer can be delivered
+  pub last_enabled : (after : List DriveView) (got : DeviceResult) → AnswersRequest q drives after got
+      → IsTrue (is_enabled (world_of taken) 0 (steps.Deliver bio got))
+  last_enabled after got answers =
+      let both : Some it.drive ≡ Some answers.old = sym it.is_its ∙ answers.is_its in
+      let same : it.drive ≡ answers.old = cc in
+      it.fits got (subst (λ (d : DriveView). IsTrue (fits_request d.sector q got)) (sym same) answers.serves.fits)
 
 -- Drives as they are seen
 

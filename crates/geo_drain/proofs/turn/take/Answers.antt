@@ -23,51 +23,31 @@ last_request-requires g c =
 
 pub answer-got-requires-clause-inside : goal.answer-got-requires-clause-inside
 answer-got-requires-clause-inside g c =
-    let seen = drive_view g.D.Disk.view in
-    let it : TakesRequest c.args.mesh.now c.make.new.mesh (map seen c.args.disks.now) c.args.bio
-    c.in_ok-make.ensures.made.0 c.last_request.result.now =
-    takes_last c.args.mesh.now c.make.new.mesh (map seen c.args.disks.now) c.args.disk c.args.bio
-    c.in_ok-make.ensures.made.0 c.last_request.result.now c.requires.history c.in_ok-make.ensures.history
-    c.requires.fit c.in_ok-make.ensures.made.1 c.last_request.ensures in
-    seen_within seen c.args.disks.now c.last_request.result.now.disk it.drive it.is_its
+    let it = takes_last (map (drive_view g.D.Disk.view) c.args.disks.now) c.requires.history
+    c.in_ok-make.ensures.history c.requires.fit c.in_ok-make.ensures.made.1 c.last_request.ensures in
+    seen_within (drive_view g.D.Disk.view) c.args.disks.now c.last_request.result.now.disk it.drive it.is_its
 
 pub answer-got-requires-clause-can : goal.answer-got-requires-clause-can
 answer-got-requires-clause-can g c =
-    let seen = drive_view g.D.Disk.view in
-    last_can c.args.mesh.now c.make.new.mesh (map seen c.args.disks.now) c.args.bio c.in_ok-make.ensures.made.0
-    c.last_request.result.now
-    (takes_last c.args.mesh.now c.make.new.mesh (map seen c.args.disks.now) c.args.disk c.args.bio
-    c.in_ok-make.ensures.made.0 c.last_request.result.now c.requires.history c.in_ok-make.ensures.history
-    c.requires.fit c.in_ok-make.ensures.made.1 c.last_request.ensures)
+    last_can (takes_last (map (drive_view g.D.Disk.view) c.args.disks.now) c.requires.history
+    c.in_ok-make.ensures.history c.requires.fit c.in_ok-make.ensures.made.1 c.last_request.ensures)
 
 pub answer-got-requires-clause-room : goal.answer-got-requires-clause-room
 answer-got-requires-clause-room g c =
-    let seen = drive_view g.D.Disk.view in
-    last_room c.args.mesh.now c.make.new.mesh (map seen c.args.disks.now) c.args.bio c.in_ok-make.ensures.made.0
-    c.last_request.result.now c.in-Ok.room
-    (takes_last c.args.mesh.now c.make.new.mesh (map seen c.args.disks.now) c.args.disk c.args.bio
-    c.in_ok-make.ensures.made.0 c.last_request.result.now c.requires.history c.in_ok-make.ensures.history
-    c.requires.fit c.in_ok-make.ensures.made.1 c.last_request.ensures)
+    last_room (takes_last (map (drive_view g.D.Disk.view) c.args.disks.now) c.requires.history
+    c.in_ok-make.ensures.history c.requires.fit c.in_ok-make.ensures.made.1 c.last_request.ensures) c.in-Ok.room
     (ap length c.in-Ok.ensures ∙ length-replicate c.room.result 0 ∙ c.room.ensures)
 
 pub deliver-requires : goal.deliver-requires
 deliver-requires g c =
-    let seen = drive_view g.D.Disk.view in
-    last_enabled c.args.mesh.now c.make.new.mesh (map seen c.args.disks.now) (map seen c.answer-got.new.disks)
-    c.args.bio c.in_ok-make.ensures.made.0 c.last_request.result.now c.answer-got.result
-    (takes_last c.args.mesh.now c.make.new.mesh (map seen c.args.disks.now) c.args.disk c.args.bio
-    c.in_ok-make.ensures.made.0 c.last_request.result.now c.requires.history c.in_ok-make.ensures.history
-    c.requires.fit c.in_ok-make.ensures.made.1 c.last_request.ensures)
-    c.answer-got.ensures
+    last_enabled (takes_last (map (drive_view g.D.Disk.view) c.args.disks.now) c.requires.history
+    c.in_ok-make.ensures.history c.requires.fit c.in_ok-make.ensures.made.1 c.last_request.ensures)
+    (map (drive_view g.D.Disk.view) c.answer-got.new.disks) c.answer-got.result c.answer-got.ensures
 
 pub returns-clause-made : goal.returns-clause-made
 returns-clause-made g c =
-    let seen = drive_view g.D.Disk.view in
-    let it : TakesRequest c.args.mesh.now c.make.new.mesh (map seen c.args.disks.now) c.args.bio
-    c.in_ok-make.ensures.made.0 c.last_request.result.now =
-    takes_last c.args.mesh.now c.make.new.mesh (map seen c.args.disks.now) c.args.disk c.args.bio
-    c.in_ok-make.ensures.made.0 c.last_request.result.now c.requires.history c.in_ok-make.ensures.history
-    c.requires.fit c.in_ok-make.ensures.made.1 c.last_request.ensures in
+    let it = takes_last (map (drive_view g.D.Disk.view) c.args.disks.now) c.requires.history
+    c.in_ok-make.ensures.history c.requires.fit c.in_ok-make.ensures.made.1 c.last_request.ensures in
     record {
       taken = c.make.new.mesh;
       request = c.last_request.result.now;
