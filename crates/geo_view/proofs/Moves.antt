@@ -1,5 +1,5 @@
 -- What a step of a view leaves as it was.
-use Rattle.std.proofs.Common.{◌≡◌, ◌≢◌, ℕ, zero, suc, ◌+◌, ◌*◌, ◌/◌, ⊎_elim, List, [], ◌∷◌, get_or, set, Bool, true, false, Some, None, sym, ap, subst, arith}
+use Rattle.std.proofs.Common.{◌≡◌, ◌≢◌, ℕ, zero, suc, ◌+◌, ◌*◌, ◌/◌, ⊎_elim, List, [], ◌∷◌, get_or, set, Bool, true, false, Some, None, ◌∙◌, sym, ap, subst, arith}
 use mathlib.Core.Option.{some, some-injective, some-ne-none}
 use mathlib.Core.List.{IsPrefix}
 use lib.ListN.{get_elem?}
@@ -25,6 +25,12 @@ half m false r e = omega arith
 abbrev pub carried_list : Shown → List (ℕ × Slot) → Shown
 carried_list d [] = d
 carried_list d (y ∷ ys) = elim y.1 [ Some z ↦ z | None ↦ d ]
+
+-- a slot that was taken carries the list that it has
+module _ (d : Shown) {e : Shown} {n : ℕ} {z : Slot} {had got others : List (ℕ × Slot)} (slot : got ≡ had)
+    (out : got ≡ (n, z) ∷ others) (some : z ≡ Some e) where
+  pub carried_same : carried_list d had ≡ e
+  carried_same = ap (carried_list d) (sym slot ∙ out) ∙ ap (λ (x : Slot). carried_list d ((n, x) ∷ others)) some
 
 pub none_begins : (log : List Entry) → AllBegin [] log
 none_begins log i t e = absurd (some-ne-none t (sym e))

@@ -57,10 +57,10 @@ returns-clause-looks c = let l = c.requires.looks.1 in
 pub returns-clause-later : goal.returns-clause-later
 returns-clause-later c = let l = c.requires.looks.1 in
     let e = (c.load-found.ensures.2 c.args.front l.role).0 (search rules) in
-    let got =
-    (c.swap-found.ensures.2 c.args.front).1 (ap (λ m. m.0.role) e) (Some l.list, ap (λ m. m.1) e ∙ l.slot) in (
-      subst (λ (z : List Entry × List Entry). IsPrefix z.0 z.1)
-          (λ k. (ap (λ m. m.0.seen) e k, sym (ap (λ m. m.0.seen) got.3) k)) got.1.seen,
+    let got = (c.swap-found.ensures.2 c.args.front).1 (ap (λ m. m.0.role) e) (Some l.list, ap (λ m. m.1) e ∙ l.slot) in
+    let seen = subst (λ (z : List Entry × List Entry). IsPrefix z.0 z.1)
+    (λ k. (ap (λ m. m.0.seen) e k, sym (ap (λ m. m.0.seen) got.3) k)) got.1.seen in (
+      seen,
       subst (λ (z : List (List Entry) × List Entry). AllBegin z.0 z.1)
           (λ k. (ap (λ m. m.0.told) e k, sym (ap (λ m. m.0.seen) got.3) k)) got.1.told,
       ap (λ m. m.0.told) got.3,

@@ -4,7 +4,7 @@ use Rattle.geo_model.specs.declared.listing.GeomLine.{GeomLine}
 use Rattle.geo_view.specs.declared.shown.Shown.{Shown}
 use Rattle.geo_view.specs.Views.{AreOnePass}
 use Rattle.geo_view.proofs.Listed.{listed}
-use Rattle.geo_view.proofs.Moves.{carried_list}
+use Rattle.geo_view.proofs.Moves.{carried_same}
 use Rattle.geo_view.proofs.watcher.Watcher.look.Goals as goal
 
 pub exchange-requires : goal.exchange-requires
@@ -16,8 +16,7 @@ exchange-requires c = let l = c.newest-self-inside.ensures.looks.1 in (
 pub invariant_of-self : goal.invariant_of-self
 invariant_of-self c = let o = c.newest-self-inside.ensures.looks.0 in let l = c.newest-self-inside.ensures.looks.1 in
     let out = c.exchange.ensures in let back = c.exchange-2.ensures.3 in
-    let same = ap (carried_list l.list) (sym l.slot ∙ out.2)
-    ∙ ap (λ z. carried_list l.list ((c.newest-self-inside.result, z) ∷ [])) c.in-Some.is in (
+    let same = carried_same l.list l.slot c.exchange.ensures.2 c.in-Some.is in (
       search rules,
       search rules,
       search rules,
@@ -41,31 +40,28 @@ invariant_of-self c = let o = c.newest-self-inside.ensures.looks.0 in let l = c.
 pub returns-clause-moment : goal.returns-clause-moment
 returns-clause-moment c =
     let o = c.newest-self-inside.ensures.looks.0 in let l = c.newest-self-inside.ensures.looks.1 in
-    let out = c.exchange.ensures in let back = c.exchange-2.ensures.3 in
-    let same = ap (carried_list l.list) (sym l.slot ∙ out.2)
-    ∙ ap (λ z. carried_list l.list ((c.newest-self-inside.result, z) ∷ [])) c.in-Some.is in (
+    let same = carried_same l.list l.slot c.exchange.ensures.2 c.in-Some.is in (
       c.in-Some.shown.at.value,
       record {
         of = (
           o,
-          ap (λ m. m.0.of) back ∙ (ap (λ m. m.0.of) out.3 ∙ l.of),
+          ap (λ m. m.0.of) c.exchange-2.ensures.3 ∙ (ap (λ m. m.0.of) c.exchange.ensures.3 ∙ l.of),
           subst (λ (x : Shown). AreOnePass o x.at.value) same l.its,
         );
         seen = ap (λ (x : Shown). x.at.value.seen) (sym same)
-            ∙ (l.at ∙ sym (ap (λ m. m.0.seen) back ∙ ap (λ m. m.0.seen) out.3));
+            ∙ (l.at ∙ sym (ap (λ m. m.0.seen) c.exchange-2.ensures.3 ∙ ap (λ m. m.0.seen) c.exchange.ensures.3));
         good = c.in-Some.shown.good;
       },
     )
 
 pub returns-clause-list : goal.returns-clause-list
 returns-clause-list c =
-    let o = c.newest-self-inside.ensures.looks.0 in let l = c.newest-self-inside.ensures.looks.1 in
-    let out = c.exchange.ensures in let back = c.exchange-2.ensures.3 in
-    let same = ap (carried_list l.list) (sym l.slot ∙ out.2)
-    ∙ ap (λ z. carried_list l.list ((c.newest-self-inside.result, z) ∷ [])) c.in-Some.is in
-    let now = listed _ _ o c.in-Some.shown.at.value (ap (λ m. m.0.of) back ∙ (ap (λ m. m.0.of) out.3 ∙ l.of))
-    (subst (λ (x : Shown). AreOnePass o x.at.value) same l.its)
+    let l = c.newest-self-inside.ensures.looks.1 in
+    let same = carried_same l.list l.slot c.exchange.ensures.2 c.in-Some.is in
+    let now = listed _ _ c.newest-self-inside.ensures.looks.0 c.in-Some.shown.at.value
+    (ap (λ m. m.0.of) c.exchange-2.ensures.3 ∙ (ap (λ m. m.0.of) c.exchange.ensures.3 ∙ l.of))
+    (subst (λ (x : Shown). AreOnePass c.newest-self-inside.ensures.looks.0 x.at.value) same l.its)
     (ap (λ (x : Shown). x.at.value.seen) (sym same)
-    ∙ (l.at ∙ sym (ap (λ m. m.0.seen) back ∙ ap (λ m. m.0.seen) out.3))) in
+    ∙ (l.at ∙ sym (ap (λ m. m.0.seen) c.exchange-2.ensures.3 ∙ ap (λ m. m.0.seen) c.exchange.ensures.3))) in
     subst (λ (z : List GeomLine). IfOk c.copy-list.result (λ lines. lines ≡ z)) (c.in-Some.shown.is_listing ∙ now)
     c.copy-list.ensures
