@@ -3,6 +3,7 @@ use Rattle.std.specs.Prelude.{◌≡◌, ℕ, ◌+◌, ◌≤◌, false, List, l
 use Rattle.std.proofs.Common.{sym, ap, subst, arith}
 use Rattle.geo_base.specs.declared.limits.TheConstants.{MAX_LOG_ENTRIES}
 use Rattle.geo_model.specs.declared.step.Entry.{Entry}
+use Rattle.geo_model.specs.declared.step.Found.{Found}
 use Rattle.geo_model.specs.declared.step.Step.{Step}
 use Rattle.geo_model.specs.Step.{step}
 use Rattle.geo_model.specs.Log.{owed, is_full}
@@ -53,10 +54,14 @@ module _ (r : Running) (is : IsMesh r) (s : State) (l : Room Entry) (state_is : 
 
 module _ (r : Running) (is : IsMesh r) (s : State) (l : Room Entry) (state_is : s ≡ r.state)
     (items_are : l.items ≡ r.log.items) (seat : ℕ) (st : Step) (d : Option Decision) (n : ℕ)
-    (found : IsFound r.plan.commands r.left r.state seat st None)
+    {f : Option Found} (none : f ≡ None) (looked : IsFound r.plan.commands r.left r.state seat st f)
     (ready : IsReady r.plan.commands r.left r.state st d) (owes : IsOwedAfter (world_of (seen r)) st n) where
   abbrev now : Running
   now = record r { state = s; log = l }
+
+  -- nothing was found against the step
+  found : IsFound r.plan.commands r.left r.state seat st None
+  found = subst (λ (o : Option Found). IsFound r.plan.commands r.left r.state seat st o) none looked
 
   seen_now : seen now ≡ seen r
   seen_now = other_seen r is s l state_is items_are

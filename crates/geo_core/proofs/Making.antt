@@ -14,7 +14,9 @@ use Rattle.geo_model.specs.Step.{step, go, go_of}
 use Rattle.geo_state.specs.declared.state.State.{State}
 use Rattle.geo_state.specs.Steps.{against, IsAgainst}
 use Rattle.geo_state.specs.World.{world, HasBytes}
+use Rattle.geo_commands.specs.declared.decisions.Decision.{Decision}
 use Rattle.geo_core.specs.declared.running.Running.{Running}
+use Rattle.geo_core.specs.Goes.{IsReady}
 use Rattle.geo_core.specs.Left.{left_of, next_command_of}
 use Rattle.geo_core.specs.Mesh.{world_of, IsSure}
 use Rattle.geo_core.specs.Moves.{IsFound, IsTurn, IsDeliver, Turns, Moves}
@@ -127,3 +129,11 @@ pub all_bytes : (log : List Entry) (s : State) (result : Result Outcome NoMemory
     → OnErr result (HasBytes log s)
 all_bytes log s (Ok o) bytes = tt
 all_bytes log s (Err e) bytes = bytes
+
+-- a Go that is ready, by what the step is and by what was decided of it
+module _ (commands : List LineCommand) (left : List ℕ) (s : State) {st : Step} {actor : ℕ} {d e : Option Decision}
+    (is : st ≡ steps.Go actor) (decided : d ≡ e) where
+  pub ready_go : IsReady commands left s st d → IsReady commands left s (steps.Go actor) e
+  ready_go ready =
+      subst (λ (o : Option Decision). IsReady commands left s (steps.Go actor) o) decided
+      (subst (λ (x : Step). IsReady commands left s x d) is ready)

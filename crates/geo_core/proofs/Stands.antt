@@ -149,6 +149,12 @@ has_item [] k less = absurd (omega (arith, less))
 has_item (x ∷ xs) zero less = (x, refl)
 has_item (x ∷ xs) (suc k) less = has_item xs k (omega (arith, less))
 
+-- whether the disk of a plan comes later, as was told of its declarations
+module _ (k : ℕ) (b : Bool) {ds es : List DiskDecl} (are : ds ≡ es)
+    (told : IfSome (slice_get ds k) (λ (d : DiskDecl). b ≡ d.later)) where
+  pub later_told : IfSome (slice_get es k) (λ (d : DiskDecl). b ≡ d.later)
+  later_told = subst (λ (xs : List DiskDecl). IfSome (slice_get xs k) (λ d. b ≡ d.later)) are told
+
 -- the next disk, by whether it comes later
 module _ (plan : Plan) (facts : List (ℕ × ℕ)) (k : ℕ) (b : Bool) (is : IsPlan plan) (fit : FactsFit plan facts)
     (there : k < length plan.disks) (is_later : IfSome (slice_get plan.disks k) (λ d. b ≡ d.later))

@@ -1,8 +1,6 @@
-use Rattle.std.proofs.Common.{Option, refl, sym, subst, arith}
-use Rattle.geo_model.specs.declared.step.Found.{Found}
+use Rattle.std.proofs.Common.{refl, sym, subst, arith}
 use Rattle.geo_state.specs.declared.state.State.{State}
 use Rattle.geo_core.specs.Goes.{IsReady}
-use Rattle.geo_core.specs.Moves.{IsFound}
 use Rattle.geo_core.proofs.Admits.{not_ok}
 use Rattle.geo_core.proofs.Meshes.{mesh_is_firm}
 use Rattle.geo_core.proofs.Admitting.{other_mesh, other_seen, other_admitted, other_refused}
@@ -56,10 +54,8 @@ pub returns-in-Err-clause-refused : goal.returns-in-Err-clause-refused
 returns-in-Err-clause-refused c =
     other_refused c.args.running.now c.requires.mesh c.decide_step-decision.new.state c.make_place.new.log
     c.decide_step-decision.ensures.same c.make_place.ensures.entries c.args.seat c.args.step.now
-    c.decide_step-decision.result c.places_after-owed.result (subst
-    (λ (f : Option Found). IsFound c.args.running.now.plan.commands c.args.running.now.left c.args.running.now.state
-    c.args.seat c.args.step.now f) c.in_default.is c.found_against.ensures) c.decide_step-decision.ensures.ready
-    c.places_after-owed.ensures c.in-Err.refusal c.in-Err.ensures.placed
+    c.decide_step-decision.result c.places_after-owed.result c.in_default.is c.found_against.ensures
+    c.decide_step-decision.ensures.ready c.places_after-owed.ensures c.in-Err.refusal c.in-Err.ensures.placed
 
 pub returns-in-Err-clause-sure : goal.returns-in-Err-clause-sure
 returns-in-Err-clause-sure c = λ pays.
@@ -84,7 +80,5 @@ pub returns-in-Ok-clause-admitted : goal.returns-in-Ok-clause-admitted
 returns-in-Ok-clause-admitted c =
     other_admitted c.args.running.now c.requires.mesh c.decide_step-decision.new.state c.make_place.new.log
     c.decide_step-decision.ensures.same c.make_place.ensures.entries c.args.seat c.args.step.now
-    c.decide_step-decision.result c.places_after-owed.result (subst
-    (λ (f : Option Found). IsFound c.args.running.now.plan.commands c.args.running.now.left c.args.running.now.state
-    c.args.seat c.args.step.now f) c.in_default.is c.found_against.ensures) c.decide_step-decision.ensures.ready
-    c.places_after-owed.ensures c.in-Ok.ensures.placed
+    c.decide_step-decision.result c.places_after-owed.result c.in_default.is c.found_against.ensures
+    c.decide_step-decision.ensures.ready c.places_after-owed.ensures c.in-Ok.ensures.placed

@@ -1,13 +1,10 @@
-use Rattle.std.proofs.Common.{None, Option, subst}
+use Rattle.std.proofs.Common.{None, subst}
 use Rattle.geo_model.specs.declared.step.Step.{Step}
-use Rattle.geo_model.specs.declared.step.Step.TheVariants as steps
 use Rattle.geo_state.specs.World.{world}
-use Rattle.geo_commands.specs.declared.decisions.Decision.{Decision}
 use Rattle.geo_core.specs.Left.{left_of}
-use Rattle.geo_core.specs.Goes.{IsReady}
 use Rattle.geo_core.specs.Mesh.{IsSure}
 use Rattle.geo_core.specs.Moves.{IsFound}
-use Rattle.geo_core.proofs.Making.{turn_step, turn_found, turn_sure, turn_result, go_next_of, go_moves, more_bytes, all_bytes, closes_by}
+use Rattle.geo_core.proofs.Making.{turn_step, turn_found, turn_sure, turn_result, go_next_of, go_moves, more_bytes, all_bytes, closes_by, ready_go}
 use Rattle.geo_core.proofs.carry.make.Goals as goal
 
 pub go-requires-clause-found : goal.go-requires-clause-found
@@ -17,24 +14,12 @@ go-requires-clause-found c =
 
 pub go-requires-clause-ready : goal.go-requires-clause-ready
 go-requires-clause-ready c =
-    let first =
-    subst (λ (st : Step). IsReady c.args.plan.now.commands c.args.left.now c.args.state.now st c.args.decision)
-    c.in-Go.is c.requires.ready in
-    subst
-    (λ (d : Option Decision).
-    IsReady c.args.plan.now.commands c.args.left.now c.args.state.now (steps.Go c.in-Go.actor) d)
-    c.in-Some.is first
+    ready_go c.args.plan.now.commands c.args.left.now c.args.state.now c.in-Go.is c.in-Some.is c.requires.ready
 
 pub unreachable-requires : goal.unreachable-requires
 unreachable-requires c =
-    let first =
-    subst (λ (st : Step). IsReady c.args.plan.now.commands c.args.left.now c.args.state.now st c.args.decision)
-    c.in-Go.is c.requires.ready in
-    let none =
-    subst
-    (λ (d : Option Decision).
-    IsReady c.args.plan.now.commands c.args.left.now c.args.state.now (steps.Go c.in-Go.actor) d)
-    c.in-None.is first in
+    let none = ready_go c.args.plan.now.commands c.args.left.now c.args.state.now c.in-Go.is c.in-None.is
+    c.requires.ready in
     let found =
     subst (λ (st : Step). IsFound c.args.plan.now.commands c.args.left.now c.args.state.now c.args.seat st None)
     c.in-Go.is c.requires.found in

@@ -1,10 +1,9 @@
-use Rattle.std.proofs.Common.{◌+◌, Option, ap, sym, subst, arith}
+use Rattle.std.proofs.Common.{◌+◌, ap, sym, subst, arith}
 use Rattle.geo_model.specs.declared.step.Step.{Step}
-use Rattle.geo_model.specs.declared.step.Step.TheVariants as steps
-use Rattle.geo_commands.specs.declared.decisions.Decision.{Decision}
-use Rattle.geo_core.specs.Goes.{IsReady, IsOwedAfter}
+use Rattle.geo_core.specs.Goes.{IsOwedAfter}
 use Rattle.geo_core.specs.Mesh.{world_of}
 use Rattle.geo_core.specs.Running.{seen}
+use Rattle.geo_core.proofs.Making.{ready_go}
 use Rattle.geo_core.proofs.Owing.{owed_few, owed_go, owed_none, owed_take, owed_deliver, owed_event, owed_judge, owed_reap, owed_wash, owed_start, owed_up}
 use Rattle.geo_core.proofs.owed.places_after.Goals as goal
 
@@ -17,22 +16,14 @@ owed_after-requires-clause-few c = owed_few c.args.running.now c.requires.mesh
 pub returns-in-Some : goal.returns-in-Some
 returns-in-Some c =
     let r = c.args.running.now in
-    let first =
-    subst (λ (st : Step). IsReady r.plan.commands r.left r.state st c.args.decision.now) c.in-Go.is c.requires.ready in
-    let ready =
-    subst (λ (d : Option Decision). IsReady r.plan.commands r.left r.state (steps.Go c.in-Go.actor) d) c.in-Some.is
-    first in
+    let ready = ready_go r.plan.commands r.left r.state c.in-Go.is c.in-Some.is c.requires.ready in
     subst (λ (st : Step). IsOwedAfter (world_of (seen r)) st c.owed_after.result) (sym c.in-Go.is)
     (owed_go r c.requires.mesh c.in-Go.actor c.in-Some.decision c.owed_after.result ready c.owed_after.ensures)
 
 pub returns-in-None : goal.returns-in-None
 returns-in-None c =
     let r = c.args.running.now in
-    let first =
-    subst (λ (st : Step). IsReady r.plan.commands r.left r.state st c.args.decision.now) c.in-Go.is c.requires.ready in
-    let ready =
-    subst (λ (d : Option Decision). IsReady r.plan.commands r.left r.state (steps.Go c.in-Go.actor) d) c.in-None.is
-    first in
+    let ready = ready_go r.plan.commands r.left r.state c.in-Go.is c.in-None.is c.requires.ready in
     subst (λ (st : Step). IsOwedAfter (world_of (seen r)) st c.owed-now.result) (sym c.in-Go.is)
     (owed_none r c.requires.mesh c.in-Go.actor c.owed-now.result ready)
 
