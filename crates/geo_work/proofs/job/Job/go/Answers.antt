@@ -42,11 +42,11 @@ loop-preserved g c =
     let seen = drive_view g.D.Disk.view in record {
       can_next = tt;
       finite = tt;
+      few = omega (arith, c.loop.invariant.few, c.if-idle-eq-IDLE_LIMIT.false);
       job = c.turn.ensures.job;
       drives = c.turn.ensures.drives;
       ran = job_more y (opened_by y.start) y.start.facts seen c.args.self.now c.loop.self c.turn.new.self turns.Idle
           c.requires.job.pass c.turn.ensures.good c.loop.invariant.drives c.loop.invariant.ran c.in-Idle.ensures.did;
-      few = omega (arith, c.loop.invariant.few, c.if-idle-eq-IDLE_LIMIT.false);
       row = rest_more (opened_by y.start) seen c.loop.idle c.args.self.now c.loop.self c.turn.new.self
           c.loop.invariant.row c.in-Idle.ensures.did;
     }
