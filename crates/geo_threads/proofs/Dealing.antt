@@ -1,5 +1,5 @@
 -- Drives that are dealt to two workers, and gathered again.
-use Rattle.std.specs.Prelude.{◌≡◌, ℕ, ◌+◌, ◌≤◌, ◌%◌, ◌==◌, List, [], ◌∷◌, ◌++◌, drop, length, take, Some, None, slice_get}
+use Rattle.std.specs.Prelude.{◌≡◌, ℕ, ◌+◌, ◌≤◌, ◌%◌, ◌==◌, List, [], ◌∷◌, ◌++◌, drop, length, take, Option, Some, None, slice_get}
 use Rattle.std.specs.List.{AllZip, enumerate_from}
 use Rattle.std.proofs.Common.{ap, arith, refl, sym, ◌∙◌}
 use Rattle.std.proofs.lemmas.Bool.{eq-eqb, ne_eqb}
@@ -114,6 +114,12 @@ one_round {X} (e ∷ even) (o ∷ odd) x first fewer =
       one_less = omega arith;
       rest = omega arith;
     }
+
+-- as it was taken
+module _ {X : Type 0} (even odd : List (ℕ × X)) {o : Option (ℕ × X)} {x : ℕ × X} (taken : o ≡ slice_get even 0)
+    (some : o ≡ Some x) (fewer : length odd ≤ length even) where
+  pub one_taken : Rounds even odd x
+  one_taken = one_round even odd x (sym some ∙ taken) fewer
 
 -- and then there is none
 pub none_left : {X : Type 0} (even odd : List (ℕ × X)) → None ≡ slice_get even 0 → length odd ≤ length even

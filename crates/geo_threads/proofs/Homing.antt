@@ -157,3 +157,23 @@ two_are count lists front even odd two split =
           ∙ ap (λ (l : DriveListView _). gathered_drives l.items p.odd.items) same.0
           ∙ ap (λ (l : DriveListView _). gathered_drives even.items l.items) same.1,
     )
+
+-- so it is where the two were taken from the end
+module _ {D : Type 0} (count : ℕ) (lists front : List (DriveListView D)) {mid : List (DriveListView D)}
+    {o p : Option (DriveListView D)} {even odd : DriveListView D} (two : AreTwo count lists)
+    (last : lists ≡ mid ++ option_to_list o) (next : mid ≡ front ++ option_to_list p) (is_even : p ≡ Some even)
+    (is_odd : o ≡ Some odd) where
+  pub two_taken : (length odd.items ≤ length even.items) × (length even.items + length odd.items ≤ count)
+      × (gathered_of lists ≡ gathered_drives even.items odd.items)
+  two_taken =
+      two_are count lists front even odd two
+      (last
+      ∙ ap (λ (l : List (DriveListView D)). l ++ option_to_list o)
+      (next ∙ ap (λ (q : Option (DriveListView D)). front ++ option_to_list q) is_even)
+      ∙ ap (λ (q : Option (DriveListView D)). front ++ even ∷ [] ++ option_to_list q) is_odd)
+
+-- what was put into an empty list, and then the rest behind it
+module _ {A : Type 0} (first : A) (rest : List A) {empty one all : List A} (none : empty ≡ [])
+    (put : one ≡ empty ++ first ∷ []) (more : all ≡ one ++ rest) where
+  pub first_of_all : all ≡ first ∷ rest
+  first_of_all = more ∙ ap (λ (l : List A). l ++ rest) (put ∙ ap (λ (l : List A). l ++ first ∷ []) none)

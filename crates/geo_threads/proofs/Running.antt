@@ -108,14 +108,14 @@ all_ended y lanes seen drives actors first old new is its started long ran =
     }
 
 -- so it is with those of a crew
-pub crew_ended : {D : Type 0} (y : MeshYard) (lanes : Lanes) (seen : Drive D → DriveView) (drives : List (Drive D))
-    (actors : ℕ) (first : MeshPass) (crew after : Crew D) → actors ≡ length y.start.plan.actors
-    → Begins y lanes seen actors drives first crew
-    → AllZip (WorkerRan y lanes seen) crew.workers.items after.workers.items
-    → AllEnded y seen drives first after.workers.items
-crew_ended y lanes seen drives actors first crew after is begins ran =
-    all_ended y lanes seen drives actors first crew.workers.items after.workers.items is begins.first_is
-    begins.started begins.many ran
+module _ {D : Type 0} {y : MeshYard} {lanes : Lanes} {seen : Drive D → DriveView} {drives : List (Drive D)}
+    {actors : ℕ} {first : MeshPass} {crew : Crew D} (after : Crew D) (is : actors ≡ length y.start.plan.actors)
+    (begins : Begins y lanes seen actors drives first crew)
+    (ran : AllZip (WorkerRan y lanes seen) crew.workers.items after.workers.items) where
+  pub crew_ended : AllEnded y seen drives first after.workers.items
+  crew_ended =
+      all_ended y lanes seen drives actors first crew.workers.items after.workers.items is begins.first_is
+      begins.started begins.many ran
 
 -- A yard that holds a mesh that made no step
 

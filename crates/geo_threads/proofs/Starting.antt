@@ -219,6 +219,15 @@ module _ (first : MeshPass) where
       more ∙ ap (λ (p : MeshPass). record p { made = p.made + 1 }) is
       ∙ ap (λ n. record first { made = n }) (let e : first.made + k + 1 ≡ first.made + (k + 1) = omega arith in e)
 
+  -- the passes after one, as each is followed by the next
+  module _ {f g h k : MeshPass} (one : f ≡ after 1) (second : g ≡ record f { made = f.made + 1 })
+      (third : h ≡ record g { made = g.made + 1 }) (fourth : k ≡ record h { made = h.made + 1 }) where
+    pub after_four : (g ≡ after 2) × (h ≡ after 3) × (k ≡ after 4)
+    after_four =
+        let two = after_more 1 f g one second in
+        let three = after_more 2 g h two third in
+        (two, three, after_more 3 h k three fourth)
+
   pub next_after : (k : ℕ) (f : MeshPass) → f ≡ after k → pass_of_number f f.made
       ≡ pass_of_number first (first.made + k)
   next_after k f is = ap (λ (p : MeshPass). pass_of_number p p.made) is

@@ -1,7 +1,8 @@
-use Rattle.std.proofs.Common.{◌≡◌, ◌++◌, ◌∷◌, ◌∙◌, [], ap, arith, length, subst, sym, vec_capacity}
+use Rattle.std.proofs.Common.{◌++◌, ◌∙◌, ap, arith, length, subst, sym, vec_capacity}
 use Rattle.geo_lock.specs.Yard.{IsWhole}
 use Rattle.geo_threads.specs.Closing.{EndsYard, IsEndOf, lists_of, passes_of}
 use Rattle.geo_threads.specs.Deal.{AreTwo, gathered_of}
+use Rattle.geo_threads.proofs.Homing.{first_of_all}
 use Rattle.geo_threads.proofs.close.close_all.Goals as goal
 
 pub push-requires : goal.push-requires
@@ -22,9 +23,8 @@ take_back-requires-clause-room_of_lists g c =
 
 pub close-requires : goal.close-requires
 close-requires g c =
-    let is : c.take_back.new.passes.items ≡ c.args.first ∷ passes_of c.args.workers.items =
-    c.take_back.ensures.passes ∙ ap (λ l. l ++ passes_of c.args.workers.items)
-    (c.push.ensures.items ∙ ap (λ l. l ++ c.args.first ∷ []) c.requires.room.no_pass) in
+    let is = first_of_all c.args.first (passes_of c.args.workers.items) c.requires.room.no_pass c.push.ensures.items
+    c.take_back.ensures.passes in
     subst (λ ps. IsWhole c.args.yard ps) (sym is) c.requires.whole
 
 pub gather_all-drives-requires-clause-two : goal.gather_all-drives-requires-clause-two
@@ -35,9 +35,8 @@ gather_all-drives-requires-clause-two g c =
 
 pub returns-clause-mesh : goal.returns-clause-mesh
 returns-clause-mesh g c =
-    let is : c.take_back.new.passes.items ≡ c.args.first ∷ passes_of c.args.workers.items =
-    c.take_back.ensures.passes ∙ ap (λ l. l ++ passes_of c.args.workers.items)
-    (c.push.ensures.items ∙ ap (λ l. l ++ c.args.first ∷ []) c.requires.room.no_pass) in
+    let is = first_of_all c.args.first (passes_of c.args.workers.items) c.requires.room.no_pass c.push.ensures.items
+    c.take_back.ensures.passes in
     subst (λ ps. EndsYard c.args.yard ps c.in-Ok.mesh) is c.in-Ok.ensures.ok
 
 pub returns-clause-drives : goal.returns-clause-drives

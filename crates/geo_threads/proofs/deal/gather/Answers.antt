@@ -1,7 +1,7 @@
 use Rattle.std.proofs.Common.{◌≡◌, ◌++◌, ◌∷◌, ◌∙◌, [], ap, sym, length, append_assoc, append-nil, arith, drop, take}
 use Rattle.std.proofs.lemmas.List.{length-append, length-map}
 use Rattle.geo_threads.specs.Deal.{drives_in, gathered_drives}
-use Rattle.geo_threads.proofs.Dealing.{none_left, one_round}
+use Rattle.geo_threads.proofs.Dealing.{none_left, one_taken}
 use Rattle.geo_threads.proofs.deal.gather.Goals as goal
 
 pub loop-drive-preserved : goal.loop-drive-preserved
@@ -12,8 +12,7 @@ loop-drive-preserved g c =
     let d = c.in-Some.drive in
     let inv = c.loop-drive.invariant in
     let moved = c.move_first.ensures in
-    let round =
-    one_round e o (c.in-Some.field-0-0, d) (sym c.in-Some.is ∙ c.take_first.ensures.first) inv.1 in
+    let round = one_taken e o c.take_first.ensures.first c.in-Some.is inv.1 in
     let back : c.move_first.new.back.items ≡ b ++ d ∷ [] ++ drives_in (take 1 o) =
     moved.back ∙ ap (λ l. l ++ drives_in (take 1 o)) c.push_reserved.ensures.items in
     let shorter = ap (λ l. length l) c.take_first.ensures.rest in
@@ -58,9 +57,8 @@ loop-drive-preserved g c =
 
 pub move_first-requires : goal.move_first-requires
 move_first-requires g c some =
-    let less =
-    (one_round c.loop-drive.even.items c.loop-drive.odd.items (c.in-Some.field-0-0, c.in-Some.drive)
-    (sym c.in-Some.is ∙ c.take_first.ensures.first) c.loop-drive.invariant.1).one_less in
+    let less = (one_taken c.loop-drive.even.items c.loop-drive.odd.items c.take_first.ensures.first c.in-Some.is
+    c.loop-drive.invariant.1).one_less in
     let fits = c.loop-drive.invariant.2 in
     let len = c.push_reserved.ensures.len in
     let room = c.push_reserved.ensures.capacity in
@@ -68,17 +66,14 @@ move_first-requires g c some =
 
 pub push_reserved-requires : goal.push_reserved-requires
 push_reserved-requires g c =
-    let less =
-    (one_round c.loop-drive.even.items c.loop-drive.odd.items (c.in-Some.field-0-0, c.in-Some.drive)
-    (sym c.in-Some.is ∙ c.take_first.ensures.first) c.loop-drive.invariant.1).one_less in
-    let fits = c.loop-drive.invariant.2 in
-    omega (arith, less, fits)
+    let less = (one_taken c.loop-drive.even.items c.loop-drive.odd.items c.take_first.ensures.first c.in-Some.is
+    c.loop-drive.invariant.1).one_less in
+    omega (arith, less, c.loop-drive.invariant.2)
 
 pub loop-drive-smaller : goal.loop-drive-smaller
 loop-drive-smaller g c =
-    let less =
-    (one_round c.loop-drive.even.items c.loop-drive.odd.items (c.in-Some.field-0-0, c.in-Some.drive)
-    (sym c.in-Some.is ∙ c.take_first.ensures.first) c.loop-drive.invariant.1).one_less in
+    let less = (one_taken c.loop-drive.even.items c.loop-drive.odd.items c.take_first.ensures.first c.in-Some.is
+    c.loop-drive.invariant.1).one_less in
     let shorter = ap (λ l. length l) c.take_first.ensures.rest in
     omega (arith, less, shorter)
 

@@ -20,13 +20,10 @@ pub putter-puts-requires : goal.putter-puts-requires
 putter-puts-requires g c =
     let down = c.loop-actor.invariant.0.down_is in
     let split = ap (λ (p : LanePassView). p.split) down in
-    let long = c.loop-actor.invariant.2 in
-    let lt = c.loop-actor-test.true in
-    let few = c.requires.few in
     record {
       own = ap (λ (p : LanePassView). p.lane) down;
       first = ap (λ (p : LanePassView). p.sender) down;
-      room = omega (arith, split, long, lt, few);
+      room = omega (arith, split, c.loop-actor.invariant.2, c.loop-actor-test.true, c.requires.few);
     }
 
 pub next_pass-pass-requires-clause-first : goal.next_pass-pass-requires-clause-first

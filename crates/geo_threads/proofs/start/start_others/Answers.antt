@@ -1,20 +1,15 @@
 use Rattle.std.proofs.Common.{◌≡◌, ◌+◌, ◌∙◌, [], append-nil, refl, subst, sym}
 use Rattle.geo_work.specs.Passes.{MeshPass}
 use Rattle.geo_threads.specs.Started.{IsFirst}
-use Rattle.geo_threads.proofs.Starting.{after, after_more, begin_alike, next_after, push_on}
+use Rattle.geo_threads.proofs.Starting.{after, after_four, after_more, begin_alike, next_after, push_on}
 use Rattle.geo_threads.proofs.start.start_others.Goals as goal
 
 pub returns-clause-items : goal.returns-clause-items
 returns-clause-items g c =
     let first = c.args.first.now in
     let ws = c.args.workers.now.items in
-    let one : c.next_pass.new.first ≡ after first 1 = c.next_pass.ensures.first in
-    let two : c.next_pass-pass.new.first ≡ after first 2 =
-    after_more first 1 c.next_pass.new.first c.next_pass-pass.new.first one c.next_pass-pass.ensures.first in
-    let three : c.next_pass-2.new.first ≡ after first 3 =
-    after_more first 2 c.next_pass-pass.new.first c.next_pass-2.new.first two c.next_pass-2.ensures.first in
-    let four : c.next_pass-3.new.first ≡ after first 4 =
-    after_more first 3 c.next_pass-2.new.first c.next_pass-3.new.first three c.next_pass-3.ensures.first in
+    let made = after_four first c.next_pass.ensures.first c.next_pass-pass.ensures.first c.next_pass-2.ensures.first
+    c.next_pass-3.ensures.first in
     push_on ws _ c.hire-4.new.workers.items c.hire-5.new.workers.items _ _
     (push_on ws _ c.hire-3.new.workers.items c.hire-4.new.workers.items _ _
     (push_on ws _ c.hire-2.new.workers.items c.hire-3.new.workers.items _ _
@@ -23,34 +18,30 @@ returns-clause-items g c =
     (begin_alike _ _ _ _ (c.events.ensures.pass ∙ c.next_pass.ensures.pass) c.events.ensures.role))
     c.hire-2.ensures.items
     (begin_alike _ _ _ _
-    (c.down.ensures.pass ∙ c.next_pass-pass.ensures.pass ∙ next_after first 1 c.next_pass.new.first one)
+    (c.down.ensures.pass ∙ c.next_pass-pass.ensures.pass
+    ∙ next_after first 1 c.next_pass.new.first c.next_pass.ensures.first)
     c.down.ensures.role))
     c.hire-3.ensures.items
     (begin_alike _ _ _ _
-    (c.up.ensures.pass ∙ c.next_pass-2.ensures.pass ∙ next_after first 2 c.next_pass-pass.new.first two)
+    (c.up.ensures.pass ∙ c.next_pass-2.ensures.pass ∙ next_after first 2 c.next_pass-pass.new.first made.0)
     c.up.ensures.role))
     c.hire-4.ensures.items
     (begin_alike _ _ _ _
-    (c.disk.ensures.pass ∙ c.next_pass-3.ensures.pass ∙ next_after first 3 c.next_pass-2.new.first three)
+    (c.disk.ensures.pass ∙ c.next_pass-3.ensures.pass ∙ next_after first 3 c.next_pass-2.new.first made.1)
     c.disk.ensures.role))
     c.hire-5.ensures.items
     (begin_alike _ _ _ _
-    (c.disk-2.ensures.pass ∙ c.next_pass-4.ensures.pass ∙ next_after first 4 c.next_pass-3.new.first four)
+    (c.disk-2.ensures.pass ∙ c.next_pass-4.ensures.pass ∙ next_after first 4 c.next_pass-3.new.first made.2)
     c.disk-2.ensures.role)
 
 pub returns-clause-first : goal.returns-clause-first
 returns-clause-first g c =
     let first = c.args.first.now in
     let is = c.requires.first in
-    let two : c.next_pass-pass.new.first ≡ after first 2 =
-    after_more first 1 c.next_pass.new.first c.next_pass-pass.new.first c.next_pass.ensures.first
-    c.next_pass-pass.ensures.first in
-    let three : c.next_pass-2.new.first ≡ after first 3 =
-    after_more first 2 c.next_pass-pass.new.first c.next_pass-2.new.first two c.next_pass-2.ensures.first in
-    let four : c.next_pass-3.new.first ≡ after first 4 =
-    after_more first 3 c.next_pass-2.new.first c.next_pass-3.new.first three c.next_pass-3.ensures.first in
+    let made = after_four first c.next_pass.ensures.first c.next_pass-pass.ensures.first c.next_pass-2.ensures.first
+    c.next_pass-3.ensures.first in
     let five : c.next_pass-4.new.first ≡ after first 5 =
-    after_more first 4 c.next_pass-3.new.first c.next_pass-4.new.first four c.next_pass-4.ensures.first in
+    after_more first 4 c.next_pass-3.new.first c.next_pass-4.new.first made.2 c.next_pass-4.ensures.first in
     subst (λ (p : MeshPass). IsFirst c.args.yard.now (first.made + 5) p) (sym five) (record {
       of_yard = record { yard = is.of_yard.yard; start = is.of_yard.start };
       number = is.number;

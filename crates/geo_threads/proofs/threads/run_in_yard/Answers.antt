@@ -48,9 +48,7 @@ look_last-seen-requires g c =
 
 pub close_all-requires-clause-whole : goal.close_all-requires-clause-whole
 close_all-requires-clause-whole g c =
-    let all =
-    crew_ended c.args.yard c.args.room.lanes (drive_view g.D.Disk.view) c.args.given.drives.items c.args.actors
-    c.start_all.new.first c.in-Ok.crew c.run_watched-crew.result c.requires.actors c.in-Ok.ensures.ok
+    let all = crew_ended c.run_watched-crew.result c.requires.actors c.in-Ok.ensures.ok
     c.run_watched-crew.ensures.ran in
     subst (λ ps. IsWhole c.args.yard (c.start_all.new.first ∷ ps)) (sym c.take_publisher-publisher.ensures.passes)
     all.whole
@@ -59,9 +57,7 @@ pub close_all-requires-clause-two : goal.close_all-requires-clause-two
 close_all-requires-clause-two g c =
     let back = c.requires.room.back in
     let len = c.args.given.drives.ok.0 in
-    let all =
-    crew_ended c.args.yard c.args.room.lanes (drive_view g.D.Disk.view) c.args.given.drives.items c.args.actors
-    c.start_all.new.first c.in-Ok.crew c.run_watched-crew.result c.requires.actors c.in-Ok.ensures.ok
+    let all = crew_ended c.run_watched-crew.result c.requires.actors c.in-Ok.ensures.ok
     c.run_watched-crew.ensures.ran in
     subst (λ l. AreTwo (vec_capacity c.args.room.comes.back) l) (sym c.take_publisher-publisher.ensures.lists)
     (all.two (vec_capacity c.args.room.comes.back) (omega (arith, back, len)))
@@ -72,9 +68,7 @@ close_all-requires-clause-room g c =
     let passes = room.passes in
     let lists = room.lists in
     let is = c.requires.actors in
-    let all =
-    crew_ended c.args.yard c.args.room.lanes (drive_view g.D.Disk.view) c.args.given.drives.items c.args.actors
-    c.start_all.new.first c.in-Ok.crew c.run_watched-crew.result c.requires.actors c.in-Ok.ensures.ok
+    let all = crew_ended c.run_watched-crew.result c.requires.actors c.in-Ok.ensures.ok
     c.run_watched-crew.ensures.ran in
     let long = all.many in
     let same =
@@ -96,9 +90,8 @@ returns-in-Ok-clause-ok g c =
     let home = c.take_publisher-publisher.new.workers.items in
     let taken = c.take_publisher-publisher.ensures in
     let end = c.close_all.ensures in
-    let all =
-    crew_ended y c.args.room.lanes (drive_view g.D.Disk.view) c.args.given.drives.items c.args.actors first
-    c.in-Ok.crew c.run_watched-crew.result c.requires.actors c.in-Ok.ensures.ok c.run_watched-crew.ensures.ran in
+    let all = crew_ended c.run_watched-crew.result c.requires.actors c.in-Ok.ensures.ok
+    c.run_watched-crew.ensures.ran in
     threads_ran y (drive_view g.D.Disk.view) c.args.given.drives.items c.close_all.result.drives.items first after
     c.close_all.result.mesh c.close_all.result.ended c.requires.fit c.in-Ok.ensures.ok.first_is.own all.ended all.many
     (subst (λ ps. EndsYard y (first ∷ ps) c.close_all.result.mesh) taken.passes end.mesh)
