@@ -1,4 +1,4 @@
-use Rattle.std.proofs.Common.{rules, ◌≡◌, ◌∙◌, List, [], ◌∷◌, Some, IfOk, ap, sym, subst}
+use Rattle.std.proofs.Common.{rules, ◌≡◌, ◌∙◌, List, ◌∷◌, Some, IfOk, ap, sym, subst}
 use Rattle.atomic_table.specs.Table.{rest}
 use Rattle.geo_model.specs.declared.listing.GeomLine.{GeomLine}
 use Rattle.geo_view.specs.declared.shown.Shown.{Shown}
