@@ -164,6 +164,17 @@ pub item_out : {X : Type 0} (f : X → DriveView) (s : ShelfView) (names : List 
     → AreOut s (drop n names) (f x ∷ map f rest)
 item_out f s names n left x rest e out = subst (λ xs. AreOut s (drop n names) (map f xs)) e out
 
+-- so a name is left for it
+pub name_there : {X : Type 0} (f : X → DriveView) (s : ShelfView) (names : List (List ℕ)) (n : ℕ) (left : List X)
+    (x : X) (rest : List X) → left ≡ x ∷ rest → AreOut s (drop n names) (map f left) → n < length names
+name_there f s names n left x rest e out =
+    name_left s names n (f x) (map f rest) (item_out f s names n left x rest e out)
+
+-- the name at a place by another number of the place
+module _ (names : List (List ℕ)) {name : List ℕ} {k n : ℕ} (same : k ≡ n) (at : name ≡ get_or names k name) where
+  pub name_at : name ≡ get_or names n name
+  name_at = subst (λ (i : ℕ). name ≡ get_or names i name) same at
+
 -- one item more was given back
 pub gave_item : {X : Type 0} (f : X → DriveView) (a b c : ShelfView) (names : List (List ℕ)) (items : List X) (x : X)
     (name : List ℕ) (first next : Option (List ℕ)) (given : Bool) → length items < length names

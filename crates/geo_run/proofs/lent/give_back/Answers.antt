@@ -1,21 +1,17 @@
 -- One drive after the other.
-use Rattle.std.proofs.Common.{◌≡◌, ◌<◌, ℕ, ◌∷◌, [], ◌++◌, length, map, get_or, refl, sym, ◌∙◌, ap, subst, arith, append_assoc}
+use Rattle.std.proofs.Common.{◌≡◌, ◌<◌, ◌∷◌, [], ◌++◌, length, map, refl, sym, ◌∙◌, ap, subst, arith, append_assoc}
 use Rattle.std.proofs.lemmas.List.{length-append}
 use Rattle.std.specs.Vec.Iter.{into_iter_items}
 use Rattle.geo_run.specs.Drives.{drive_view}
 use Rattle.geo_run.specs.Lending.{AreOut}
-use Rattle.geo_run.proofs.Loops.{gave_all, gave_item, item_out, name_left, next_out, rest_out}
+use Rattle.geo_run.proofs.Loops.{gave_all, gave_item, item_out, name_at, name_left, name_there, next_out, rest_out}
 use Rattle.geo_run.proofs.lent.give_back.Goals as goal
 
 pub index-name-requires : goal.index-name-requires
 index-name-requires g c =
-    let f = drive_view g.H.D.Disk.view in
-    let s = g.H.Shelf.view c.loop-drive.shelf in
-    let names = c.args.lent.names.items in
-    let lt : length c.loop-drive.yielded < length names =
-    name_left s names (length c.loop-drive.yielded) (f c.in-Some.drive) (map f (into_iter_items c.next.new.self))
-    (item_out f s names (length c.loop-drive.yielded) (into_iter_items c.loop-drive.drive-iterator) c.in-Some.drive
-    (into_iter_items c.next.new.self) c.in-Some.ensures.steps.0 c.loop-drive.invariant.out) in
+    let lt = name_there (drive_view g.H.D.Disk.view) (g.H.Shelf.view c.loop-drive.shelf) c.args.lent.names.items
+    (length c.loop-drive.yielded) (into_iter_items c.loop-drive.drive-iterator) c.in-Some.drive
+    (into_iter_items c.next.new.self) c.in-Some.ensures.steps.0 c.loop-drive.invariant.out in
     omega (arith, lt, c.args.lent.names.ok.0, c.loop-drive.invariant.place)
 
 pub give_drive-given-requires : goal.give_drive-given-requires
@@ -28,9 +24,7 @@ give_drive-given-requires g c =
     (into_iter_items c.next.new.self) c.in-Some.ensures.steps.0 c.loop-drive.invariant.out in
     let lt : n < length names =
     name_left s names n (f c.in-Some.drive) (map f (into_iter_items c.next.new.self)) here in
-    let at : c.index-name.result.now ≡ get_or names n c.index-name.result.now =
-    subst (λ (k : ℕ). c.index-name.result.now ≡ get_or names k c.index-name.result.now) c.loop-drive.invariant.place
-    c.index-name.ensures in
+    let at = name_at names c.loop-drive.invariant.place c.index-name.ensures in
     record {
       out = (next_out s names n c.index-name.result.now (f c.in-Some.drive)
           (map f (into_iter_items c.next.new.self)) lt at here).0;
@@ -61,9 +55,7 @@ loop-drive-preserved g c =
     rest c.in-Some.ensures.steps.0 c.loop-drive.invariant.out in
     let lt : length items < length names =
     name_left (v c.loop-drive.shelf) names (length items) (f c.in-Some.drive) (map f rest) here in
-    let at : c.index-name.result.now ≡ get_or names (length items) c.index-name.result.now =
-    subst (λ (k : ℕ). c.index-name.result.now ≡ get_or names k c.index-name.result.now) c.loop-drive.invariant.place
-    c.index-name.ensures in
+    let at = name_at names c.loop-drive.invariant.place c.index-name.ensures in
     record {
       place = let more = length-append items (c.in-Some.drive ∷ []) in
           omega (arith, more, c.loop-drive.invariant.place);
