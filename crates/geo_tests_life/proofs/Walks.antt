@@ -1,5 +1,5 @@
 -- Walks over all providers, and over the consumers of handles.
-use Rattle.std.specs.Prelude.{◌≡◌, ℕ, suc, ◌+◌, ◌<◌, ◌≤◌, ◌^◌, nat_le, false, List, [], ◌∷◌, find, length, Some, None, All}
+use Rattle.std.specs.Prelude.{◌≡◌, ℕ, suc, ◌+◌, ◌≤◌, nat_le, false, List, [], ◌∷◌, find, length, Some, None, All}
 use Rattle.std.specs.Option.{option_map}
 use Rattle.std.proofs.Common.{sym, ap, subst, arith}
 use Rattle.std.proofs.lemmas.List.Elements.{All-nil, All-cons}
@@ -52,7 +52,7 @@ module _ {C : Type 0} (t : Topology C) where
       (first : option_map (λ (p : Provider). p.number) (find (λ p. nat_le from_number p.number) t.providers) ≡ Some n)
     where
       -- the next one
-      many_next : IsStep (λ (p : Provider). p.number) t.providers t.next_provider from_number n
+      pub many_next : IsStep (λ (p : Provider). p.number) t.providers t.next_provider from_number n
       many_next =
           WalksMeetAll.step walks-meet (λ (p : Provider). p.number) t.providers t.next_provider from_number n
           sound.orderly.order.providers first
@@ -62,15 +62,6 @@ module _ {C : Type 0} (t : Topology C) where
       many_step =
           let more : many_left t from_number ≡ suc (many_left t (n + 1)) = ap length many_next.left in
           omega (arith, more)
-
-      pub many_past : from_number ≤ n
-      many_past = many_next.past
-
-      pub many_known : n < t.next_provider
-      many_known = many_next.known
-
-      pub many_fits : t.next_provider < 2 ^ 64
-      many_fits = sound.orderly.numbers.next_provider.fits
 
   -- none is left
   pub many_end : (from_number : ℕ)

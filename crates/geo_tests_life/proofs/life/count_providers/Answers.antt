@@ -1,5 +1,5 @@
 use Rattle.std.proofs.Common.{sym, arith}
-use Rattle.geo_tests_life.proofs.Walks.{many_begin, many_step, many_past, many_known, many_fits, many_end}
+use Rattle.geo_tests_life.proofs.Walks.{many_begin, many_next, many_step, many_end}
 use Rattle.geo_tests_life.proofs.life.count_providers.Goals as goal
 
 pub loop-prov-init : goal.loop-prov-init
@@ -7,48 +7,32 @@ loop-prov-init c = record { many = many_begin c.args.topo.now.topology; low = om
 
 pub overflow_add-count : goal.overflow_add-count
 overflow_add-count c =
-    let past =
-    many_past c.args.topo.now.topology c.in-Some.ensures.sound c.loop-prov.from c.in-Some.prov
+    let next = many_next c.args.topo.now.topology c.in-Some.ensures.sound c.loop-prov.from c.in-Some.prov
     (sym c.in-Some.ensures.first) in
-    let known =
-    many_known c.args.topo.now.topology c.in-Some.ensures.sound c.loop-prov.from c.in-Some.prov
-    (sym c.in-Some.ensures.first) in
-    let fits =
-    many_fits c.args.topo.now.topology c.in-Some.ensures.sound c.loop-prov.from c.in-Some.prov
-    (sym c.in-Some.ensures.first) in
-    omega (arith, past, known, fits, c.loop-prov.invariant.low)
+    let fits = c.in-Some.ensures.sound.orderly.numbers.next_provider.fits in
+    omega (arith, next.past, next.known, fits, c.loop-prov.invariant.low)
 
 pub overflow_add-from : goal.overflow_add-from
 overflow_add-from c =
-    let known =
-    many_known c.args.topo.now.topology c.in-Some.ensures.sound c.loop-prov.from c.in-Some.prov
+    let next = many_next c.args.topo.now.topology c.in-Some.ensures.sound c.loop-prov.from c.in-Some.prov
     (sym c.in-Some.ensures.first) in
-    let fits =
-    many_fits c.args.topo.now.topology c.in-Some.ensures.sound c.loop-prov.from c.in-Some.prov
-    (sym c.in-Some.ensures.first) in
-    omega (arith, known, fits, c.number-from.ensures)
+    omega (arith, next.known, c.in-Some.ensures.sound.orderly.numbers.next_provider.fits, c.number-from.ensures)
 
 pub loop-prov-smaller : goal.loop-prov-smaller
 loop-prov-smaller c =
-    let past =
-    many_past c.args.topo.now.topology c.in-Some.ensures.sound c.loop-prov.from c.in-Some.prov
+    let next = many_next c.args.topo.now.topology c.in-Some.ensures.sound c.loop-prov.from c.in-Some.prov
     (sym c.in-Some.ensures.first) in
-    let known =
-    many_known c.args.topo.now.topology c.in-Some.ensures.sound c.loop-prov.from c.in-Some.prov
-    (sym c.in-Some.ensures.first) in
-    omega (arith, past, known, c.number-from.ensures)
+    omega (arith, next.past, next.known, c.number-from.ensures)
 
 pub loop-prov-preserved : goal.loop-prov-preserved
 loop-prov-preserved c =
-    let past =
-    many_past c.args.topo.now.topology c.in-Some.ensures.sound c.loop-prov.from c.in-Some.prov
+    let next = many_next c.args.topo.now.topology c.in-Some.ensures.sound c.loop-prov.from c.in-Some.prov
     (sym c.in-Some.ensures.first) in
-    let step =
-    many_step c.args.topo.now.topology c.in-Some.ensures.sound c.loop-prov.from c.in-Some.prov
+    let step = many_step c.args.topo.now.topology c.in-Some.ensures.sound c.loop-prov.from c.in-Some.prov
     (sym c.in-Some.ensures.first) in
     record {
       many = rw c.number-from.ensures (omega (arith, step, c.loop-prov.invariant.many));
-      low = omega (arith, past, c.loop-prov.invariant.low, c.number-from.ensures);
+      low = omega (arith, next.past, c.loop-prov.invariant.low, c.number-from.ensures);
     }
 
 pub returns : goal.returns
