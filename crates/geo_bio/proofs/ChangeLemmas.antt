@@ -2,7 +2,7 @@
 use Rattle.std.proofs.Common.{◌≡◌, ℕ, List, map, Bool, true, false, Option, Some, None, sym, refl, ap, ◌∙◌, subst, IfSome}
 use Rattle.std.proofs.lemmas.Option.{MatchOption-at_some}
 use Rattle.std.specs.Option.{option_map, option_map_or, MatchOption}
-use Rattle.geo_base.specs.declared.errno.Errno.{Errno}
+use Rattle.geo_model.specs.Errno.{Errno}
 use Rattle.geo_model.specs.declared.step.Phase.{Phase}
 use Rattle.geo_model.specs.World.{BioOf, is_busy, is_done, is_waiting, change_number}
 use Rattle.geo_slots.specs.Slots.{SlotsView, value_at, with_value}

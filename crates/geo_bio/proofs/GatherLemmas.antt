@@ -1,7 +1,7 @@
 -- One more number of those that a parent gathers.
 use Rattle.std.proofs.Common.{◌≡◌, ℕ, suc, ◌+◌, ◌-◌, ◌<◌, ◌++◌, List, Option, Some, None, [], refl, ap, sym, ◌∙◌, arith, append_assoc}
 use Rattle.std.specs.Option.{option_map_or, option_and_then}
-use Rattle.geo_base.specs.declared.errno.Errno.{Errno}
+use Rattle.geo_model.specs.Errno.{Errno}
 use Rattle.geo_model.specs.Bios.{bytes_of_result}
 use Rattle.geo_slots.specs.Slots.{value_at, without}
 use Rattle.geo_bio.specs.declared.bio.Bio.{Bio}

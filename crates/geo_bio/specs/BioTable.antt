@@ -1,8 +1,8 @@
 -- The table of bios, as contracts see it.
 use Rattle.std.specs.Prelude.{ℕ, ◌≤◌, nat_le, Bool, false, IsTrue, ⊤, List, All, map, Option, Some, None, find, if◌then◌else◌}
 use Rattle.std.specs.Option.{option_map, option_map_or}
-use Rattle.geo_base.specs.declared.request.BioCmd.{BioCmd}
-use Rattle.geo_base.specs.declared.errno.Errno.{Errno}
+use Rattle.geo_model.specs.BioCmd.{BioCmd}
+use Rattle.geo_model.specs.Errno.{Errno}
 use Rattle.geo_model.specs.declared.step.Phase.{Phase}
 use Rattle.geo_model.specs.declared.step.Phase.TheVariants as phases
 use Rattle.geo_model.specs.declared.step.Owner.{Owner}

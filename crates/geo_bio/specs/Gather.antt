@@ -1,8 +1,8 @@
 -- How a parent gathers, number by number, what its children hold.
 use Rattle.std.specs.Prelude.{ℕ, zero, suc, ◌+◌, ◌==◌, Bool, List, [], ◌++◌, Option, Some, None, unwrap_or, if◌then◌else◌}
 use Rattle.std.specs.Option.{option_map_or, option_and_then}
-use Rattle.geo_base.specs.declared.request.BioCmd.{BioCmd}
-use Rattle.geo_base.specs.declared.errno.Errno.{Errno}
+use Rattle.geo_model.specs.BioCmd.{BioCmd}
+use Rattle.geo_model.specs.Errno.{Errno}
 use Rattle.geo_model.specs.declared.step.BioResult.{BioResult}
 use Rattle.geo_model.specs.declared.step.BioResult.TheVariants as results
 use Rattle.geo_model.specs.Words.{is_read}

@@ -9,8 +9,7 @@ ghost use Rattle.geo_bio.specs.Gather.{copy_of, result_given, held_error, error_
 use crate::bio::{Bio, Held, Risen};
 use crate::log_bytes::LogBytes;
 use crate::rows::{end_with, set_phase};
-use geo_base::{BioCmd, BioId, Block, Errno, NoMemory, SharedBytes};
-use geo_model::{BioResult, Phase};
+use geo_model::{BioCmd, BioId, BioResult, Block, Errno, NoMemory, Phase, SharedBytes};
 use geo_slots::Slots;
 use std::alloc::Global;
 

@@ -3,7 +3,7 @@ use Rattle.std.proofs.Common.{◌≡◌, ℕ, zero, suc, ◌*◌, ◌/◌, ◌<�
 use Rattle.std.specs.Prelude.{is_none, is_some, if◌then◌else◌}
 use Rattle.std.specs.List.{list_all, list_any}
 use Rattle.std.proofs.lemmas.Bool.Decides.{nat_tests}
-use Rattle.geo_base.specs.declared.limits.TheConstants.{MAX_MEDIA_BYTES}
+use Rattle.geo_model.specs.TheConstants.{MAX_MEDIA_BYTES}
 use Rattle.geo_model.specs.Acceptance.{is_size, smallest}
 use Rattle.geo_class.specs.Assembly.{allowed_size}
 use Rattle.geo_class.specs.Places.{IsStriped}

@@ -1,9 +1,9 @@
 -- What judging a sector makes of a taste is what the model's step makes of it.
 use Rattle.std.proofs.Common.{◌≡◌, ℕ, List, Option, Some, None, refl, sym, ap, ◌∙◌}
 use Rattle.std.specs.Option.{option_map_or}
-use Rattle.geo_base.specs.declared.kind.Kind.{Kind}
-use Rattle.geo_base.specs.declared.kind.Kind.TheVariants as kinds
-use Rattle.geo_base.specs.declared.request.Counts.{Counts}
+use Rattle.geo_model.specs.Kind.{Kind}
+use Rattle.geo_model.specs.Kind.TheVariants as kinds
+use Rattle.geo_model.specs.Counts.{Counts}
 use Rattle.geo_model.specs.declared.class.Facts.{Facts}
 use Rattle.geo_model.specs.declared.class.Judged.TheVariants.{Next, Made}
 use Rattle.geo_model.specs.declared.class.Verdict.{Verdict}

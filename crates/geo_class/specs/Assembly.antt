@@ -1,7 +1,7 @@
 -- Assemblies whose places are filled one after another.
 use Rattle.std.specs.Prelude.{ℕ, ◌+◌, ◌<◌, ◌≤◌, Bool, not, ◌||◌, List, length, sum, Option, Some, None, is_some, if◌then◌else◌}
 use Rattle.std.specs.List.{list_all}
-use Rattle.geo_base.specs.declared.limits.TheConstants.{MAX_COMPONENTS, MAX_MEDIA_BYTES}
+use Rattle.geo_model.specs.TheConstants.{MAX_COMPONENTS, MAX_MEDIA_BYTES}
 use Rattle.geo_model.specs.Acceptance.{is_size, joined_size, places_of}
 use Rattle.geo_model.specs.World.{Config, Concat, Nop}
 

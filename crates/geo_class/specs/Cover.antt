@@ -1,7 +1,7 @@
 -- Which providers the maps of their geoms cover.
 use Rattle.std.specs.Prelude.{◌≡◌, ℕ, ◌<◌, ◌≤◌, false, List, is_none, IsSomeAnd, ⊤}
 use Rattle.std.specs.List.{list_any}
-use Rattle.geo_base.specs.declared.limits.TheConstants.{MAX_MEDIA_BYTES}
+use Rattle.geo_model.specs.TheConstants.{MAX_MEDIA_BYTES}
 use Rattle.geo_model.specs.Acceptance.{joined_size, places_of}
 use Rattle.geo_model.specs.Place.{place}
 use Rattle.geo_model.specs.World.{Config, Stripe}

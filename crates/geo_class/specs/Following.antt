@@ -1,7 +1,7 @@
 -- What judging a sector makes of a taste is what the model's step makes of it.
 use Rattle.std.specs.Prelude.{◌≡◌, ℕ}
-use Rattle.geo_base.specs.declared.kind.Kind.{Kind}
-use Rattle.geo_base.specs.declared.request.Counts.{Counts}
+use Rattle.geo_model.specs.Kind.{Kind}
+use Rattle.geo_model.specs.Counts.{Counts}
 use Rattle.geo_model.specs.declared.step.BioResult.{BioResult}
 use Rattle.geo_model.specs.Events.{QueuedTopology}
 use Rattle.geo_model.specs.Tasting.{facts_of, take_result}

@@ -1,6 +1,6 @@
 -- The places of a CONCAT or STRIPE geom, as contracts see them.
 use Rattle.std.specs.Prelude.{◌≡◌, ℕ, ◌<◌, ◌≤◌, List, Option, length}
-use Rattle.geo_base.specs.declared.limits.TheConstants.{MAX_COMPONENTS, MAX_MEDIA_BYTES}
+use Rattle.geo_model.specs.TheConstants.{MAX_COMPONENTS, MAX_MEDIA_BYTES}
 use Rattle.geo_model.specs.Acceptance.{smallest}
 use Rattle.geo_stripe.specs.StripeMap.{striped_size}
 

@@ -1,7 +1,7 @@
 -- How the providers of a geom are cut.
 use Rattle.std.specs.Prelude.{◌≡◌, ℕ, ◌+◌, ◌*◌, ◌≤◌, false, List, length, sum, is_none, IfSome, ⊤}
 use Rattle.std.specs.List.{list_any}
-use Rattle.geo_base.specs.declared.limits.TheConstants.{MAX_MEDIA_BYTES}
+use Rattle.geo_model.specs.TheConstants.{MAX_MEDIA_BYTES}
 use Rattle.geo_model.specs.Acceptance.{smallest}
 use Rattle.geo_model.specs.Place.{slice_at, part_at}
 use Rattle.geo_model.specs.Topology.{Provider}

@@ -1,9 +1,9 @@
 -- A taste under way, and what the model sees in it.
 use Rattle.std.specs.Prelude.{ℕ, List, [], ◌∷◌, Option, Some, None}
 use Rattle.std.specs.Option.{option_map, option_map_or}
-use Rattle.geo_base.specs.declared.kind.Kind.{Kind}
-use Rattle.geo_base.specs.declared.request.Counts.{Counts}
-use Rattle.geo_base.specs.declared.kind.Kind.TheVariants as kinds
+use Rattle.geo_model.specs.Kind.{Kind}
+use Rattle.geo_model.specs.Counts.{Counts}
+use Rattle.geo_model.specs.Kind.TheVariants as kinds
 use Rattle.geo_model.specs.Acceptance.{judge}
 use Rattle.geo_model.specs.Chain.{Chain, no_links, with_link, feed}
 use Rattle.geo_model.specs.declared.class.Facts.{Facts}

@@ -9,8 +9,8 @@ ghost use Rattle.geo_class.specs.Assembly.{CanGrow, allowed_size, standing};
 use crate::config::{Config, Layout};
 use crate::places::Places;
 use crate::sizes::{concat_size, stripe_size};
-use geo_base::{ConsId, MAX_COMPONENTS, NoMemory};
 use geo_concat::ConcatRecord;
+use geo_model::{ConsId, MAX_COMPONENTS, NoMemory};
 use geo_stripe::StripeRecord;
 use std::alloc::Global;
 

@@ -10,10 +10,10 @@ ghost use Rattle.geo_class.specs.Places.{ArePlaces, IsStriped};
 
 use crate::places::Places;
 use crate::sizes::smallest;
-use geo_base::{ConsId, MAX_LINKS, MAX_MEDIA_BYTES, NoMemory};
 use geo_concat::ConcatMap;
 use geo_ebr::EbrPart;
 use geo_mbr::Slice;
+use geo_model::{ConsId, MAX_LINKS, MAX_MEDIA_BYTES, NoMemory};
 use geo_stripe::StripeMap;
 use std::alloc::Global;
 use std::marker::Model;

@@ -12,11 +12,11 @@ ghost use Rattle.geo_class.specs.Targets.{consumers_for};
 ghost use Rattle.geo_class.specs.Split.{Covers, provider_of};
 
 use crate::config::{Config, Layout};
-use geo_base::{ConsId, MAX_LINKS, MAX_MEDIA_BYTES, Name, NoMemory};
 use geo_concat::ConcatMap;
 use geo_ebr::EbrPart;
 use geo_label::LabelMap;
 use geo_mbr::Slice;
+use geo_model::{ConsId, MAX_LINKS, MAX_MEDIA_BYTES, Name, NoMemory};
 use geo_nop::NopMap;
 use geo_range::{AddressMap, Piece, PieceList, Span, Window};
 use geo_stripe::StripeMap;

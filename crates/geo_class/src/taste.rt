@@ -1,7 +1,7 @@
 //! A taste under way (geom(4)).
 ghost use Rattle.std.specs.Prelude.{◌≡◌, ◌+◌, ◌^◌, ◌<◌, ◌≤◌, ℕ, length, slice_get, IfSome};
-ghost use Rattle.geo_base.specs.declared.kind.Kind.TheVariants as kinds;
-ghost use Rattle.geo_base.specs.declared.request.Counts.{Counts as CountsValue};
+ghost use Rattle.geo_model.specs.Kind.TheVariants as kinds;
+ghost use Rattle.geo_model.specs.Counts.{Counts as CountsValue};
 ghost use Rattle.geo_model.specs.Bios.{read_back};
 ghost use Rattle.geo_model.specs.Chain.{feed, no_links};
 ghost use Rattle.geo_model.specs.Events.{tasting_classes};
@@ -12,9 +12,8 @@ ghost use Rattle.geo_ebr.specs.ChainView.{chain_after, link_verdict};
 ghost use Rattle.geo_class.specs.Taste.{after_back, after_verdict, asked_of, chain_with, ended, sector_back, settled, verdict_back, verdict_with, weighed, with_link_of, with_next};
 
 use crate::verdict::judge;
-use geo_base::{ConsId, Kind, ProvId, SharedBytes};
 use geo_ebr::{Chain, Link};
-use geo_model::{BioResult, Facts, Shape, Verdict};
+use geo_model::{BioResult, ConsId, Facts, Kind, ProvId, Shape, SharedBytes, Verdict};
 use std::marker::Model;
 
 /// The classes that a taste asks, in this order.

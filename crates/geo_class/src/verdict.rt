@@ -1,12 +1,14 @@
 //! What a class says to a provider that is tasted.
 ghost use Rattle.std.specs.Prelude.{◌≡◌, ◌≤◌, ◌*◌, length};
-ghost use Rattle.geo_base.specs.declared.kind.Kind.TheVariants as kinds;
+ghost use Rattle.geo_model.specs.Kind.TheVariants as kinds;
 ghost use Rattle.geo_model.specs.Acceptance.{is_other_size, judge, label_verdict, taste_where, verdict_of};
 ghost use Rattle.geo_model.specs.declared.class.Shape.TheVariants.{Slices, Joined, Striped};
 ghost use Rattle.geo_record.specs.Head.{decoder_answer};
 
-use geo_base::{DeclineCause, Declined, Kind};
-use geo_model::{ConcatRecord, Facts, LabelRecord, MbrTable, Shape, StripeRecord, Verdict};
+use geo_model::{
+    ConcatRecord, DeclineCause, Declined, Facts, Kind, LabelRecord, MbrTable, Shape, StripeRecord,
+    Verdict,
+};
 
 /// The size of the sectors that a partition table has.
 const TABLE_SECTOR: u32 = 512;

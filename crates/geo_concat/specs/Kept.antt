@@ -1,7 +1,7 @@
 -- Sizes kept in MAX_COMPONENTS cells, with zeros behind them.
 use Rattle.std.specs.Prelude.{◌≡◌, ℕ, ◌≤◌, ◌-◌, ◌++◌, List, length, take, drop, replicate, sum, refl}
 use Rattle.std.proofs.Common.{arith, take-append-drop, length-take-le}
-use Rattle.geo_base.specs.declared.limits.TheConstants.{MAX_COMPONENTS, MAX_MEDIA_BYTES}
+use Rattle.geo_model.specs.TheConstants.{MAX_COMPONENTS, MAX_MEDIA_BYTES}
 
 -- the first cells are the sizes, which are few and make up a size, and the others are zero
 pub record IsKept (cells : List ℕ) (count : ℕ) : Type 0 where

@@ -3,7 +3,7 @@ ghost use Rattle.std.specs.Prelude.{◌≡◌, ◌+◌, ◌^◌, ◌<◌, ◌≤
 ghost use Rattle.geo_model.specs.Place.{concat_spot, concat_stretches, cut};
 ghost use Rattle.geo_concat.specs.Growth.{KeepsPlaces};
 
-use geo_base::{MAX_COMPONENTS, MAX_MEDIA_BYTES, NoMemory};
+use geo_model::{MAX_COMPONENTS, MAX_MEDIA_BYTES, NoMemory};
 use geo_range::{AddressMap, PieceList, Span, Stretch};
 use std::alloc::Global;
 use std::marker::Model;
@@ -24,7 +24,7 @@ impl Model for ConcatMap {
     ghost Value = { ConcatView };
 
     ghost use Rattle.geo_concat.specs.Kept.{IsKept, sizes_kept_again};
-    ghost use Rattle.geo_base.specs.declared.limits.TheConstants.{MAX_COMPONENTS};
+    ghost use Rattle.geo_model.specs.TheConstants.{MAX_COMPONENTS};
 
     ghost view = { λ map. record { sizes = take map.count map.cells; sector = map.sector } };
 

@@ -1,12 +1,11 @@
 //! The record of a place in a concat, in the last sector of a component.
 ghost use Rattle.std.specs.Prelude.{◌≡◌, ◌≤◌, length, IsTrue};
-ghost use Rattle.geo_base.specs.Name.{is_short_name};
+ghost use Rattle.geo_model.specs.Name.{is_short_name};
 ghost use Rattle.geo_model.specs.Records.{concat_record, concat_sector};
 ghost use Rattle.geo_record.specs.Head.{decoder_answer};
 ghost use Rattle.geo_concat.specs.Record.{EncodedIsDecoded};
 
-use geo_base::{DeclineCause, Declined};
-use geo_model::ConcatRecord;
+use geo_model::{ConcatRecord, DeclineCause, Declined};
 use geo_record::{decode_head, encode_head, is_place, put_component, u16_at, u32_at};
 
 /// What the record begins with.

@@ -3,9 +3,9 @@ use Rattle.std.proofs.Common.{◌≡◌, ℕ, ◌<◌, Bool, true, false, not, �
 use Rattle.std.proofs.lemmas.Bool.{leb-false}
 use Rattle.std.specs.Prelude.{◌==◌, is_some, nat_le}
 use Rattle.std.specs.List.{list_any}
-use Rattle.geo_base.specs.declared.decline.DeclineCause.{DeclineCause}
-use Rattle.geo_base.specs.declared.decline.DeclineCause.TheVariants as causes
-use Rattle.geo_base.specs.declared.limits.TheConstants.{MAX_LINKS}
+use Rattle.geo_model.specs.DeclineCause.{DeclineCause}
+use Rattle.geo_model.specs.DeclineCause.TheVariants as causes
+use Rattle.geo_model.specs.TheConstants.{MAX_LINKS}
 use Rattle.geo_model.specs.declared.class.EbrPart.{EbrPart}
 use Rattle.geo_model.specs.Chain.{has_part, is_link_type, leads_on, next_link}
 use Rattle.geo_model.specs.Records.{entry_type, has_signature}

@@ -2,8 +2,8 @@
 use Rattle.std.specs.Prelude.{if◌then◌else◌}
 use Rattle.std.proofs.Common.{◌≡◌, ℕ, ◌+◌, ◌-◌, ◌<◌, true, false, List, [], ◌∷◌, ◌++◌, length, map, take, drop, set, replicate, Option, Some, None, sym, ap, ◌∙◌, arith, length-take-le, take-append-drop}
 use Rattle.std.proofs.lemmas.List.{take_more_set, length-set, drop-set-lt, drop-replicate, drop-drop}
-use Rattle.geo_base.specs.declared.decline.DeclineCause.{DeclineCause}
-use Rattle.geo_base.specs.declared.limits.TheConstants.{MAX_LINKS}
+use Rattle.geo_model.specs.DeclineCause.{DeclineCause}
+use Rattle.geo_model.specs.TheConstants.{MAX_LINKS}
 use Rattle.geo_model.specs.declared.class.EbrPart.{EbrPart}
 use Rattle.geo_model.specs.declared.class.Shape.TheVariants.{Logical}
 use Rattle.geo_model.specs.declared.class.Verdict.TheVariants.{Decline, More, Accept}

@@ -1,9 +1,9 @@
 -- A walk along the chain of a media.
 use Rattle.std.specs.Prelude.{if◌then◌else◌}
 use Rattle.std.proofs.Common.{◌≡◌, ℕ, suc, ◌+◌, ◌-◌, ◌<◌, ◌≤◌, Bool, true, false, List, Option, Some, None, Ok, Err, refl, sym, ap, ◌∙◌, arith}
-use Rattle.geo_base.specs.declared.decline.DeclineCause.{DeclineCause}
-use Rattle.geo_base.specs.declared.decline.DeclineCause.TheVariants as causes
-use Rattle.geo_base.specs.declared.limits.TheConstants.{MAX_LINKS}
+use Rattle.geo_model.specs.DeclineCause.{DeclineCause}
+use Rattle.geo_model.specs.DeclineCause.TheVariants as causes
+use Rattle.geo_model.specs.TheConstants.{MAX_LINKS}
 use Rattle.geo_model.specs.declared.class.EbrTable.{EbrTable}
 use Rattle.geo_model.specs.declared.class.Shape.{Shape}
 use Rattle.geo_model.specs.declared.class.Shape.TheVariants.{Logical}

@@ -1,8 +1,8 @@
 -- The links of a chain, in two rows of MAX_LINKS cells: their sectors, and their partitions.
 use Rattle.std.specs.Prelude.{◌≡◌, ℕ, ◌<◌, ◌-◌, ◌==◌, Bool, ◌||◌, List, [], ◌∷◌, length, take, drop, replicate, Option, None}
 use Rattle.std.specs.List.{list_any}
-use Rattle.geo_base.specs.declared.decline.DeclineCause.{DeclineCause}
-use Rattle.geo_base.specs.declared.limits.TheConstants.{MAX_LINKS}
+use Rattle.geo_model.specs.DeclineCause.{DeclineCause}
+use Rattle.geo_model.specs.TheConstants.{MAX_LINKS}
 use Rattle.geo_model.specs.declared.class.EbrPart.{EbrPart}
 use Rattle.geo_model.specs.Chain.{Chain, LinkRead, link_tests, next_link}
 use Rattle.geo_model.specs.Words.{first_error}

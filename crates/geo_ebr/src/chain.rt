@@ -4,8 +4,7 @@ ghost use Rattle.geo_model.specs.Chain.{feed, no_links};
 ghost use Rattle.geo_ebr.specs.ChainView.{chain_after, link_verdict};
 
 use crate::link::{cause_against, leads_on, named_part, next_link};
-use geo_base::{DeclineCause, MAX_LINKS};
-use geo_model::{EbrPart, EbrTable};
+use geo_model::{DeclineCause, EbrPart, EbrTable, MAX_LINKS};
 use std::marker::Model;
 
 /// What a link says of its chain.

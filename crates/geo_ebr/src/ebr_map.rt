@@ -2,7 +2,7 @@
 ghost use Rattle.std.specs.Prelude.{◌≡◌, ◌+◌, ◌*◌, ◌≤◌};
 ghost use Rattle.geo_ebr.specs.MapLaws.{MapsAreTheModels};
 
-use geo_base::{MAX_MEDIA_BYTES, NoMemory};
+use geo_model::{MAX_MEDIA_BYTES, NoMemory};
 use geo_range::{AddressMap, PieceList, Span, Window};
 use std::alloc::Global;
 use std::marker::Model;

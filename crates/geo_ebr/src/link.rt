@@ -5,8 +5,7 @@ ghost use Rattle.geo_model.specs.Chain.{is_link_type, leads_on, named_part, next
 ghost use Rattle.geo_model.specs.Records.{entry_type};
 ghost use Rattle.geo_ebr.specs.Links.{cause_against, is_back};
 
-use geo_base::{DeclineCause, MAX_LINKS};
-use geo_model::EbrPart;
+use geo_model::{DeclineCause, EbrPart, MAX_LINKS};
 use geo_record::{entry_count, entry_first, entry_type, has_signature};
 
 /// The partition that the link at a sector names, of a provider with so many sectors. It counts from the link, and is

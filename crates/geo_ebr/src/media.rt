@@ -4,8 +4,7 @@ ghost use Rattle.geo_model.specs.Chain.{chain_table};
 ghost use Rattle.geo_record.specs.Head.{decoder_answer};
 
 use crate::chain::{Chain, Link};
-use geo_base::{DeclineCause, Declined, MAX_LINKS};
-use geo_model::EbrTable;
+use geo_model::{DeclineCause, Declined, EbrTable, MAX_LINKS};
 
 /// A media that tells the bytes of each sector.
 pub trait Media {

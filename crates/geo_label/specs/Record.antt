@@ -1,6 +1,6 @@
 -- What is encoded is decoded.
 use Rattle.std.specs.Prelude.{◌≡◌, ℕ, ◌<◌, ◌≤◌, ◌^◌, IsTrue, IfSome, Ok}
-use Rattle.geo_base.specs.Name.{is_short_name}
+use Rattle.geo_model.specs.Name.{is_short_name}
 use Rattle.geo_model.specs.declared.class.LabelRecord.{LabelRecord}
 use Rattle.geo_model.specs.Records.{label_record, label_sector}
 

@@ -1,7 +1,7 @@
 //! Where a labelled provider lies.
 ghost use Rattle.std.specs.Prelude.{◌≡◌, ◌≤◌};
 
-use geo_base::{MAX_MEDIA_BYTES, NoMemory};
+use geo_model::{MAX_MEDIA_BYTES, NoMemory};
 use geo_range::{AddressMap, PieceList, Span, Window};
 use std::alloc::Global;
 use std::marker::Model;

@@ -1,12 +1,11 @@
 //! The record of a label, in the last sector of the provider below.
 ghost use Rattle.std.specs.Prelude.{◌≡◌, ◌≤◌, length, IsTrue};
-ghost use Rattle.geo_base.specs.Name.{is_short_name};
+ghost use Rattle.geo_model.specs.Name.{is_short_name};
 ghost use Rattle.geo_model.specs.Records.{label_record, label_sector, label_size};
 ghost use Rattle.geo_record.specs.Head.{decoder_answer};
 ghost use Rattle.geo_label.specs.Record.{EncodedIsDecoded};
 
-use geo_base::Declined;
-use geo_model::LabelRecord;
+use geo_model::{Declined, LabelRecord};
 use geo_record::{decode_head, encode_head, put_u64, u32_at, u64_at};
 
 /// What the record begins with.

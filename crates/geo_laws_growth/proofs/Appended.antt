@@ -2,8 +2,8 @@
 use Rattle.std.specs.Prelude.{◌≡◌, ℕ, ◌+◌, Bool, true, false, ◌∷◌, [], length, Some, None}
 use Rattle.std.proofs.Common.{refl, sym, ◌∙◌, subst}
 use Rattle.std.proofs.lemmas.Bool.{false_from_ne_true}
-use Rattle.geo_base.proofs.Options.{some-there}
-use Rattle.geo_base.specs.declared.errno.Errno.TheVariants.{ENXIO, ELOOP, EDEEP}
+use Rattle.geo_model.proofs.Options.{some-there}
+use Rattle.geo_model.specs.Errno.TheVariants.{ENXIO, ELOOP, EDEEP}
 use Rattle.geo_model.specs.Words.{first_error}
 use Rattle.geo_model.specs.Topology.{Topology, Provider, geom_at, provider_at, consumer_at, is_errored, add_consumer, attach, set_config}
 use Rattle.geo_model.specs.Rank.{would_loop, is_too_deep, attach_refusal}

@@ -2,8 +2,8 @@
 use Rattle.std.specs.Prelude.{◌≡◌, ◌≢◌, ◌⊎◌, ◌↔◌, ℕ, Bool, true, false, not, [], ◌∷◌, None, All, Contains}
 use Rattle.std.proofs.Common.{refl}
 use Rattle.std.proofs.lemmas.Bool.{not-false, not_from_true}
-use Rattle.geo_base.specs.declared.request.Counts.{Counts}
-use Rattle.geo_base.specs.declared.errno.Errno.TheVariants.{ENXIO, ELOOP, EDEEP, EPERM, EOVERFLOW}
+use Rattle.geo_model.specs.Counts.{Counts}
+use Rattle.geo_model.specs.Errno.TheVariants.{ENXIO, ELOOP, EDEEP, EPERM, EOVERFLOW}
 use Rattle.geo_model.specs.Words.{first_error}
 use Rattle.geo_model.specs.Topology.{Topology, Provider, consumer_at, provider_at, attached_to, attach}
 use Rattle.geo_model.specs.Rank.{would_loop, is_too_deep}

@@ -2,7 +2,7 @@
 use Rattle.std.specs.Prelude.{◌≡◌, ℕ, ◌==◌, true, List, map, Some, if◌then◌else◌}
 use Rattle.std.specs.Option.{option_map_or}
 use Rattle.std.proofs.Common.{refl, sym, ◌∙◌, ap, eq-eqb}
-use Rattle.geo_base.specs.declared.request.Counts.{Counts}
+use Rattle.geo_model.specs.Counts.{Counts}
 use Rattle.geo_model.specs.Topology.{Topology, Geom, Provider, Consumer, geom_at, providers_of, attached_to, attach}
 use Rattle.geo_model.specs.Demand.{no_counts, add_counts, sum_counts, want_of_kind, have, want}
 use Rattle.geo_laws_counts.specs.CountWords.{IsAtMost, more_counts, gain_of_kind}

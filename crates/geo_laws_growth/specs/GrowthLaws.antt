@@ -1,6 +1,6 @@
 -- What a provider keeps that grows: each old offset lies where it lay (geom(4), g_resize_provider(9)).
 use Rattle.std.specs.Prelude.{◌≡◌, ◌≢◌, ◌⊎◌, ℕ, ◌+◌, ◌<◌, ◌≤◌, false, List, [], ◌∷◌, ◌++◌, length, sum, Option, Some, None, All, IsSome, IsSomeAnd, IsTrue}
-use Rattle.geo_base.specs.declared.request.Counts.{Counts}
+use Rattle.geo_model.specs.Counts.{Counts}
 use Rattle.geo_model.specs.Topology.{Topology, Geom, Provider, Consumer, geom_at, provider_at, consumer_at, provider_with_geom, add_consumer}
 use Rattle.geo_model.specs.Rank.{Ranked}
 use Rattle.geo_model.specs.Opens.{below, has_error_below}

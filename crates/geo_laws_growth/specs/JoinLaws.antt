@@ -1,6 +1,6 @@
 -- What a consumer does to counts that comes to a provider while its geom is open (g_attach(9), g_access(9)).
 use Rattle.std.specs.Prelude.{◌≡◌, ◌↔◌, ℕ, ◌==◌, false, [], map, Some, None, All, Contains, IsTrue, if◌then◌else◌}
-use Rattle.geo_base.specs.declared.request.Counts.{Counts}
+use Rattle.geo_model.specs.Counts.{Counts}
 use Rattle.geo_model.specs.Topology.{Topology, Geom, Provider, Consumer, geom_at, provider_at, consumer_at, providers_of, attached_to, attach}
 use Rattle.geo_model.specs.Rank.{Ranked, would_loop, is_too_deep}
 use Rattle.geo_model.specs.Opens.{below, has_error_below, join_refusal}

@@ -9,7 +9,6 @@ use Rattle.std.proofs.lemmas.List.Sums.{sum_by-cons, sum_by-append}
 use Rattle.geo_model.proofs.BioLemmas.{quiet_phase}
 use Rattle.geo_base.specs.declared.errno.Errno.TheVariants.{EIO}
 use Rattle.geo_model.specs.declared.step.BioResult.TheVariants as results
-use Rattle.geo_model.specs.declared.step.Outcome.{Outcome}
 use Rattle.geo_model.specs.declared.step.Owner.{Owner}
 use Rattle.geo_model.specs.declared.step.Owner.TheVariants as owners
 use Rattle.geo_model.specs.declared.step.Phase.{Phase}
@@ -17,11 +16,10 @@ use Rattle.geo_model.specs.declared.step.Phase.TheVariants as phases
 use Rattle.geo_model.specs.Topology.{Topology}
 use Rattle.geo_model.specs.Graph.{AreNumbers}
 use Rattle.geo_model.specs.World.{World, Config, Bio, bio_at, change_bio, children_of, is_busy, is_up, is_down, is_done, is_waiting, is_child_of}
-use Rattle.geo_model.specs.Bios.{PieceTarget, Way, Bounces, Fails, Sends, Splits, Passes, piece_child, piece_children, split_bio, up, up_to, up_child, up_with, without_bio, complete_parent, is_complete, joined_result, child_results, start, start_by, way_of}
+use Rattle.geo_model.specs.Bios.{PieceTarget, Way, Bounces, Fails, Sends, Splits, Passes, piece_child, piece_children, split_bio, up_to, up_child, up_with, without_bio, complete_parent, is_complete, joined_result, child_results, start_by}
 use Rattle.geo_model.specs.SoundBios.{IsFamilyInOrder, HasItsParent}
 use Rattle.geo_model.specs.Fitting.{Firm}
 use Rattle.geo_model.specs.Log.{owed}
-use Rattle.geo_model.proofs.WayLemmas.{starts_in_parts}
 use Rattle.geo_laws_graph.proofs.Lists.{changed, find-changed, map-changed}
 use Rattle.geo_laws_graph.proofs.Members.{find-Contains, All-from_contained, map-Contains, Contains-filter}
 use Rattle.geo_laws_graph.proofs.Numbered.{number_found}
@@ -88,7 +86,7 @@ module _ (w : World) (x : Bio) (order : BiosInOrder w) (found : bio_at w x.numbe
   down_idle = idle is_down (λ seat. refl) x down
 
   -- by the way that it goes
-  way_owes : (way : Way) → owed (start_by w x way).0 ≡ owed w
+  pub way_owes : (way : Way) → owed (start_by w x way).0 ≡ owed w
   way_owes (Bounces e) =
       let same = change_owes w x (up_with (results.Failed e)) order found in omega (arith, same, down_idle)
   way_owes (Fails g) =
@@ -98,10 +96,6 @@ module _ (w : World) (x : Bio) (order : BiosInOrder w) (found : bio_at w x.numbe
       omega (arith, same, down_idle)
   way_owes (Splits targets) = split_owes w x targets order found down_idle
   way_owes (Passes g targets) = split_owes w x targets order found down_idle
-
-  -- a Start
-  pub start_owes : owed (start w x).0 ≡ owed w
-  start_owes = ap (λ (made : World × Outcome). owed made.0) (starts_in_parts w x) ∙ way_owes (way_of w.topology x)
 
 -- Up
 
@@ -224,17 +218,12 @@ module _ (w : World) (firm : Firm w) (x : Bio) (found : bio_at w x.number ≡ So
     child_by true e (Some y) at = complete_owes y at e
 
     -- a child
-    pub child_owes : owed (up_child w x parent).0 ≡ owed w
+    child_owes : owed (up_child w x parent).0 ≡ owed w
     child_owes =
         child_by (is_complete gathered parent) refl (bio_at gathered parent) refl ∙ gathered_owes
 
   -- by the owner
-  owner_owes : (o : Owner) → x.owner ≡ o → owed (up_to w x o).0 ≡ owed w
+  pub owner_owes : (o : Owner) → x.owner ≡ o → owed (up_to w x o).0 ≡ owed w
   owner_owes (owners.Line handle line) own = root_owes
   owner_owes owners.Taste own = root_owes
   owner_owes (owners.Child parent index) own = child_owes parent index own
-
-  -- an Up
-  pub up_owes : owed (up w x).0 ≡ owed w
-  unfolding up
-  up_owes = owner_owes x.owner refl

@@ -1,26 +1,25 @@
 -- What each step that names no bio does to the bios.
-use Rattle.std.specs.Prelude.{◌≡◌, ℕ, Bool, true, false, List, [], ◌∷◌, fold, slice_get, Option, Some, None, Ok, Err, is_some, if◌then◌else◌}
-use Rattle.std.specs.Option.{option_map_or}
+use Rattle.std.specs.Prelude.{◌≡◌, ℕ, Bool, true, false, List, [], ◌∷◌, fold, Option, Some, None, Ok, Err, ⊤}
 use Rattle.std.proofs.Common.{refl, subst, inl, inr}
 use Rattle.geo_model.specs.declared.command.LineCommand.{LineCommand}
 use Rattle.geo_model.specs.declared.step.Event.{Event}
 use Rattle.geo_model.specs.declared.step.Event.TheVariants as events
-use Rattle.geo_model.specs.declared.step.Found.{Found}
-use Rattle.geo_model.specs.declared.step.Found.TheVariants as found
 use Rattle.geo_model.specs.declared.class.Judged.{Judged}
 use Rattle.geo_model.specs.declared.class.Judged.TheVariants as judgeds
 use Rattle.geo_model.specs.declared.step.Outcome.{Outcome}
 use Rattle.geo_model.specs.declared.step.Outcome.TheVariants as outcomes
-use Rattle.geo_model.specs.declared.step.WashWork.{WashWork}
-use Rattle.geo_model.specs.World.{World, Handle, Taste, is_read_out}
+use Rattle.geo_model.specs.declared.step.Step.{Step}
+use Rattle.geo_model.specs.declared.step.Step.TheVariants as steps
+use Rattle.geo_model.specs.World.{World}
 use Rattle.geo_model.specs.Events.{is_not_tasted, dying_consumers}
 use Rattle.geo_model.specs.World.{granted_in}
 use Rattle.geo_model.specs.WorldEvents.{do_event, kill_handle}
-use Rattle.geo_model.specs.Tasting.{Judging, judge_step, judged_world, taste_step}
-use Rattle.geo_model.specs.WorldEvents.{queued_of}
-use Rattle.geo_model.specs.Freeing.{reap, reap_handle, reap_work, wash, wash_work}
+use Rattle.geo_model.specs.Tasting.{Judging, judged_world}
+use Rattle.geo_model.specs.WorldEvents.{queued_of, with_queued}
+use Rattle.geo_model.specs.Freeing.{reap_handle, washed}
 use Rattle.geo_model.specs.Commands.{do_command}
-use Rattle.geo_model.specs.Step.{Answer, with_commands, waits_for, unless_found, go_of, go, event, event_of, judge_next, judge_of, taste_bio, reap_next, wash_next, step}
+use Rattle.geo_model.specs.Step.{Answer, with_commands, step}
+use Rattle.geo_model.proofs.StepWalk.{step_by}
 use Rattle.geo_laws_requests.specs.Arrivals.{BiosStay, StayOrArrive, BiosStayOrArrive}
 use Rattle.geo_laws_requests.proofs.CommandArrivals.{Made, command_made, same_bios}
 
@@ -28,12 +27,18 @@ use Rattle.geo_laws_requests.proofs.CommandArrivals.{Made, command_made, same_bi
 abbrev pub okay : World × Outcome → Answer
 okay made = Ok made
 
--- what is known of what was made is known of the answer's world and outcome
-pub of_made : (w v : World) (o : Outcome) (made : World × Outcome) → Made w made → okay made ≡ Ok (v, o)
-    → StayOrArrive w v o
-of_made w v o made is e = let same : made ≡ (v, o) = cc in subst (Made w) same is
+-- whether the step names no bio
+abbrev pub names_none : Step → Bool
+names_none (steps.Start b) = false
+names_none (steps.Take disk b) = false
+names_none (steps.Deliver b got) = false
+names_none (steps.Up b) = false
+names_none s = true
 
--- Go
+-- what is known of an answer
+abbrev Known : World → Answer → Type 0
+Known w (Ok made) = Made w made
+Known w (Err found) = ⊤
 
 -- the bios of a world whose commands are others
 apart : (w v : World) (o : Outcome) (actor : ℕ) (rest : List LineCommand)
@@ -49,22 +54,13 @@ apart w v o actor rest (inr come) =
       ),
     )
 
--- a Go, by what its command waits for
-go_by : (w v : World) (actor : ℕ) (o : Outcome) (c : LineCommand) (rest : List LineCommand) (waits : Option Found)
-    → unless_found waits (do_command (with_commands w actor rest) c.line actor c.command) ≡ Ok (v, o)
-    → StayOrArrive w v o
-go_by w v actor o c rest (Some f) e = absurd (let bad : ⊥ = cc in bad)
-go_by w v actor o c rest None e =
-    apart w v o actor rest
-    (of_made (with_commands w actor rest) v o (do_command (with_commands w actor rest) c.line actor c.command)
-    (command_made (with_commands w actor rest) c.line actor c.command) e)
-
--- a Go, by the commands that the actor has left
-gone : (w v : World) (actor : ℕ) (o : Outcome) (left : Option (List LineCommand)) → go_of w actor left ≡ Ok (v, o)
-    → StayOrArrive w v o
-gone w v actor o None e = absurd (let bad : ⊥ = cc in bad)
-gone w v actor o (Some []) e = absurd (let bad : ⊥ = cc in bad)
-gone w v actor o (Some (c ∷ rest)) e = go_by w v actor o c rest (waits_for w actor c.command) e
+-- a Go
+gone : (w : World) (actor : ℕ) (c : LineCommand) (rest : List LineCommand)
+    → Made w (do_command (with_commands w actor rest) c.line actor c.command)
+gone w actor c rest =
+    let v : World = with_commands w actor rest in
+    let made : World × Outcome = do_command v c.line actor c.command in
+    apart w made.0 made.1 actor rest (command_made v c.line actor c.command)
 
 -- Event, Judge, Reap, Wash
 
@@ -90,15 +86,6 @@ event_stays w (events.Orphan p) =
     let dead = killed w (dying_consumers w.topology p) in record { bios = dead.bios; next = dead.next }
 event_stays w (events.Resize p) = record { bios = refl; next = refl }
 
--- the head of the queue
-evented : (w v : World) (o : Outcome) (queue : List Event) → event_of w queue ≡ Ok (v, o) → StayOrArrive w v o
-evented w v o [] e = absurd (let bad : ⊥ = cc in bad)
-evented w v o (head ∷ rest) e =
-    let begun : World = record w { events = rest } in
-    let stay = event_stays begun head in
-    of_made w v o (do_event begun head, outcomes.Ran)
-    (ran w (do_event begun head) (record { bios = stay.bios; next = stay.next })) e
-
 -- a read of a taste arrives
 judged : (w : World) (x : Judging) (j : Judged) → Made w (judged_world w x j)
 judged w x (judgeds.Read sector) =
@@ -113,55 +100,41 @@ judged w x judgeds.Ended = ran w _ (record { bios = refl; next = refl })
 judged w x judgeds.Next = ran w _ (record { bios = refl; next = refl })
 judged w x judgeds.Made = ran w _ (record { bios = refl; next = refl })
 
--- a Judge, by the taste that is under way
-judge_by : (w v : World) (o : Outcome) (s : Option Taste) → judge_of w s ≡ Ok (v, o) → StayOrArrive w v o
-unfolding judge_step
-judge_by w v o None e = absurd (let bad : ⊥ = cc in bad)
-judge_by w v o (Some s) e = by (is_read_out s.asked) e
-  where
-    x : Judging
-    x = taste_step (granted_in w) (queued_of w) s
-
-    by : (b : Bool) → (if b then Err (found.ReadOut (taste_bio w)) else Ok (judge_step w s)) ≡ Ok (v, o)
-        → StayOrArrive w v o
-    by true e = absurd (let bad : ⊥ = cc in bad)
-    by false e = of_made w v o (judged_world w x x.judged) (judged w x x.judged) e
-
 -- a reap changes no bio
 reaped : (w : World) (c : Option ℕ) → BiosStay w (reap_handle w c)
 reaped w None = same_bios w
 reaped w (Some c) = record { bios = refl; next = refl }
 
--- a Reap, by the handle that can be reaped
-reap_by : (w v : World) (o : Outcome) (h : Option Handle)
-    → option_map_or {U = Answer} (λ x. Ok (reap w x, outcomes.Ran)) h (Err found.NothingToReap) ≡ Ok (v, o)
-    → StayOrArrive w v o
-unfolding reap
-reap_by w v o None e = absurd (let bad : ⊥ = cc in bad)
-reap_by w v o (Some h) e = of_made w v o (reap_handle w h.consumer, outcomes.Ran) (ran w _ (reaped w h.consumer)) e
+-- each of them
+others_known : (w : World) (seat : ℕ) (s : Step) → names_none s ≡ true → Known w (step w seat s)
+others_known w seat =
+    step_by w seat (λ s a. names_none s ≡ true → Known w a) (record {
+      refuses = λ s f other. tt;
+      goes = λ actor c rest is other. gone w actor c rest;
+      runs = λ e rest is other.
+          let stay = event_stays (record w { events = rest }) e in
+          ran w (do_event (record w { events = rest }) e) (record { bios = stay.bios; next = stay.next });
+      judges = λ s x j is other. judged w x j;
+      reaps = λ h c is other. ran w (reap_handle w c) (reaped w c);
+      washes = λ work is other.
+          ran w (with_queued w (washed (queued_of w) work)) (record { bios = refl; next = refl });
+      starts = λ b x way is other. absurd (let no : ⊥ = cc in no);
+      takes = λ disk b x is other. absurd (let no : ⊥ = cc in no);
+      delivers = λ b got x is other. absurd (let no : ⊥ = cc in no);
+      rises = λ b x o is other. absurd (let no : ⊥ = cc in no);
+    })
 
--- a Wash, by what can be washed
-wash_by : (w v : World) (o : Outcome) (work : Option WashWork)
-    → option_map_or {U = Answer} (λ x. Ok (wash w x, outcomes.Ran)) work (Err found.NothingToWash) ≡ Ok (v, o)
+-- so what is made
+made_known : (w v : World) (seat : ℕ) (s : Step) (o : Outcome) → names_none s ≡ true → step w seat s ≡ Ok (v, o)
     → StayOrArrive w v o
-unfolding wash
-wash_by w v o None e = absurd (let bad : ⊥ = cc in bad)
-wash_by w v o (Some work) e =
-    of_made w v o (wash w work, outcomes.Ran) (ran w (wash w work) (record { bios = refl; next = refl })) e
-
--- an Event, by whether a taste is under way
-event_by : (w v : World) (o : Outcome) (b : Bool)
-    → (if b then Err found.TasteUnderWay else event_of w w.events) ≡ Ok (v, o) → StayOrArrive w v o
-event_by w v o true e = absurd (let bad : ⊥ = cc in bad)
-event_by w v o false e = evented w v o w.events e
+made_known w v seat s o other made = subst (Known w) made (others_known w seat s other)
 
 -- all of them
 pub bios_stay_or_arrive : BiosStayOrArrive
-unfolding step go event judge_next reap_next wash_next
 bios_stay_or_arrive = record {
-  go = λ w v seat actor o e. gone w v actor o (slice_get w.actors actor) e;
-  event = λ w v seat o e. event_by w v o (is_some w.taste) e;
-  judge = λ w v seat o e. judge_by w v o w.taste e;
-  reap = λ w v seat o e. reap_by w v o (reap_work w) e;
-  wash = λ w v seat o e. wash_by w v o (wash_work w) e;
+  go = λ w v seat actor o made. made_known w v seat (steps.Go actor) o refl made;
+  event = λ w v seat o made. made_known w v seat steps.Event o refl made;
+  judge = λ w v seat o made. made_known w v seat steps.Judge o refl made;
+  reap = λ w v seat o made. made_known w v seat steps.Reap o refl made;
+  wash = λ w v seat o made. made_known w v seat steps.Wash o refl made;
 }

@@ -1,5 +1,5 @@
 -- A bio becomes Busy by a Take alone, and a Take with its Deliver leaves none Busy.
-use Rattle.std.specs.Prelude.{◌≡◌, ℕ, ◌==◌, Bool, true, false, not, List, [], ◌∷◌, ◌++◌, filter, fold, map, slice_get, Option, Some, None, Ok, Err, is_ok, is_some, IsTrue, if◌then◌else◌}
+use Rattle.std.specs.Prelude.{◌≡◌, ℕ, ◌==◌, Bool, true, false, not, List, [], ◌∷◌, ◌++◌, filter, fold, map, Option, Some, None, is_ok, IsTrue, if◌then◌else◌}
 use Rattle.std.specs.List.{AllByRecursion, enumerate_from}
 use Rattle.std.specs.Option.{option_map_or}
 use Rattle.std.proofs.Common.{refl, sym, ◌∙◌, subst}
@@ -7,37 +7,32 @@ use Rattle.geo_base.specs.declared.errno.Errno.TheVariants.{EIO}
 use Rattle.geo_model.specs.declared.class.Judged.{Judged}
 use Rattle.geo_model.specs.declared.class.Judged.TheVariants.{Read, Next, Made, Ended}
 use Rattle.geo_model.specs.declared.command.Command.{Command}
-use Rattle.geo_model.specs.declared.command.LineCommand.{LineCommand}
 use Rattle.geo_model.specs.declared.step.BioResult.{BioResult}
 use Rattle.geo_model.specs.declared.step.BioResult.TheVariants as results
 use Rattle.geo_model.specs.declared.step.DeviceResult.{DeviceResult}
 use Rattle.geo_model.specs.declared.step.Event.{Event}
 use Rattle.geo_model.specs.declared.step.Event.TheVariants as events
 use Rattle.geo_model.specs.declared.step.Found.{Found}
-use Rattle.geo_model.specs.declared.step.Found.TheVariants as refusals
 use Rattle.geo_model.specs.declared.step.Outcome.{Outcome}
-use Rattle.geo_model.specs.declared.step.Outcome.TheVariants as outcomes
 use Rattle.geo_model.specs.declared.step.Owner.{Owner}
 use Rattle.geo_model.specs.declared.step.Owner.TheVariants as owners
 use Rattle.geo_model.specs.declared.step.Phase.TheVariants as phases
 use Rattle.geo_model.specs.declared.step.Step.{Step}
 use Rattle.geo_model.specs.declared.step.Step.TheVariants as steps
-use Rattle.geo_model.specs.declared.step.WashWork.{WashWork}
-use Rattle.geo_model.specs.declared.step.WashWork.TheVariants as washes
 use Rattle.geo_model.specs.Topology.{Topology, note_started}
-use Rattle.geo_model.specs.World.{World, Config, Handle, Bio, Taste, bio_at, granted_in, is_busy, is_down, is_up, is_read_out, is_child_of, change_number}
-use Rattle.geo_model.specs.Bios.{PieceTarget, Way, Bounces, Fails, Sends, Splits, Passes, piece_child, up_with, up, up_to, complete_parent, is_complete, joined_result, child_results, start_by, way_of, take_bio, deliver, result_of_device}
+use Rattle.geo_model.specs.World.{World, Config, Bio, Taste, bio_at, granted_in, is_busy, is_child_of, change_number}
+use Rattle.geo_model.specs.Bios.{PieceTarget, Way, Bounces, Fails, Sends, Splits, Passes, piece_child, up_with, up_to, complete_parent, is_complete, joined_result, child_results, start_by, take_bio, deliver, result_of_device}
 use Rattle.geo_model.specs.Events.{is_not_tasted, dying_consumers}
-use Rattle.geo_model.specs.WorldEvents.{queued_of, begin_taste, kill_handle, do_event}
-use Rattle.geo_model.specs.Tasting.{Judging, taste_step, judged_world, judge_step}
-use Rattle.geo_model.specs.Freeing.{reap, reap_handle, reap_work, wash, wash_work}
+use Rattle.geo_model.specs.WorldEvents.{begin_taste, kill_handle, do_event}
+use Rattle.geo_model.specs.Tasting.{Judging, judged_world}
+use Rattle.geo_model.specs.Freeing.{reap_handle}
 use Rattle.geo_model.specs.Commands.{do_command}
-use Rattle.geo_model.specs.Step.{Answer, unless_found, waits_for, with_commands, go_of, go, event_of, event, taste_bio, judge_of, judge_next, reap_next, wash_next, start_of, take_found, take_of, deliver_found, deliver_of, up_of, step, is_enabled}
+use Rattle.geo_model.specs.Step.{Answer, unless_found, with_commands, take_found, take_of, deliver_found, deliver_of, step, is_enabled}
 use Rattle.geo_model.specs.Log.{world_after}
 use Rattle.geo_model.specs.FixedOrder.{taken_in}
 use Rattle.geo_model.specs.Laws.{world_by}
 use Rattle.geo_model.proofs.CommandWalk.{any_graph_by}
-use Rattle.geo_model.proofs.WayLemmas.{starts_in_parts}
+use Rattle.geo_model.proofs.StepWalk.{step_by}
 use Rattle.geo_laws_graph.proofs.Lists.{all-changed}
 use Rattle.geo_laws_graph.proofs.Numbered.{number_found}
 
@@ -109,18 +104,6 @@ kills_idle [] w idle = idle
 kills_idle (c ∷ cs) w idle = kills_idle cs (kill_handle w c) idle
 
 module _ (w : World) (idle : AreIdle w.bios) where
-  -- a Go, by what it waits for
-  go_waits : (actor : ℕ) (c : LineCommand) (rest : List LineCommand) (o : Option Found)
-      → After w (unless_found o (do_command (with_commands w actor rest) c.line actor c.command))
-  go_waits actor c rest (Some f) = idle
-  go_waits actor c rest None = commanded (with_commands w actor rest) idle c.line actor c.command
-
-  -- by the commands that are left
-  go_left : (actor : ℕ) (o : Option (List LineCommand)) → After w (go_of w actor o)
-  go_left actor None = idle
-  go_left actor (Some []) = idle
-  go_left actor (Some (c ∷ rest)) = go_waits actor c rest (waits_for w actor c.command)
-
   -- an offer, by whether it is tasted
   offer_by : (v : World) → AreIdle v.bios → (p : ℕ) (b : Bool) → AreIdle (if b then v else begin_taste v p).bios
   offer_by v quiet p true = quiet
@@ -134,16 +117,6 @@ module _ (w : World) (idle : AreIdle w.bios) where
   event_idle v quiet (events.Orphan p) = kills_idle (dying_consumers v.topology p) v quiet
   event_idle v quiet (events.Resize p) = quiet
 
-  -- by the queue
-  queue_idle : (es : List Event) → After w (event_of w es)
-  queue_idle [] = idle
-  queue_idle (e ∷ rest) = event_idle (record w { events = rest }) idle e
-
-  -- an Event
-  event_by : (b : Bool) → After w (if b then Err refusals.TasteUnderWay else event_of w w.events)
-  event_by true = idle
-  event_by false = queue_idle w.events
-
   -- a judging
   judging_idle : (x : Judging) (j : Judged) → AreIdle (judged_world w x j).0.bios
   judging_idle x (Read sector) = both_idle w.bios (_ ∷ []) idle (refl, tt)
@@ -151,38 +124,10 @@ module _ (w : World) (idle : AreIdle w.bios) where
   judging_idle x Made = idle
   judging_idle x Ended = idle
 
-  -- a Judge
-  judge_by : (s : Taste) (b : Bool) → After w (if b then Err (refusals.ReadOut (taste_bio w)) else Ok (judge_step w s))
-  unfolding judge_step
-  judge_by s true = idle
-  judge_by s false =
-      judging_idle (taste_step (granted_in w) (queued_of w) s) (taste_step (granted_in w) (queued_of w) s).judged
-
-  -- by the taste
-  taste_idle : (o : Option Taste) → After w (judge_of w o)
-  taste_idle None = idle
-  taste_idle (Some s) = judge_by s (is_read_out s.asked)
-
   -- a handle that is reaped
   reaped_idle : (o : Option ℕ) → AreIdle (reap_handle w o).bios
   reaped_idle None = idle
   reaped_idle (Some c) = idle
-
-  -- a Reap
-  reap_idle : (o : Option Handle)
-      → After w (option_map_or (λ h. Ok (reap w h, outcomes.Ran)) o (Err refusals.NothingToReap))
-  unfolding reap
-  reap_idle None = idle
-  reap_idle (Some h) = reaped_idle h.consumer
-
-  -- a Wash
-  wash_idle : (o : Option WashWork)
-      → After w (option_map_or (λ work. Ok (wash w work, outcomes.Ran)) o (Err refusals.NothingToWash))
-  unfolding wash
-  wash_idle None = idle
-  wash_idle (Some (washes.Provider p)) = idle
-  wash_idle (Some (washes.Consumer c)) = idle
-  wash_idle (Some (washes.Geom g)) = idle
 
   -- a Start, by the way that the bio goes
   way_idle : (x : Bio) (way : Way) → AreIdle (start_by w x way).0.bios
@@ -198,18 +143,6 @@ module _ (w : World) (idle : AreIdle w.bios) where
       both_idle (change_number x.number (λ y. record y { phase = phases.Waiting }) w.bios) _
       (changed_idle x.number (λ y. record y { phase = phases.Waiting }) (λ y. refl) w.bios idle)
       (children_idle (note_started w.topology g) w.next_bio x (enumerate_from 0 targets))
-
-  -- a Start
-  start_idle : (x : Bio) (b : Bool) → is_down x.phase ≡ b → After w (start_of w (Some x))
-  start_idle x true e =
-      rw e (subst (λ (made : World × Outcome). AreIdle made.0.bios) (sym (starts_in_parts w x))
-      (way_idle x (way_of w.topology x)))
-  start_idle x false e = rw e idle
-
-  -- by the bio
-  start_at : (o : Option Bio) → After w (start_of w o)
-  start_at None = idle
-  start_at (Some x) = start_idle x (is_down x.phase) refl
 
   -- a child that goes up, by whether all are Done and the parent that is found
   child_by : (v : World) → AreIdle v.bios → (b : Bool) (o : Option Bio)
@@ -230,40 +163,22 @@ module _ (w : World) (idle : AreIdle w.bios) where
       child_by v (changed_idle x.number (λ y. record y { phase = phases.Done }) (λ y. refl) w.bios idle)
       (is_complete v parent) (bio_at v parent)
 
-  -- an Up
-  up_idle : (x : Bio) (b : Bool) → is_up x.phase ≡ b → After w (up_of w (Some x))
-  unfolding up
-  up_idle x true e = rw e (owner_idle x x.owner)
-  up_idle x false e = rw e idle
-
-  -- by the bio
-  up_at : (o : Option Bio) → After w (up_of w o)
-  up_at None = idle
-  up_at (Some x) = up_idle x (is_up x.phase) refl
-
-  -- a Deliver, by what is against it
-  deliver_by : (x : Bio) (got : DeviceResult) (o : Option Found) → After w (unless_found o (deliver w x got))
-  unfolding deliver
-  deliver_by x got (Some f) = idle
-  deliver_by x got None = changed_idle x.number (up_with (result_of_device got)) (λ y. refl) w.bios idle
-
-  -- by the bio
-  deliver_at : (seat : ℕ) (got : DeviceResult) (o : Option Bio) → After w (deliver_of w seat got o)
-  deliver_at seat got None = idle
-  deliver_at seat got (Some x) = deliver_by x got (deliver_found w seat x got x.phase)
-
   -- each step but a Take
   pub step_idle : (seat : ℕ) (s : Step) → taken_in s ≡ None → AreIdle (world_by w seat s).bios
-  unfolding step go event judge_next reap_next wash_next
-  step_idle seat (steps.Go actor) other = go_left actor (slice_get w.actors actor)
-  step_idle seat steps.Event other = event_by (is_some w.taste)
-  step_idle seat steps.Judge other = taste_idle w.taste
-  step_idle seat steps.Reap other = reap_idle (reap_work w)
-  step_idle seat steps.Wash other = wash_idle (wash_work w)
-  step_idle seat (steps.Start b) other = start_at (bio_at w b)
-  step_idle seat (steps.Take disk b) other = absurd (let no : ⊥ = cc in no)
-  step_idle seat (steps.Deliver b got) other = deliver_at seat got (bio_at w b)
-  step_idle seat (steps.Up b) other = up_at (bio_at w b)
+  step_idle seat =
+      step_by w seat (λ s a. taken_in s ≡ None → After w a) (record {
+        refuses = λ s f other. idle;
+        goes = λ actor c rest is other. commanded (with_commands w actor rest) idle c.line actor c.command;
+        runs = λ e rest is other. event_idle (record w { events = rest }) idle e;
+        judges = λ s x j is other. judging_idle x j;
+        reaps = λ h c is other. reaped_idle c;
+        washes = λ work is other. idle;
+        starts = λ b x way is other. way_idle x way;
+        takes = λ disk b x is other. absurd (let no : ⊥ = cc in no);
+        delivers = λ b got x is other.
+            changed_idle x.number (up_with (result_of_device got)) (λ y. refl) w.bios idle;
+        rises = λ b x o is other. owner_idle x o;
+      })
 
 -- A Take and its Deliver
 

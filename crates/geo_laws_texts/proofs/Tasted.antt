@@ -1,6 +1,7 @@
 -- A step of a taste keeps names: what a class accepts has names.
-use Rattle.std.specs.Prelude.{ℕ, ◌+◌, List, [], ◌∷◌, Option, Some, None, Ok, Err, IfSome, is_some}
+use Rattle.std.specs.Prelude.{◌≡◌, ℕ, ◌+◌, List, [], ◌∷◌, Option, Some, None, IfSome, is_some}
 use Rattle.std.specs.Option.{option_map_or}
+use Rattle.std.proofs.Common.{subst}
 use Rattle.geo_base.specs.declared.kind.Kind.{Kind}
 use Rattle.geo_base.specs.declared.request.Counts.{Counts}
 use Rattle.geo_model.specs.declared.class.Facts.{Facts}
@@ -10,21 +11,18 @@ use Rattle.geo_model.specs.declared.class.Verdict.{Verdict}
 use Rattle.geo_model.specs.declared.class.Verdict.TheVariants.{Decline, More, Accept}
 use Rattle.geo_model.specs.declared.step.BioResult.{BioResult}
 use Rattle.geo_model.specs.declared.step.BioResult.TheVariants as results
-use Rattle.geo_model.specs.declared.step.Found.TheVariants as refusals
 use Rattle.geo_model.specs.Topology.{Provider, provider_at}
 use Rattle.geo_model.specs.Demand.{one_read}
 use Rattle.geo_model.specs.Opens.{grant_refusal, with_grant}
-use Rattle.geo_model.specs.World.{World, Config, Taste, Asked, NoClass, NextSector, ReadOut, ReadBack, granted_in, is_read_out}
+use Rattle.geo_model.specs.World.{World, Config, Taste, Asked, NoClass, NextSector, ReadOut, ReadBack, granted_in}
 use Rattle.geo_model.specs.Events.{QueuedTopology}
 use Rattle.geo_model.specs.WorldEvents.{queued_of}
 use Rattle.geo_model.specs.Acceptance.{taste_where, accept}
 use Rattle.geo_model.specs.Chain.{no_links}
-use Rattle.geo_model.specs.Tasting.{Judging, facts_of, is_attached_class, is_ended, end_class, end_taste, read_sector, follow, with_read, verdict_on, take_result, next_class, go_on, taste_step, judged_world, judge_step}
-use Rattle.geo_model.specs.Step.{taste_bio, judge_of}
-use Rattle.geo_model.specs.Log.{world_after}
+use Rattle.geo_model.specs.Tasting.{Judging, facts_of, is_attached_class, is_ended, end_class, end_taste, read_sector, follow, with_read, verdict_on, take_result, next_class, go_on, taste_step, judged_world}
 use Rattle.geo_laws_texts.proofs.Lists.{either}
 use Rattle.geo_laws_texts.proofs.Graphs.{QueueNamed}
-use Rattle.geo_laws_texts.proofs.Worlds.{KeepsNames, answered_keeps}
+use Rattle.geo_laws_texts.proofs.Worlds.{KeepsNames}
 use Rattle.geo_laws_texts.proofs.Accepted.{accept_named_all}
 
 module _ (granted : ℕ → Counts) (q : QueuedTopology Config) (named : QueueNamed q) where
@@ -101,15 +99,9 @@ module _ (w : World) (keeps : KeepsNames w) where
   judged_keeps x graph Made = record { graph = graph; disks = keeps.disks; left = keeps.left }
   judged_keeps x graph Ended = record { graph = keeps.graph; disks = keeps.disks; left = keeps.left }
 
-  step_keeps : (s : Taste) → KeepsNames (judge_step w s).0
-  unfolding judge_step
-  step_keeps s =
-      let x : Judging = taste_step (granted_in w) (queued_of w) s in
-      judged_keeps x (taste_goes (granted_in w) (queued_of w) keeps.graph s) x.judged
-
-  -- by the taste
-  pub judge_keeps : (o : Option Taste) → KeepsNames (world_after w (judge_of w o))
-  judge_keeps None = keeps
-  judge_keeps (Some s) =
-      answered_keeps w (is_read_out s.asked) (Err (refusals.ReadOut (taste_bio w))) (Ok (judge_step w s)) keeps
-      (step_keeps s)
+  -- so after a step of a taste
+  pub judge_keeps : (s : Taste) (x : Judging) (j : Judged) → taste_step (granted_in w) (queued_of w) s ≡ x
+      → KeepsNames (judged_world w x j).0
+  judge_keeps s x j step =
+      judged_keeps x
+      (subst (λ (y : Judging). QueueNamed y.queued) step (taste_goes (granted_in w) (queued_of w) keeps.graph s)) j

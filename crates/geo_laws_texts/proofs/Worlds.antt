@@ -1,20 +1,16 @@
 -- What each step keeps of names: those of providers and of the disks of the header, and the commands that are left.
-use Rattle.std.specs.Prelude.{◌≡◌, ℕ, Bool, true, false, List, Option, Some, None, if◌then◌else◌}
+use Rattle.std.specs.Prelude.{◌≡◌, ℕ, true, List, Option, Some, None}
 use Rattle.std.specs.List.{AllByRecursion}
 use Rattle.std.specs.Option.{option_map_or}
 use Rattle.std.proofs.Common.{sym, subst}
 use Rattle.geo_base.specs.Name.{is_name}
 use Rattle.geo_model.specs.declared.command.LineCommand.{LineCommand}
-use Rattle.geo_model.specs.declared.step.Found.{Found}
-use Rattle.geo_model.specs.declared.step.Outcome.{Outcome}
 use Rattle.geo_model.specs.Plans.{IsCommand}
 use Rattle.geo_model.specs.Topology.{Topology, remove_consumer}
 use Rattle.geo_model.specs.Demand.{risen, fallen}
 use Rattle.geo_model.specs.World.{World, Config, HeaderDisk, granted_in}
 use Rattle.geo_model.specs.Events.{QueuedTopology}
 use Rattle.geo_model.specs.WorldEvents.{queued_of, with_queued, after_open, after_close}
-use Rattle.geo_model.specs.Step.{Answer, unless_found}
-use Rattle.geo_model.specs.Log.{world_after}
 use Rattle.geo_laws_texts.proofs.Graphs.{Named, risen_named, fallen_named}
 
 -- a disk of the header has a name that is one
@@ -59,21 +55,3 @@ closed_keeps w v keeps =
 pub removed_named : (t : Topology Config) (o : Option ℕ) → Named t → Named (option_map_or (remove_consumer t) o t)
 removed_named t None named = named
 removed_named t (Some c) named = named
-
--- what a step makes, by what is against it
-pub unless_keeps : (w : World) (o : Option Found) (made : World × Outcome) → KeepsNames w → KeepsNames made.0
-    → KeepsNames (world_after w (unless_found o made))
-unless_keeps w None made before after = after
-unless_keeps w (Some f) made before after = before
-
--- one of two that are made
-pub whichever_keeps : (b : Bool) (m n : World × Outcome) → KeepsNames m.0 → KeepsNames n.0
-    → KeepsNames (if b then m else n).0
-whichever_keeps true m n first second = first
-whichever_keeps false m n first second = second
-
--- one of two answers
-pub answered_keeps : (w : World) (b : Bool) (m n : Answer) → KeepsNames (world_after w m) → KeepsNames (world_after w n)
-    → KeepsNames (world_after w (if b then m else n))
-answered_keeps w true m n first second = first
-answered_keeps w false m n first second = second

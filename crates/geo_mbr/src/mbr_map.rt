@@ -1,8 +1,7 @@
 //! Where a slice lies.
 ghost use Rattle.std.specs.Prelude.{◌≡◌, ◌*◌};
 
-use geo_base::NoMemory;
-use geo_model::Slice;
+use geo_model::{NoMemory, Slice};
 use geo_range::{AddressMap, PieceList, Span, Window};
 use std::alloc::Global;
 use std::marker::Model;

@@ -4,8 +4,7 @@ ghost use Rattle.std.specs.List.{list_any, range_with_len};
 ghost use Rattle.geo_model.specs.Records.{entry_type, kept_entries, kept_entry, mbr_table};
 ghost use Rattle.geo_record.specs.Head.{decoder_answer};
 
-use geo_base::{DeclineCause, Declined};
-use geo_model::{MbrTable, Slice};
+use geo_model::{DeclineCause, Declined, MbrTable, Slice};
 use geo_record::{entry_count, entry_first, entry_type, has_signature};
 
 /// The type of an entry that protects a table of another kind.

@@ -2,7 +2,7 @@
 use Rattle.std.specs.Prelude.{◌≡◌, ℕ, ◌≤◌, ◌==◌, Bool, true, false, [], ◌∷◌, codes}
 use Rattle.std.proofs.Common.{refl, arith}
 use Rattle.std.proofs.lemmas.List.Elements.{All-nil, All-push}
-use Rattle.geo_base.specs.declared.kind.Kind.TheVariants as kinds
+use Rattle.geo_model.specs.Kind.TheVariants as kinds
 use Rattle.geo_model.specs.Topology.{Topology, Geom, add_geom}
 use Rattle.geo_model.specs.Graph.{IsInOrder, PartsLive, AreNumbers}
 use Rattle.geo_laws_graph.specs.LookupLaws.{AddedGeomIsFound, PartsStayAlive}

@@ -5,7 +5,7 @@ use Rattle.std.proofs.lemmas.List.{map-append}
 use Rattle.std.proofs.Math.Bool.{and-false, and-true}
 use Rattle.std.specs.Prelude.{◌++◌, nat_le, IsSomeAnd, if◌then◌else◌}
 use Rattle.std.specs.Option.{option_map}
-use Rattle.geo_base.specs.declared.kind.Kind.{Kind}
+use Rattle.geo_model.specs.Kind.{Kind}
 use Rattle.geo_model.specs.Words.{change_where, names_number}
 use Rattle.geo_model.specs.Topology.{Topology, Geom, Provider, Consumer, add_geom, add_provider, add_consumer, remove_geom, remove_provider, remove_consumer, set_marks, attach, geom_at, provider_at, consumer_at, providers_of, consumers_of, attached_to, detach}
 use Rattle.geo_slots.specs.Slots.{with_value, without, value_at}

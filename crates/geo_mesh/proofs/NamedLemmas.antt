@@ -3,7 +3,7 @@ use Rattle.std.specs.Prelude.{◌≡◌, ℕ, ◌+◌, ◌<◌, ◌≤◌, ◌&&
 use Rattle.std.proofs.Common.{refl, sym, ◌∙◌, ap, arith}
 use Rattle.std.proofs.lemmas.Bool.{eq-eqb, leb-true, le-leb, lt-leb, ne_eqb}
 use Rattle.std.proofs.Math.Bool.{and-false}
-use Rattle.geo_base.specs.declared.kind.Kind.{Kind}
+use Rattle.geo_model.specs.Kind.{Kind}
 use Rattle.geo_model.specs.Words.{is_kind, same_name}
 use Rattle.geo_slots.specs.Slots.{IsRising, value_at}
 use Rattle.geo_names.specs.Names.{first_named}

@@ -6,8 +6,8 @@ use Rattle.std.proofs.Common.{refl, sym, ap, ◌∙◌, subst, inl, inr, arith}
 use Rattle.std.proofs.lemmas.Bool.{cases_Bool, eqb-true, eq-eqb, ne_eqb, and_parts, or_parts}
 use Rattle.std.proofs.lemmas.List.Elements.{recursion_from_All}
 use Rattle.std.proofs.Math.Bool.{or-false}
-use Rattle.geo_base.specs.declared.kind.Kind.{Kind}
-use Rattle.geo_base.specs.declared.kind.Kind.TheVariants as kinds
+use Rattle.geo_model.specs.Kind.{Kind}
+use Rattle.geo_model.specs.Kind.TheVariants as kinds
 use Rattle.geo_model.specs.Words.{largest, is_granted_kind, names_number}
 use Rattle.geo_model.specs.Topology.{Provider, Geom, Consumer, geom_at}
 use Rattle.geo_model.proofs.DemandLemmas.{names_some}

@@ -2,7 +2,7 @@
 -- consumer that is attached to it; and the rank that a geom is given when it is lowered.
 use Rattle.std.specs.Prelude.{◌≡◌, ℕ, ◌+◌, ◌<◌, ◌≤◌, nat_lt, false, not, ◌&&◌, ◌||◌, List, Option, Some, IsSome, length, map, option_map}
 use Rattle.std.proofs.Common.{refl, sym, ap, ◌∙◌, subst, arith}
-use Rattle.geo_base.specs.declared.limits.TheConstants.{MAX_RANK}
+use Rattle.geo_model.specs.TheConstants.{MAX_RANK}
 use Rattle.geo_model.specs.Words.{largest, is_granted_kind}
 use Rattle.geo_slots.specs.Slots.{SlotsView, IsRising, value_at}
 use Rattle.geo_mesh.specs.declared.records.GeomCell.{GeomCell}

@@ -3,7 +3,7 @@ use Rattle.std.specs.Prelude.{◌≡◌, ℕ, ◌+◌, ◌≤◌, Bool, true, fa
 use Rattle.std.proofs.Common.{refl, sym, ap, ◌∙◌, subst, arith}
 use Rattle.std.proofs.lemmas.Bool.{false_from_ne_true}
 use Rattle.std.proofs.lemmas.List.{length-map}
-use Rattle.geo_base.specs.declared.errno.Errno.TheVariants.{ELOOP, EDEEP}
+use Rattle.geo_model.specs.Errno.TheVariants.{ELOOP, EDEEP}
 use Rattle.geo_model.specs.Words.{largest}
 use Rattle.geo_model.specs.Topology.{consumer_at, provider_at, attach, is_errored}
 use Rattle.geo_model.specs.Rank.{reaches, is_too_deep, would_loop, attach_refusal}

@@ -2,7 +2,7 @@
 use Rattle.std.specs.Prelude.{◌≡◌, ◌⊎◌, ℕ, ◌+◌, ◌<◌, ◌==◌, Bool, true, false, List, Option, Some, None, IsSome, nat_le}
 use Rattle.std.proofs.Common.{refl, sym, ap, subst, inl, inr, arith}
 use Rattle.std.proofs.lemmas.Bool.{cases_eq, eqb-true, eq-eqb, leb-true, leb-false}
-use Rattle.geo_base.specs.declared.kind.Kind.{Kind}
+use Rattle.geo_model.specs.Kind.{Kind}
 use Rattle.geo_model.proofs.DemandLemmas.{names_some}
 use Rattle.geo_slots.specs.Slots.{SlotsView, IsRising, value_at}
 use Rattle.geo_mesh.specs.declared.records.GeomCell.{GeomCell}

@@ -12,8 +12,8 @@ use Rattle.geo_mesh.specs.Names.{AreNames, sound_of, is_sound_named}
 use Rattle.geo_mesh.proofs.NamesKept.{newest-names}
 use Rattle.std.proofs.lemmas.List.{map-append, length-map}
 use Rattle.geo_model.specs.Words.{same_name}
-use Rattle.geo_base.specs.declared.request.Counts.{Counts}
-use Rattle.geo_base.proofs.Tests.{is_some-map}
+use Rattle.geo_model.specs.Counts.{Counts}
+use Rattle.geo_model.proofs.Tests.{is_some-map}
 use Rattle.geo_model.specs.Topology.{Geom, Provider, Consumer, geom_at, provider_at, consumer_at, set_error, set_size, set_withering, set_marks, set_config, note_started, find_provider, attach, detach}
 use Rattle.geo_slots.specs.Slots.{SlotsView, IsRising, value_at, with_value, without, first_from, with_insert}
 use Rattle.geo_mesh.specs.declared.records.Scratch.{Scratch}

@@ -1,7 +1,7 @@
 -- The mesh that the rows of geoms, providers and consumers stand for.
 use Rattle.std.specs.Prelude.{◌≡◌, ℕ, ◌-◌, ◌≤◌, min, Bool, false, List, map}
-use Rattle.geo_base.specs.declared.kind.Kind.{Kind}
-use Rattle.geo_base.specs.declared.request.Counts.{Counts}
+use Rattle.geo_model.specs.Kind.{Kind}
+use Rattle.geo_model.specs.Counts.{Counts}
 use Rattle.geo_model.specs.Topology.{Topology, Geom, Provider, Consumer}
 use Rattle.geo_slots.specs.Slots.{SlotsView, with_value}
 use Rattle.geo_mesh.specs.declared.records.Scratch.{Scratch}

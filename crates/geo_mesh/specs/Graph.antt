@@ -1,6 +1,6 @@
 -- What holds of the graph of every mesh at every moment (geom(4), g_attach(9)).
 use Rattle.std.specs.Prelude.{◌≡◌, ◌≢◌, ℕ, ◌≤◌, ◌<◌, ◌^◌, true, false, All, AllPairs, IsSomeAnd}
-use Rattle.geo_base.specs.declared.kind.Kind.TheVariants as kinds
+use Rattle.geo_model.specs.Kind.TheVariants as kinds
 use Rattle.geo_model.specs.Topology.{Topology, Provider, geom_at}
 use Rattle.geo_model.specs.Graph.{IsInOrder, PartsLive}
 use Rattle.geo_model.specs.Rank.{Ranked, is_too_deep}

@@ -1,6 +1,6 @@
 -- Geoms of a class and of a name.
 use Rattle.std.specs.Prelude.{ℕ, ◌&&◌, Bool, List}
-use Rattle.geo_base.specs.declared.kind.Kind.{Kind}
+use Rattle.geo_model.specs.Kind.{Kind}
 use Rattle.geo_model.specs.Words.{is_kind, same_name}
 use Rattle.geo_mesh.specs.declared.records.GeomCell.{GeomCell}
 

@@ -1,7 +1,7 @@
 -- Why an attach is refused, as the model names it.
 use Rattle.std.specs.Prelude.{◌≡◌, Option, Some, None, Result, Ok, Err}
-use Rattle.geo_base.specs.declared.errno.Errno.{Errno}
-use Rattle.geo_base.specs.declared.errno.Errno.TheVariants.{ENXIO, ELOOP, EDEEP}
+use Rattle.geo_model.specs.Errno.{Errno}
+use Rattle.geo_model.specs.Errno.TheVariants.{ENXIO, ELOOP, EDEEP}
 use Rattle.geo_mesh.specs.declared.records.AttachRefusal.{AttachRefusal}
 use Rattle.geo_mesh.specs.declared.records.AttachRefusal.TheVariants.{Enxio, Eloop, Edeep}
 

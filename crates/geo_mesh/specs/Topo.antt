@@ -1,10 +1,10 @@
 -- The mesh as contracts see it: the graph of the model, and beside it what is kept for its geoms, providers and
 -- consumers.
 use Rattle.std.specs.Prelude.{◌≡◌, ℕ, ◌%◌, ◌==◌, ◌&&◌, ◌||◌, nat_le, Bool, false, List, [], ◌∷◌, ◌++◌, Option, None, find, option_map, codes}
-use Rattle.geo_base.specs.declared.request.Counts.{Counts}
-use Rattle.geo_base.specs.declared.kind.Kind.{Kind}
-use Rattle.geo_base.specs.declared.kind.Kind.TheVariants as kinds
-use Rattle.geo_base.specs.declared.limits.TheConstants.{MAX_MEDIA_BYTES}
+use Rattle.geo_model.specs.Counts.{Counts}
+use Rattle.geo_model.specs.Kind.{Kind}
+use Rattle.geo_model.specs.Kind.TheVariants as kinds
+use Rattle.geo_model.specs.TheConstants.{MAX_MEDIA_BYTES}
 use Rattle.geo_model.specs.Topology.{Topology, Geom, Provider, Consumer, add_geom, add_provider, add_consumer, remove_geom, remove_provider, remove_consumer}
 use Rattle.geo_mesh.specs.declared.records.Scratch.{Scratch}
 use Rattle.geo_slots.specs.Slots.{with_value, without}

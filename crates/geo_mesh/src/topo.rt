@@ -1,6 +1,6 @@
 //! The mesh: geoms, providers and consumers under their numbers.
 ghost use Rattle.std.specs.Prelude.{◌≡◌, ◌≢◌, ◌≤◌, ◌<◌, ◌^◌, ◌+◌, ◌-◌, ◌==◌, [], true, false, Some, IsSome, IsOk, IfSome, IfOk, OnErr, OnOk, option_map, option_copied, length, not, ◌&&◌, nat_lt, IsSomeAnd, None, find, filter};
-ghost use Rattle.geo_base.specs.Name.{is_name};
+ghost use Rattle.geo_model.specs.Name.{is_name};
 ghost use Rattle.geo_model.specs.Topology.{geom_at, provider_at, consumer_at, providers_of, consumers_of, attached_to, find_provider, is_name_taken, is_withering, set_error, set_size, set_withering, set_marks, set_config, note_started, attach, is_errored, detach};
 ghost use Rattle.geo_model.specs.Words.{is_kind, same_name};
 ghost use Rattle.geo_model.specs.Rank.{rank, attach_refusal};
@@ -18,7 +18,7 @@ use crate::records::{
 };
 use crate::tables::{self, Edges, Tables};
 use crate::{going, named, ranks};
-use geo_base::{ConsId, Counts, GeomId, Kind, Name, NoMemory, ProvId};
+use geo_model::{ConsId, Counts, GeomId, Kind, Name, NoMemory, ProvId};
 use geo_slots::Slots;
 use std::alloc::Global;
 use std::marker::Model;

@@ -43,9 +43,13 @@ pub mod Passes
 pub mod History
 pub mod FixedOrder
 pub mod CommandEffects
+pub mod StepEffects
 pub mod Laws
 pub mod FormatLaws
+pub use Rattle.geo_base.specs.Name
 pub use Rattle.geo_base.specs.Sectors
+pub use Rattle.geo_base.specs.declared.decline.DeclineCause
+pub use Rattle.geo_base.specs.declared.decline.Declined
 pub use Rattle.geo_base.specs.declared.errno.Errno
 pub use Rattle.geo_base.specs.declared.kind.Kind
 pub use Rattle.geo_base.specs.declared.limits.TheConstants

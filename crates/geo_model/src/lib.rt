@@ -30,6 +30,11 @@ pub use class::{
     StripeRecord, Verdict,
 };
 pub use command::{Cause, Command, DiskDecl, DiskKind, LineCommand, NameList};
+pub use geo_base::{
+    BioCmd, BioId, Block, ConsId, Counts, DeclineCause, Declined, Errno, GeomId, Kind,
+    MAX_COMPONENTS, MAX_LINKS, MAX_MEDIA_BYTES, MAX_RANK, MAX_STRIPE_BYTES, Name, NoMemory, ProvId,
+    SharedBytes,
+};
 pub use listing::{ConsLine, ConsLines, GeomLine, MeshList, ProvLine, ProvLines};
 pub use span::{Piece, Span, Stretch};
 pub use step::{

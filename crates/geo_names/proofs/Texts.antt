@@ -8,7 +8,7 @@ use Rattle.std.proofs.lemmas.List.{map-append}
 use Rattle.geo_slots.specs.Slots.{IsRising, value_at, without, with_insert}
 use Rattle.geo_slots.proofs.RowLemmas.{value_at_next, value_at-behind, value_at-last, value_at-other, value_at-without, value_at-gone}
 use Rattle.geo_family.specs.Family.{names, has_child, first_child, last_child}
-use Rattle.geo_base.proofs.Options.{some_of, is_some-map}
+use Rattle.geo_model.proofs.Options.{some_of, is_some-map}
 use Rattle.geo_model.specs.Words.{same_name}
 use Rattle.geo_names.specs.declared.names.Inside.{Inside}
 use Rattle.geo_names.specs.Names.{first_named, last_named}

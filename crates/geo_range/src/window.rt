@@ -3,8 +3,7 @@ ghost use Rattle.std.specs.Prelude.{◌≡◌, ◌+◌, ◌≤◌};
 
 use crate::address_map::AddressMap;
 use crate::piece_list::PieceList;
-use geo_base::{MAX_MEDIA_BYTES, NoMemory};
-use geo_model::{Piece, Span};
+use geo_model::{MAX_MEDIA_BYTES, NoMemory, Piece, Span};
 use std::alloc::Global;
 use std::marker::Model;
 
@@ -20,7 +19,7 @@ pub struct Window {
 impl Model for Window {
     ghost use Rattle.std.specs.Prelude.{◌+◌, ◌≤◌};
     ghost use Rattle.geo_range.specs.Window.{WindowView};
-    ghost use Rattle.geo_base.specs.declared.limits.TheConstants.{MAX_MEDIA_BYTES};
+    ghost use Rattle.geo_model.specs.TheConstants.{MAX_MEDIA_BYTES};
 
     ghost Value = { WindowView };
 

@@ -1,7 +1,7 @@
 -- What a decoder answers behind the head.
 use Rattle.std.proofs.Common.{◌≡◌, ℕ, Bool, true, false, List, [], ◌∷◌, ◌++◌, refl, sym, ap, Option, Some, None, Ok, Err}
-use Rattle.geo_base.specs.declared.decline.DeclineCause.{DeclineCause}
-use Rattle.geo_base.specs.declared.decline.DeclineCause.TheVariants.{Place}
+use Rattle.geo_model.specs.DeclineCause.{DeclineCause}
+use Rattle.geo_model.specs.DeclineCause.TheVariants.{Place}
 use Rattle.geo_model.specs.Words.{first_error, unless}
 use Rattle.geo_model.specs.Records.{head_tests, place_test, record_name}
 use Rattle.geo_record.specs.Head.{head_name, is_place}

@@ -6,8 +6,8 @@ use Rattle.std.proofs.lemmas.List.Sums.{prefix_len-le-length}
 use Rattle.std.specs.Prelude.{◌==◌, nat_le, if◌then◌else◌, bytes_eq}
 use Rattle.std.specs.List.{list_all, prefix_len}
 use Rattle.std.proofs.Math.Bool.{and-false}
-use Rattle.geo_base.proofs.Tests.{same_tests, short_name-named}
-use Rattle.geo_base.specs.Name.{is_word_byte, is_short_name, is_name, name_of}
+use Rattle.geo_model.proofs.Tests.{same_tests, short_name-named}
+use Rattle.geo_model.specs.Name.{is_word_byte, is_short_name, is_name, name_of}
 use Rattle.geo_model.specs.Records.{padded}
 use Rattle.geo_record.specs.Head.{padded_name}
 use Rattle.geo_record.proofs.FieldLemmas.{drop-padded}

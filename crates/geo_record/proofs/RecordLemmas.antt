@@ -8,8 +8,8 @@ use Rattle.std.proofs.lemmas.Slice.Eq.{bytes_eq-Decides}
 use Rattle.std.specs.Prelude.{◌==◌, bytes_eq, take_while}
 use Rattle.std.specs.List.{list_all}
 use Rattle.std.specs.Int.{w16, w32, w64, to_le_bytes, from_le_bytes}
-use Rattle.geo_base.proofs.Tests.{word_byte-not_zero}
-use Rattle.geo_base.specs.Name.{is_word_byte, is_short_name}
+use Rattle.geo_model.proofs.Tests.{word_byte-not_zero}
+use Rattle.geo_model.specs.Name.{is_word_byte, is_short_name}
 use Rattle.geo_model.specs.Words.{first_error}
 use Rattle.geo_model.proofs.RecordLemmas.{length-padded}
 use Rattle.geo_model.specs.Records.{padded, record_head, record_name, head_tests, u16_at, u32_at, u64_at}

@@ -1,9 +1,9 @@
 -- The head of a record.
 use Rattle.std.specs.Prelude.{ℕ, ◌==◌, nat_le, nat_lt, Bool, not, ◌&&◌, List, take_while, bytes_eq, Option, Some, None, Result, Ok, Err, if◌then◌else◌}
-use Rattle.geo_base.specs.declared.decline.DeclineCause.{DeclineCause}
-use Rattle.geo_base.specs.declared.decline.Declined.{Declined}
-use Rattle.geo_base.specs.Name.{is_short_name}
-use Rattle.geo_base.specs.declared.limits.TheConstants.{MAX_COMPONENTS}
+use Rattle.geo_model.specs.DeclineCause.{DeclineCause}
+use Rattle.geo_model.specs.Declined.{Declined}
+use Rattle.geo_model.specs.Name.{is_short_name}
+use Rattle.geo_model.specs.TheConstants.{MAX_COMPONENTS}
 use Rattle.geo_model.specs.Words.{first_error, unless}
 use Rattle.geo_model.specs.Records.{head_tests, padded, record_name}
 

@@ -1,12 +1,12 @@
 //! The head of a record: its magic, its version from 1 on, and its name with zeros behind it.
 ghost use Rattle.std.specs.Prelude.{◌≡◌, ◌≤◌, ◌==◌, not, length, IsTrue};
 ghost use Rattle.std.specs.List.{list_all, prefix_len};
-ghost use Rattle.geo_base.specs.Name.{is_short_name};
+ghost use Rattle.geo_model.specs.Name.{is_short_name};
 ghost use Rattle.geo_model.specs.Records.{padded, record_head};
 ghost use Rattle.geo_record.specs.Head.{decoder_answer, head_name, padded_name};
 
 use crate::field::{put_bytes, put_u32, u32_at};
-use geo_base::{DeclineCause, Declined, Name};
+use geo_model::{DeclineCause, Declined, Name};
 
 /// How many bytes stand before the first zero.
 fn len_before_zero(field: &[u8]) -> usize

@@ -5,7 +5,7 @@ use Rattle.std.proofs.lemmas.Nat.{le-div}
 use Rattle.std.specs.Prelude.{map}
 use Rattle.std.specs.List.{range_with_len}
 use Rattle.std.specs.Option.{option_to_list}
-use Rattle.geo_base.specs.declared.limits.TheConstants.{MAX_MEDIA_BYTES}
+use Rattle.geo_model.specs.TheConstants.{MAX_MEDIA_BYTES}
 use Rattle.geo_model.specs.declared.span.Piece.{Piece}
 use Rattle.geo_model.specs.Place.{cut, piece_in, strip}
 use Rattle.geo_range.proofs.CutLemmas.{cut_more}

@@ -1,6 +1,6 @@
 -- What is encoded is decoded.
 use Rattle.std.specs.Prelude.{◌≡◌, ℕ, ◌<◌, ◌≤◌, ◌^◌, [], ◌∷◌, IsTrue}
-use Rattle.geo_base.specs.Name.{is_short_name}
+use Rattle.geo_model.specs.Name.{is_short_name}
 use Rattle.geo_model.specs.declared.class.StripeRecord.{StripeRecord}
 use Rattle.geo_model.specs.Words.{first_error, unless}
 use Rattle.geo_model.specs.Records.{stripe_record, stripe_sector, place_test, size_test}

@@ -1,12 +1,11 @@
 //! The record of a place in a stripe, in the last sector of a component.
 ghost use Rattle.std.specs.Prelude.{◌≡◌, ◌<◌, ◌≤◌, length, IsTrue};
-ghost use Rattle.geo_base.specs.Name.{is_short_name};
+ghost use Rattle.geo_model.specs.Name.{is_short_name};
 ghost use Rattle.geo_model.specs.Records.{is_stripe_size, stripe_record, stripe_sector};
 ghost use Rattle.geo_record.specs.Head.{decoder_answer};
 ghost use Rattle.geo_stripe.specs.Record.{EncodedIsDecoded};
 
-use geo_base::{DeclineCause, Declined, MAX_STRIPE_BYTES};
-use geo_model::StripeRecord;
+use geo_model::{DeclineCause, Declined, MAX_STRIPE_BYTES, StripeRecord};
 use geo_record::{decode_head, encode_head, is_place, put_component, put_u32, u16_at, u32_at};
 
 /// What the record begins with.

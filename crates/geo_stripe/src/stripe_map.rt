@@ -3,7 +3,7 @@ ghost use Rattle.std.specs.Prelude.{◌≡◌, ◌+◌, ◌-◌, ◌*◌, ◌/�
 ghost use Rattle.std.specs.List.{range_with_len};
 ghost use Rattle.geo_model.specs.Place.{cut, strip};
 
-use geo_base::{MAX_MEDIA_BYTES, NoMemory};
+use geo_model::{MAX_MEDIA_BYTES, NoMemory};
 use geo_range::{AddressMap, PieceList, Span, Stretch};
 use std::alloc::Global;
 use std::marker::Model;
@@ -21,7 +21,7 @@ pub struct StripeMap {
 impl Model for StripeMap {
     ghost use Rattle.std.specs.Prelude.{◌*◌, ◌/◌, ◌<◌, ◌≤◌};
     ghost use Rattle.geo_stripe.specs.StripeMap.{StripeView, striped_size};
-    ghost use Rattle.geo_base.specs.declared.limits.TheConstants.{MAX_MEDIA_BYTES};
+    ghost use Rattle.geo_model.specs.TheConstants.{MAX_MEDIA_BYTES};
 
     ghost Value = { StripeView };
 

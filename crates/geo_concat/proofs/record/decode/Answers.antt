@@ -1,6 +1,6 @@
 use Rattle.std.proofs.Common.{◌≡◌, ℕ, true, false, List, [], ◌∷◌, ◌++◌, refl, sym, ◌∙◌, Ok, Result}
 use Rattle.std.proofs.lemmas.Result.{err_from_is_err_and}
-use Rattle.geo_base.specs.declared.decline.DeclineCause.{DeclineCause}
+use Rattle.geo_model.specs.DeclineCause.{DeclineCause}
 use Rattle.geo_model.specs.declared.class.ConcatRecord.{ConcatRecord}
 use Rattle.geo_model.specs.Words.{first_error, unless}
 use Rattle.geo_model.specs.Records.{concat_magic, head_tests, place_test, record_name, u16_at, u32_at}

@@ -1,6 +1,6 @@
 use Rattle.std.proofs.Common.{◌≡◌, ℕ, ◌-◌, ◌++◌, List, [], ◌∷◌, length, replicate, refl, ap, ◌∙◌, None, Result}
 use Rattle.std.specs.Int.{to_le_bytes, w16, w32}
-use Rattle.geo_base.specs.declared.decline.DeclineCause.{DeclineCause}
+use Rattle.geo_model.specs.DeclineCause.{DeclineCause}
 use Rattle.geo_model.specs.declared.class.ConcatRecord.{ConcatRecord}
 use Rattle.geo_model.specs.Words.{first_error, unless}
 use Rattle.geo_model.specs.Records.{concat_magic, concat_record, concat_sector, place_test, record_name, record_head, head_tests, u16_at, u32_at}

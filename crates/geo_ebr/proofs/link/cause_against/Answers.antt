@@ -1,6 +1,6 @@
 use Rattle.std.proofs.Common.{true, false, length, sym, ◌∙◌}
 use Rattle.std.proofs.lemmas.Bool.{le-leb, lt-leb}
-use Rattle.geo_base.specs.declared.limits.TheConstants.{MAX_LINKS}
+use Rattle.geo_model.specs.TheConstants.{MAX_LINKS}
 use Rattle.geo_ebr.proofs.CauseLemmas.{against-end, against-back, against-far, against-long, against-none}
 use Rattle.geo_ebr.proofs.link.cause_against.Goals as goal
 

@@ -1,6 +1,6 @@
 use Rattle.std.proofs.Common.{◌≡◌, [], List, ℕ, Option, sym, ap, ◌∙◌, Ok, Result}
 use Rattle.std.proofs.lemmas.Result.{err_from_is_err_and}
-use Rattle.geo_base.specs.declared.decline.DeclineCause.{DeclineCause}
+use Rattle.geo_model.specs.DeclineCause.{DeclineCause}
 use Rattle.geo_model.specs.declared.class.LabelRecord.{LabelRecord}
 use Rattle.geo_model.specs.Records.{label_magic, label_record, label_size, record_name}
 use Rattle.geo_model.specs.Words.{unless}

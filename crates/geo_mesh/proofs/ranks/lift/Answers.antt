@@ -1,7 +1,7 @@
 use Rattle.std.proofs.Common.{◌≡◌, true, false, refl, arith}
 use Rattle.std.specs.Prelude.{nat_lt}
 use Rattle.std.proofs.lemmas.Bool.{lt-ltb, le-ltb}
-use Rattle.geo_base.specs.declared.limits.TheConstants.{MAX_RANK}
+use Rattle.geo_model.specs.TheConstants.{MAX_RANK}
 use Rattle.geo_mesh.specs.Ranks.{stored}
 use Rattle.geo_mesh.proofs.RankRows.{kinds-bare}
 use Rattle.geo_mesh.proofs.RankSteps.{high-raised}

@@ -1,7 +1,7 @@
 use Rattle.std.proofs.Common.{◌≡◌, ℕ, true, false, List, [], ◌∷◌, ◌++◌, length, refl, sym, ◌∙◌, Ok, Err, Result, Bool}
 use Rattle.std.proofs.lemmas.Result.{err_from_is_err_and}
-use Rattle.geo_base.specs.declared.decline.DeclineCause.{DeclineCause}
-use Rattle.geo_base.specs.declared.decline.DeclineCause.TheVariants.{Size}
+use Rattle.geo_model.specs.DeclineCause.{DeclineCause}
+use Rattle.geo_model.specs.DeclineCause.TheVariants.{Size}
 use Rattle.geo_model.specs.declared.class.StripeRecord.{StripeRecord}
 use Rattle.geo_model.specs.Words.{first_error, unless}
 use Rattle.geo_model.specs.Records.{stripe_magic, head_tests, place_test, size_test, is_stripe_size, record_name, u16_at, u32_at}

@@ -1,6 +1,6 @@
 use Rattle.std.proofs.Common.{◌≡◌, ◌++◌, ◌≤◌, List, ℕ, length, take, true, refl, ap, ◌∙◌, arith, append_assoc}
 use Rattle.std.specs.Int.{to_le_bytes, w16, w32}
-use Rattle.geo_base.specs.Name.{is_short_name}
+use Rattle.geo_model.specs.Name.{is_short_name}
 use Rattle.geo_model.specs.declared.class.StripeRecord.{StripeRecord}
 use Rattle.geo_model.specs.Records.{padded, stripe_magic, record_head}
 use Rattle.geo_record.proofs.FieldLemmas.{free-behind, holds-behind, length-behind}

@@ -1,6 +1,6 @@
 use Rattle.std.proofs.Common.{ℕ, List, Some, ap, ◌∙◌}
 use Rattle.std.specs.Option.{option_map, option_map_or}
-use Rattle.geo_base.specs.declared.kind.Kind.{Kind}
+use Rattle.geo_model.specs.Kind.{Kind}
 use Rattle.geo_model.specs.Tasting.{verdict_on}
 use Rattle.geo_model.specs.World.{NoClass}
 use Rattle.geo_class.specs.Taste.{after_verdict, ended}

@@ -1,5 +1,5 @@
 use Rattle.std.proofs.Common.{◌≡◌, None, sym, ap, arith}
-use Rattle.geo_base.proofs.Options.{on_ok}
+use Rattle.geo_model.proofs.Options.{on_ok}
 use Rattle.geo_names.specs.Inside.{id_of}
 use Rattle.geo_names.proofs.Texts.{inside-opened, rows-opened}
 use Rattle.geo_names.proofs.names.Inside.id_for.Goals as goal
