@@ -271,7 +271,7 @@ module _ (s : State) (firm : IsFirm s) {names : List (List ℕ)} {below : List B
           → IsSectorSize (sector_of ys)
       by [] found_so = inl refl
       by (y ∷ ys) found_so =
-          All-contains (λ (x : Provider). IsSectorSize x.sector) t.providers y firm.1.1.fitting.sectors
+          All-contains (λ (x : Provider). IsSectorSize x.sector) t.providers y firm.1.1.sizes.sectors
           (find-Contains (λ (x : Provider). x.number == y.number) t.providers y found_so.0)
 
   -- the world stays firm

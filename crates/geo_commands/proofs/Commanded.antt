@@ -57,8 +57,8 @@ made-size w kind geom_name config ps name size sector firm =
     let there : Contains (t.providers ++ y ∷ []) y =
     Contains-append_right t.providers (y ∷ []) y (Contains-here y []) in
     media_size size sector
-    (All-contains (λ (x : Provider). IsSectorSize x.sector) (t.providers ++ y ∷ []) y firm.fitting.sectors there)
-    (All-contains (λ (x : Provider). IsMediaSize x.size x.sector) (t.providers ++ y ∷ []) y firm.sound.providers.sizes
+    (All-contains (λ (x : Provider). IsSectorSize x.sector) (t.providers ++ y ∷ []) y firm.sizes.sectors there)
+    (All-contains (λ (x : Provider). IsMediaSize x.size x.sector) (t.providers ++ y ∷ []) y firm.graph.providers.sizes
     there)
 
 -- What new consumers can be attached to

@@ -272,14 +272,14 @@ module _ (s : State) (kept : Holds s) (firm : IsFirm s) (disk : ℕ) (seat : Dis
   -- where the seat has no geom there is none
   pub disk-absent : seat.geom ≡ None → None ≡ standing
   disk-absent none =
-      none-stays s.topo.topology firm.1.1.sound.numbers.one_geom_of_disk firm.1.1.sound.numbers.geoms disk
+      none-stays s.topo.topology firm.1.1.graph.numbers.one_geom_of_disk firm.1.1.graph.numbers.geoms disk
       (sym (seat-geom s kept disk seat at) ∙ none)
 
   -- where it has one, it tells whether the geom stands
   seat-told : (n : ℕ) → seat.geom ≡ Some n
       → standing ≡ (if option_map_or stands (geom_at s.topo.topology n) false then Some n else None)
   seat-told n is =
-      geom-stays s.topo.topology firm.1.1.sound.numbers.one_geom_of_disk firm.1.1.sound.numbers.geoms disk n
+      geom-stays s.topo.topology firm.1.1.graph.numbers.one_geom_of_disk firm.1.1.graph.numbers.geoms disk n
       (sym (seat-geom s kept disk seat at) ∙ is)
 
   pub disk-standing : (n : ℕ) → seat.geom ≡ Some n

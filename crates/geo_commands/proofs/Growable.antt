@@ -33,17 +33,17 @@ module _ (w : World) (x : Growing) (firm : Firm w) (is : IsStanding w.topology x
   -- its configuration is a concat's
   its : IsConcat x.geom.config
   its = concat_of x.geom.config (subst (λ k. fits_kind k x.geom.config ≡ true) is.kind
-      (All-contains IsOfItsClass t.geoms x.geom firm.sound.numbers.classes (geom_here w x firm is)).config)
+      (All-contains IsOfItsClass t.geoms x.geom firm.graph.numbers.classes (geom_here w x firm is)).config)
 
   -- its places have sizes
   fitted : AllZip (FitsPlace t n) its.places its.sizes
   fitted = subst (λ z. AllZip (FitsPlace t n) (places_of z) (sizes_of z)) its.is
-      (All-contains (FitsPlaces t) t.geoms x.geom firm.fitting.places (geom_here w x firm is))
+      (All-contains (FitsPlaces t) t.geoms x.geom firm.sizes.places (geom_here w x firm is))
 
   -- none of them is free, since it has a provider
   no_free : list_any is_none its.places ≡ false
   no_free = false_from_ne_true (list_any is_none its.places) (λ free.
-      let none_left = All-contains (WaitsForPlaces t) t.geoms x.geom firm.steady.partial (geom_here w x firm is)
+      let none_left = All-contains (WaitsForPlaces t) t.geoms x.geom firm.graph.partial (geom_here w x firm is)
       (ap (λ z. list_any is_none (places_of z)) its.is ∙ free) in
       nothing_in x.provider (subst (λ ys. Contains ys x.provider) none_left (provider_own w x firm is)))
 
@@ -52,21 +52,21 @@ module _ (w : World) (x : Growing) (firm : Firm w) (is : IsStanding w.topology x
       (flat_map option_to_list its.places)
   stood = subst (λ z. All (λ d. IsSomeAnd (consumer_at t d) (λ z. (z.geom ≡ n) × IsSome z.provider))
       (components z)) its.is
-      (All-contains (HasItsComponents (granted_in w) t) t.geoms x.geom firm.steady.components (geom_here w x firm is)
+      (All-contains (HasItsComponents (granted_in w) t) t.geoms x.geom firm.demand.components (geom_here w x firm is)
       (inl is.upright))
 
   -- its provider is as long as they are together
   summed : x.provider.size ≡ sum its.sizes
   summed =
       All-contains (λ (y : Provider). y.size ≡ joined_size x.geom.config) (providers_of t n) x.provider
-      (All-contains (HasItsSum t) t.geoms x.geom firm.fitting.sums (geom_here w x firm is) (inl is.kind))
+      (All-contains (HasItsSum t) t.geoms x.geom firm.sizes.sums (geom_here w x firm is) (inl is.kind))
       (provider_own w x firm is)
       ∙ ap joined_size its.is
 
   -- the components are different
   apart : AllPairs (λ a b. a ≢ b) (flat_map option_to_list its.places)
   apart = subst (λ z. AllPairs (λ a b. a ≢ b) (components z)) its.is
-      (All-contains PlacesHold t.geoms x.geom firm.fitting.apart (geom_here w x firm is)).apart
+      (All-contains PlacesHold t.geoms x.geom firm.sizes.apart (geom_here w x firm is)).apart
 
   -- so they are no more than its consumers
   few : length its.places ≤ length (consumers_of t n)

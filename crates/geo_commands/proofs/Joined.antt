@@ -51,7 +51,7 @@ module _ (s : State) (kept : Holds s) (firm : IsFirm s) (sound : IsSoundGraph s.
   all-placed =
       All-weaker (λ (x : Consumer). IsSome (option_and_then (provider_at t) x.provider))
       (λ x. x.provider ≡ None → filter (λ (y : Provider). y.geom == x.geom) t.providers ≡ [])
-      (λ x there none. absurd (nowhere x.provider none there)) t.consumers firm.1.1.steady.attached
+      (λ x there none. absurd (nowhere x.provider none there)) t.consumers firm.1.1.graph.attached
     where
       nowhere : (o : Option ℕ) → o ≡ None → IsSome (option_and_then (provider_at t) o) → ⊥
       nowhere None none lives = let no : false ≡ true = lives in absurd (cc)

@@ -5,6 +5,7 @@ use Rattle.std.proofs.Common.{refl, sym, ◌∙◌, ap, subst, arith}
 use Rattle.std.proofs.lemmas.Bool.{eqb-true}
 use Rattle.std.proofs.lemmas.List.{append-nil, map-append}
 use Rattle.std.proofs.lemmas.List.Elements.{All-contains}
+use Rattle.geo_model.proofs.FirmLemmas.{sound_of, steady_of}
 use Rattle.geo_opens.proofs.Holding.{rises_counted}
 use Rattle.geo_model.proofs.RefusalLemmas.{none_refused}
 use Rattle.geo_base.specs.Sectors.{IsSectorSize}
@@ -131,8 +132,8 @@ module _ (s : State) (kept : Holds s) (firm : IsFirm s) (sound : IsSoundGraph s.
       find-Contains (λ (z : Provider). z.number == x.provider.number) u.providers y
       (grown_is_found.provider w x q is.found) in
       media_size y.size y.sector
-      (All-contains (λ (z : Provider). IsSectorSize z.sector) u.providers y grown_firm.fitting.sectors here)
-      (All-contains (λ (z : Provider). IsMediaSize z.size z.sector) u.providers y grown_firm.sound.providers.sizes here)
+      (All-contains (λ (z : Provider). IsSectorSize z.sector) u.providers y grown_firm.sizes.sectors here)
+      (All-contains (λ (z : Provider). IsMediaSize z.size z.sector) u.providers y grown_firm.graph.providers.sizes here)
 
   -- Counts in the end are those with the consumer alone
 
@@ -233,7 +234,8 @@ module _ (s : State) (kept : Holds s) (firm : IsFirm s) (sound : IsSoundGraph s.
               (ap (λ k. is_provider_size k x.provider.sector) size_is ∙ grown_size);
           grows = subst (λ o. IfSome o (λ (y : Provider). y.size ≤ size)) (sym offer_is) (omega (arith, size_is));
           made = subst (λ (z : Topology Config). IsDevMade z) (sym mesh_graph)
-              (handles_are_spared.made (with_component w x q) grown_firm.sound grown_firm.steady);
+              (handles_are_spared.made (with_component w x q) (sound_of (with_component w x q) grown_firm)
+              (steady_of (with_component w x q) grown_firm));
           counted = mesh_counted;
           room = let few = few_notes in omega (arith, few, room);
         }

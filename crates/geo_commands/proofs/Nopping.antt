@@ -94,7 +94,7 @@ module _ (s : State) (firm : IsFirm s) {prov : List ℕ} {below : Below} (at : I
   pub below-sectors : IsSectorSize below.sector
   below-sectors =
       subst (λ (x : Below). IsSectorSize x.sector) (sym at.is)
-      (All-contains (λ (x : Provider). IsSectorSize x.sector) s.topo.topology.providers at.p firm.1.1.fitting.sectors
+      (All-contains (λ (x : Provider). IsSectorSize x.sector) s.topo.topology.providers at.p firm.1.1.sizes.sectors
       (find-Contains (λ (x : Provider). x.number == at.p.number) s.topo.topology.providers at.p below-number))
 
 -- where nothing is against it

@@ -68,7 +68,7 @@ module _ (s : State) (disk : ℕ) (seat : DiskSeat) (at : slice_get s.disks.item
   pub disk-size : IsFirm s → is_provider_size seat.size seat.sector ≡ true
   disk-size firm =
       let fits : IsHeaderDisk (disk_of_seat seat) =
-      All-contains IsHeaderDisk (map disk_of_seat s.disks.items) (disk_of_seat seat) firm.1.1.fitting.disks
+      All-contains IsHeaderDisk (map disk_of_seat s.disks.items) (disk_of_seat seat) firm.1.1.sizes.disks
       (Contains-map disk_of_seat s.disks.items seat (slot-contained s.disks.items disk seat at)) in
       media_size seat.size seat.sector fits.sector fits.size
 

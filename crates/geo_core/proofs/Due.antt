@@ -102,7 +102,7 @@ module _ (w : World) (firm : Firm w) (none : NoneBusy w) where
     by true e = rw e (at (disk_of_bio w x) (has (rw e refl)))
 
   disks : AllByRecursion HasDisk w.bios
-  disks = recursion_from_All HasDisk w.bios firm.sound.disks.at_disk
+  disks = recursion_from_All HasDisk w.bios firm.bios.disks.at_disk
 
   pub first_taken : find (is_to_take w) w.bios ≡ find (λ (x : Bio). is_sent x.phase) w.bios
   first_taken =

@@ -53,7 +53,7 @@ mesh_names r is =
 -- the commands that are left are commands
 pub mesh_commands : (r : Running) → IsMesh r
     → All (All (λ (c : LineCommand). IsCommand c.command)) (left_of r.plan.commands r.left)
-mesh_commands r is = (mesh_firm r is).fitting.commands
+mesh_commands r is = (mesh_firm r is).commands
 
 -- the mesh keeps what a history does
 pub mesh_history : (r : Running) → IsMesh r → IsHistory (seen r)

@@ -26,7 +26,7 @@ read_is_short : (w : World) → Firm w → (x : Bio) → Contains w.bios x → i
 read_is_short w firm x here reads = by (provider_at w.topology x.target) order.target
   where
     order : IsBioInOrder (granted_in w) w.topology x
-    order = All-contains (IsBioInOrder (granted_in w) w.topology) w.bios x firm.sound.bios here
+    order = All-contains (IsBioInOrder (granted_in w) w.topology) w.bios x firm.bios.order here
 
     by : (o : Option Provider) → IsSomeAnd o (λ p. is_flush x.cmd ≡ false → IsRangeInside x p)
         → x.len ≤ MAX_REQUEST_BYTES

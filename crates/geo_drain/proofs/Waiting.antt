@@ -24,7 +24,7 @@ module _ (w : World) (firm : Firm w) (idle : NoneBusy w) where
   at_its disk x here sent (Some d) at is =
       let same : d ≡ disk = eqb-true d disk is in
       let found : bio_at w x.number ≡ Some x =
-      found_itself (λ (y : Bio). y.number) w.next_bio w.bios x firm.sound.bio_numbers here in
+      found_itself (λ (y : Bio). y.number) w.next_bio w.bios x firm.bios.numbers here in
       subst (λ (n : ℕ). is_enabled w 0 (steps.Take n x.number) ≡ true) same
       (take_by w firm x found sent (Some d) at (free_by w firm idle d (busy_bio w d) refl))
 

@@ -115,7 +115,7 @@ module _ (m : MeshView) (history : IsHistory m) where
   firm = firm_after m.plan m.facts history.plan history.facts m.log
 
   rising : Rise 0 (map (λ (x : Bio). x.number) w.bios) w.next_bio
-  rising = rise-from w.next_bio (map (λ (x : Bio). x.number) w.bios) firm.sound.bio_numbers
+  rising = rise-from w.next_bio (map (λ (x : Bio). x.number) w.bios) firm.bios.numbers
 
   -- none is gathered at first
   pub walk_begins : (log : List Entry) (n : ℕ) → bare_heads log n ≡ heads_below w log 0 n
@@ -156,7 +156,7 @@ module _ (m : MeshView) (history : IsHistory m) where
     here : bio_at w b ≡ Some y
     here =
         subst (λ (k : ℕ). bio_at w k ≡ Some y) found.2
-        (found_itself (λ (x : Bio). x.number) w.next_bio w.bios y firm.sound.bio_numbers
+        (found_itself (λ (x : Bio). x.number) w.next_bio w.bios y firm.bios.numbers
         (find-Contains (λ (x : Bio). nat_le from x.number) w.bios y found.1))
 
     -- its number was given out

@@ -48,7 +48,7 @@ dying-lives s firm p from_number c cs left =
     subst (λ n. IsSome (consumer_at t n)) origin.fact
     (subst (λ o. IsSome o)
     (sym (found_itself (λ (x : Consumer). x.number) t.next_consumer t.consumers origin.item
-    firm.1.1.sound.numbers.consumers here.0)) refl)
+    firm.1.1.graph.numbers.consumers here.0)) refl)
 
 -- one more becomes dead
 pub killing-goes-on : (s now new : State) (p from_number c : ℕ) → KilledSoFar s now p from_number

@@ -297,7 +297,7 @@ module _ (s : State) (a : Taste) (ready : Ready s a) where
                     ∙ ap (option_map (λ (row : ℕ × ℕ). row.1))
                     (none-stored (λ (x : Consumer). out_through (trips s.traffic.bios) x.number) c.number t.consumers
                     (found_fresh (λ (x : Consumer). x.number) t.next_consumer c.number t.consumers
-                    ready.firm.1.1.sound.numbers.consumers above.0)),
+                    ready.firm.1.1.graph.numbers.consumers above.0)),
                 fresh-each cs above.1,
               )
 
@@ -314,7 +314,7 @@ module _ (s : State) (a : Taste) (ready : Ready s a) where
               (kept_after_comers ready.firm.0 s u q (Some z) (comers s.topo u parts-come.grows) ready.kept ready.firm.1
               (has-comers s.topo u parts-come.grows) came-fresh (no-disks s.topo u parts-come.grows)
               (λ c.
-              grown-granted s.topo u parts-come.grows ready.kept.counted ready.firm.1.1.steady.parts.consumers c
+              grown-granted s.topo u parts-come.grows ready.kept.counted ready.firm.1.1.graph.parts.consumers c
               ∙ idle-grants c
               ∙ sym (tastes_grant_nothing s.handles.handles z out c))
               (owed-kept u settled (length parts-come.grows.providers) parts-come.few all-providers))

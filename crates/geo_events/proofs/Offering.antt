@@ -54,7 +54,7 @@ module _ (s : State) (kept : Holds s) (firm : IsFirm s) where
   fresh : consumer_at t t.next_consumer ≡ None
   fresh =
       found_fresh (λ (c : Consumer). c.number) t.next_consumer t.next_consumer t.consumers
-      firm.1.1.sound.numbers.consumers (omega arith)
+      firm.1.1.graph.numbers.consumers (omega arith)
 
   -- so nothing is stored of it
   unknown : value_at s.topo.active t.next_consumer ≡ None
@@ -70,7 +70,7 @@ module _ (s : State) (kept : Holds s) (firm : IsFirm s) where
     quiet = kept.quiet;
     attached =
         All-weaker (λ (x : Consumer). IsSome (option_and_then (provider_at t) x.provider)) (λ x. IsSome x.provider)
-        (λ x lives. on x.provider lives) t.consumers firm.1.1.steady.attached;
+        (λ x lives. on x.provider lives) t.consumers firm.1.1.graph.attached;
   }
     where
       on : (o : Option ℕ) → IsSome (option_and_then (provider_at t) o) → IsSome o

@@ -74,11 +74,11 @@ module _ (s : State) (kept : Holds s) (firm : IsFirm s) (a : Taste) (is : s.tast
   -- it has its consumer, and is in order
   pub tasting-of : IsTasting t a
   tasting-of =
-      subst (λ (o : Option Taste). MatchOption o (consumers_of t 2 ≡ []) (IsTasting t)) is firm.1.1.sound.handles.taste
+      subst (λ (o : Option Taste). MatchOption o (consumers_of t 2 ≡ []) (IsTasting t)) is firm.1.1.handles.taste
 
   -- it is in order
   pub ordered : IsTasteInOrder w.topology a
-  ordered = subst (λ (o : Option Taste). IfSome o (IsTasteInOrder w.topology)) is firm.1.1.sound.events.taste
+  ordered = subst (λ (o : Option Taste). IfSome o (IsTasteInOrder w.topology)) is firm.1.1.taste.order
 
   -- the reads made are few
   pub reads-few : a.reads < 2 ^ 63
@@ -120,16 +120,16 @@ module _ (s : State) (kept : Holds s) (firm : IsFirm s) (a : Taste) (is : s.tast
   asked-well =
       at-found (provider_at t a.provider) (λ p. IsAskedInOrder t p a.asked) low-of.item low-of.found
       (subst (λ (o : Option Taste). IfSome o (λ x. IfSome (provider_at t x.provider) (λ p. IsAskedInOrder t p x.asked)))
-      is firm.1.1.fitting.asked)
+      is firm.1.1.taste.asked)
 
   -- it has sectors
   sizes-of : IsSectorSize low-of.item.sector × IsMediaSize low-of.item.size low-of.item.sector
   sizes-of =
       let here : Contains t.providers low-of.item =
       find-Contains (λ (p : Provider). p.number == a.provider) t.providers low-of.item low-of.found in (
-        All-contains (λ (p : Provider). IsSectorSize p.sector) t.providers low-of.item firm.1.1.fitting.sectors here,
+        All-contains (λ (p : Provider). IsSectorSize p.sector) t.providers low-of.item firm.1.1.sizes.sectors here,
         All-contains (λ (p : Provider). IsMediaSize p.size p.sector) t.providers low-of.item
-            firm.1.1.sound.providers.sizes here,
+            firm.1.1.graph.providers.sizes here,
       )
 
   -- the sector that is back has 512 bytes or more
@@ -263,7 +263,7 @@ module _ (s : State) (kept : Holds s) (firm : IsFirm s) (a : Taste) (is : s.tast
           ∙ ap (λ n. Some n)
           (count-none (goes_through a.consumer) (trips s.traffic.bios)
           (none-through s.traffic.bios
-          (recursion_from_All (IsBioInOrder (granted_in w) w.topology) w.bios firm.1.1.sound.bios)))
+          (recursion_from_All (IsBioInOrder (granted_in w) w.topology) w.bios firm.1.1.bios.order)))
 
   -- none of its own is out
   pub read-none : is_read_out a.asked ≡ false → s.read ≡ None
@@ -276,6 +276,6 @@ module _ (s : State) (kept : Holds s) (firm : IsFirm s) (a : Taste) (is : s.tast
       (λ some.
       let out : is_read_out a.asked ≡ true =
       subst (λ (o : Option Taste). IsTrue (option_map_or (λ x. is_read_out x.asked) o false)) is
-      (firm.1.1.sound.events.read_out.0 some) in
+      (firm.1.1.bios.read_out.0 some) in
       let no : true ≡ false = sym out ∙ idle in
       absurd cc)))

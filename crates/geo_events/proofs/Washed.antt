@@ -103,7 +103,7 @@ module _ (s : State) (firm : IsFirm s) where
   seat-of g here (Some d) is =
       let sizes : HasDiskSizes s.topo.topology (world firm.1.0 firm.0 s).disks g =
       All-contains (HasDiskSizes s.topo.topology (world firm.1.0 firm.0 s).disks) s.topo.topology.geoms g
-      firm.1.1.sound.numbers.disk_sizes here in
+      firm.1.1.graph.numbers.disk_sizes here in
       below-length disk_of_seat s.disks.items d
       (some-and _ (slice_get (map disk_of_seat s.disks.items) d) (rw is at sizes))
     where
@@ -135,13 +135,13 @@ module _ (s : State) (kept : Holds s) (firm : IsFirm s) where
   pub provider-stands : (p : ℕ) → IsDue s (works.Provider p) → IsSome (provider_at s.topo.topology p)
   provider-stands p due =
       provider-lives (granted_by s.topo) (is_out s.topo) s.topo.topology p
-      (sym (due.found (granted_by s.topo) stored)) firm.1.1.sound.numbers.providers
+      (sym (due.found (granted_by s.topo) stored)) firm.1.1.graph.numbers.providers
 
   -- and a geom that can go
   pub geom-stands : (g : ℕ) → IsDue s (works.Geom g) → IsSome (geom_at s.topo.topology g)
   geom-stands g due =
       geom-lives (granted_by s.topo) (is_out s.topo) s.topo.topology g
-      (sym (due.found (granted_by s.topo) stored)) firm.1.1.sound.numbers.geoms
+      (sym (due.found (granted_by s.topo) stored)) firm.1.1.graph.numbers.geoms
 
 -- What is kept
 
@@ -188,7 +188,7 @@ module _ (s : State) (kept : Holds s) (firm : IsFirm s) (u : TopoView Config) (q
               ap (λ (v : TopoView Config). length v.topology.providers + 1) gone
               ∙ one-less (λ (y : Provider). y.number) prov x ps
               (around (λ (y : Provider). y.number) s.topo.topology.next_provider prov x ps
-              firm.1.1.sound.numbers.providers e)
+              firm.1.1.graph.numbers.providers e)
               ∙ sym kept.providers
 
       module _ (same : queued u q ≡ washed (queued s.topo s.queue) (works.Provider prov)) where

@@ -18,10 +18,10 @@ use Rattle.geo_laws_graph.proofs.Members.{find-Contains, filter-Contains, Contai
 use Rattle.geo_laws_graph.proofs.Numbered.{unique, at-unchanged, number_found}
 use Rattle.geo_laws_graph.proofs.Spared.{filter-untouched}
 use Rattle.geo_laws_counts.proofs.LimitFacts.{all_true}
-use Rattle.geo_laws_bios.specs.BioFrames.{BiosHold}
+use Rattle.geo_laws_bios.specs.BioFrames.{BiosOf}
 use Rattle.geo_laws_bios.specs.BioSteps.{turned, turn}
 use Rattle.geo_laws_bios.specs.UpLaws.{ChildUpsStayFirm}
-use Rattle.geo_laws_bios.proofs.Apart.{bios_of, firm_with}
+use Rattle.geo_laws_bios.proofs.Apart.{bios_are_apart}
 use Rattle.geo_laws_bios.proofs.Phases.{not_waiting}
 use Rattle.geo_laws_bios.proofs.Turned.{children_kept, turns_stay_firm}
 use Rattle.geo_laws_bios.proofs.Turning.{found_there}
@@ -35,8 +35,8 @@ module _ (w : World) (firm : Firm w) (x y : Bio) (index : ℕ) (found : bio_at w
     (waits : is_waiting y.phase ≡ true)
     (complete : is_complete (turn w x phases.Done (λ r. r)) y.number ≡ true) where
   -- the bios of the world
-  hold : BiosHold w
-  hold = bios_of w firm
+  hold : BiosOf w
+  hold = firm.bios
 
   -- the world in which the child is Done
   abbrev pub gathered : World
@@ -147,7 +147,7 @@ module _ (w : World) (firm : Firm w) (x y : Bio) (index : ℕ) (found : bio_at w
       not_own_child w y y.owner
       (All-contains (λ (v : Bio). ComesFromItsOwner w.handles w.taste v v.owner) w.bios y hold.owners y_stands) in
       subst (λ (vs : List Bio). Firm (record w { bios = vs })) (sym same_bios)
-      (firm_with w (completed w y result).bios w.next_bio firm
+      (bios_are_apart w (completed w y result).bios w.next_bio firm
       (completed_hold w y result hold there own none_waits fits))
 
   -- the parent isn't the child
@@ -187,11 +187,11 @@ module _ (w : World) (firm : Firm w) (x : Bio) (parent index : ℕ) (found : bio
   by_last : (b : Bool) → is_complete (turn w x phases.Done (λ r. r)) parent ≡ b → Firm (up_child w x parent).0
   by_last true e =
       let family : IsFamilyInOrder w.topology w.bios x =
-      All-contains (IsFamilyInOrder w.topology w.bios) w.bios x firm.sound.families
+      All-contains (IsFamilyInOrder w.topology w.bios) w.bios x firm.bios.families
       (find-Contains (λ (v : Bio). v.number == x.number) w.bios x found) in
       by_parent (bio_at w parent) refl (rw owner at family.parent) e
   by_last false e = rw e
-      (turns_stay_firm w x phases.Done (λ r. r) (may_end w x parent index (bios_of w firm) found owner up e) firm)
+      (turns_stay_firm w x phases.Done (λ r. r) (may_end w x parent index firm.bios found owner up e) firm)
 
 -- an Up of a child keeps a mesh firm
 pub child_ups_stay_firm : ChildUpsStayFirm

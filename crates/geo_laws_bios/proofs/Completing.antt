@@ -23,7 +23,7 @@ use Rattle.geo_laws_graph.proofs.Lists.{numbers-kept, numbers-changed, filter-ch
 use Rattle.geo_laws_graph.proofs.Members.{find-Contains, Contains-filter, All-from_contained}
 use Rattle.geo_laws_graph.proofs.Numbered.{at-unchanged}
 use Rattle.geo_laws_graph.proofs.Spared.{IsSpared, filter-spared, find-spared, any-spared}
-use Rattle.geo_laws_bios.specs.BioFrames.{BiosHold}
+use Rattle.geo_laws_bios.specs.BioFrames.{BiosOf}
 use Rattle.geo_laws_bios.specs.BioSteps.{turned}
 use Rattle.geo_laws_bios.proofs.Items.{all_both, pairs_map, all_changed, all-fewer, each_of}
 use Rattle.geo_laws_bios.proofs.Turned.{AreItsPieces, fits_turned, range_turned, ReadsSector}
@@ -71,7 +71,7 @@ module _ (w : World) (y : Bio) (result : BioResult) where
   abbrev pub completed : World
   completed = record w { bios = change_where is_it risen staying }
 
-  module _ (hold : BiosHold w) (found : bio_at w y.number ≡ Some y) (own : is_gone y ≡ false)
+  module _ (hold : BiosOf w) (found : bio_at w y.number ≡ Some y) (own : is_gone y ≡ false)
       (ended : (q : Bio) → Contains w.bios q → is_gone q ≡ true → is_waiting q.phase ≡ false)
       (fits : FitsBio y result) where
     -- the numbers of those that stay
@@ -227,7 +227,7 @@ module _ (w : World) (y : Bio) (result : BioResult) where
         ∙ length-filter (λ (z : Bio). is_taste_root z.owner) w.bios
 
     -- the bios are in order afterwards
-    pub completed_hold : BiosHold completed
+    pub completed_hold : BiosOf completed
     completed_hold = record {
       numbers = numbers-changed (λ (z : Bio). z.number) is_it risen (λ z e. refl) w.next_bio staying staying_numbers;
       order = each_after (IsBioInOrder (granted_in w) w.topology) (IsBioInOrder (granted_in w) w.topology) order_here

@@ -120,13 +120,13 @@ module _ (w : World) (firm : Firm w) (x : Bio) (here : Contains w.bios x) (p : P
   pub first_below : (spot : Spot) × Below t g p spot
   first_below =
       let size : IsMediaSize p.size p.sector =
-      All-contains (λ (v : Provider). IsMediaSize v.size v.sector) t.providers p firm.sound.providers.sizes p_stands in
+      All-contains (λ (v : Provider). IsMediaSize v.size v.sector) t.providers p firm.graph.providers.sizes p_stands in
       first_by (place g.config p.name 0) refl
       (is_placed w firm x here p at_target g of_it no_disk 0 (omega (arith, size.positive)))
 
   -- its geom is of its class
   class : IsOfItsClass g
-  class = All-contains IsOfItsClass t.geoms g firm.sound.numbers.classes
+  class = All-contains IsOfItsClass t.geoms g firm.graph.numbers.classes
       (find-Contains (λ (v : Geom Config). v.number == p.geom) t.geoms g of_it)
 
   -- the geom isn't DEV or TASTE
@@ -183,8 +183,8 @@ module _ (w : World) (firm : Firm w) (x : Bio) (here : Contains w.bios x) (p : P
         let attached : Contains (attached_to t x.target) s =
         Contains-filter (λ (v : Consumer). names_number v.provider x.target) t.consumers s stands named in
         let total : have granted t x.target ≡ sum_counts (map (want granted t) (attached_to t x.target)) =
-        have-sum granted t firm.sound.ranks.ranked
-        (each_found (λ (v : Provider). v.number) t.next_provider t.providers firm.sound.numbers.providers)
+        have-sum granted t firm.graph.ranks.ranked
+        (each_found (λ (v : Provider). v.number) t.next_provider t.providers firm.graph.numbers.providers)
         x.target p at_target in
         let low = sum_above (map (want granted t) (attached_to t x.target)) (want granted t s)
         (Contains-map (want granted t) (attached_to t x.target) s attached) in
@@ -211,5 +211,5 @@ module _ (w : World) (firm : Firm w) (x : Bio) (here : Contains w.bios x) (p : P
   pub counted : (c : Consumer) → c.geom ≡ g.number → HasCountFor (granted_in w) w.topology x c
   counted c of_geom =
       let order : IsBioInOrder (granted_in w) w.topology x =
-      All-contains (IsBioInOrder (granted_in w) w.topology) w.bios x firm.sound.bios here in
+      All-contains (IsBioInOrder (granted_in w) w.topology) w.bios x firm.bios.order here in
       counted_by c of_geom (consumer_at t x.source) refl order.source

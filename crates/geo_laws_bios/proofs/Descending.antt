@@ -23,7 +23,7 @@ use Rattle.geo_model.specs.Fitting.{Firm, FitsPlaces, HasItsSum, IsWholeIn}
 use Rattle.geo_model.proofs.RankLemmas.{mapped_by}
 use Rattle.geo_laws_graph.proofs.Members.{find-Contains, Contains-filter}
 use Rattle.geo_laws_graph.proofs.Numbered.{number_found, any-contained}
-use Rattle.geo_laws_bios.proofs.Apart.{bios_of, firm_with}
+use Rattle.geo_laws_bios.proofs.Apart.{bios_are_apart}
 use Rattle.geo_laws_bios.proofs.Items.{both_by_recursion}
 use Rattle.geo_laws_bios.proofs.Pieces.{Below, IsBetween, LiesBelow, is_open, is_placed, range_of, whole_below, follow, pieces_below, no_piece_lost}
 use Rattle.geo_laws_bios.proofs.Counted.{counted, first_below}
@@ -103,10 +103,10 @@ module _ (w : World) (firm : Firm w) (x : Bio) (here : Contains w.bios x) (p : P
   sizes_by (Stripe id stripe places sizes) is = tt
   sizes_by (Nop below offset fail) is = tt
   sizes_by (Concat id places sizes) is =
-      let class : IsOfItsClass g = All-contains IsOfItsClass t.geoms g firm.sound.numbers.classes g_stands in
+      let class : IsOfItsClass g = All-contains IsOfItsClass t.geoms g firm.graph.numbers.classes g_stands in
       let kind = concat_kind g.kind id places sizes (rw is at class.config) in
-      let fits : FitsPlaces t g = All-contains (FitsPlaces t) t.geoms g firm.fitting.places g_stands in
-      let sum_fact : HasItsSum t g = All-contains (HasItsSum t) t.geoms g firm.fitting.sums g_stands in
+      let fits : FitsPlaces t g = All-contains (FitsPlaces t) t.geoms g firm.sizes.places g_stands in
+      let sum_fact : HasItsSum t g = All-contains (HasItsSum t) t.geoms g firm.sizes.sums g_stands in
       let total : p.size ≡ joined_size g.config =
       All-contains (λ (v : Provider). v.size ≡ joined_size g.config) (providers_of t g.number) p
       (sum_fact (inl kind)) p_offered in
@@ -128,7 +128,7 @@ module _ (w : World) (firm : Firm w) (x : Bio) (here : Contains w.bios x) (p : P
 
   -- the bio is in order
   order : IsBioInOrder (granted_in w) w.topology x
-  order = All-contains (IsBioInOrder (granted_in w) w.topology) w.bios x firm.sound.bios here
+  order = All-contains (IsBioInOrder (granted_in w) w.topology) w.bios x firm.bios.order here
 
   module _ (moves : is_flush x.cmd ≡ false) where
     -- the range of the bio
@@ -147,7 +147,7 @@ module _ (w : World) (firm : Firm w) (x : Bio) (here : Contains w.bios x) (p : P
     wholes =
         let media : IsMediaSize p.size p.sector =
         All-contains
-        (λ (v : Provider). IsMediaSize v.size v.sector) t.providers p firm.sound.providers.sizes p_stands in
+        (λ (v : Provider). IsMediaSize v.size v.sector) t.providers p firm.graph.providers.sizes p_stands in
         pieces_whole p.sector p x.offset x.len g.config
         (dvd_of_mod-eq-zero p.sector range.offset_whole) (dvd_of_mod-eq-zero p.sector range.len_whole)
         (dvd_of_mod-eq-zero p.sector media.whole)
@@ -258,7 +258,7 @@ module _ (w : World) (firm : Firm w) (x : Bio) (here : Contains w.bios x) (p : P
     attached : All (λ c. IsSomeAnd (consumer_at t c) (λ v. (v.geom ≡ g.number) × IsSome v.provider))
         (components g.config)
     attached =
-        (All-contains (HasItsComponents (granted_in w) w.topology) t.geoms g firm.steady.components g_stands)
+        (All-contains (HasItsComponents (granted_in w) w.topology) t.geoms g firm.demand.components g_stands)
         (inr has_open)
 
     -- a FLUSH goes down to what it is attached to, by the provider
@@ -297,7 +297,7 @@ module _ (w : World) (firm : Firm w) (x : Bio) (here : Contains w.bios x) (p : P
         let lives : IsSome (option_and_then (provider_at t) v.provider) =
         All-contains
         (λ (u : Consumer). IsSome (option_and_then
-        (provider_at t) u.provider)) t.consumers v firm.steady.attached stands in
+        (provider_at t) u.provider)) t.consumers v firm.graph.attached stands in
         flush_attached c v v.provider found has.0 refl lives
 
     -- for each component
@@ -336,6 +336,6 @@ pub split_firm : (w : World) (firm : Firm w) (x : Bio) (found : bio_at w x.numbe
 split_firm w firm x found down p g at_target of_it no_disk =
     let here : Contains w.bios x = find-Contains (λ (v : Bio). v.number == x.number) w.bios x found in
     let targets = piece_targets g.config p x in
-    firm_with w (parted w x targets).bios (parted w x targets).next_bio firm
-    (parted_hold w x targets (bios_of w firm) found down p g at_target of_it refl
+    bios_are_apart w (parted w x targets).bios (parted w x targets).next_bio firm
+    (parted_hold w x targets firm.bios found down p g at_target of_it refl
     (some_go w firm x here p at_target g of_it no_disk) (all_go w firm x here p at_target g of_it no_disk))

@@ -20,10 +20,10 @@ use Rattle.geo_laws_graph.proofs.Lists.{numbers-kept}
 use Rattle.geo_laws_graph.proofs.Members.{find-Contains}
 use Rattle.geo_laws_graph.proofs.Numbered.{unique, at-kept}
 use Rattle.geo_laws_graph.proofs.Spared.{IsSpared, IsUntouched, filter-spared, any-spared, filter-untouched}
-use Rattle.geo_laws_bios.specs.BioFrames.{BiosHold}
+use Rattle.geo_laws_bios.specs.BioFrames.{BiosOf}
 use Rattle.geo_laws_bios.specs.BioSteps.{turned, turn}
 use Rattle.geo_laws_bios.specs.UpLaws.{LineUpsStayFirm}
-use Rattle.geo_laws_bios.proofs.Apart.{bios_of, firm_with}
+use Rattle.geo_laws_bios.proofs.Apart.{bios_are_apart}
 use Rattle.geo_laws_bios.proofs.Phases.{not_waiting}
 use Rattle.geo_laws_bios.proofs.Turned.{MayTurn, AreItsPieces}
 use Rattle.geo_laws_bios.proofs.Turning.{found_there}
@@ -35,7 +35,7 @@ root_no_child (owners.Line handle line) n root = refl
 root_no_child owners.Taste n root = refl
 root_no_child (owners.Child parent index) n root = absurd cc
 
-module _ (w : World) (x : Bio) (hold : BiosHold w) (found : bio_at w x.number ≡ Some x) where
+module _ (w : World) (x : Bio) (hold : BiosOf w) (found : bio_at w x.number ≡ Some x) where
   -- whether a bio is the one
   abbrev is_it : Bio → Bool
   is_it y = y.number == x.number
@@ -109,7 +109,7 @@ module _ (w : World) (x : Bio) (hold : BiosHold w) (found : bio_at w x.number �
           ∙ length-filter (λ (y : Bio). is_taste_root y.owner) w.bios
 
       -- without a root that isn't Waiting and reads for no taste the bios are in order
-      pub leaves_hold : BiosHold after
+      pub leaves_hold : BiosOf after
       leaves_hold = record {
         numbers = numbers-kept (λ (y : Bio). y.number) (λ (y : Bio). not (is_it y)) w.next_bio w.bios hold.numbers;
         order = All-filter (λ (y : Bio). not (is_it y)) (IsBioInOrder (granted_in w) w.topology) w.bios hold.order;
@@ -147,12 +147,12 @@ line_ups_stay_firm w b x handle line found up owner firm =
     let after : World = without_bio w x.number in
     let root : is_root x.owner ≡ true = rw owner refl in
     let reads : is_taste_root x.owner ≡ false = rw owner refl in
-    firm_with w after.bios after.next_bio firm
-    (leaves_hold w x (bios_of w firm) there root (not_waiting is_up refl x.phase up) reads)
+    bios_are_apart w after.bios after.next_bio firm
+    (leaves_hold w x firm.bios there root (not_waiting is_up refl x.phase up) reads)
 
 -- A child
 
-module _ (w : World) (x : Bio) (parent index : ℕ) (hold : BiosHold w) (found : bio_at w x.number ≡ Some x)
+module _ (w : World) (x : Bio) (parent index : ℕ) (hold : BiosOf w) (found : bio_at w x.number ≡ Some x)
     (owner : x.owner ≡ owners.Child parent index) where
   -- another bio has no new child that is Done
   other_kept : (n : ℕ) → n ≢ parent → is_complete (turn w x phases.Done (λ r. r)) n ≡ is_complete w n

@@ -209,7 +209,7 @@ module _ (w : World) (firm : Firm w) (x : Bio) (here : Contains w.bios x) where
 
   -- it is in order
   in_order : IsBioInOrder (granted_in w) w.topology x
-  in_order = All-contains (IsBioInOrder (granted_in w) w.topology) w.bios x firm.sound.bios here
+  in_order = All-contains (IsBioInOrder (granted_in w) w.topology) w.bios x firm.bios.order here
 
   -- a consumer with the count that it needs wants something
   wants_some : (c : Consumer) (b : Bool) → is_read x.cmd ≡ b → HasCountFor (granted_in w) w.topology x c
@@ -236,8 +236,8 @@ module _ (w : World) (firm : Firm w) (x : Bio) (here : Contains w.bios x) where
         let attached : Contains (attached_to t x.target) c =
         Contains-filter (λ (v : Consumer). names_number v.provider x.target) t.consumers c stands named in
         let total : have (granted_in w) t x.target ≡ sum_counts (map (want (granted_in w) t) (attached_to t x.target)) =
-        have-sum (granted_in w) t firm.sound.ranks.ranked
-        (each_found (λ (v : Provider). v.number) t.next_provider t.providers firm.sound.numbers.providers)
+        have-sum (granted_in w) t firm.graph.ranks.ranked
+        (each_found (λ (v : Provider). v.number) t.next_provider t.providers firm.graph.numbers.providers)
         x.target p at_target in
         let all_zero : list_all is_zero (map (want (granted_in w) t) (attached_to t x.target)) ≡ true =
         zeros-sum (map (want (granted_in w) t) (attached_to t x.target)) ∙ ap is_zero (sym total) ∙ zero in
@@ -271,7 +271,7 @@ module _ (w : World) (firm : Firm w) (x : Bio) (here : Contains w.bios x) where
           let stands : Contains t.providers p =
           find-Contains (λ (v : Provider). v.number == x.target) t.providers p at_target in
           let leads : LeadsDown (granted_in w) w.topology p =
-          All-contains (LeadsDown (granted_in w) w.topology) t.providers p firm.sound.places stands in
+          All-contains (LeadsDown (granted_in w) w.topology) t.providers p firm.demand.places stands in
           placed_by ((rw of_it at leads) (inl is_open))
 
       -- the geom's number
@@ -284,7 +284,7 @@ module _ (w : World) (firm : Firm w) (x : Bio) (here : Contains w.bios x) where
           let stands : Contains t.consumers b.consumer =
           find-Contains (λ (v : Consumer). v.number == b.number) t.consumers b.consumer b.found in
           let fits : FitsBelow t b.consumer =
-          All-contains (FitsBelow t) t.consumers b.consumer firm.fitting.wholes stands in
+          All-contains (FitsBelow t) t.consumers b.consumer firm.sizes.wholes stands in
           let same : b.consumer.geom ≡ p.geom = b.of_geom ∙ geom_number in
           let geom : geom_at t b.consumer.geom ≡ Some g = subst (λ (n : ℕ). geom_at t n ≡ Some g) (sym same) of_it in
           let to_it : b.consumer.provider ≡ Some b.under = b.to_it in

@@ -28,16 +28,15 @@ use Rattle.geo_model.specs.Acceptance.{taste_where}
 use Rattle.geo_model.specs.Sound.{RanksHold, StandsBare, ProvidersHold, NumbersHold, HandlesHold, IsTasting, IsOfItsClass, DifferInDisk, HasDiskSizes, IsPlaced, LeadsDown, IsTasteInOrder}
 use Rattle.geo_model.specs.SoundBios.{IsBioInOrder, IsFamilyInOrder, HasItsPieces, HasCountFor, shape_of_child, shape_of_piece, DisksHold}
 use Rattle.geo_model.specs.Steady.{HasItsComponents, WaitsForPlaces, has_open_provider}
-use Rattle.geo_model.specs.Fitting.{Firm, FitsBelow, FitsPlaces, HasOneProvider, PlacesHold, HasItsSum, AsksThere, IsWholeIn, IsAskedInOrder}
+use Rattle.geo_model.specs.Fitting.{GraphHolds, DemandHolds, SizesHold, TasteHolds, Firm, FitsBelow, FitsPlaces, HasOneProvider, PlacesHold, HasItsSum, AsksThere, IsWholeIn, IsAskedInOrder}
 use Rattle.geo_laws_counts.specs.CountWords.{DemandStays, AnyConsumer, seen_by_counts}
 use Rattle.geo_laws_counts.proofs.SeenCounts.{seen_stays}
 use Rattle.geo_laws_graph.proofs.Living.{if_some_weaker}
 use Rattle.geo_laws_graph.specs.RankLaws.{AllRanksStay}
 use Rattle.geo_laws_graph.proofs.EdgeRanks.{stays_all}
 use Rattle.geo_laws_graph.proofs.KeptEdges.{parts-edges}
-use Rattle.geo_laws_bios.specs.BioFrames.{BiosHold, GraphHolds, SizesHold, TasteHolds, restart, restarted, RestartsStayFirm}
+use Rattle.geo_laws_bios.specs.BioFrames.{BiosOf, restart, restarted, RestartsStayFirm}
 use Rattle.geo_laws_bios.proofs.Items.{pairs_map}
-use Rattle.geo_laws_bios.proofs.Apart.{bios_of, rest_of, firm_of}
 
 -- tests that agree
 any_agree : {X : Type 0} (test other : X → Bool) → ((x : X) → test x ≡ other x) → (xs : List X)
@@ -233,16 +232,11 @@ module _ (s : Geom Config → ℕ) where
         (λ p. ap (λ (n : Counts). not (is_zero n)) (demand_stays.haves p.number)) (providers_of t g.number)
 
     -- the graph
-    graph_holds : GraphHolds (granted_in w) t w.disks → GraphHolds (granted_in w) u w.disks
+    graph_holds : GraphHolds t w.disks → GraphHolds u w.disks
     graph_holds graph = record {
       ranks = ranks_hold graph.ranks;
-      counts = record {
-        exclusive = demand_stays.exclusive graph.counts.exclusive;
-        limited = demand_stays.limit graph.counts.limited;
-      };
       providers = providers_hold graph.providers;
       numbers = numbers_hold graph.numbers;
-      places = All-weaker (LeadsDown (granted_in w) t) (LeadsDown (granted_in w) u) leads_down t.providers graph.places;
       made = all_geoms (λ (g : Geom Config). (g.number ≡ 1) ⊎ (g.number ≡ 2) → g.automatic ≡ false)
           (λ (g : Geom Config). (g.number ≡ 1) ⊎ (g.number ≡ 2) → g.automatic ≡ false) (λ g made. made) graph.made;
       parts = record {
@@ -254,11 +248,21 @@ module _ (s : Geom Config → ℕ) where
             (λ c lives. geom_lives c.geom lives) t.consumers graph.parts.consumers;
       };
       attached = graph.attached;
-      components = all_geoms (HasItsComponents (granted_in w) t) (HasItsComponents (granted_in w) u)
-          (λ g has used. has (subst (λ (b : Bool). (g.withering ≡ false) ⊎ IsTrue b)
-          (open_same g) used)) graph.components;
       partial = all_geoms (WaitsForPlaces t) (WaitsForPlaces u) (λ g waits. waits) graph.partial;
       unmarked = graph.unmarked;
+    }
+
+    -- what was granted
+    demand_holds : DemandHolds (granted_in w) t → DemandHolds (granted_in w) u
+    demand_holds demand = record {
+      counts = record {
+        exclusive = demand_stays.exclusive demand.counts.exclusive;
+        limited = demand_stays.limit demand.counts.limited;
+      };
+      places = All-weaker (LeadsDown (granted_in w) t) (LeadsDown (granted_in w) u) leads_down t.providers demand.places;
+      components = all_geoms (HasItsComponents (granted_in w) t) (HasItsComponents (granted_in w) u)
+          (λ g has used. has (subst (λ (b : Bool). (g.withering ≡ false) ⊎ IsTrue b)
+          (open_same g) used)) demand.components;
     }
 
     -- sizes
@@ -304,7 +308,7 @@ module _ (s : Geom Config → ℕ) where
     tasting_holds : TasteHolds t w.events w.taste → TasteHolds u w.events w.taste
     tasting_holds tasting = record {
       living = tasting.living;
-      taste = if_some_weaker (IsTasteInOrder t) (IsTasteInOrder u) taste_same w.taste tasting.taste;
+      order = if_some_weaker (IsTasteInOrder t) (IsTasteInOrder u) taste_same w.taste tasting.order;
       asked = if_some_weaker (λ (x : Taste). IfSome (provider_at t x.provider) (λ p. IsAskedInOrder t p x.asked))
           (λ (x : Taste). IfSome (provider_at t x.provider) (λ p. IsAskedInOrder u p x.asked))
           (λ x asked. if_some_weaker (λ (p : Provider). IsAskedInOrder t p x.asked)
@@ -354,7 +358,7 @@ module _ (s : Geom Config → ℕ) where
     }
 
     -- the bios
-    bios_hold : BiosHold w → BiosHold (restarted s w)
+    bios_hold : BiosOf w → BiosOf (restarted s w)
     bios_hold hold = record {
       numbers = hold.numbers;
       order = All-weaker (IsBioInOrder (granted_in w) t) (IsBioInOrder (granted_in w) u) bio_same w.bios hold.order;
@@ -374,15 +378,15 @@ module _ (s : Geom Config → ℕ) where
 
 -- other numbers of started requests leave a mesh firm
 pub restarts_stay_firm : RestartsStayFirm
-restarts_stay_firm s w firm =
-    let rest = rest_of w firm in
-    firm_of (restarted s w) (bios_hold s w (bios_of w firm)) (record {
-      graph = graph_holds s w rest.graph;
-      handles = handles_hold s w rest.handles;
-      sizes = sizes_hold s w rest.sizes;
-      tasting = tasting_holds s w rest.tasting;
-      commands = rest.commands;
-    })
+restarts_stay_firm s w firm = record {
+  graph = graph_holds s w firm.graph;
+  demand = demand_holds s w firm.demand;
+  sizes = sizes_hold s w firm.sizes;
+  handles = handles_hold s w firm.handles;
+  taste = tasting_holds s w firm.taste;
+  bios = bios_hold s w firm.bios;
+  commands = firm.commands;
+}
 
 -- One more started request
 

@@ -81,7 +81,7 @@ module _ (w : World) (firm : Firm w) (granted : ℕ → Counts) where
     by_source : (c : Consumer) → consumer_at t z.source ≡ Some c → Serves granted t z c → SourceServes granted t z
     by_source c found serves =
         let order : IsBioInOrder (granted_in w) w.topology z =
-        All-contains (IsBioInOrder (granted_in w) w.topology) w.bios z firm.sound.bios z_here in
+        All-contains (IsBioInOrder (granted_in w) w.topology) w.bios z firm.bios.order z_here in
         let source : (c.provider ≡ Some z.target) × HasCountFor (granted_in w) w.topology z c =
         rw found at order.source in
         rw found (source.0, serves)
@@ -143,7 +143,7 @@ module _ (w : World) (firm : Firm w) (granted : ℕ → Counts) where
     child_serves : is_waiting y.phase ≡ true → SourceServes granted t z
     child_serves waits =
         let family : IsFamilyInOrder w.topology w.bios y =
-        All-contains (IsFamilyInOrder w.topology w.bios) w.bios y firm.sound.families y_here in
+        All-contains (IsFamilyInOrder w.topology w.bios) w.bios y firm.bios.families y_here in
         by_provider (provider_at t y.target) refl (family.pieces waits)
 
   module _ (keep : Bio → Bool)
@@ -159,7 +159,7 @@ module _ (w : World) (firm : Firm w) (granted : ℕ → Counts) where
         let y_here : Contains w.bios y = find-Contains (λ (v : Bio). v.number == parent) w.bios y at in
         let number : y.number ≡ parent = number_found (λ (v : Bio). v.number) w.bios parent y at in
         let comes : ComesFromItsOwner w.handles w.taste z z.owner =
-        All-contains (λ (v : Bio). ComesFromItsOwner w.handles w.taste v v.owner) w.bios z firm.steady.owners here in
+        All-contains (λ (v : Bio). ComesFromItsOwner w.handles w.taste v v.owner) w.bios z firm.bios.owners here in
         let above : parent < z.number = rw owner at comes in
         let is_child : is_child_of z.owner y.number ≡ true = rw owner (eq-eqb parent y.number (sym number)) in
         child_serves y z y_here here
@@ -174,7 +174,7 @@ module _ (w : World) (firm : Firm w) (granted : ℕ → Counts) where
     by_owner z here kept so owners.Taste e = roots z here (rw e refl) kept
     by_owner z here kept so (owners.Child parent index) e =
         let family : IsFamilyInOrder w.topology w.bios z =
-        All-contains (IsFamilyInOrder w.topology w.bios) w.bios z firm.sound.families here in
+        All-contains (IsFamilyInOrder w.topology w.bios) w.bios z firm.bios.families here in
         by_parent 0 z here parent index e so (bio_at w parent) refl (rw e at family.parent)
 
     -- for all numbers below one

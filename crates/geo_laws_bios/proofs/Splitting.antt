@@ -26,7 +26,7 @@ use Rattle.geo_laws_graph.proofs.Lists.{Rise, rise-from, rise-wider, numbers-fro
 use Rattle.geo_laws_graph.proofs.Living.{found-before}
 use Rattle.geo_laws_graph.proofs.Members.{find-Contains, filter-Contains, Contains-here, Contains-map}
 use Rattle.geo_laws_graph.proofs.Numbered.{at-here, at-unchanged}
-use Rattle.geo_laws_bios.specs.BioFrames.{BiosHold}
+use Rattle.geo_laws_bios.specs.BioFrames.{BiosOf}
 use Rattle.geo_laws_bios.specs.BioSteps.{turned}
 use Rattle.geo_laws_bios.proofs.Items.{none_kept, pairs_map, all_changed, all-fewer}
 use Rattle.geo_laws_bios.proofs.Phases.{not_waiting}
@@ -162,7 +162,7 @@ module _ (w : World) (x : Bio) (targets : List PieceTarget) where
       ∙ append-nil (filter (λ (c : Bio). is_child_of c.owner n) old)
       ∙ filter-changed is_it wait (λ (c : Bio). is_child_of c.owner n) (λ c e. refl) w.bios
 
-  module _ (hold : BiosHold w) (found : bio_at w x.number ≡ Some x) (down : is_down x.phase ≡ true) where
+  module _ (hold : BiosOf w) (found : bio_at w x.number ≡ Some x) (down : is_down x.phase ≡ true) where
     -- the bio isn't Waiting before
     waited : is_waiting x.phase ≡ false
     waited = not_waiting is_down refl x.phase down
@@ -410,7 +410,7 @@ module _ (w : World) (x : Bio) (targets : List PieceTarget) where
           (Contains-map (λ (z : Bio). z.number) w.bios x (find-Contains is_it w.bios x found))
 
       -- the bios are in order afterwards
-      pub parted_hold : BiosHold parted
+      pub parted_hold : BiosOf parted
       parted_hold = record {
         numbers = numbers;
         order = each_after (IsBioInOrder (granted_in w) w.topology) (IsBioInOrder (granted_in w) w.topology) order_here

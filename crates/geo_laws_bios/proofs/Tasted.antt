@@ -25,7 +25,7 @@ use Rattle.geo_model.specs.Bios.{disk_of_bio, up_taste}
 use Rattle.geo_model.specs.Sound.{IsTasting, HasItsConsumer, LeadsDown, IsPlaced, IsTasteInOrder, HasItsChain, ChainHolds, class_asked, IsOfItsClass}
 use Rattle.geo_model.specs.SoundBios.{IsBioInOrder, IsFamilyInOrder, HasCountFor, NotBothBusy}
 use Rattle.geo_model.specs.Steady.{HasItsComponents, ComesFromItsOwner, HasItsResult, FitsBio}
-use Rattle.geo_model.specs.Fitting.{Firm, IsAskedInOrder, IsOneSector}
+use Rattle.geo_model.specs.Fitting.{DemandHolds, Firm, IsAskedInOrder, IsOneSector}
 use Rattle.geo_laws_counts.specs.CountWords.{IsAtMost, AreAtMost}
 use Rattle.geo_laws_counts.proofs.Sums.{at_most-same, at_most-zero, at_most-under, zero-test}
 use Rattle.geo_laws_counts.proofs.Levels.{have-at_most}
@@ -34,9 +34,8 @@ use Rattle.geo_laws_graph.proofs.Lists.{numbers-kept, filter-filter, found_itsel
 use Rattle.geo_laws_graph.proofs.Living.{if_some_weaker}
 use Rattle.geo_laws_graph.proofs.Members.{find-Contains, filter-Contains, Contains-filter, Contains-cases, nothing_in, at_contained}
 use Rattle.geo_laws_graph.proofs.Numbered.{any-contained, number_found}
-use Rattle.geo_laws_bios.specs.BioFrames.{BiosHold, GraphHolds, RestHolds}
+use Rattle.geo_laws_bios.specs.BioFrames.{BiosOf}
 use Rattle.geo_laws_bios.specs.UpLaws.{TasteUpsStayFirm}
-use Rattle.geo_laws_bios.proofs.Apart.{bios_of, rest_of, firm_of}
 use Rattle.geo_laws_bios.proofs.Phases.{not_waiting}
 use Rattle.geo_laws_bios.proofs.Turning.{found_there}
 use Rattle.geo_laws_bios.proofs.Leaving.{family_kept, has_result}
@@ -186,12 +185,8 @@ module _ (w : World) (x : Bio) (s : Taste) (kind : Kind) where
       (owner : x.owner ≡ owners.Taste)
       (is : w.taste ≡ Some s) (asked : s.asked ≡ ReadOut kind) (to_it : s.provider ≡ x.target) where
     -- the bios before
-    hold : BiosHold w
-    hold = bios_of w firm
-
-    -- the rest before
-    rest : RestHolds w
-    rest = rest_of w firm
+    hold : BiosOf w
+    hold = firm.bios
 
     -- the root stands
     here : Contains w.bios x
@@ -200,28 +195,20 @@ module _ (w : World) (x : Bio) (s : Taste) (kind : Kind) where
     -- the taste's consumer
     tasting : IsTasting t read
     tasting =
-        let was : IsTasting t s = rw is at rest.handles.taste in
+        let was : IsTasting t s = rw is at firm.handles.taste in
         record { consumer = was.consumer; alone = was.alone; number = was.number; attached = was.attached }
 
-    -- the graph
-    graph_kept : GraphHolds (granted_in tasted) t w.disks
-    graph_kept = record {
-      ranks = rest.graph.ranks;
+    -- what is granted then
+    demand_kept : DemandHolds (granted_in tasted) t
+    demand_kept = record {
       counts = record {
-        exclusive = exclusive_less (granted_in tasted) (granted_in w) less t rest.graph.counts.exclusive;
-        limited = limit_less (granted_in tasted) (granted_in w) less t rest.graph.counts.limited;
+        exclusive = exclusive_less (granted_in tasted) (granted_in w) less t firm.demand.counts.exclusive;
+        limited = limit_less (granted_in tasted) (granted_in w) less t firm.demand.counts.limited;
       };
-      providers = rest.graph.providers;
-      numbers = rest.graph.numbers;
       places = All-weaker (LeadsDown (granted_in w) t) (LeadsDown (granted_in tasted) t) leads_down
-          t.providers rest.graph.places;
-      made = rest.graph.made;
-      parts = rest.graph.parts;
-      attached = rest.graph.attached;
+          t.providers firm.demand.places;
       components = All-weaker (HasItsComponents (granted_in w) t) (HasItsComponents (granted_in tasted) t)
-          components_kept t.geoms rest.graph.components;
-      partial = rest.graph.partial;
-      unmarked = rest.graph.unmarked;
+          components_kept t.geoms firm.demand.components;
     }
 
     -- the chain
@@ -250,7 +237,7 @@ module _ (w : World) (x : Bio) (s : Taste) (kind : Kind) where
     taste_kept : IsTasteInOrder t read
     taste_kept =
         let order : IsTasteInOrder t s =
-        subst (λ (o : Option Taste). IfSome o (IsTasteInOrder t)) is rest.tasting.taste in
+        subst (λ (o : Option Taste). IfSome o (IsTasteInOrder t)) is firm.taste.order in
         record { rank = order.rank; reads = rw asked at order.reads; chain = chain_kept order }
 
     -- the result is one sector, by the result
@@ -271,7 +258,7 @@ module _ (w : World) (x : Bio) (s : Taste) (kind : Kind) where
     -- how far the class is asked
     asked_kept : IfSome (provider_at t s.provider) (λ p. IsAskedInOrder t p (ReadBack kind got))
     asked_kept =
-        let was : IfSome (provider_at t s.provider) (λ p. IsAskedInOrder t p s.asked) = rw is at rest.tasting.asked in
+        let was : IfSome (provider_at t s.provider) (λ p. IsAskedInOrder t p s.asked) = rw is at firm.taste.asked in
         let out : IfSome (provider_at t s.provider) (λ p. IsAskedInOrder t p (ReadOut kind)) =
         subst (λ (a : Asked). IfSome (provider_at t s.provider) (λ p. IsAskedInOrder t p a)) asked was in
         let sector : IsSomeAnd (provider_at t x.target) (λ p. x.len ≡ p.sector) =
@@ -281,21 +268,6 @@ module _ (w : World) (x : Bio) (s : Taste) (kind : Kind) where
         (rw owner refl) in
         one_by (provider_at t s.provider)
         (subst (λ (n : ℕ). IsSomeAnd (provider_at t n) (λ p. x.len ≡ p.sector)) (sym to_it) sector) out
-
-    -- all but the bios
-    rest_kept : RestHolds tasted
-    rest_kept = record {
-      graph = graph_kept;
-      handles = record {
-        numbers = rest.handles.numbers;
-        consumers = rest.handles.consumers;
-        handles = rest.handles.handles;
-        taste = tasting;
-      };
-      sizes = rest.sizes;
-      tasting = record { living = rest.tasting.living; taste = taste_kept; asked = asked_kept };
-      commands = rest.commands;
-    }
 
     -- no other bio reads for the taste
     no_reads : filter (λ (z : Bio). is_taste_root z.owner) staying ≡ []
@@ -329,12 +301,12 @@ module _ (w : World) (x : Bio) (s : Taste) (kind : Kind) where
     -- a consumer of DEV, whose grant stays, wants what it wanted
     dev_wants : (c : Consumer) → c.geom ≡ 1 → granted_in tasted c.number ≡ granted_in w c.number
         → want (granted_in tasted) t c ≡ want (granted_in w) t c
-    dev_wants c dev same = by_geom (geom_at t 1) refl rest.graph.ranks.dev.stands where
+    dev_wants c dev same = by_geom (geom_at t 1) refl firm.graph.ranks.dev.stands where
       by_geom : (o : Option (Geom Config)) → geom_at t 1 ≡ o → IsSomeAnd o (λ g. g.withering ≡ false)
           → want (granted_in tasted) t c ≡ want (granted_in w) t c
       by_geom None e has = absurd has
       by_geom (Some g) e has =
-          let class : IsOfItsClass g = All-contains IsOfItsClass t.geoms g rest.graph.numbers.classes
+          let class : IsOfItsClass g = All-contains IsOfItsClass t.geoms g firm.graph.numbers.classes
           (find-Contains (λ (v : Geom Config). v.number == 1) t.geoms g e) in
           let one : g.number ≡ 1 = number_found (λ (v : Geom Config). v.number) t.geoms 1 g e in
           let is_dev : is_kind g.kind kinds.Dev ≡ true = class.dev ∙ eq-eqb g.number 1 one in
@@ -355,7 +327,7 @@ module _ (w : World) (x : Bio) (s : Taste) (kind : Kind) where
       by_consumer : (o : Option Consumer) → consumer_at t z.source ≡ o → SourceServes (granted_in tasted) t z
       by_consumer o at =
           let h_stands : Contains w.handles h = find-Contains (λ (v : Handle). v.number == handle) w.handles h e in
-          let of_it : HasItsConsumer t h = All-contains (HasItsConsumer t) w.handles h rest.handles.handles h_stands in
+          let of_it : HasItsConsumer t h = All-contains (HasItsConsumer t) w.handles h firm.handles.handles h_stands in
           let dev : IsSomeAnd (consumer_at t z.source) (λ v. v.geom ≡ 1) = rw names at of_it in
           let order : IsBioInOrder (granted_in w) t z =
           All-contains (IsBioInOrder (granted_in w) t) w.bios z hold.order stands in
@@ -435,7 +407,7 @@ module _ (w : World) (x : Bio) (s : Taste) (kind : Kind) where
     each_stays P Q so facts = All-filter (λ (z : Bio). not (is_it z)) P w.bios (All-weaker Q P so w.bios facts)
 
     -- the bios
-    bios_kept : BiosHold tasted
+    bios_kept : BiosOf tasted
     bios_kept = record {
       numbers = numbers-kept (λ (z : Bio). z.number) (λ (z : Bio). not (is_it z)) w.next_bio w.bios hold.numbers;
       order = All-weaker (Contains staying) (IsBioInOrder (granted_in tasted) t) order_kept
@@ -471,7 +443,20 @@ module _ (w : World) (x : Bio) (s : Taste) (kind : Kind) where
 
     -- so the mesh is firm
     pub tasted_firm : Firm tasted
-    tasted_firm = firm_of tasted bios_kept rest_kept
+    tasted_firm = record {
+      graph = firm.graph;
+      demand = demand_kept;
+      sizes = firm.sizes;
+      handles = record {
+        numbers = firm.handles.numbers;
+        consumers = firm.handles.consumers;
+        handles = firm.handles.handles;
+        taste = tasting;
+      };
+      taste = record { living = firm.taste.living; order = taste_kept; asked = asked_kept };
+      bios = bios_kept;
+      commands = firm.commands;
+    }
 
 module _ (w : World) (x : Bio) (firm : Firm w) (found : bio_at w x.number ≡ Some x) (up : is_up x.phase ≡ true)
     (owner : x.owner ≡ owners.Taste) where
@@ -484,7 +469,7 @@ module _ (w : World) (x : Bio) (firm : Firm w) (found : bio_at w x.number ≡ So
       let reads : is_taste_root x.owner ≡ true = rw owner refl in
       let any : list_any (λ (v : Bio). is_taste_root v.owner) w.bios ≡ true =
       any-contained (λ (v : Bio). is_taste_root v.owner) w.bios x here reads in
-      let out : is_read_out s.asked ≡ true = rw is at (firm.sound.events.read_out.0 any) in
+      let out : is_read_out s.asked ≡ true = rw is at (firm.bios.read_out.0 any) in
       let asked = is_out s.asked out in
       let asked_is : s.asked ≡ ReadOut asked.kind = asked.is in
       let firm_then : Firm (tasted w x s asked.kind) =
@@ -497,5 +482,5 @@ taste_ups_stay_firm w b x found up owner firm =
     let there : bio_at w x.number ≡ Some x = found_there w b x found in
     let here : Contains w.bios x = find-Contains (λ (v : Bio). v.number == x.number) w.bios x there in
     let comes : ComesFromItsOwner w.handles w.taste x x.owner =
-    All-contains (λ (v : Bio). ComesFromItsOwner w.handles w.taste v v.owner) w.bios x firm.steady.owners here in
+    All-contains (λ (v : Bio). ComesFromItsOwner w.handles w.taste v v.owner) w.bios x firm.bios.owners here in
     by_taste w x firm there up owner w.taste refl (rw owner at comes)

@@ -24,10 +24,10 @@ use Rattle.geo_model.specs.Steady.{ComesFromItsOwner, FitsBio, HasItsResult}
 use Rattle.geo_model.specs.Fitting.{Firm}
 use Rattle.geo_laws_graph.proofs.Lists.{filter-changed, map-changed, any-changed, length-changed, numbers-changed}
 use Rattle.geo_laws_graph.proofs.Numbered.{at-unchanged}
-use Rattle.geo_laws_bios.specs.BioFrames.{BiosHold}
+use Rattle.geo_laws_bios.specs.BioFrames.{BiosOf}
 use Rattle.geo_laws_bios.specs.BioSteps.{turned, turn}
 use Rattle.geo_laws_bios.proofs.Items.{pairs_map, all-fewer, all_changed, only_one}
-use Rattle.geo_laws_bios.proofs.Apart.{bios_of, firm_with}
+use Rattle.geo_laws_bios.proofs.Apart.{bios_are_apart}
 use Rattle.geo_laws_bios.proofs.Owners.{parent_stays, owner_stays}
 
 -- when a bio may be in another phase, with its result changed
@@ -134,7 +134,7 @@ module _ (w : World) (x : Bio) (phase : Phase) (result : Option BioResult → Op
       rw (children_kept n)
       (all-fewer is_it (λ (y : Bio). is_done y.phase) change (λ y e. not_done) (children_of w n) none)
 
-  module _ (hold : BiosHold w) (may : MayTurn w x phase result) where
+  module _ (hold : BiosOf w) (may : MayTurn w x phase result) where
     -- a fact of each bio afterwards
     each_after : (P Q : Bio → Type 0) → (Q x → P (change x)) → ((y : Bio) → is_it y ≡ false → Q y → P y)
         → All Q w.bios → All P after.bios
@@ -274,7 +274,7 @@ module _ (w : World) (x : Bio) (phase : Phase) (result : Option BioResult → Op
     sectors = each_after (ReadsSector w) (ReadsSector w) (λ reads. reads) (λ y e reads. reads) hold.read.sector
 
     -- the bios are in order afterwards
-    pub turns_hold : BiosHold after
+    pub turns_hold : BiosOf after
     turns_hold = record {
       numbers = numbers-changed (λ (y : Bio). y.number) is_it change (λ y e. refl) w.next_bio w.bios hold.numbers;
       order = each_after (IsBioInOrder (granted_in w) w.topology) (IsBioInOrder (granted_in w) w.topology) order_here
@@ -301,4 +301,4 @@ pub turns_stay_firm : (w : World) (x : Bio) (phase : Phase) (result : Option Bio
     → MayTurn w x phase result → Firm w → Firm (turn w x phase result)
 turns_stay_firm w x phase result may firm =
     let after : World = turn w x phase result in
-    firm_with w after.bios after.next_bio firm (turns_hold w x phase result (bios_of w firm) may)
+    bios_are_apart w after.bios after.next_bio firm (turns_hold w x phase result firm.bios may)

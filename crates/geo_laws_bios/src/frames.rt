@@ -1,15 +1,9 @@
 //! Laws of what a mesh keeps where only its bios change, or only the commands left.
-ghost use Rattle.geo_laws_bios.specs.BioFrames.{CommandsAreApart, FirmIsBoth, RestIgnoresBios, RestartsStayFirm};
+ghost use Rattle.geo_laws_bios.specs.BioFrames.{BiosAreApart, CommandsAreApart, RestartsStayFirm};
 
-/// A mesh is sound, steady and fitting just where its bios are in order and all the rest is.
-#[tactic(auto, using(crate::proofs::Apart::firm_is_both))]
-pub fn firm_is_both()
-    ensures { FirmIsBoth }
-{}
-
-/// The rest doesn't look at the bios.
-pub fn rest_ignores_bios()
-    ensures { RestIgnoresBios }
+/// A firm mesh with other bios is firm where these are in order.
+pub fn bios_are_apart()
+    ensures { BiosAreApart }
 {}
 
 /// Other commands left of the actors change nothing, as long as they are commands.

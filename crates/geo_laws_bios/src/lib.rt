@@ -5,8 +5,8 @@
 //! seat, whether they are enabled or not. [`starts`], [`steps`] and [`ups`] have it by the way that a bio goes:
 //! bounced, failed at a NOP, sent, split, and up to a line, a taste or a parent.
 //! [`splits::firm_meshes_lose_no_piece`]: each piece has its consumer, and pieces follow each other over the whole
-//! request. [`frames`] answers what a change of bios or of commands alone leaves ([`frames::firm_is_both`],
-//! [`frames::rest_ignores_bios`]); [`ups::sources_serve_all`] whether bios have still their counts where grants fall.
+//! request. [`frames`] answers what a change of bios or of commands alone leaves ([`frames::bios_are_apart`],
+//! [`frames::commands_are_apart`]); [`ups::sources_serve_all`] whether bios have still their counts where grants fall.
 //!
 //! The laws of handles, making, maps, steps, requests and rest need them; so do geo_requests and geo_drain. Read
 //! `specs/BioStepLaws.antt` first.

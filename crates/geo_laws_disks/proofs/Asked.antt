@@ -126,7 +126,7 @@ take_asks_inside w v seat disk b o firm bare made = record {
     here = find-Contains (λ (y : Bio). y.number == b) w.bios x it.found
 
     order : IsBioInOrder (granted_in w) w.topology x
-    order = All-contains (IsBioInOrder (granted_in w) w.topology) w.bios x firm.sound.bios here
+    order = All-contains (IsBioInOrder (granted_in w) w.topology) w.bios x firm.bios.order here
 
     d : AtDisk w.topology x.target disk
     d = at_disk w.topology x.target disk it.can.disk_is
@@ -136,7 +136,7 @@ take_asks_inside w v seat disk b o firm bare made = record {
 
     some : 0 < d.provider.sector
     some = sector_bytes d.provider.sector
-        (All-contains (λ (p : Provider). IsSectorSize p.sector) w.topology.providers d.provider firm.fitting.sectors
+        (All-contains (λ (p : Provider). IsSectorSize p.sector) w.topology.providers d.provider firm.sizes.sectors
         p_here)
 
     its_sector : sector_of_bio w x ≡ d.provider.sector
@@ -149,7 +149,7 @@ take_asks_inside w v seat disk b o firm bare made = record {
     has_sizes : IsSomeAnd (slice_get w.disks disk) HasSizes
     has_sizes =
         let of_geom : HasDiskSizes w.topology w.disks d.geom =
-        All-contains (HasDiskSizes w.topology w.disks) w.topology.geoms d.geom firm.sound.numbers.disk_sizes
+        All-contains (HasDiskSizes w.topology w.disks) w.topology.geoms d.geom firm.graph.numbers.disk_sizes
         (find-Contains (λ (g : Geom Config). g.number == d.provider.geom) w.topology.geoms d.geom d.of) in
         subst (λ c. IfSome (disk_of c) (λ n. IsSomeAnd (slice_get w.disks n) HasSizes)) d.config of_geom
 

@@ -127,8 +127,8 @@ others_origins w v seat s o other made =
 -- where each bio comes from, whatever the step
 pub steps_origins : (w v : World) (seat : ℕ) (s : Step) (o : Outcome) → Firm w → step w seat s ≡ Ok (v, o)
     → HasOrigins w v seat
-steps_origins w v seat (steps.Start b) o firm e = starts_origins w v seat b o firm.sound.bio_numbers e
-steps_origins w v seat (steps.Take disk b) o firm e = takes_origins w v seat disk b o firm.sound.bio_numbers e
-steps_origins w v seat (steps.Deliver b got) o firm e = delivers_origins w v seat b got o firm.sound.bio_numbers e
+steps_origins w v seat (steps.Start b) o firm e = starts_origins w v seat b o firm.bios.numbers e
+steps_origins w v seat (steps.Take disk b) o firm e = takes_origins w v seat disk b o firm.bios.numbers e
+steps_origins w v seat (steps.Deliver b got) o firm e = delivers_origins w v seat b got o firm.bios.numbers e
 steps_origins w v seat (steps.Up b) o firm e = ups_origins w v seat b o firm e
 steps_origins w v seat s o firm e = others_origins w v seat s o refl e

@@ -122,7 +122,7 @@ holds_after log w next firm made before seat disk b start e last takes = by (nex
         let same : next ≡ e = (same_from_push (entries_of_seat seat log) start next e whole).1 in
         let is : next.step ≡ steps.Take disk b = ap (λ (x : Entry). x.step) same ∙ takes in
         subst (λ n. IsHeld v n b) (eqb-true next.seat seat own)
-        (held_by_take w v next.seat disk b next.outcome firm.sound.bio_numbers
+        (held_by_take w v next.seat disk b next.outcome firm.bios.numbers
         (subst (λ s. step w next.seat s ≡ Ok (v, next.outcome)) is (entry_made w next made)))
     by false other =
         held_after w v next.seat seat b

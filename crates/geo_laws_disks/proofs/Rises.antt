@@ -63,7 +63,7 @@ module _ (w : World) (seat : ℕ) (firm : Firm w) (x : Bio) (found : bio_at w x.
   done_origins : All (Origin w seat) done.bios
   done_origins =
       changed_origins w seat x.number (in_phase phases.Done) (keeps_phase phases.Done)
-      (free_at w seat x.number x firm.sound.bio_numbers found free) w.bios (all_stay w seat)
+      (free_at w seat x.number x firm.bios.numbers found free) w.bios (all_stay w seat)
 
   -- no other seat is at the parent
   parent_free : (y : Bio) → Contains w.bios y → y.number ≡ parent → IsFree seat y.phase
@@ -73,7 +73,7 @@ module _ (w : World) (seat : ℕ) (firm : Firm w) (x : Bio) (found : bio_at w x.
           → (y : Bio) → Contains w.bios y → y.number ≡ parent → IsFree seat y.phase
       by None at waits = absurd waits
       by (Some q) at waits =
-          free_at w seat parent q firm.sound.bio_numbers at
+          free_at w seat parent q firm.bios.numbers at
           (not_busy seat q.phase (quiet_phase is_waiting (λ s. refl) q.phase waits))
 
   -- the parent goes up, and its children go
@@ -143,7 +143,7 @@ ups_origins w v seat b o firm made = by x.owner refl it.made
 
     family : IsFamilyInOrder w.topology w.bios x
     family =
-        All-contains (IsFamilyInOrder w.topology w.bios) w.bios x firm.sound.families
+        All-contains (IsFamilyInOrder w.topology w.bios) w.bios x firm.bios.families
         (find-Contains (λ (y : Bio). y.number == x.number) w.bios x at_it)
 
     -- a child

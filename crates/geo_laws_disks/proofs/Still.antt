@@ -191,7 +191,7 @@ module _ (w : World) (seat other b : ℕ) (x : Bio) (apart : other ≢ seat) (fo
 
       family : IsFamilyInOrder w.topology w.bios y
       family =
-          All-contains (IsFamilyInOrder w.topology w.bios) w.bios y firm.sound.families
+          All-contains (IsFamilyInOrder w.topology w.bios) w.bios y firm.bios.families
           (find-Contains (λ (z : Bio). z.number == c) w.bios y it.found)
 
       goes : v.bios ≡ filter (λ (z : Bio). not (z.number == y.number)) w.bios → bio_at v b ≡ Some x

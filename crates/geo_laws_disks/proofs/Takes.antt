@@ -118,7 +118,7 @@ takes_are_servable w v seat disk b q header firm made here lies = record {
 
     order : IsBioInOrder (granted_in w) w.topology x
     order =
-        All-contains (IsBioInOrder (granted_in w) w.topology) w.bios x firm.sound.bios
+        All-contains (IsBioInOrder (granted_in w) w.topology) w.bios x firm.bios.order
         (find-Contains (λ (y : Bio). y.number == b) w.bios x it.found)
 
     d : AtDisk w.topology x.target disk
@@ -139,7 +139,7 @@ takes_are_servable w v seat disk b q header firm made here lies = record {
     are_sizes : AreSizes header
     are_sizes =
         let of_geom : HasDiskSizes w.topology w.disks d.geom =
-        All-contains (HasDiskSizes w.topology w.disks) w.topology.geoms d.geom firm.sound.numbers.disk_sizes
+        All-contains (HasDiskSizes w.topology w.disks) w.topology.geoms d.geom firm.graph.numbers.disk_sizes
         (find-Contains (λ (g : Geom Config). g.number == d.provider.geom) w.topology.geoms d.geom d.of) in
         let of_disk : IsSomeAnd (slice_get w.disks disk) AreSizes =
         subst (λ c. IfSome (disk_of c) (λ n. IsSomeAnd (slice_get w.disks n) AreSizes)) d.config of_geom in
@@ -163,7 +163,7 @@ takes_are_servable w v seat disk b q header firm made here lies = record {
     some : 0 < header.sector
     some = subst (λ z. 0 < z) same_sector
         (sector_bytes d.provider.sector
-        (All-contains (λ (p : Provider). IsSectorSize p.sector) w.topology.providers d.provider firm.fitting.sectors
+        (All-contains (λ (p : Provider). IsSectorSize p.sector) w.topology.providers d.provider firm.sizes.sectors
         p_here))
 
     count : q.count ≡ x.len / header.sector

@@ -42,7 +42,7 @@ module _ (w : World) (firm : Firm w) where
   -- it has such a one
   pub has_dev : (h : Handle) (n : ℕ) → Contains w.handles h → h.consumer ≡ Some n → HasDev h n
   has_dev h n here names =
-      let its : HasItsConsumer t h = All-contains (HasItsConsumer t) w.handles h firm.sound.handles.handles here in
+      let its : HasItsConsumer t h = All-contains (HasItsConsumer t) w.handles h firm.handles.handles here in
       let c = found-with (consumer_at t n) (λ x. x.geom ≡ 1)
       (subst (λ o. MatchOption o (h.dead ≡ true) (λ m. IsSomeAnd (consumer_at t m) (λ x. x.geom ≡ 1))) names its) in
       let number : c.item.number ≡ n = number_found (λ (x : Consumer). x.number) t.consumers n c.item c.is in
@@ -62,7 +62,7 @@ module _ (w : World) (firm : Firm w) where
       let of : Contains (consumers_of t 1) c.consumer =
       Contains-filter (λ (y : Consumer). y.geom == 1) t.consumers c.consumer c.here (eq-eqb c.consumer.geom 1 c.dev)
       in
-      let one = (All-contains (IsHandleConsumer w.handles) (consumers_of t 1) c.consumer firm.sound.handles.consumers
+      let one = (All-contains (IsHandleConsumer w.handles) (consumers_of t 1) c.consumer firm.handles.consumers
       of).one_handle in
       let short : length (filter (λ (y : Handle). names_number y.consumer n) w.handles) ≤ 1 =
       (let count : count_by (λ (y : Handle). names_number y.consumer n) w.handles ≡ 1 =
@@ -86,13 +86,13 @@ module _ (w : World) (firm : Firm w) where
 
     -- it is found
     found_it : find is_it w.handles ≡ Some h
-    found_it = found_itself (λ (x : Handle). x.number) w.next_handle w.handles h firm.sound.handles.numbers here
+    found_it = found_itself (λ (x : Handle). x.number) w.next_handle w.handles h firm.handles.numbers here
 
     -- what it doesn't pass is spared
     spared : (test : Handle → Bool) → test h ≡ false → AllByRecursion (IsSpared is_it test) w.handles
     spared test out = all_weaker (λ (y : Handle). is_it y ≡ true → y ≡ h) (IsSpared is_it test)
         (λ y same e. ap test (same e) ∙ out) w.handles
-        (unique (λ (x : Handle). x.number) w.next_handle h.number w.handles h firm.sound.handles.numbers found_it)
+        (unique (λ (x : Handle). x.number) w.next_handle h.number w.handles h firm.handles.numbers found_it)
 
     -- as many pass
     count_spared : (test : Handle → Bool) → test h ≡ false → count_by test others ≡ count_by test w.handles
@@ -103,7 +103,7 @@ module _ (w : World) (firm : Firm w) where
     -- the numbers of the others
     others_numbers : AreNumbers (map (λ (x : Handle). x.number) others) w.next_handle
     others_numbers = numbers-kept (λ (x : Handle). x.number) (λ x. not (is_it x)) w.next_handle w.handles
-        firm.sound.handles.numbers
+        firm.handles.numbers
 
     -- the handle of a line is another one, where its consumer is another one
     line_spared : (handle source : ℕ) → (h.consumer ≡ Some source → ⊥)
@@ -134,7 +134,7 @@ module _ (w : World) (firm : Firm w) where
       found = λ d. find-spared is_it (λ (x : Handle). names_number x.consumer d) w.handles
           (spared (λ (x : Handle). names_number x.consumer d) (rw none refl));
       count = λ d. count_spared (λ (x : Handle). names_number x.consumer d) (rw none refl);
-      each = All-filter (λ x. not (is_it x)) (HasItsConsumer t) w.handles firm.sound.handles.handles;
+      each = All-filter (λ x. not (is_it x)) (HasItsConsumer t) w.handles firm.handles.handles;
       of_line = λ handle source fact. line_spared handle source
           (λ some. let no : None ≡ Some source = sym none ∙ some in
           cc) fact;
@@ -150,7 +150,7 @@ module _ (w : World) (firm : Firm w) where
       -- each other handle has its consumer
       has_its : (x : Handle) → Contains others x → HasItsConsumer (remove_consumer t d.number) x
       has_its x x_here =
-          by x.consumer refl (All-contains (HasItsConsumer t) w.handles x firm.sound.handles.handles kept.0)
+          by x.consumer refl (All-contains (HasItsConsumer t) w.handles x firm.handles.handles kept.0)
         where
           -- it stays
           kept : Contains w.handles x × (not (is_it x) ≡ true)

@@ -47,7 +47,7 @@ module _ (w : World) (firm : Firm w) (line actor : ℕ) where
   accepted-firm c h a is form =
       subst (λ (made : World × Outcome). Firm made.0) (request_is w line h a is.passes)
       (requests_stay_firm.handle w line h a (handle_stands is.name h is.found)
-      (is.formed.bytes form firm.fitting.sectors) firm)
+      (is.formed.bytes form firm.sizes.sectors) firm)
 
   -- each command of a handle
   done-firm : (c : Command) → is_of_geoms c ≡ false → IsCommand c → Firm (do_command w line actor c).0

@@ -60,7 +60,7 @@ module _ (w : World) (firm : Firm w) where
 
   -- it stands in order
   order : IsInOrder t
-  order = sound-order w firm.sound.numbers
+  order = sound-order w firm.graph.numbers
 
   -- geom 1 is of DEV
   kind_of_dev : (g : Geom Config) → geom_at t 1 ≡ Some g → g.kind ≡ kinds.Dev
@@ -108,13 +108,13 @@ module _ (w : World) (firm : Firm w) where
   -- no provider is of DEV
   pub not_of_dev : (p : Provider) → Contains t.providers p → p.geom ≢ 1
   not_of_dev p here own =
-      nothing_in p (subst (λ ps. Contains ps p) firm.sound.ranks.dev.no_provider
+      nothing_in p (subst (λ ps. Contains ps p) firm.graph.ranks.dev.no_provider
       (Contains-filter (λ (x : Provider). x.geom == 1) t.providers p here (eq-eqb p.geom 1 own)))
 
   -- the consumer of a taste is of TASTE
   pub of_taste : (s : Taste) (c : Consumer) → w.taste ≡ Some s → consumer_at t s.consumer ≡ Some c → c.geom ≡ 2
   of_taste s c is found =
-      let tasting : IsTasting t s = rw is at firm.sound.handles.taste in
+      let tasting : IsTasting t s = rw is at firm.handles.taste in
       let here : Contains (consumers_of t 2) tasting.consumer =
       subst (λ cs. Contains cs tasting.consumer) (sym tasting.alone) (Contains-here tasting.consumer []) in
       let kept = filter-Contains (λ (x : Consumer). x.geom == 2) t.consumers tasting.consumer here in

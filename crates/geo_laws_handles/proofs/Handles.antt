@@ -13,9 +13,7 @@ use Rattle.geo_model.specs.Graph.{AreNumbers}
 use Rattle.geo_model.specs.Sound.{IsHandleConsumer, HasItsConsumer}
 use Rattle.geo_model.specs.SoundBios.{IsBioInOrder}
 use Rattle.geo_model.specs.Steady.{ComesFromItsOwner}
-use Rattle.geo_model.specs.Fitting.{Firm}
-use Rattle.geo_laws_bios.specs.BioFrames.{BiosHold, GraphHolds, RestHolds}
-use Rattle.geo_laws_bios.proofs.Apart.{bios_of, rest_of, firm_of}
+use Rattle.geo_model.specs.Fitting.{DemandHolds, Firm}
 use Rattle.geo_laws_life.proofs.Killed.{grants-same}
 
 -- the handles of a world in which none holds another consumer than before: each consumer has the handles that it
@@ -55,44 +53,30 @@ module _ (w : World) (firm : Firm w) (hs : List Handle) (steady : AreSteady w hs
   comes x owners.Taste fact = fact
   comes x (owners.Child parent index) fact = fact
 
-  -- the bios before
-  hold : BiosHold w
-  hold = bios_of w firm
-
-  -- and the rest
-  rest : RestHolds w
-  rest = rest_of w firm
-
-  -- the bios then
-  bios_then : BiosHold v
-  bios_then = record {
-    numbers = hold.numbers;
-    order = subst (λ (G : ℕ → Counts). All (IsBioInOrder G w.topology) w.bios) (sym grants) hold.order;
-    families = hold.families;
-    disks = hold.disks;
-    read_out = hold.read_out;
-    owners = All-weaker (λ x. ComesFromItsOwner w.handles w.taste x x.owner)
-        (λ x. ComesFromItsOwner hs w.taste x x.owner) (λ x. comes x x.owner) w.bios hold.owners;
-    results = hold.results;
-    read = hold.read;
-  }
-
-  -- and the rest then: the graph by the same grants
-  rest_then : RestHolds v
-  rest_then = record {
-    graph = subst (λ (G : ℕ → Counts). GraphHolds G w.topology w.disks) (sym grants) rest.graph;
+  -- so the world is firm: the graph, by the same grants
+  pub handles-firm : Firm v
+  handles-firm = record {
+    graph = firm.graph;
+    demand = subst (λ (G : ℕ → Counts). DemandHolds G w.topology) (sym grants) firm.demand;
+    sizes = firm.sizes;
     handles = record {
       numbers = steady.numbers;
       consumers = All-weaker (IsHandleConsumer w.handles) (IsHandleConsumer hs) consumer_of_handle
-          (consumers_of w.topology 1) rest.handles.consumers;
+          (consumers_of w.topology 1) firm.handles.consumers;
       handles = steady.each;
-      taste = rest.handles.taste;
+      taste = firm.handles.taste;
     };
-    sizes = rest.sizes;
-    tasting = rest.tasting;
-    commands = rest.commands;
+    taste = firm.taste;
+    bios = record {
+      numbers = firm.bios.numbers;
+      order = subst (λ (G : ℕ → Counts). All (IsBioInOrder G w.topology) w.bios) (sym grants) firm.bios.order;
+      families = firm.bios.families;
+      disks = firm.bios.disks;
+      read_out = firm.bios.read_out;
+      owners = All-weaker (λ x. ComesFromItsOwner w.handles w.taste x x.owner)
+          (λ x. ComesFromItsOwner hs w.taste x x.owner) (λ x. comes x x.owner) w.bios firm.bios.owners;
+      results = firm.bios.results;
+      read = firm.bios.read;
+    };
+    commands = firm.commands;
   }
-
-  -- so the world is firm
-  pub handles-firm : Firm v
-  handles-firm = firm_of v bios_then rest_then

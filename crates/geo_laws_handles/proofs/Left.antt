@@ -17,7 +17,7 @@ left_are : (w : World) (actor : ℕ) (cs : List LineCommand) → slice_get w.act
     → All (λ c. IsCommand c.command) cs
 left_are w actor cs found firm =
     subst (All (λ (c : LineCommand). IsCommand c.command)) (get_or_from_slice_get w.actors actor cs [] found)
-    (firm.fitting.commands actor [] (slice_get_within w.actors actor cs found))
+    (firm.commands actor [] (slice_get_within w.actors actor cs found))
 
 -- the next one is a command
 next_is : (w : World) (actor : ℕ) (c : LineCommand) (rest : List LineCommand)
@@ -33,7 +33,7 @@ taken w actor c rest found firm =
     commands_are_apart w (with_commands w actor rest).actors
     (All-set (All (λ (x : LineCommand). IsCommand x.command)) w.actors actor rest
     (All-tail (λ (x : LineCommand). IsCommand x.command) c rest (left_are w actor (c ∷ rest) found firm))
-    firm.fitting.commands) firm
+    firm.commands) firm
 
 -- commands that are taken keep a firm world firm
 pub commands_left_stay_firm : CommandsLeftStayFirm

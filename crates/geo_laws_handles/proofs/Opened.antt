@@ -83,11 +83,11 @@ module _ (w : World) (firm : Firm w) (actor : ℕ) (name : List ℕ) (p : ℕ) (
 
   -- the graph stands in order
   order : IsInOrder t
-  order = sound-order w firm.sound.numbers
+  order = sound-order w firm.graph.numbers
 
   -- what its parts name lives
   live : PartsLive t
-  live = steady-parts t firm.steady.parts firm.steady.attached
+  live = steady-parts t firm.graph.parts firm.graph.attached
 
   -- no consumer has the new number
   fresh : consumer_at t t.next_consumer ≡ None
@@ -106,7 +106,7 @@ module _ (w : World) (firm : Firm w) (actor : ℕ) (name : List ℕ) (p : ℕ) (
       let names : h.consumer ≡ Some t.next_consumer =
       names_some h.consumer t.next_consumer (find_passes (λ (h : Handle). names_number h.consumer t.next_consumer)
       w.handles h e) in
-      let its : HasItsConsumer t h = All-contains (HasItsConsumer t) w.handles h firm.sound.handles.handles
+      let its : HasItsConsumer t h = All-contains (HasItsConsumer t) w.handles h firm.handles.handles
       (find-Contains (λ (h : Handle). names_number h.consumer t.next_consumer) w.handles h e) in
       let d = found-with (consumer_at t t.next_consumer) (λ z. z.geom ≡ 1)
       (subst (λ o. MatchOption o (h.dead ≡ true) (λ c. IsSomeAnd (consumer_at t c) (λ z. z.geom ≡ 1))) names its) in
@@ -140,12 +140,12 @@ module _ (w : World) (firm : Firm w) (actor : ℕ) (name : List ℕ) (p : ℕ) (
     -- only what is below the provider changes
     around : StaysAround (granted_in w) t (granted_in v) u (below t p)
     around = came_stays (granted_in w) (granted_in v) t 1 p free (holds_grants w firm 1 (inl refl)) agree
-        (sound-ranks.opened t 1 p x (inl refl) firm.sound.ranks live.geoms found).ranked
-        (numbers_lead t order.providers.0) firm.sound.ranks.dev.no_provider
+        (sound-ranks.opened t 1 p x (inl refl) firm.graph.ranks live.geoms found).ranked
+        (numbers_lead t order.providers.0) firm.graph.ranks.dev.no_provider
 
     -- no error is below it
     no_error : has_error_below t p ≡ false
-    no_error = sym (errors_came t 1 p firm.sound.ranks.dev.no_provider p) ∙ allowed.errors
+    no_error = sym (errors_came t 1 p firm.graph.ranks.dev.no_provider p) ∙ allowed.errors
 
     -- a provider with an error isn't below
     not_below : (q : Provider) → Contains t.providers q → q.errored ≡ true → Contains (below t p) q.number → ⊥
@@ -168,7 +168,7 @@ module _ (w : World) (firm : Firm w) (actor : ℕ) (name : List ℕ) (p : ℕ) (
         (rw (eq-eqb g.number q.geom number, withers) refl) in
         around.haves q.number (not_below q here
         (All-contains (λ (y : Provider). IsTrue (is_withering t y.geom) → y.errored ≡ true) t.providers q
-        firm.sound.providers.withering here is))
+        firm.graph.providers.withering here is))
 
     -- What is found
 
@@ -373,8 +373,8 @@ module _ (w : World) (firm : Firm w) (actor : ℕ) (name : List ℕ) (p : ℕ) (
         record {
           rank = some-with (geom_of_provider t s.provider) (λ g. rank u g.number < UNTASTED_RANK) g.item g.is
               (let same : rank u g.item.number ≡ rank t g.item.number =
-              (open-rises t 1 p x firm.sound.ranks.ranked live.geoms (dev_there w firm)
-              firm.sound.ranks.dev.no_provider found).0.same g.item.number
+              (open-rises t 1 p x firm.graph.ranks.ranked live.geoms (dev_there w firm)
+              firm.graph.ranks.dev.no_provider found).0.same g.item.number
               (offers g.item (provider_at t s.provider) refl g.is)
               in let below = g.fact in omega arith);
           reads = fact.reads;
@@ -444,76 +444,78 @@ module _ (w : World) (firm : Firm w) (actor : ℕ) (name : List ℕ) (p : ℕ) (
     -- so the world is firm
     pub opened-firm : Firm v
     opened-firm = record {
-      sound = record {
-        ranks = sound-ranks.opened t 1 p x (inl refl) firm.sound.ranks live.geoms found;
-        counts = record { exclusive = allowed.exclusive; limited = allowed.limit };
+      graph = record {
+        ranks = sound-ranks.opened t 1 p x (inl refl) firm.graph.ranks live.geoms found;
         providers = record {
-          names = firm.sound.providers.names;
-          withering = firm.sound.providers.withering;
-          sizes = firm.sound.providers.sizes;
+          names = firm.graph.providers.names;
+          withering = firm.graph.providers.withering;
+          sizes = firm.graph.providers.sizes;
         };
         numbers = record {
-          geoms = firm.sound.numbers.geoms;
-          providers = firm.sound.numbers.providers;
+          geoms = firm.graph.numbers.geoms;
+          providers = firm.graph.numbers.providers;
           consumers = (added-consumer.order t 1 (Some p) order).consumers;
-          classes = firm.sound.numbers.classes;
-          one_geom_of_disk = firm.sound.numbers.one_geom_of_disk;
-          disk_sizes = firm.sound.numbers.disk_sizes;
+          classes = firm.graph.numbers.classes;
+          one_geom_of_disk = firm.graph.numbers.one_geom_of_disk;
+          disk_sizes = firm.graph.numbers.disk_sizes;
         };
-        handles = record {
-          numbers = numbers-push (λ (h : Handle). h.number) w.next_handle w.handles handle refl
-              firm.sound.handles.numbers;
-          consumers = subst (All (IsHandleConsumer v.handles)) (sym (added-consumer.own t 1 (Some p)))
-              (All-push (IsHandleConsumer v.handles) (consumers_of t 1) new
-              (all_members (IsHandleConsumer w.handles) (IsHandleConsumer v.handles) (consumers_of t 1) one_each
-              firm.sound.handles.consumers)
-              (record { attached = refl; one_handle = new_count }));
-          handles = All-push (HasItsConsumer u) w.handles handle
-              (All-weaker (HasItsConsumer t) (HasItsConsumer u) its_consumer w.handles firm.sound.handles.handles)
-              (some-with (consumer_at u t.next_consumer)
-              (λ z. z.geom ≡ 1) new (added-consumer.new t 1 (Some p) order)
-              refl);
-          taste = tasting_stays t u same_taste w.taste firm.sound.handles.taste;
-        };
-        places = all_members (LeadsDown (granted_in w) t) (LeadsDown (granted_in v) u) t.providers leads
-            firm.sound.places;
-        bio_numbers = firm.sound.bio_numbers;
-        bios = All-weaker (IsBioInOrder (granted_in w) t) (IsBioInOrder (granted_in v) u) bio w.bios firm.sound.bios;
-        families = All-weaker (IsFamilyInOrder t w.bios) (IsFamilyInOrder u w.bios) family w.bios firm.sound.families;
-        disks = record { at_disk = firm.sound.disks.at_disk; one_busy = firm.sound.disks.one_busy };
-        events = record {
-          living = firm.sound.events.living;
-          read_out = firm.sound.events.read_out;
-          taste = tastes w.taste firm.sound.events.taste;
-        };
-      };
-      steady = record {
-        made = firm.steady.made;
+        made = firm.graph.made;
         parts = record {
-          providers = firm.steady.parts.providers;
-          consumers = add_consumer-geoms t 1 (Some p) (dev_there w firm) firm.steady.parts.consumers;
+          providers = firm.graph.parts.providers;
+          consumers = add_consumer-geoms t 1 (Some p) (dev_there w firm) firm.graph.parts.consumers;
         };
         attached = All-push (λ (c : Consumer). IsSome (option_and_then (provider_at t) c.provider)) t.consumers new
-            firm.steady.attached (some-there (provider_at t p) x found);
-        components = all_members (HasItsComponents (granted_in w) t) (HasItsComponents (granted_in v) u) t.geoms
-            has_components firm.steady.components;
-        partial = firm.steady.partial;
-        owners = All-weaker (λ b. ComesFromItsOwner w.handles w.taste b b.owner)
-            (λ b. ComesFromItsOwner v.handles w.taste b b.owner) (λ b. comes b b.owner) w.bios firm.steady.owners;
-        results = firm.steady.results;
+            firm.graph.attached (some-there (provider_at t p) x found);
+        partial = firm.graph.partial;
         unmarked = subst (All (λ (c : Consumer). c.spoiled ≡ false)) (sym (added-consumer.own t 1 (Some p)))
-            (All-push (λ (c : Consumer). c.spoiled ≡ false) (consumers_of t 1) new firm.steady.unmarked refl);
+            (All-push (λ (c : Consumer). c.spoiled ≡ false) (consumers_of t 1) new firm.graph.unmarked refl);
       };
-      fitting = record {
-        disks = firm.fitting.disks;
-        sectors = firm.fitting.sectors;
-        wholes = All-push (FitsBelow u) t.consumers new firm.fitting.wholes new_fits;
-        places = all_members (FitsPlaces t) (FitsPlaces u) t.geoms fits_places firm.fitting.places;
-        one = firm.fitting.one;
-        apart = firm.fitting.apart;
-        sums = firm.fitting.sums;
-        asked = firm.fitting.asked;
-        read = record { one = firm.fitting.read.one; sector = firm.fitting.read.sector };
-        commands = firm.fitting.commands;
+      demand = record {
+        counts = record { exclusive = allowed.exclusive; limited = allowed.limit };
+        places = all_members (LeadsDown (granted_in w) t) (LeadsDown (granted_in v) u) t.providers leads
+            firm.demand.places;
+        components = all_members (HasItsComponents (granted_in w) t) (HasItsComponents (granted_in v) u) t.geoms
+            has_components firm.demand.components;
       };
+      sizes = record {
+        disks = firm.sizes.disks;
+        sectors = firm.sizes.sectors;
+        wholes = All-push (FitsBelow u) t.consumers new firm.sizes.wholes new_fits;
+        places = all_members (FitsPlaces t) (FitsPlaces u) t.geoms fits_places firm.sizes.places;
+        one = firm.sizes.one;
+        apart = firm.sizes.apart;
+        sums = firm.sizes.sums;
+      };
+      handles = record {
+        numbers = numbers-push (λ (h : Handle). h.number) w.next_handle w.handles handle refl
+            firm.handles.numbers;
+        consumers = subst (All (IsHandleConsumer v.handles)) (sym (added-consumer.own t 1 (Some p)))
+            (All-push (IsHandleConsumer v.handles) (consumers_of t 1) new
+            (all_members (IsHandleConsumer w.handles) (IsHandleConsumer v.handles) (consumers_of t 1) one_each
+            firm.handles.consumers)
+            (record { attached = refl; one_handle = new_count }));
+        handles = All-push (HasItsConsumer u) w.handles handle
+            (All-weaker (HasItsConsumer t) (HasItsConsumer u) its_consumer w.handles firm.handles.handles)
+            (some-with (consumer_at u t.next_consumer)
+            (λ z. z.geom ≡ 1) new (added-consumer.new t 1 (Some p) order)
+            refl);
+        taste = tasting_stays t u same_taste w.taste firm.handles.taste;
+      };
+      taste = record {
+        living = firm.taste.living;
+        order = tastes w.taste firm.taste.order;
+        asked = firm.taste.asked;
+      };
+      bios = record {
+        numbers = firm.bios.numbers;
+        order = All-weaker (IsBioInOrder (granted_in w) t) (IsBioInOrder (granted_in v) u) bio w.bios firm.bios.order;
+        families = All-weaker (IsFamilyInOrder t w.bios) (IsFamilyInOrder u w.bios) family w.bios firm.bios.families;
+        disks = record { at_disk = firm.bios.disks.at_disk; one_busy = firm.bios.disks.one_busy };
+        read_out = firm.bios.read_out;
+        owners = All-weaker (λ b. ComesFromItsOwner w.handles w.taste b b.owner)
+            (λ b. ComesFromItsOwner v.handles w.taste b b.owner) (λ b. comes b b.owner) w.bios firm.bios.owners;
+        results = firm.bios.results;
+        read = record { one = firm.bios.read.one; sector = firm.bios.read.sector };
+      };
+      commands = firm.commands;
     }

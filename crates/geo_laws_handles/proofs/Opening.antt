@@ -29,7 +29,7 @@ with_handle-firm : (w : World) (actor : ℕ) (name prov : List ℕ) (p : ℕ) (g
     → Firm (with_handle w actor name p grant)
 with_handle-firm w actor name prov p grant named passes firm =
     let x = found-with (provider_at w.topology p) (λ x. same_name x.name prov ≡ true)
-    (found_lives.named w.topology prov p (sound-order w firm.sound.numbers) named) in
+    (found_lives.named w.topology prov p (sound-order w firm.graph.numbers) named) in
     let after = granted_in (with_handle w actor name p grant) in
     let allowed = opened_allowed (granted_in w) w.topology (granted_in (with_handle w actor name p grant)) prov
     (agree w firm actor name p grant)
@@ -48,7 +48,7 @@ all_live w firm actor name p grant =
     all_of (λ (x : Provider). Lives w x.number) w.topology.providers (λ x here.
     some-there (provider_at w.topology x.number) x
     (found_itself (λ (y : Provider). y.number) w.topology.next_provider w.topology.providers x
-    (sound-order w firm.sound.numbers).providers here))
+    (sound-order w firm.graph.numbers).providers here))
 
 -- a new handle, and what follows
 pub opened_on-firm : (w : World) (actor : ℕ) (name prov : List ℕ) (p : ℕ) (grant : Counts)

@@ -72,7 +72,7 @@ module _ (w : World) (firm : Firm w) (h : Handle) (here : Contains w.handles h) 
       let is_dead : x.dead ≡ true = ap (λ (y : Handle). y.dead) one ∙ dead in
       rw e is_dead
   has_its x x_here false e =
-      rw e (by x.consumer refl (All-contains (HasItsConsumer t) w.handles x firm.sound.handles.handles x_here))
+      rw e (by x.consumer refl (All-contains (HasItsConsumer t) w.handles x firm.handles.handles x_here))
     where
       -- by the consumer
       by : (o : Option ℕ) → x.consumer ≡ o
@@ -107,7 +107,7 @@ module _ (w : World) (firm : Firm w) (h : Handle) (here : Contains w.handles h) 
   pub after_released : AreReleased w d.number after
   after_released = record {
     numbers = numbers-changed (λ (x : Handle). x.number) hit change (λ x e. refl) w.next_handle w.handles
-        firm.sound.handles.numbers;
+        firm.handles.numbers;
     found = λ n apart. find-untouched hit (λ (x : Handle). names_number x.consumer n) change w.handles
         (none_touched n apart);
     count = λ n apart.

@@ -69,11 +69,11 @@ module _ (w : World) (firm : Firm w) (d : Consumer) (here : Contains w.topology.
 
   -- the graph stands in order
   order : IsInOrder t
-  order = sound-order w firm.sound.numbers
+  order = sound-order w firm.graph.numbers
 
   -- what its parts name lives
   live : PartsLive t
-  live = steady-parts t firm.steady.parts firm.steady.attached
+  live = steady-parts t firm.graph.parts firm.graph.attached
 
   -- the consumer is found
   found_it : consumer_at t d.number ≡ Some d
@@ -275,7 +275,7 @@ module _ (w : World) (firm : Firm w) (d : Consumer) (here : Contains w.topology.
       let kept = filter-Contains (λ (x : Consumer). not (x.number == d.number)) (consumers_of t 1) c
       (subst (λ cs. Contains cs c) (removed-consumer.of t d.number 1) c_here) in
       let old : IsHandleConsumer w.handles c =
-      All-contains (IsHandleConsumer w.handles) (consumers_of t 1) c firm.sound.handles.consumers kept.0 in
+      All-contains (IsHandleConsumer w.handles) (consumers_of t 1) c firm.handles.consumers kept.0 in
       record {
         attached = old.attached;
         one_handle = released.count c.number (passes_apart c.number d.number kept.1) ∙ old.one_handle;
@@ -285,8 +285,8 @@ module _ (w : World) (firm : Firm w) (d : Consumer) (here : Contains w.topology.
 
   -- no rank rises
   lower : (g : ℕ) → rank u g ≤ rank t g
-  lower = (fewer-edges t u firm.sound.ranks.ranked (remove_consumer-geoms t d.number live.geoms)
-      (remove_consumer-providers t d.number (ranked-live t firm.sound.ranks.ranked)) (removed-edges t d.number)).1
+  lower = (fewer-edges t u firm.graph.ranks.ranked (remove_consumer-geoms t d.number live.geoms)
+      (remove_consumer-providers t d.number (ranked-live t firm.graph.ranks.ranked)) (removed-edges t d.number)).1
 
   -- the taste is in order
   tastes : (o : Option Taste) → IfSome o (IsTasteInOrder t) → IfSome o (IsTasteInOrder u)
@@ -307,7 +307,7 @@ module _ (w : World) (firm : Firm w) (d : Consumer) (here : Contains w.topology.
     root_apart : (z : Bio) → Contains w.bios z → is_root z.owner ≡ true → z.source ≢ d.number
     root_apart z z_here root same =
         let family : IsFamilyInOrder t w.bios z =
-        All-contains (IsFamilyInOrder t w.bios) w.bios z firm.sound.families z_here in
+        All-contains (IsFamilyInOrder t w.bios) w.bios z firm.bios.families z_here in
         let out : is_done z.phase ≡ false = family.root root in
         let from : (z.source == d.number) ≡ true = eq-eqb z.source d.number same in
         let acts : ((z.source == d.number) && not (is_done z.phase)) ≡ true = rw (from, out) refl in
@@ -348,7 +348,7 @@ module _ (w : World) (firm : Firm w) (d : Consumer) (here : Contains w.topology.
         let h = found-with (find (λ (h : Handle). h.number == handle) w.handles) (λ h. h.consumer ≡ Some z.source)
         comes in
         let its : HasItsConsumer t h.item =
-        All-contains (HasItsConsumer t) w.handles h.item firm.sound.handles.handles
+        All-contains (HasItsConsumer t) w.handles h.item firm.handles.handles
         (find-Contains (λ (h : Handle). h.number == handle) w.handles h.item h.is) in
         let at : IsSomeAnd (consumer_at t z.source) (λ x. x.geom ≡ 1) =
         subst (λ o. MatchOption o (h.item.dead ≡ true) (λ n. IsSomeAnd (consumer_at t n) (λ x. x.geom ≡ 1)))
@@ -363,13 +363,13 @@ module _ (w : World) (firm : Firm w) (d : Consumer) (here : Contains w.topology.
     root_serves : (z : Bio) → Contains w.bios z → is_root z.owner ≡ true → true ≡ true → SourceServes but_it t z
     root_serves z z_here root kept =
         let old : IsBioInOrder (granted_in w) t z =
-        All-contains (IsBioInOrder (granted_in w) t) w.bios z firm.sound.bios z_here in
+        All-contains (IsBioInOrder (granted_in w) t) w.bios z firm.bios.order z_here in
         let c = found-with (consumer_at t z.source)
         (λ c. (c.provider ≡ Some z.target) × HasCountFor (granted_in w) t z c) old.source in
         let number : c.item.number ≡ z.source =
         number_found (λ (x : Consumer). x.number) t.consumers z.source c.item c.is in
         let comes = All-contains (λ (x : Bio). ComesFromItsOwner w.handles w.taste x x.owner) w.bios z
-        firm.steady.owners z_here in
+        firm.bios.owners z_here in
         some-with (consumer_at t z.source) (λ c. (c.provider ≡ Some z.target) × Serves but_it t z c) c.item c.is (
           c.fact.0,
           serves_so z c.item (holds_grants w firm c.item.geom (source_of z c.item c.is z.owner root comes))
@@ -439,77 +439,79 @@ module _ (w : World) (firm : Firm w) (d : Consumer) (here : Contains w.topology.
     -- so the world is firm
     pub without-firm : Firm without
     without-firm = record {
-      sound = record {
-        ranks = sound-ranks.consumer_removed t d.number firm.sound.ranks live.geoms;
-        counts = record {
-          exclusive = went_exclusive (granted_in w) (granted_in without) t d only holds agree
-              firm.sound.counts.exclusive;
-          limited = went_limit (granted_in w) (granted_in without) t d only holds agree firm.sound.counts.limited;
-        };
+      graph = record {
+        ranks = sound-ranks.consumer_removed t d.number firm.graph.ranks live.geoms;
         providers = record {
-          names = firm.sound.providers.names;
-          withering = firm.sound.providers.withering;
-          sizes = firm.sound.providers.sizes;
+          names = firm.graph.providers.names;
+          withering = firm.graph.providers.withering;
+          sizes = firm.graph.providers.sizes;
         };
         numbers = record {
-          geoms = firm.sound.numbers.geoms;
-          providers = firm.sound.numbers.providers;
+          geoms = firm.graph.numbers.geoms;
+          providers = firm.graph.numbers.providers;
           consumers = (removed-consumer.order t d.number order).consumers;
-          classes = firm.sound.numbers.classes;
-          one_geom_of_disk = firm.sound.numbers.one_geom_of_disk;
-          disk_sizes = firm.sound.numbers.disk_sizes;
+          classes = firm.graph.numbers.classes;
+          one_geom_of_disk = firm.graph.numbers.one_geom_of_disk;
+          disk_sizes = firm.graph.numbers.disk_sizes;
         };
-        handles = record {
-          numbers = released.numbers;
-          consumers = all_of (IsHandleConsumer hs) (consumers_of u 1) one_each;
-          handles = released.each;
-          taste = tasting_stays t u taste_stays w.taste firm.sound.handles.taste;
-        };
-        places = all_members (LeadsDown (granted_in w) t) (LeadsDown (granted_in without) u) t.providers leads
-            firm.sound.places;
-        bio_numbers = firm.sound.bio_numbers;
-        bios = all_members (IsBioInOrder (granted_in w) t) (IsBioInOrder (granted_in without) u) w.bios bio
-            firm.sound.bios;
-        families = All-weaker (IsFamilyInOrder t w.bios) (IsFamilyInOrder u w.bios) family_kept w.bios
-            firm.sound.families;
-        disks = record { at_disk = firm.sound.disks.at_disk; one_busy = firm.sound.disks.one_busy };
-        events = record {
-          living = firm.sound.events.living;
-          read_out = firm.sound.events.read_out;
-          taste = tastes w.taste firm.sound.events.taste;
-        };
-      };
-      steady = record {
-        made = firm.steady.made;
+        made = firm.graph.made;
         parts = record {
-          providers = firm.steady.parts.providers;
-          consumers = remove_consumer-geoms t d.number firm.steady.parts.consumers;
+          providers = firm.graph.parts.providers;
+          consumers = remove_consumer-geoms t d.number firm.graph.parts.consumers;
         };
         attached = All-filter (λ (x : Consumer). not (x.number == d.number))
             (λ (c : Consumer). IsSome (option_and_then (provider_at t) c.provider))
-            t.consumers firm.steady.attached;
-        components = all_members (HasItsComponents (granted_in w) t) (HasItsComponents (granted_in without) u)
-            t.geoms has_components firm.steady.components;
-        partial = firm.steady.partial;
-        owners = all_members (λ z. ComesFromItsOwner w.handles w.taste z z.owner)
-            (λ z. ComesFromItsOwner hs w.taste z z.owner) w.bios
-            (λ z z_here fact. comes_by z z_here z.owner refl fact) firm.steady.owners;
-        results = firm.steady.results;
+            t.consumers firm.graph.attached;
+        partial = firm.graph.partial;
         unmarked = subst (All (λ (c : Consumer). c.spoiled ≡ false)) (sym (removed-consumer.of t d.number 1))
             (All-filter (λ (x : Consumer). not (x.number == d.number)) (λ (c : Consumer). c.spoiled ≡ false)
-            (consumers_of t 1) firm.steady.unmarked);
+            (consumers_of t 1) firm.graph.unmarked);
       };
-      fitting = record {
-        disks = firm.fitting.disks;
-        sectors = firm.fitting.sectors;
+      demand = record {
+        counts = record {
+          exclusive = went_exclusive (granted_in w) (granted_in without) t d only holds agree
+              firm.demand.counts.exclusive;
+          limited = went_limit (granted_in w) (granted_in without) t d only holds agree firm.demand.counts.limited;
+        };
+        places = all_members (LeadsDown (granted_in w) t) (LeadsDown (granted_in without) u) t.providers leads
+            firm.demand.places;
+        components = all_members (HasItsComponents (granted_in w) t) (HasItsComponents (granted_in without) u)
+            t.geoms has_components firm.demand.components;
+      };
+      sizes = record {
+        disks = firm.sizes.disks;
+        sectors = firm.sizes.sectors;
         wholes = All-filter (λ (x : Consumer). not (x.number == d.number)) (FitsBelow t) t.consumers
-            firm.fitting.wholes;
-        places = All-weaker (FitsPlaces t) (FitsPlaces u) fits_places t.geoms firm.fitting.places;
-        one = firm.fitting.one;
-        apart = firm.fitting.apart;
-        sums = firm.fitting.sums;
-        asked = firm.fitting.asked;
-        read = record { one = firm.fitting.read.one; sector = firm.fitting.read.sector };
-        commands = firm.fitting.commands;
+            firm.sizes.wholes;
+        places = All-weaker (FitsPlaces t) (FitsPlaces u) fits_places t.geoms firm.sizes.places;
+        one = firm.sizes.one;
+        apart = firm.sizes.apart;
+        sums = firm.sizes.sums;
       };
+      handles = record {
+        numbers = released.numbers;
+        consumers = all_of (IsHandleConsumer hs) (consumers_of u 1) one_each;
+        handles = released.each;
+        taste = tasting_stays t u taste_stays w.taste firm.handles.taste;
+      };
+      taste = record {
+        living = firm.taste.living;
+        order = tastes w.taste firm.taste.order;
+        asked = firm.taste.asked;
+      };
+      bios = record {
+        numbers = firm.bios.numbers;
+        order = all_members (IsBioInOrder (granted_in w) t) (IsBioInOrder (granted_in without) u) w.bios bio
+            firm.bios.order;
+        families = All-weaker (IsFamilyInOrder t w.bios) (IsFamilyInOrder u w.bios) family_kept w.bios
+            firm.bios.families;
+        disks = record { at_disk = firm.bios.disks.at_disk; one_busy = firm.bios.disks.one_busy };
+        read_out = firm.bios.read_out;
+        owners = all_members (λ z. ComesFromItsOwner w.handles w.taste z z.owner)
+            (λ z. ComesFromItsOwner hs w.taste z z.owner) w.bios
+            (λ z z_here fact. comes_by z z_here z.owner refl fact) firm.bios.owners;
+        results = firm.bios.results;
+        read = record { one = firm.bios.read.one; sector = firm.bios.read.sector };
+      };
+      commands = firm.commands;
     }

@@ -139,7 +139,7 @@ module _ (w : World) (firm : Firm w) (line : ℕ) (h : Handle) (here : Contains 
     in_order =
         let found : consumer_at t d.number ≡ Some d =
         found_itself (λ (x : Consumer). x.number) t.next_consumer t.consumers d
-        (sound-order w firm.sound.numbers).consumers d_here in
+        (sound-order w firm.graph.numbers).consumers d_here in
         let there : provider_at t p.number ≡ Some p = subst (λ n. provider_at t n ≡ Some p) (sym number) stands in
         record {
           source = some-with (consumer_at t d.number)
@@ -155,7 +155,7 @@ module _ (w : World) (firm : Firm w) (line : ℕ) (h : Handle) (here : Contains 
     accepted =
         submitted-firm w (asked d.number p.number) h.number line firm refl refl refl in_order
         (some-with (find (λ (x : Handle). x.number == h.number) w.handles) (λ x. x.consumer ≡ Some d.number) h
-        (found_itself (λ (x : Handle). x.number) w.next_handle w.handles h firm.sound.handles.numbers here) names)
+        (found_itself (λ (x : Handle). x.number) w.next_handle w.handles h firm.handles.numbers here) names)
 
   -- the world of an accepted request
   abbrev made : Option ℕ → Option Provider → World
@@ -182,7 +182,7 @@ module _ (w : World) (firm : Firm w) (line : ℕ) (h : Handle) (here : Contains 
       let c = has_dev w firm h n here names in
       let found : consumer_at t c.consumer.number ≡ Some c.consumer =
       found_itself (λ (x : Consumer). x.number) t.next_consumer t.consumers c.consumer
-      (sound-order w firm.sound.numbers).consumers c.here in
+      (sound-order w firm.graph.numbers).consumers c.here in
       let below : option_and_then (provider_at t) c.consumer.provider ≡ Some p =
       sym (ap (λ o. option_and_then (provider_at t) (option_and_then (λ (x : Consumer). x.provider) o)) found)
       ∙ sym (ap (λ o. option_and_then (provider_at t) (option_and_then (provider_of_consumer t) o)) c.names)
@@ -238,7 +238,7 @@ recorded-firm : (w : World) (line actor : ℕ) (name : List ℕ) (sector_of : Pr
     → Firm w → Firm (write_record w line actor name sector_of).0
 recorded-firm w line actor name sector_of fills firm =
     named-firm w line actor name (record_request w (handle_of w actor name) sector_of)
-    (record_bytes w (handle_of w actor name) sector_of fills firm.fitting.sectors) firm
+    (record_bytes w (handle_of w actor name) sector_of fills firm.sizes.sectors) firm
 
 -- requests keep a firm mesh firm
 pub requests_stay_firm : RequestsStayFirm

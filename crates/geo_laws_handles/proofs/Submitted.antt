@@ -20,8 +20,8 @@ use Rattle.geo_model.specs.Fitting.{Firm}
 use Rattle.geo_laws_graph.proofs.Lists.{numbers-push}
 use Rattle.geo_laws_graph.proofs.Living.{found-before}
 use Rattle.geo_laws_graph.proofs.Numbered.{filter-pushed, any-pushed}
-use Rattle.geo_laws_bios.specs.BioFrames.{BiosHold, with_bios}
-use Rattle.geo_laws_bios.proofs.Apart.{bios_of, firm_with}
+use Rattle.geo_laws_bios.specs.BioFrames.{BiosOf, with_bios}
+use Rattle.geo_laws_bios.proofs.Apart.{bios_are_apart}
 
 module _ (w : World) (x : Bio) (handle line : ℕ) (firm : Firm w) (number : x.number ≡ w.next_bio)
     (down : x.phase ≡ phases.Down) (owner : x.owner ≡ owners.Line handle line)
@@ -32,8 +32,8 @@ module _ (w : World) (x : Bio) (handle line : ℕ) (firm : Firm w) (number : x.n
   v = with_bios w (w.bios ++ x ∷ []) (w.next_bio + 1)
 
   -- the bios before
-  hold : BiosHold w
-  hold = bios_of w firm
+  hold : BiosOf w
+  hold = firm.bios
 
   -- it is in no other phase
   not_in : (test : Phase → Bool) → test phases.Down ≡ false → test x.phase ≡ false
@@ -90,7 +90,7 @@ module _ (w : World) (x : Bio) (handle line : ℕ) (firm : Firm w) (number : x.n
       }
 
   -- the bios then
-  submitted_hold : BiosHold v
+  submitted_hold : BiosOf v
   submitted_hold = record {
     numbers = numbers-push (λ (z : Bio). z.number) w.next_bio w.bios x number hold.numbers;
     order = All-push (IsBioInOrder (granted_in w) w.topology) w.bios x hold.order in_order;
@@ -136,4 +136,4 @@ module _ (w : World) (x : Bio) (handle line : ℕ) (firm : Firm w) (number : x.n
 
   -- so the mesh is firm
   pub submitted-firm : Firm v
-  submitted-firm = firm_with w (w.bios ++ x ∷ []) (w.next_bio + 1) firm submitted_hold
+  submitted-firm = bios_are_apart w (w.bios ++ x ∷ []) (w.next_bio + 1) firm submitted_hold

@@ -82,7 +82,7 @@ IsOtherConsumer c = (c.geom ≢ 1) × (c.geom ≢ 2)
 no_taste : (w : World) → Firm w → w.taste ≡ None → (c : Consumer) → Contains w.topology.consumers c → c.geom ≢ 2
 no_taste w firm none c here own =
     let empty : consumers_of w.topology 2 ≡ [] =
-    subst (HasTasteConsumer w.topology) none firm.sound.handles.taste in
+    subst (HasTasteConsumer w.topology) none firm.handles.taste in
     nothing_in c (subst (λ cs. Contains cs c) empty
     (Contains-filter (λ (z : Consumer). z.geom == 2) w.topology.consumers c here (eq-eqb c.geom 2 own)))
 
@@ -116,7 +116,7 @@ spoil-firm w p none firm =
     of_dev : (c : Consumer) → Contains w.topology.consumers c → c.geom ≡ 1 → c.spoiled ≡ true → ⊥
     of_dev c here own marked =
         let clean : c.spoiled ≡ false =
-        All-contains (λ (z : Consumer). z.spoiled ≡ false) (consumers_of w.topology 1) c firm.steady.unmarked
+        All-contains (λ (z : Consumer). z.spoiled ≡ false) (consumers_of w.topology 1) c firm.graph.unmarked
         (Contains-filter (λ (z : Consumer). z.geom == 1) w.topology.consumers c here (eq-eqb c.geom 1 own)) in
         from_false_true (sym clean ∙ marked)
 

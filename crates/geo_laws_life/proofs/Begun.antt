@@ -120,11 +120,11 @@ module _ (w : World) (p : ℕ) (firm : Firm w) (none : w.taste ≡ None) (x : Pr
 
   -- the graph stands in order
   order : IsInOrder t
-  order = sound-order w firm.sound.numbers
+  order = sound-order w firm.graph.numbers
 
   -- what its parts name lives
   live : PartsLive t
-  live = steady-parts t firm.steady.parts firm.steady.attached
+  live = steady-parts t firm.graph.parts firm.graph.attached
 
   -- TASTE stands
   taste_geom : Has (geom_at t 2)
@@ -149,7 +149,7 @@ module _ (w : World) (p : ℕ) (firm : Firm w) (none : w.taste ≡ None) (x : Pr
       let names : h.consumer ≡ Some t.next_consumer =
       names_some h.consumer t.next_consumer (find_passes (λ (h : Handle). names_number h.consumer t.next_consumer)
       w.handles h e) in
-      let its : HasItsConsumer t h = All-contains (HasItsConsumer t) w.handles h firm.sound.handles.handles
+      let its : HasItsConsumer t h = All-contains (HasItsConsumer t) w.handles h firm.handles.handles
       (find-Contains (λ (h : Handle). names_number h.consumer t.next_consumer) w.handles h e) in
       let d = found-with (consumer_at t t.next_consumer) (λ z. z.geom ≡ 1)
       (subst (λ o. MatchOption o (h.dead ≡ true) (λ c. IsSomeAnd (consumer_at t c) (λ z. z.geom ≡ 1))) names its) in
@@ -180,7 +180,7 @@ module _ (w : World) (p : ℕ) (firm : Firm w) (none : w.taste ≡ None) (x : Pr
 
   -- no consumer is of TASTE yet
   empty : consumers_of t 2 ≡ []
-  empty = subst (HasTasteConsumer t) none firm.sound.handles.taste
+  empty = subst (HasTasteConsumer t) none firm.handles.taste
 
   -- the consumers of DEV are the same
   same_dev : consumers_of u 1 ≡ consumers_of t 1
@@ -262,11 +262,11 @@ module _ (w : World) (p : ℕ) (firm : Firm w) (none : w.taste ≡ None) (x : Pr
   in_order = record {
     rank = some-with (geom_of_provider t p) (λ h. rank u h.number < UNTASTED_RANK) g
         (ap (option_and_then (λ (z : Provider). geom_at t z.geom)) found ∙ of)
-        (let same : rank u g.number ≡ rank t g.number = (open-rises t 2 p x firm.sound.ranks.ranked live.geoms
-        (some-there (geom_at t 2) taste_geom.item taste_geom.is) firm.sound.ranks.taste.no_provider found).0.same
+        (let same : rank u g.number ≡ rank t g.number = (open-rises t 2 p x firm.graph.ranks.ranked live.geoms
+        (some-there (geom_at t 2) taste_geom.item taste_geom.is) firm.graph.ranks.taste.no_provider found).0.same
         g.number
-        (λ e. open-other t 2 p x firm.sound.ranks.ranked live.geoms
-        (some-there (geom_at t 2) taste_geom.item taste_geom.is) firm.sound.ranks.taste.no_provider found
+        (λ e. open-other t 2 p x firm.graph.ranks.ranked live.geoms
+        (some-there (geom_at t 2) taste_geom.item taste_geom.is) firm.graph.ranks.taste.no_provider found
         (sym (number_found (λ (z : Geom Config). z.number) t.geoms x.geom g of) ∙ e)) in
         omega arith);
     reads = refl;
@@ -349,83 +349,85 @@ module _ (w : World) (p : ℕ) (firm : Firm w) (none : w.taste ≡ None) (x : Pr
   -- so the world is firm
   pub begun-firm : Firm v
   begun-firm = record {
-    sound = record {
-      ranks = sound-ranks.opened t 2 p x (inr refl) firm.sound.ranks live.geoms found;
-      counts = subst (λ (G : ℕ → Counts). CountsHold G u) (sym grants) (record {
-        exclusive = demand.exclusive firm.sound.counts.exclusive;
-        limited = demand.limit firm.sound.counts.limited;
-      });
+    graph = record {
+      ranks = sound-ranks.opened t 2 p x (inr refl) firm.graph.ranks live.geoms found;
       providers = record {
-        names = firm.sound.providers.names;
-        withering = firm.sound.providers.withering;
-        sizes = firm.sound.providers.sizes;
+        names = firm.graph.providers.names;
+        withering = firm.graph.providers.withering;
+        sizes = firm.graph.providers.sizes;
       };
       numbers = record {
-        geoms = firm.sound.numbers.geoms;
-        providers = firm.sound.numbers.providers;
+        geoms = firm.graph.numbers.geoms;
+        providers = firm.graph.numbers.providers;
         consumers = (added-consumer.order t 2 (Some p) order).consumers;
-        classes = firm.sound.numbers.classes;
-        one_geom_of_disk = firm.sound.numbers.one_geom_of_disk;
-        disk_sizes = firm.sound.numbers.disk_sizes;
+        classes = firm.graph.numbers.classes;
+        one_geom_of_disk = firm.graph.numbers.one_geom_of_disk;
+        disk_sizes = firm.graph.numbers.disk_sizes;
       };
-      handles = record {
-        numbers = firm.sound.handles.numbers;
-        consumers = subst (All (IsHandleConsumer w.handles)) (sym same_dev) firm.sound.handles.consumers;
-        handles = All-weaker (HasItsConsumer t) (HasItsConsumer u) its_consumer w.handles firm.sound.handles.handles;
-        taste = record {
-          consumer = new;
-          alone = added-consumer.own t 2 (Some p) ∙ ap (λ cs. cs ++ new ∷ []) empty;
-          number = refl;
-          attached = refl;
-        };
-      };
-      places = subst (λ (G : ℕ → Counts). All (LeadsDown G u) t.providers) (sym grants)
-          (All-weaker (LeadsDown (granted_in w) t) (LeadsDown (granted_in w) u) leads t.providers firm.sound.places);
-      bio_numbers = firm.sound.bio_numbers;
-      bios = subst (λ (G : ℕ → Counts). All (IsBioInOrder G u) w.bios) (sym grants)
-          (All-weaker (IsBioInOrder (granted_in w) t) (IsBioInOrder (granted_in w) u) bio w.bios firm.sound.bios);
-      families = All-weaker (IsFamilyInOrder t w.bios) (IsFamilyInOrder u w.bios)
-          (λ b is. record { parent = is.parent; pieces = is.pieces; not_complete = is.not_complete; root = is.root })
-          w.bios firm.sound.families;
-      disks = record { at_disk = firm.sound.disks.at_disk; one_busy = firm.sound.disks.one_busy };
-      events = record {
-        living = firm.sound.events.living;
-        read_out = subst (λ (o : Option Taste). IsTrue (list_any (λ b. is_taste_root b.owner) w.bios)
-            ↔ IsTrue (option_map_or (λ z. is_read_out z.asked) o false)) none firm.sound.events.read_out;
-        taste = in_order;
-      };
-    };
-    steady = record {
-      made = firm.steady.made;
+      made = firm.graph.made;
       parts = record {
-        providers = firm.steady.parts.providers;
+        providers = firm.graph.parts.providers;
         consumers = add_consumer-geoms t 2 (Some p) (some-there (geom_at t 2) taste_geom.item taste_geom.is)
-            firm.steady.parts.consumers;
+            firm.graph.parts.consumers;
       };
       attached = All-push (λ (c : Consumer). IsSome (option_and_then (provider_at t) c.provider)) t.consumers new
-          firm.steady.attached (some-there (provider_at t p) x found);
+          firm.graph.attached (some-there (provider_at t p) x found);
+      partial = firm.graph.partial;
+      unmarked = subst (All (λ (c : Consumer). c.spoiled ≡ false)) (sym same_dev) firm.graph.unmarked;
+    };
+    demand = record {
+      counts = subst (λ (G : ℕ → Counts). CountsHold G u) (sym grants) (record {
+        exclusive = demand.exclusive firm.demand.counts.exclusive;
+        limited = demand.limit firm.demand.counts.limited;
+      });
+      places = subst (λ (G : ℕ → Counts). All (LeadsDown G u) t.providers) (sym grants)
+          (All-weaker (LeadsDown (granted_in w) t) (LeadsDown (granted_in w) u) leads t.providers firm.demand.places);
       components = subst (λ (G : ℕ → Counts). All (HasItsComponents G u) t.geoms) (sym grants)
           (All-weaker (HasItsComponents (granted_in w) t) (HasItsComponents (granted_in w) u) stands t.geoms
-          firm.steady.components);
-      partial = firm.steady.partial;
-      owners = All-weaker (λ b. ComesFromItsOwner w.handles w.taste b b.owner)
-          (λ b. ComesFromItsOwner w.handles (Some s) b b.owner) (λ b. comes b b.owner) w.bios firm.steady.owners;
-      results = firm.steady.results;
-      unmarked = subst (All (λ (c : Consumer). c.spoiled ≡ false)) (sym same_dev) firm.steady.unmarked;
+          firm.demand.components);
     };
-    fitting = record {
-      disks = firm.fitting.disks;
-      sectors = firm.fitting.sectors;
-      wholes = All-push (FitsBelow u) t.consumers new firm.fitting.wholes new_fits;
+    sizes = record {
+      disks = firm.sizes.disks;
+      sectors = firm.sizes.sectors;
+      wholes = All-push (FitsBelow u) t.consumers new firm.sizes.wholes new_fits;
       places = all_of (FitsPlaces u) t.geoms
-          (λ h here. fits_place h here (All-contains (FitsPlaces t) t.geoms h firm.fitting.places here));
-      one = firm.fitting.one;
-      apart = firm.fitting.apart;
-      sums = firm.fitting.sums;
-      asked = if-found (provider_at t p) (λ q. IsAskedInOrder u q NoClass) (λ q e. tt);
-      read = record { one = firm.fitting.read.one; sector = firm.fitting.read.sector };
-      commands = firm.fitting.commands;
+          (λ h here. fits_place h here (All-contains (FitsPlaces t) t.geoms h firm.sizes.places here));
+      one = firm.sizes.one;
+      apart = firm.sizes.apart;
+      sums = firm.sizes.sums;
     };
+    handles = record {
+      numbers = firm.handles.numbers;
+      consumers = subst (All (IsHandleConsumer w.handles)) (sym same_dev) firm.handles.consumers;
+      handles = All-weaker (HasItsConsumer t) (HasItsConsumer u) its_consumer w.handles firm.handles.handles;
+      taste = record {
+        consumer = new;
+        alone = added-consumer.own t 2 (Some p) ∙ ap (λ cs. cs ++ new ∷ []) empty;
+        number = refl;
+        attached = refl;
+      };
+    };
+    taste = record {
+      living = firm.taste.living;
+      order = in_order;
+      asked = if-found (provider_at t p) (λ q. IsAskedInOrder u q NoClass) (λ q e. tt);
+    };
+    bios = record {
+      numbers = firm.bios.numbers;
+      order = subst (λ (G : ℕ → Counts). All (IsBioInOrder G u) w.bios) (sym grants)
+          (All-weaker (IsBioInOrder (granted_in w) t) (IsBioInOrder (granted_in w) u) bio w.bios firm.bios.order);
+      families = All-weaker (IsFamilyInOrder t w.bios) (IsFamilyInOrder u w.bios)
+          (λ b is. record { parent = is.parent; pieces = is.pieces; not_complete = is.not_complete; root = is.root })
+          w.bios firm.bios.families;
+      disks = record { at_disk = firm.bios.disks.at_disk; one_busy = firm.bios.disks.one_busy };
+      read_out = subst (λ (o : Option Taste). IsTrue (list_any (λ b. is_taste_root b.owner) w.bios)
+          ↔ IsTrue (option_map_or (λ z. is_read_out z.asked) o false)) none firm.bios.read_out;
+      owners = All-weaker (λ b. ComesFromItsOwner w.handles w.taste b b.owner)
+          (λ b. ComesFromItsOwner w.handles (Some s) b b.owner) (λ b. comes b b.owner) w.bios firm.bios.owners;
+      results = firm.bios.results;
+      read = record { one = firm.bios.read.one; sector = firm.bios.read.sector };
+    };
+    commands = firm.commands;
   }
 
 -- a provider that is tasted now: it lives, and its geom has a rank below the limit

@@ -11,10 +11,10 @@ use Rattle.geo_model.specs.Words.{names_number, change_where}
 use Rattle.geo_model.specs.Topology.{Consumer, consumer_at, consumers_of}
 use Rattle.geo_model.specs.World.{World, Handle, Bio, granted_in, taste_grant}
 use Rattle.geo_model.specs.WorldEvents.{kill_handle}
-use Rattle.geo_model.specs.Sound.{CountsHold, IsHandleConsumer, HasItsConsumer, LeadsDown}
+use Rattle.geo_model.specs.Sound.{IsHandleConsumer, HasItsConsumer}
 use Rattle.geo_model.specs.SoundBios.{IsBioInOrder}
-use Rattle.geo_model.specs.Steady.{HasItsComponents, ComesFromItsOwner}
-use Rattle.geo_model.specs.Fitting.{Firm}
+use Rattle.geo_model.specs.Steady.{ComesFromItsOwner}
+use Rattle.geo_model.specs.Fitting.{DemandHolds, Firm}
 use Rattle.geo_laws_graph.proofs.Lists.{changed, changed-keeps, find-changed, filter-changed, all-changed, length-changed, numbers-changed}
 use Rattle.geo_laws_life.proofs.Found.{found-with, some-with}
 
@@ -87,54 +87,33 @@ module _ (w : World) (firm : Firm w) (c : ℕ) where
   -- so the world is firm
   pub killed-firm : Firm v
   killed-firm = record {
-    sound = record {
-      ranks = firm.sound.ranks;
-      counts = subst (λ (G : ℕ → Counts). CountsHold G w.topology) (sym grants) firm.sound.counts;
-      providers = firm.sound.providers;
-      numbers = firm.sound.numbers;
-      handles = record {
-        numbers = numbers-changed (λ (h : Handle). h.number) hit change (λ h e. refl) w.next_handle w.handles
-            firm.sound.handles.numbers;
-        consumers = All-weaker (IsHandleConsumer w.handles) (IsHandleConsumer v.handles) consumer_of_handle
-            (consumers_of w.topology 1) firm.sound.handles.consumers;
-        handles = All-from_recursion (HasItsConsumer w.topology) v.handles
-            (all-changed hit change (HasItsConsumer w.topology)
-            (λ h e fact. dead_too h.consumer h.dead (λ d. IsSomeAnd (consumer_at w.topology d) (λ x. x.geom ≡ 1))
-            fact) w.handles (recursion_from_All (HasItsConsumer w.topology) w.handles firm.sound.handles.handles));
-        taste = firm.sound.handles.taste;
-      };
-      places = subst (λ (G : ℕ → Counts). All (LeadsDown G w.topology) w.topology.providers) (sym grants)
-          firm.sound.places;
-      bio_numbers = firm.sound.bio_numbers;
-      bios = subst (λ (G : ℕ → Counts). All (IsBioInOrder G w.topology) w.bios) (sym grants) firm.sound.bios;
-      families = firm.sound.families;
-      disks = firm.sound.disks;
-      events = firm.sound.events;
+    graph = firm.graph;
+    demand = subst (λ (G : ℕ → Counts). DemandHolds G w.topology) (sym grants) firm.demand;
+    sizes = firm.sizes;
+    handles = record {
+      numbers = numbers-changed (λ (h : Handle). h.number) hit change (λ h e. refl) w.next_handle w.handles
+          firm.handles.numbers;
+      consumers = All-weaker (IsHandleConsumer w.handles) (IsHandleConsumer v.handles) consumer_of_handle
+          (consumers_of w.topology 1) firm.handles.consumers;
+      handles = All-from_recursion (HasItsConsumer w.topology) v.handles
+          (all-changed hit change (HasItsConsumer w.topology)
+          (λ h e fact. dead_too h.consumer h.dead (λ d. IsSomeAnd (consumer_at w.topology d) (λ x. x.geom ≡ 1))
+          fact) w.handles (recursion_from_All (HasItsConsumer w.topology) w.handles firm.handles.handles));
+      taste = firm.handles.taste;
     };
-    steady = record {
-      made = firm.steady.made;
-      parts = firm.steady.parts;
-      attached = firm.steady.attached;
-      components = subst (λ (G : ℕ → Counts). All (HasItsComponents G w.topology) w.topology.geoms) (sym grants)
-          firm.steady.components;
-      partial = firm.steady.partial;
+    taste = firm.taste;
+    bios = record {
+      numbers = firm.bios.numbers;
+      order = subst (λ (G : ℕ → Counts). All (IsBioInOrder G w.topology) w.bios) (sym grants) firm.bios.order;
+      families = firm.bios.families;
+      disks = firm.bios.disks;
+      read_out = firm.bios.read_out;
       owners = All-weaker (λ x. ComesFromItsOwner w.handles w.taste x x.owner)
-          (λ x. ComesFromItsOwner v.handles w.taste x x.owner) (λ x. comes x x.owner) w.bios firm.steady.owners;
-      results = firm.steady.results;
-      unmarked = firm.steady.unmarked;
+          (λ x. ComesFromItsOwner v.handles w.taste x x.owner) (λ x. comes x x.owner) w.bios firm.bios.owners;
+      results = firm.bios.results;
+      read = firm.bios.read;
     };
-    fitting = record {
-      disks = firm.fitting.disks;
-      sectors = firm.fitting.sectors;
-      wholes = firm.fitting.wholes;
-      places = firm.fitting.places;
-      one = firm.fitting.one;
-      apart = firm.fitting.apart;
-      sums = firm.fitting.sums;
-      asked = firm.fitting.asked;
-      read = firm.fitting.read;
-      commands = firm.fitting.commands;
-    };
+    commands = firm.commands;
   }
 
 -- so where some die

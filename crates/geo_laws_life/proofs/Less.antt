@@ -81,21 +81,21 @@ found-there u n x e = subst (λ z. IsSome z) (sym e) refl
 pub less-self : (w : World) → Firm w → IsLess w w.topology
 less-self w firm = record {
   order = order;
-  ranks = firm.sound.ranks;
+  ranks = firm.graph.ranks;
   lower = λ g. omega arith;
   demand = record { haves = λ p. refl; wants = λ c any. refl; exclusive = λ so. so; limit = λ so. so };
-  live = steady-parts w.topology firm.steady.parts firm.steady.attached;
+  live = steady-parts w.topology firm.graph.parts firm.graph.attached;
   geoms = λ y here. record { item = y; stands = here; fact = geom-self y };
   providers = λ y here. record { item = y; stands = here; fact = provider-self y };
   consumers = λ y here. record { item = y; stands = here; fact = consumer-self y };
   fewer = λ g. omega arith;
   stay = λ x here. inl (found-there w.topology x.number x
       (found_itself (λ (y : Consumer). y.number) w.topology.next_consumer w.topology.consumers x order.consumers here));
-  tasting = firm.sound.handles.taste;
+  tasting = firm.handles.taste;
 }
   where
     order : IsInOrder w.topology
-    order = sound-order w firm.sound.numbers
+    order = sound-order w firm.graph.numbers
 
 -- numbers that are one and the same aren't lower
 pub same_le : (a b c : ℕ) → a ≡ b → b ≤ c → a ≤ c

@@ -68,13 +68,13 @@ module _ (w : World) (u : Topology Config) (firm : Firm w) (less : IsLess w u) w
           (λ c. (c.provider ≡ Some x.target) × HasCountFor (granted_in w) w.topology x c)
       d = found-with (consumer_at w.topology x.source)
           (λ c. (c.provider ≡ Some x.target) × HasCountFor (granted_in w) w.topology x c)
-          (All-contains (IsBioInOrder (granted_in w) w.topology) w.bios x firm.sound.bios here).source
+          (All-contains (IsBioInOrder (granted_in w) w.topology) w.bios x firm.bios.order here).source
 
   -- so it is in order
   bio_in_order : (x : Bio) → Contains w.bios x → IsBioInOrder (granted_in w) u x
   bio_in_order x here =
       let s = bio-stands x here in
-      let old = All-contains (IsBioInOrder (granted_in w) w.topology) w.bios x firm.sound.bios here in
+      let old = All-contains (IsBioInOrder (granted_in w) w.topology) w.bios x firm.bios.order here in
       record {
         source = some-with (consumer_at u x.source)
             (λ c. (c.provider ≡ Some x.target) × HasCountFor (granted_in w) u x c) s.source s.found
@@ -122,7 +122,7 @@ module _ (w : World) (u : Topology Config) (firm : Firm w) (less : IsLess w u) w
   -- so families are in order
   family_in_order : (x : Bio) → Contains w.bios x → IsFamilyInOrder u w.bios x
   family_in_order x here =
-      let old = All-contains (IsFamilyInOrder w.topology w.bios) w.bios x firm.sound.families here in
+      let old = All-contains (IsFamilyInOrder w.topology w.bios) w.bios x firm.bios.families here in
       record {
         parent = old.parent;
         pieces = λ waits. has_pieces x here (old.pieces waits);
@@ -152,10 +152,10 @@ module _ (w : World) (u : Topology Config) (firm : Firm w) (less : IsLess w u) w
         (λ x here out.
         subst (λ o. IsSome o) (sym (same_disk x here))
         (All-contains (λ x. IsTrue (is_sent x.phase || is_busy x.phase) → IsSome (disk_at w.topology x.target)) w.bios x
-        firm.sound.disks.at_disk here out));
+        firm.bios.disks.at_disk here out));
     one_busy = λ i j d less_than short a b disk first second.
         let here : Contains w.bios (get_or w.bios i d) = Contains-get_or w.bios i d (omega (arith, less_than, short)) in
         let there : Contains w.bios (get_or w.bios j d) = Contains-get_or w.bios j d short in
-        firm.sound.disks.one_busy i j d less_than short a b disk
+        firm.bios.disks.one_busy i j d less_than short a b disk
         (sym (same_disk (get_or w.bios i d) here) ∙ first) (sym (same_disk (get_or w.bios j d) there) ∙ second);
   }

@@ -15,15 +15,15 @@ use Rattle.geo_model.specs.Acceptance.{taste_where, places_of, joined_size}
 use Rattle.geo_model.specs.Events.{provider_of_event}
 use Rattle.geo_model.specs.Tasting.{facts_of}
 use Rattle.geo_model.specs.World.{World, Config, Taste, Asked, NoClass, NextSector, ReadOut, ReadBack, is_taste_root}
-use Rattle.geo_model.specs.Fitting.{IsWholeIn, FitsBelow, sizes_of, FitsPlace, FitsPlaces, IsAskedInOrder, IsOneSector, HasOneProvider, PlacesHold, HasItsSum, Fitting, Firm}
+use Rattle.geo_model.specs.Fitting.{IsWholeIn, FitsBelow, sizes_of, FitsPlace, FitsPlaces, IsAskedInOrder, IsOneSector, HasOneProvider, PlacesHold, HasItsSum, TasteReadHolds, SizesHold, Firm}
 use Rattle.geo_laws_counts.proofs.LimitFacts.{all_of}
 use Rattle.geo_laws_life.proofs.Found.{some-with, some-there, if-found, at-found, at-some, one-found, all_zip-weaker}
 use Rattle.geo_laws_life.specs.LessLaws.{LessIsFirm, IsProviderOf, IsLess}
 use Rattle.geo_laws_life.proofs.Less.{remade, less-self, geom-number}
 use Rattle.geo_laws_life.proofs.LessLooks.{geom_from, provider_from, consumer_from, stands-still, of_geom}
-use Rattle.geo_laws_life.proofs.LessSound.{less-providers, less-counts, less-numbers, less-handles, less-places, less-events}
+use Rattle.geo_laws_life.proofs.LessSound.{less-providers, less-counts, less-numbers, less-handles, less-places, less-taste}
 use Rattle.geo_laws_life.proofs.LessBios.{bio-stands, less-bios, less-families, less-disks}
-use Rattle.geo_laws_life.proofs.LessSteady.{less-steady}
+use Rattle.geo_laws_life.proofs.LessSteady.{less-made, less-attached, less-components, less-partial}
 
 -- the provider below, and that it was so before
 pub record BelowBefore (t : Topology Config) (o : Option ℕ) (q : Provider) : Type 0 where
@@ -93,7 +93,7 @@ module _ (w : World) (u : Topology Config) (firm : Firm w) (less : IsLess w u) w
       at-found (option_and_then (provider_at w.topology) o.item.provider) (λ q. IsWholeIn h.item.config q.sector)
       b.before was_under (at-found (geom_at w.topology o.item.geom)
       (λ g. IfSome (option_and_then (provider_at w.topology) o.item.provider) (λ q. IsWholeIn g.config q.sector))
-      h.item was (All-contains (FitsBelow w.topology) w.topology.consumers o.item firm.fitting.wholes o.stands)) in
+      h.item was (All-contains (FitsBelow w.topology) w.topology.consumers o.item firm.sizes.wholes o.stands)) in
       subst (λ (z : Geom Config). IsWholeIn z.config q.sector) (sym h.is.same)
       (subst (λ (z : Provider). IsWholeIn h.item.config z.sector) (sym b.is.same) old)))
 
@@ -121,7 +121,7 @@ module _ (w : World) (u : Topology Config) (firm : Firm w) (less : IsLess w u) w
       let o = less.geoms y here in
       let moved = all_zip-weaker (FitsPlace w.topology o.item.number) (FitsPlace u o.item.number)
       (λ a b. fits_place o.item.number a b) (places_of o.item.config) (sizes_of o.item.config)
-      (All-contains (FitsPlaces w.topology) w.topology.geoms o.item firm.fitting.places o.stands) in
+      (All-contains (FitsPlaces w.topology) w.topology.geoms o.item firm.sizes.places o.stands) in
       subst (λ (z : Geom Config). FitsPlaces u z) (sym o.fact.same) moved
 
   -- a concat has at most one provider
@@ -129,7 +129,7 @@ module _ (w : World) (u : Topology Config) (firm : Firm w) (less : IsLess w u) w
   one_provider y here concat =
       let o = less.geoms y here in
       let old : length (providers_of w.topology o.item.number) ≤ 1 =
-      All-contains (HasOneProvider w.topology) w.topology.geoms o.item firm.fitting.one o.stands
+      All-contains (HasOneProvider w.topology) w.topology.geoms o.item firm.sizes.one o.stands
       (sym (ap (λ (z : Geom Config). z.kind) o.fact.same) ∙ concat) in
       let few : length (providers_of u y.number) ≤ length (providers_of w.topology o.item.number) =
       subst (λ n. length (providers_of u y.number) ≤ length (providers_of w.topology n)) (geom-number o.item y o.fact)
@@ -140,14 +140,14 @@ module _ (w : World) (u : Topology Config) (firm : Firm w) (less : IsLess w u) w
   places_hold : (y : Geom Config) → Contains u.geoms y → PlacesHold y
   places_hold y here =
       let o = less.geoms y here in
-      let old = All-contains PlacesHold w.topology.geoms o.item firm.fitting.apart o.stands in
+      let old = All-contains PlacesHold w.topology.geoms o.item firm.sizes.apart o.stands in
       subst PlacesHold (sym o.fact.same) (record { apart = old.apart; few = old.few })
 
   -- and its provider is as long as it was
   has_sum : (y : Geom Config) → Contains u.geoms y → HasItsSum u y
   has_sum y here joined =
       let o = less.geoms y here in
-      let old = All-contains (HasItsSum w.topology) w.topology.geoms o.item firm.fitting.sums o.stands
+      let old = All-contains (HasItsSum w.topology) w.topology.geoms o.item firm.sizes.sums o.stands
       (subst (λ (k : Kind). (k ≡ kinds.Concat) ⊎ (k ≡ kinds.Stripe))
       (ap (λ (z : Geom Config). z.kind) o.fact.same) joined) in
       all_of (λ p. p.size ≡ joined_size y.config) (providers_of u y.number) (λ p own.
@@ -178,34 +178,35 @@ module _ (w : World) (u : Topology Config) (firm : Firm w) (less : IsLess w u) w
   asks_all None old = tt
   asks_all (Some s) old = asks s old
 
-  -- the world is fitting
-  less-fitting : (queue : List Event) → Fitting (remade w u queue)
-  less-fitting queue = record {
-    disks = firm.fitting.disks;
+  -- sizes fit
+  less-sizes : SizesHold u w.disks
+  less-sizes = record {
+    disks = firm.sizes.disks;
     sectors = all_of (λ p. IsSectorSize p.sector) u.providers (λ p here.
         let o = less.providers p here in
         subst (λ (z : Provider). IsSectorSize z.sector) (sym o.fact.same)
-        (All-contains (λ (p : Provider). IsSectorSize p.sector) w.topology.providers o.item firm.fitting.sectors
+        (All-contains (λ (p : Provider). IsSectorSize p.sector) w.topology.providers o.item firm.sizes.sectors
         o.stands));
     wholes = all_of (FitsBelow u) u.consumers fits_below;
     places = all_of (FitsPlaces u) u.geoms fits_places;
     one = all_of (HasOneProvider u) u.geoms one_provider;
     apart = all_of PlacesHold u.geoms places_hold;
     sums = all_of (HasItsSum u) u.geoms has_sum;
-    asked = asks_all w.taste firm.fitting.asked;
-    read = record {
-      one = firm.fitting.read.one;
-      sector = all_of (λ x. IsTrue (is_taste_root x.owner)
-          → IsSomeAnd (provider_at u x.target) (λ p. x.len ≡ p.sector)) w.bios (λ x here root.
-          let s = (bio-stands w u firm less x here).target in
-          let old = at-some (provider_at w.topology x.target) (λ p. x.len ≡ p.sector) s.before s.was
-          (All-contains (λ x. IsTrue (is_taste_root x.owner)
-          → IsSomeAnd (provider_at w.topology x.target) (λ p. x.len ≡ p.sector)) w.bios x firm.fitting.read.sector
-          here root) in
-          some-with (provider_at u x.target) (λ p. x.len ≡ p.sector) s.provider s.found
-          (old ∙ sym (ap (λ (z : Provider). z.sector) s.is.same)));
-    };
-    commands = firm.fitting.commands;
+  }
+
+  -- the taste's read is of one sector
+  less-read : TasteReadHolds u w.bios
+  less-read = record {
+    one = firm.bios.read.one;
+    sector = all_of (λ x. IsTrue (is_taste_root x.owner)
+        → IsSomeAnd (provider_at u x.target) (λ p. x.len ≡ p.sector)) w.bios (λ x here root.
+        let s = (bio-stands w u firm less x here).target in
+        let old = at-some (provider_at w.topology x.target) (λ p. x.len ≡ p.sector) s.before s.was
+        (All-contains (λ x. IsTrue (is_taste_root x.owner)
+        → IsSomeAnd (provider_at w.topology x.target) (λ p. x.len ≡ p.sector)) w.bios x firm.bios.read.sector
+        here root) in
+        some-with (provider_at u x.target) (λ p. x.len ≡ p.sector) s.provider s.found
+        (old ∙ sym (ap (λ (z : Provider). z.sector) s.is.same)));
   }
 
   -- a firm world with a graph that has come to less is firm, where providers of geoms that wither carry errors, no
@@ -214,21 +215,35 @@ module _ (w : World) (u : Topology Config) (firm : Firm w) (less : IsLess w u) w
       → All (λ c. c.spoiled ≡ false) (consumers_of u 1) → All (λ e. IsSome (provider_at u (provider_of_event e))) queue
       → Firm (remade w u queue)
   less-firm queue withering unmarked living = record {
-    sound = record {
+    graph = record {
       ranks = less.ranks;
-      counts = less-counts w u firm less;
       providers = less-providers w u firm less withering;
       numbers = less-numbers w u firm less;
-      handles = less-handles w u firm less;
+      made = less-made w u firm less;
+      parts = record { providers = less.live.offerers; consumers = less.live.geoms };
+      attached = less-attached w u firm less;
+      partial = less-partial w u firm less;
+      unmarked = unmarked;
+    };
+    demand = record {
+      counts = less-counts w u firm less;
       places = less-places w u firm less;
-      bio_numbers = firm.sound.bio_numbers;
-      bios = less-bios w u firm less;
+      components = less-components w u firm less;
+    };
+    sizes = less-sizes;
+    handles = less-handles w u firm less;
+    taste = record { living = living; order = less-taste w u firm less; asked = asks_all w.taste firm.taste.asked };
+    bios = record {
+      numbers = firm.bios.numbers;
+      order = less-bios w u firm less;
       families = less-families w u firm less;
       disks = less-disks w u firm less;
-      events = less-events w u firm less queue living;
+      read_out = firm.bios.read_out;
+      owners = firm.bios.owners;
+      results = firm.bios.results;
+      read = less-read;
     };
-    steady = less-steady w u firm less queue unmarked;
-    fitting = less-fitting queue;
+    commands = firm.commands;
   }
 
 -- a graph that has come to less keeps a firm world firm

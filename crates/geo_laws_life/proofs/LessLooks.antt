@@ -106,7 +106,7 @@ pub record StandsStill (w : World) (u : Topology Config) (p : ℕ) : Type 0 wher
 module _ (w : World) (u : Topology Config) (firm : Firm w) (less : IsLess w u) where
   -- the graph before stands in order
   pub before_order : IsInOrder w.topology
-  before_order = sound-order w firm.sound.numbers
+  before_order = sound-order w firm.graph.numbers
 
   -- what is found was found before
   pub geom_from : (n : ℕ) (y : Geom Config) → geom_at u n ≡ Some y

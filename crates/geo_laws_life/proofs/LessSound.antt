@@ -1,18 +1,16 @@
 -- A graph that has come to less: what soundness says of the graph itself still holds.
-use Rattle.std.specs.Prelude.{◌≡◌, ◌⊎◌, ℕ, ◌<◌, ◌≤◌, ◌/◌, ◌==◌, Bool, true, false, not, ◌&&◌, List, [], Option, Some, None, All, Contains, IsSome, IsSomeAnd, IfSome, IsTrue, MatchOption, option_and_then, slice_get}
+use Rattle.std.specs.Prelude.{◌≡◌, ◌⊎◌, ℕ, ◌<◌, ◌≤◌, ◌/◌, ◌==◌, Bool, true, false, not, ◌&&◌, [], Option, Some, None, All, Contains, IsSome, IsSomeAnd, IfSome, IsTrue, MatchOption, option_and_then, slice_get}
 use Rattle.std.proofs.Common.{inl, inr, refl, sym, ◌∙◌, ap, subst, arith}
 use Rattle.std.proofs.lemmas.Bool.{eqb-true, eq-eqb}
 use Rattle.std.proofs.lemmas.List.Elements.{All-contains, All-weaker}
 use Rattle.geo_model.specs.TheConstants.{UNTASTED_RANK}
-use Rattle.geo_model.specs.declared.step.Event.{Event}
 use Rattle.geo_model.specs.Words.{same_name}
 use Rattle.geo_model.specs.Topology.{Topology, Geom, Provider, Consumer, geom_at, provider_at, consumer_at, geom_of_provider, providers_of, consumers_of, is_withering}
 use Rattle.geo_model.specs.Rank.{rank}
 use Rattle.geo_model.specs.Demand.{have, is_zero, no_counts}
-use Rattle.geo_model.specs.Events.{provider_of_event}
 use Rattle.geo_model.specs.Place.{Spot, place, component, disk_of}
 use Rattle.geo_model.specs.World.{HeaderDisk, World, Config, Taste, granted_in}
-use Rattle.geo_model.specs.Sound.{IsMediaSize, DifferInName, ProvidersHold, CountsHold, IsOfItsClass, DifferInDisk, HasDiskSizes, NumbersHold, IsHandleConsumer, HasItsConsumer, IsTasting, HasTasteConsumer, HandlesHold, IsPlaceInside, IsPlaced, LeadsDown, ChainHolds, IsTasteInOrder, EventsHold, StandsBare}
+use Rattle.geo_model.specs.Sound.{IsMediaSize, DifferInName, ProvidersHold, CountsHold, IsOfItsClass, DifferInDisk, HasDiskSizes, NumbersHold, IsHandleConsumer, HasItsConsumer, IsTasting, HasTasteConsumer, HandlesHold, IsPlaceInside, IsPlaced, LeadsDown, ChainHolds, IsTasteInOrder, StandsBare}
 use Rattle.geo_model.specs.Fitting.{Firm}
 use Rattle.geo_laws_graph.proofs.Members.{find-Contains, Contains-filter, filter-Contains, Contains-here}
 use Rattle.geo_laws_graph.proofs.Numbered.{number_found}
@@ -65,20 +63,20 @@ module _ (w : World) (u : Topology Config) (firm : Firm w) (less : IsLess w u) w
         (names_differ x y a.errored b.errored first.errored second.errored apart)))
         w.topology.next_provider u.next_provider w.topology.providers u.providers
         (before_order w u firm less).providers less.order.providers less.providers
-        firm.sound.providers.names;
+        firm.graph.providers.names;
     withering = withering;
     sizes = all_of (λ (x : Provider). IsMediaSize x.size x.sector) u.providers (λ y here.
         let o = less.providers y here in
         subst (λ z. IsMediaSize z.size z.sector) (sym o.fact.same)
         (All-contains (λ (x : Provider). IsMediaSize x.size x.sector) w.topology.providers o.item
-        firm.sound.providers.sizes o.stands));
+        firm.graph.providers.sizes o.stands));
   }
 
   -- no count is in another's way or above the limit
   pub less-counts : CountsHold (granted_in w) u
   less-counts = record {
-    exclusive = less.demand.exclusive firm.sound.counts.exclusive;
-    limited = less.demand.limit firm.sound.counts.limited;
+    exclusive = less.demand.exclusive firm.demand.counts.exclusive;
+    limited = less.demand.limit firm.demand.counts.limited;
   }
 
   -- each geom has the sizes of its disk
@@ -89,7 +87,7 @@ module _ (w : World) (u : Topology Config) (firm : Firm w) (less : IsLess w u) w
       let before = found-with (slice_get w.disks d) (HasSizes w.topology o.item.number)
       (at-found (disk_of o.item.config) (λ d. IsSomeAnd (slice_get w.disks d) (HasSizes w.topology o.item.number))
       d (sym (ap (λ (z : Geom Config). disk_of z.config) o.fact.same) ∙ e)
-      (All-contains (HasDiskSizes w.topology w.disks) w.topology.geoms o.item firm.sound.numbers.disk_sizes
+      (All-contains (HasDiskSizes w.topology w.disks) w.topology.geoms o.item firm.graph.numbers.disk_sizes
       o.stands)) in
       some-with (slice_get w.disks d) (HasSizes u y.number) before.item before.is
       (all_of (HasSize before.item) (providers_of u y.number) (λ p own.
@@ -102,7 +100,7 @@ module _ (w : World) (u : Topology Config) (firm : Firm w) (less : IsLess w u) w
   class_of : (y : Geom Config) → Contains u.geoms y → IsOfItsClass y
   class_of y here =
       let o = less.geoms y here in
-      let c : IsOfItsClass o.item = All-contains IsOfItsClass w.topology.geoms o.item firm.sound.numbers.classes
+      let c : IsOfItsClass o.item = All-contains IsOfItsClass w.topology.geoms o.item firm.graph.numbers.classes
       o.stands in
       subst IsOfItsClass (sym o.fact.same) (record { config = c.config; dev = c.dev; taste = c.taste })
 
@@ -120,7 +118,7 @@ module _ (w : World) (u : Topology Config) (firm : Firm w) (less : IsLess w u) w
         apart))
         w.topology.next_geom u.next_geom w.topology.geoms u.geoms (before_order w u firm less).geoms less.order.geoms
         less.geoms
-        firm.sound.numbers.one_geom_of_disk;
+        firm.graph.numbers.one_geom_of_disk;
     disk_sizes = all_of (HasDiskSizes u w.disks) u.geoms disk_sizes;
   }
 
@@ -141,7 +139,7 @@ module _ (w : World) (u : Topology Config) (firm : Firm w) (less : IsLess w u) w
       let o = less.consumers y kept.0 in
       let own : o.item.geom ≡ 1 = sym (ap (λ (z : Consumer). z.geom) o.fact.same) ∙ eqb-true y.geom 1 kept.1 in
       let before : IsHandleConsumer w.handles o.item =
-      All-contains (IsHandleConsumer w.handles) (consumers_of w.topology 1) o.item firm.sound.handles.consumers
+      All-contains (IsHandleConsumer w.handles) (consumers_of w.topology 1) o.item firm.handles.consumers
       (Contains-filter (λ (z : Consumer). z.geom == 1) w.topology.consumers o.item o.stands
       (eq-eqb o.item.geom 1 own)) in
       subst (IsHandleConsumer w.handles) (sym o.fact.same)
@@ -158,16 +156,16 @@ module _ (w : World) (u : Topology Config) (firm : Firm w) (less : IsLess w u) w
         | inl stays ↦
             some-with (consumer_at u c) (λ x. x.geom ≡ 1) stays.now stays.found
             (ap (λ (z : Consumer). z.geom) stays.is.same ∙ d.fact)
-        | inr spent ↦ absurd (never_spent 1 firm.sound.ranks.dev d.item d.fact spent)
+        | inr spent ↦ absurd (never_spent 1 firm.graph.ranks.dev d.item d.fact spent)
       ]
 
   -- handles and the taste's consumer hold
   pub less-handles : HandlesHold u w.handles w.next_handle w.taste
   less-handles = record {
-    numbers = firm.sound.handles.numbers;
+    numbers = firm.handles.numbers;
     consumers = all_of (IsHandleConsumer w.handles) (consumers_of u 1) handle_consumer;
     handles = All-weaker (HasItsConsumer w.topology) (HasItsConsumer u)
-        (λ h. its_consumer h.consumer h.dead) w.handles firm.sound.handles.handles;
+        (λ h. its_consumer h.consumer h.dead) w.handles firm.handles.handles;
     taste = less.tasting;
   }
 
@@ -189,7 +187,7 @@ module _ (w : World) (u : Topology Config) (firm : Firm w) (less : IsLess w u) w
           | inl opened ↦
               (let closed : All (λ y. have (granted_in w) w.topology y.number ≡ no_counts)
               (providers_of w.topology h.number) =
-              spent-closed w d h spent at (All-contains IsOfItsClass w.topology.geoms h firm.sound.numbers.classes
+              spent-closed w d h spent at (All-contains IsOfItsClass w.topology.geoms h firm.graph.numbers.classes
               (find-Contains (λ (z : Geom Config). z.number == q.geom) w.topology.geoms h stood)).config has in
               let none : have (granted_in w) w.topology q.number ≡ no_counts =
               All-contains (λ (y : Provider). have (granted_in w) w.topology y.number ≡ no_counts)
@@ -281,7 +279,7 @@ module _ (w : World) (u : Topology Config) (firm : Firm w) (less : IsLess w u) w
       let old = at-some (geom_at w.topology s.before.geom) (λ g. IsUsed w w.topology s.before.number g.withering
       → IsSome (disk_of g.config) ⊎ IsPlaced w.topology g s.before)
       s.geom_before s.was_of (All-contains (LeadsDown (granted_in w) w.topology) w.topology.providers s.before
-      firm.sound.places there) in
+      firm.demand.places there) in
       some-with (geom_at u p.geom) (λ g. IsUsed w u p.number g.withering → IsSome (disk_of g.config) ⊎ IsPlaced u g p)
       s.geom (subst (λ (z : Provider). geom_at u z.geom ≡ Some s.geom) (sym now) s.of)
       (leads p s.before (subst (λ z. IsProviderOf s.before z) (sym now) s.is) s.geom s.geom_before s.was_of s.geom_is
@@ -333,11 +331,6 @@ module _ (w : World) (u : Topology Config) (firm : Firm w) (less : IsLess w u) w
   taste_holds None tasting old = tt
   taste_holds (Some s) tasting old = taste_in_order s tasting old
 
-  -- events and the taste hold
-  pub less-events : (queue : List Event) → All (λ e. IsSome (provider_at u (provider_of_event e))) queue
-      → EventsHold u queue w.taste w.bios
-  less-events queue living = record {
-    living = living;
-    read_out = firm.sound.events.read_out;
-    taste = taste_holds w.taste less.tasting firm.sound.events.taste;
-  }
+  -- the taste is in order
+  pub less-taste : IfSome w.taste (IsTasteInOrder u)
+  less-taste = taste_holds w.taste less.tasting firm.taste.order

@@ -3,21 +3,20 @@ use Rattle.std.specs.Prelude.{◌≡◌, ◌⊎◌, ℕ, ◌≤◌, true, false,
 use Rattle.std.proofs.Common.{inl, inr, refl, sym, ◌∙◌, ap, subst, arith}
 use Rattle.std.proofs.lemmas.List.Elements.{All-contains}
 use Rattle.geo_model.proofs.FindLists.{some-passes}
-use Rattle.geo_model.specs.declared.step.Event.{Event}
 use Rattle.geo_model.specs.Counts.{Counts}
-use Rattle.geo_model.specs.Topology.{Topology, Geom, Provider, Consumer, geom_at, provider_at, consumer_at, providers_of, consumers_of}
+use Rattle.geo_model.specs.Topology.{Topology, Geom, Provider, Consumer, geom_at, provider_at, consumer_at, providers_of}
 use Rattle.geo_model.specs.Demand.{have, no_counts, is_zero}
 use Rattle.geo_model.specs.Place.{components}
 use Rattle.geo_model.specs.World.{World, Config, granted_in}
 use Rattle.geo_model.specs.Sound.{IsOfItsClass}
-use Rattle.geo_model.specs.Steady.{Steady, has_free_place, has_open_provider, HasItsComponents, WaitsForPlaces}
+use Rattle.geo_model.specs.Steady.{AreMade, AreAttached, has_free_place, has_open_provider, HasItsComponents, WaitsForPlaces}
 use Rattle.geo_model.specs.Fitting.{Firm}
 use Rattle.geo_laws_graph.proofs.Lists.{found_itself}
 use Rattle.geo_laws_graph.proofs.Numbered.{any-contained}
 use Rattle.geo_laws_counts.proofs.LimitFacts.{all_of}
 use Rattle.geo_laws_life.proofs.Found.{found-with, some-with, one-found}
 use Rattle.geo_laws_life.specs.LessLaws.{IsGeomOf, IsSpent, IsLess}
-use Rattle.geo_laws_life.proofs.Less.{upright-before, remade, geom-number, provider-number}
+use Rattle.geo_laws_life.proofs.Less.{upright-before, geom-number, provider-number}
 use Rattle.geo_laws_life.proofs.LessLooks.{has_below, components-below, before_order, stays_or_spent, of_geom, spent-closed}
 
 -- a list that isn't longer than none
@@ -37,7 +36,7 @@ module _ (w : World) (u : Topology Config) (firm : Firm w) (less : IsLess w u) w
       let o = less.consumers c here in
       let was : IsSome (option_and_then (provider_at w.topology) o.item.provider) =
       All-contains (λ (z : Consumer). IsSome (option_and_then (provider_at w.topology) z.provider))
-      w.topology.consumers o.item firm.steady.attached o.stands in
+      w.topology.consumers o.item firm.graph.attached o.stands in
       by c.provider (ap (λ (z : Consumer). z.provider) o.fact.same) was
       (All-contains (λ (z : Consumer). IfSome z.provider (λ q. IsSome (provider_at u q))) u.consumers c
       less.live.providers here)
@@ -83,7 +82,7 @@ module _ (w : World) (u : Topology Config) (firm : Firm w) (less : IsLess w u) w
             zero_open (granted_in w) w.topology p.item.number
             (All-contains (λ (y : Provider). have (granted_in w) w.topology y.number ≡ no_counts)
             (providers_of w.topology x.number) p.item
-            (spent-closed w d x spent at (All-contains IsOfItsClass w.topology.geoms x firm.sound.numbers.classes
+            (spent-closed w d x spent at (All-contains IsOfItsClass w.topology.geoms x firm.graph.numbers.classes
             here).config below) p.here)
             p.passes)
       ]
@@ -94,7 +93,7 @@ module _ (w : World) (u : Topology Config) (firm : Firm w) (less : IsLess w u) w
       let o = less.geoms y here in
       let before = used_before o.item y o.fact used in
       let old = All-contains (HasItsComponents (granted_in w) w.topology) w.topology.geoms o.item
-      firm.steady.components o.stands before in
+      firm.demand.components o.stands before in
       all_of (λ c. IsSomeAnd (consumer_at u c) (λ x. (x.geom ≡ y.number) × IsSome x.provider)) (components y.config)
       (λ c among.
       let among_before : Contains (components o.item.config) c =
@@ -119,22 +118,26 @@ module _ (w : World) (u : Topology Config) (firm : Firm w) (less : IsLess w u) w
       no_longer (providers_of u y.number) (providers_of w.topology o.item.number)
       (subst (λ n. length (providers_of u y.number) ≤ length (providers_of w.topology n))
       (geom-number o.item y o.fact) (less.fewer y.number))
-      (All-contains (WaitsForPlaces w.topology) w.topology.geoms o.item firm.steady.partial o.stands
+      (All-contains (WaitsForPlaces w.topology) w.topology.geoms o.item firm.graph.partial o.stands
       (subst (λ (z : Geom Config). IsTrue (has_free_place z)) o.fact.same free))
 
-  -- so the world is steady
-  pub less-steady : (queue : List Event) → All (λ c. c.spoiled ≡ false) (consumers_of u 1) → Steady (remade w u queue)
-  less-steady queue unmarked = record {
-    made = all_of (λ (g : Geom Config). (g.number ≡ 1) ⊎ (g.number ≡ 2) → g.automatic ≡ false) u.geoms (λ y here.
-        let o = less.geoms y here in
-        subst (λ (g : Geom Config). (g.number ≡ 1) ⊎ (g.number ≡ 2) → g.automatic ≡ false) (sym o.fact.same)
-        (All-contains (λ (g : Geom Config). (g.number ≡ 1) ⊎ (g.number ≡ 2) → g.automatic ≡ false) w.topology.geoms
-        o.item firm.steady.made o.stands));
-    parts = record { providers = less.live.offerers; consumers = less.live.geoms };
-    attached = all_of (λ (c : Consumer). IsSome (option_and_then (provider_at u) c.provider)) u.consumers attached_one;
-    components = all_of (HasItsComponents (granted_in w) u) u.geoms components_stand;
-    partial = all_of (WaitsForPlaces u) u.geoms waits;
-    owners = firm.steady.owners;
-    results = firm.steady.results;
-    unmarked = unmarked;
-  }
+  -- geoms 1 and 2 aren't automatic
+  pub less-made : AreMade u
+  less-made = all_of (λ (g : Geom Config). (g.number ≡ 1) ⊎ (g.number ≡ 2) → g.automatic ≡ false) u.geoms (λ y here.
+      let o = less.geoms y here in
+      subst (λ (g : Geom Config). (g.number ≡ 1) ⊎ (g.number ≡ 2) → g.automatic ≡ false) (sym o.fact.same)
+      (All-contains (λ (g : Geom Config). (g.number ≡ 1) ⊎ (g.number ≡ 2) → g.automatic ≡ false) w.topology.geoms
+      o.item firm.graph.made o.stands))
+
+  -- consumers are attached
+  pub less-attached : AreAttached u
+  less-attached =
+      all_of (λ (c : Consumer). IsSome (option_and_then (provider_at u) c.provider)) u.consumers attached_one
+
+  -- geoms have their components
+  pub less-components : All (HasItsComponents (granted_in w) u) u.geoms
+  less-components = all_of (HasItsComponents (granted_in w) u) u.geoms components_stand
+
+  -- assemblies wait for their places
+  pub less-partial : All (WaitsForPlaces u) u.geoms
+  less-partial = all_of (WaitsForPlaces u) u.geoms waits

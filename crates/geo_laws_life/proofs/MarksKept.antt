@@ -35,14 +35,14 @@ use Rattle.geo_laws_life.proofs.Killed.{killed-firm, all_killed-firm}
 pub queue-firm : (w : World) (queue : List Event) → All (λ e. Lives w (provider_of_event e)) queue → Firm w
     → Firm (record w { events = queue })
 queue-firm w queue living firm =
-    less-firm w w.topology firm (less-self w firm) queue firm.sound.providers.withering firm.steady.unmarked living
+    less-firm w w.topology firm (less-self w firm) queue firm.graph.providers.withering firm.graph.unmarked living
 
 -- one event more
 pub posted-firm : (w : World) (e : Event) → Lives w (provider_of_event e) → Firm w
     → Firm (with_queued w (post (queued_of w) e))
 posted-firm w e lives firm =
     queue-firm w (w.events ++ e ∷ []) (All-push (λ e. Lives w (provider_of_event e)) w.events e
-    firm.sound.events.living lives) firm
+    firm.taste.living lives) firm
 
 -- queues keep a firm world firm
 pub queues_keep : QueuesKeepFirm
@@ -51,7 +51,7 @@ queues_keep = record {
   posted = posted-firm;
   taken = λ w e rest is firm.
       queue-firm w rest (All-tail (λ e. Lives w (provider_of_event e)) e rest
-      (subst (All (λ e. Lives w (provider_of_event e))) is firm.sound.events.living)) firm;
+      (subst (All (λ e. Lives w (provider_of_event e))) is firm.taste.living)) firm;
 }
 
 -- handles that die do
@@ -86,7 +86,7 @@ pub marked-firm : (w : World) (test : Consumer → Bool) (mark : Bool)
     → Firm (record w { topology = set_marks w.topology test mark })
 marked-firm w test mark so firm =
     less-firm w (set_marks w.topology test mark) firm (less-marks w w.topology (less-self w firm) test mark) w.events
-    firm.sound.providers.withering
+    firm.graph.providers.withering
     (subst (All (λ (c : Consumer). c.spoiled ≡ false)) (sym (marks-found.of w.topology test mark 1))
     (All-from_recursion (λ (c : Consumer). c.spoiled ≡ false)
     (change_where test (λ (x : Consumer). record x { spoiled = mark }) (consumers_of w.topology 1))
@@ -94,19 +94,19 @@ marked-firm w test mark so firm =
     (All-from_contained (λ (x : Consumer). (x.spoiled ≡ false) × (mark ≡ true → test x ≡ false))
     (consumers_of w.topology 1) (λ x here.
     let kept = filter-Contains (λ (z : Consumer). z.geom == 1) w.topology.consumers x here in (
-      All-contains (λ (c : Consumer). c.spoiled ≡ false) (consumers_of w.topology 1) x firm.steady.unmarked here,
+      All-contains (λ (c : Consumer). c.spoiled ≡ false) (consumers_of w.topology 1) x firm.graph.unmarked here,
       All-contains (λ (c : Consumer). c.geom ≡ 1 → mark ≡ true → test c ≡ false) w.topology.consumers x so kept.0
           (eqb-true x.geom 1 kept.1),
     ))))))
-    firm.sound.events.living
+    firm.taste.living
 
 -- the geom of DEV or TASTE stands
 pub stands-at : (w : World) → Firm w → (n : ℕ) → (n ≡ 1) ⊎ (n ≡ 2) → Has (geom_at w.topology n)
 stands-at w firm n (inl e) =
-    let g = found-with (geom_at w.topology 1) (λ x. x.withering ≡ false) firm.sound.ranks.dev.stands in
+    let g = found-with (geom_at w.topology 1) (λ x. x.withering ≡ false) firm.graph.ranks.dev.stands in
     record { item = g.item; is = subst (λ m. geom_at w.topology m ≡ Some g.item) (sym e) g.is }
 stands-at w firm n (inr e) =
-    let g = found-with (geom_at w.topology 2) (λ x. x.withering ≡ false) firm.sound.ranks.taste.stands in
+    let g = found-with (geom_at w.topology 2) (λ x. x.withering ≡ false) firm.graph.ranks.taste.stands in
     record { item = g.item; is = subst (λ m. geom_at w.topology m ≡ Some g.item) (sym e) g.is }
 
 -- and isn't automatic
@@ -114,7 +114,7 @@ pub made-at : (w : World) → Firm w → (n : ℕ) (g : Geom Config) → (n ≡ 
     → g.automatic ≡ false
 made-at w firm n g which found =
     All-contains (λ (x : Geom Config). (x.number ≡ 1) ⊎ (x.number ≡ 2) → x.automatic ≡ false) w.topology.geoms g
-    firm.steady.made (find-Contains (λ (x : Geom Config). x.number == n) w.topology.geoms g found) (by which)
+    firm.graph.made (find-Contains (λ (x : Geom Config). x.number == n) w.topology.geoms g found) (by which)
   where
     -- it has that number
     by : (n ≡ 1) ⊎ (n ≡ 2) → (g.number ≡ 1) ⊎ (g.number ≡ 2)
@@ -124,7 +124,7 @@ made-at w firm n g which found =
 -- a geom that is found is of its class
 pub class-at : (w : World) → Firm w → (n : ℕ) (g : Geom Config) → geom_at w.topology n ≡ Some g → IsOfItsClass g
 class-at w firm n g found =
-    All-contains IsOfItsClass w.topology.geoms g firm.sound.numbers.classes
+    All-contains IsOfItsClass w.topology.geoms g firm.graph.numbers.classes
     (find-Contains (λ (x : Geom Config). x.number == n) w.topology.geoms g found)
 
 -- nothing and nothing is nothing

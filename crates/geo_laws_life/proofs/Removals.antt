@@ -70,11 +70,11 @@ module _ (w : World) (firm : Firm w) where
 
   -- it stands in order
   order : IsInOrder t
-  order = sound-order w firm.sound.numbers
+  order = sound-order w firm.graph.numbers
 
   -- and what its parts name lives
   live : PartsLive t
-  live = steady-parts t firm.steady.parts firm.steady.attached
+  live = steady-parts t firm.graph.parts firm.graph.attached
 
   -- a consumer that stands is found
   pub consumer_there : (x : Consumer) → Contains t.consumers x → IsSome (consumer_at t x.number)
@@ -87,9 +87,9 @@ module _ (w : World) (firm : Firm w) where
   pub less-without_provider : (p : ℕ) → attached_to t p ≡ [] → IsLess w (remove_provider t p)
   less-without_provider p none = record {
     order = removed-provider.order t p order;
-    ranks = sound-ranks.provider_removed t p firm.sound.ranks live.geoms none;
+    ranks = sound-ranks.provider_removed t p firm.graph.ranks live.geoms none;
     lower = λ g. same_le (rank (remove_provider t p) g) (rank t g) (rank t g)
-        ((removing-stay.provider t p firm.sound.ranks.ranked live.geoms none).same g) (at_most_itself (rank t g));
+        ((removing-stay.provider t p firm.graph.ranks.ranked live.geoms none).same g) (at_most_itself (rank t g));
     demand = provider_went (granted_in w) t p none;
     live = parts-alive.provider_removed t p none live;
     geoms = λ y here. record { item = y; stands = here; fact = geom-self y };
@@ -103,7 +103,7 @@ module _ (w : World) (firm : Firm w) where
     fewer = λ g. subst (λ (ps : List Provider). length ps ≤ length (providers_of t g)) (sym (removed-provider.of t p g))
         (length-kept (λ (x : Provider). not (x.number == p)) (providers_of t g));
     stay = λ x here. inl (consumer_there x here);
-    tasting = same_tasting t (remove_provider t p) refl w.taste firm.sound.handles.taste;
+    tasting = same_tasting t (remove_provider t p) refl w.taste firm.handles.taste;
   }
 
   -- so the world is firm, without the events of that provider
@@ -113,13 +113,13 @@ module _ (w : World) (firm : Firm w) where
       less-firm w (remove_provider t p) firm (less-without_provider p none) (without_events_of w.events p)
       (All-filter (λ (x : Provider). not (x.number == p))
       (λ (x : Provider). IsTrue (is_withering t x.geom) → x.errored ≡ true) t.providers
-      firm.sound.providers.withering)
-      firm.steady.unmarked (all_of (λ (e : Event). IsSome (provider_at (remove_provider t p) (provider_of_event e)))
+      firm.graph.providers.withering)
+      firm.graph.unmarked (all_of (λ (e : Event). IsSome (provider_at (remove_provider t p) (provider_of_event e)))
       (without_events_of w.events p) (λ e here.
       let kept = filter-Contains (λ (e : Event). not (provider_of_event e == p)) w.events e here in
       subst (λ o. IsSome o) (sym (removed-provider.others t p (provider_of_event e)
       (passes_apart (provider_of_event e) p kept.1)))
-      (All-contains (λ (e : Event). IsSome (provider_at t (provider_of_event e))) w.events e firm.sound.events.living
+      (All-contains (λ (e : Event). IsSome (provider_at t (provider_of_event e))) w.events e firm.taste.living
       kept.0)))
 
   -- A consumer
@@ -156,7 +156,7 @@ module _ (w : World) (firm : Firm w) where
         removed-consumer.of t c 2 ∙ keeps_all (λ (y : Consumer). not (y.number == c)) (consumers_of t 2)
         (All-from_contained (λ (y : Consumer). not (y.number == c) ≡ true) (consumers_of t 2) (λ y here.
         let kept = filter-Contains (λ (z : Consumer). z.geom == 2) t.consumers y here in
-        ap not (ne_eqb y.number c (λ same. not_bare 2 firm.sound.ranks.taste
+        ap not (ne_eqb y.number c (λ same. not_bare 2 firm.graph.ranks.taste
         (sym (ap (λ (z : Consumer). z.geom) (is_it y kept.0 same)) ∙ eqb-true y.geom 2 kept.1)))))
 
     -- so the taste has its consumer
@@ -172,11 +172,11 @@ module _ (w : World) (firm : Firm w) where
     -- without a consumer of a geom that withers, which holds no count
     pub less-without_consumer : IsLess w (remove_consumer t c)
     less-without_consumer =
-        let fewer = fewer-edges t (remove_consumer t c) firm.sound.ranks.ranked (remove_consumer-geoms t c live.geoms)
-        (remove_consumer-providers t c (ranked-live t firm.sound.ranks.ranked)) (removed-edges t c) in
+        let fewer = fewer-edges t (remove_consumer t c) firm.graph.ranks.ranked (remove_consumer-geoms t c live.geoms)
+        (remove_consumer-providers t c (ranked-live t firm.graph.ranks.ranked)) (removed-edges t c) in
         record {
           order = removed-consumer.order t c order;
-          ranks = sound-ranks.consumer_removed t c firm.sound.ranks live.geoms;
+          ranks = sound-ranks.consumer_removed t c firm.graph.ranks live.geoms;
           lower = fewer.1;
           demand = consumers_went (granted_in w) t (λ (y : Consumer). not (y.number == c))
               (all_of (λ (y : Consumer). not (y.number == c) ≡ false → want (granted_in w) t y ≡ no_counts)
@@ -192,17 +192,17 @@ module _ (w : World) (firm : Firm w) where
           };
           fewer = λ g. at_most_itself (length (providers_of t g));
           stay = λ y here. others_stay y here (cases_eq y.number c);
-          tasting = tasting_stays w.taste firm.sound.handles.taste;
+          tasting = tasting_stays w.taste firm.handles.taste;
         }
 
     -- so the world is firm
     pub without_consumer-firm : Firm (record w { topology = remove_consumer t c })
     without_consumer-firm =
-        less-firm w (remove_consumer t c) firm less-without_consumer w.events firm.sound.providers.withering
+        less-firm w (remove_consumer t c) firm less-without_consumer w.events firm.graph.providers.withering
         (subst (All (λ (y : Consumer). y.spoiled ≡ false)) (sym (removed-consumer.of t c 1))
         (All-filter (λ (y : Consumer). not (y.number == c)) (λ (y : Consumer). y.spoiled ≡ false) (consumers_of t 1)
-        firm.steady.unmarked))
-        firm.sound.events.living
+        firm.graph.unmarked))
+        firm.taste.living
 
   -- A geom
 
@@ -236,18 +236,18 @@ module _ (w : World) (firm : Firm w) where
 
     -- ranks stay
     ranks_stay : RanksStay t (remove_geom t g)
-    ranks_stay = removing-stay.geom t g firm.sound.ranks.ranked live.geoms bare.no_consumer
+    ranks_stay = removing-stay.geom t g firm.graph.ranks.ranked live.geoms bare.no_consumer
 
     -- its class isn't DEV's or TASTE's
     middle : is_granted_kind bare.geom.kind ≡ false
     middle =
-        let class : IsOfItsClass bare.geom = All-contains IsOfItsClass t.geoms bare.geom firm.sound.numbers.classes
+        let class : IsOfItsClass bare.geom = All-contains IsOfItsClass t.geoms bare.geom firm.graph.numbers.classes
         (find-Contains (λ (z : Geom Config). z.number == g) t.geoms bare.geom bare.found) in
         let number : bare.geom.number ≡ g = number_found (λ (z : Geom Config). z.number) t.geoms g bare.geom
         bare.found in
         not_granted bare.geom.kind
-        (class.dev ∙ ne_eqb bare.geom.number 1 (λ same. not_upright 1 firm.sound.ranks.dev (sym number ∙ same)))
-        (class.taste ∙ ne_eqb bare.geom.number 2 (λ same. not_upright 2 firm.sound.ranks.taste (sym number ∙ same)))
+        (class.dev ∙ ne_eqb bare.geom.number 1 (λ same. not_upright 1 firm.graph.ranks.dev (sym number ∙ same)))
+        (class.taste ∙ ne_eqb bare.geom.number 2 (λ same. not_upright 2 firm.graph.ranks.taste (sym number ∙ same)))
 
     -- all demand stays
     demand_stays : DemandStays (granted_in w) t (granted_in w) (remove_geom t g) AnyConsumer
@@ -286,8 +286,8 @@ module _ (w : World) (firm : Firm w) where
     pub less-without_geom : IsLess w (remove_geom t g)
     less-without_geom = record {
       order = removed-geom.order t g order;
-      ranks = sound-ranks.geom_removed t g (not_upright 1 firm.sound.ranks.dev, not_upright 2 firm.sound.ranks.taste)
-          firm.sound.ranks live.geoms bare.no_consumer;
+      ranks = sound-ranks.geom_removed t g (not_upright 1 firm.graph.ranks.dev, not_upright 2 firm.graph.ranks.taste)
+          firm.graph.ranks live.geoms bare.no_consumer;
       lower = λ h. same_le (rank (remove_geom t g) h) (rank t h) (rank t h) (ranks_stay.same h)
           (at_most_itself (rank t h));
       demand = demand_stays;
@@ -302,7 +302,7 @@ module _ (w : World) (firm : Firm w) where
       consumers = λ y here. record { item = y; stands = here; fact = consumer-self y };
       fewer = λ h. at_most_itself (length (providers_of t h));
       stay = λ x here. inl (consumer_there x here);
-      tasting = same_tasting t (remove_geom t g) refl w.taste firm.sound.handles.taste;
+      tasting = same_tasting t (remove_geom t g) refl w.taste firm.handles.taste;
     }
 
     -- so the world is firm
@@ -312,5 +312,5 @@ module _ (w : World) (firm : Firm w) where
         (all_of (λ (x : Provider). IsTrue (is_withering (remove_geom t g) x.geom) → x.errored ≡ true) t.providers
         (λ x here withers.
         All-contains (λ (x : Provider). IsTrue (is_withering t x.geom) → x.errored ≡ true) t.providers x
-        firm.sound.providers.withering here (sym (removed-geom.withering t g x.geom (no_provider x here)) ∙ withers)))
-        firm.steady.unmarked firm.sound.events.living
+        firm.graph.providers.withering here (sym (removed-geom.withering t g x.geom (no_provider x here)) ∙ withers)))
+        firm.graph.unmarked firm.taste.living

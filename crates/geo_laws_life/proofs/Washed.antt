@@ -74,7 +74,7 @@ module _ (w : World) (firm : Firm w) where
   module _ (g : Geom Config) (here : Contains t.geoms g) (withers : g.withering ≡ true) where
     -- the geom is found
     found_here : geom_at t g.number ≡ Some g
-    found_here = found_itself (λ (z : Geom Config). z.number) t.next_geom t.geoms g firm.sound.numbers.geoms here
+    found_here = found_itself (λ (z : Geom Config). z.number) t.next_geom t.geoms g firm.graph.numbers.geoms here
 
     -- a provider that is found has nothing attached
     provider_can : (work : WashWork) → free_provider (granted_in w) (is_active w) t g ≡ Some work → CanWash w work
@@ -96,7 +96,7 @@ module _ (w : World) (firm : Firm w) where
         (find_passes (is_idle (granted_in w) (is_active w) t) (consumers_of t g.number) c.0 c.1)).0 in
         subst (CanWash w) c.2 (record {
           item = c.0;
-          is = found_itself (λ (z : Consumer). z.number) t.next_consumer t.consumers c.0 firm.sound.numbers.consumers
+          is = found_itself (λ (z : Consumer). z.number) t.next_consumer t.consumers c.0 firm.graph.numbers.consumers
               kept.0;
           fact = record {
             geom = g;
@@ -173,14 +173,14 @@ module _ (w : World) (firm : Firm w) where
   -- each part that stands is found
   provider_there : (p : Provider) → Contains t.providers p → IsSome (provider_at t p.number)
   provider_there p here = some-there (provider_at t p.number) p
-      (found_itself (λ (z : Provider). z.number) t.next_provider t.providers p firm.sound.numbers.providers here)
+      (found_itself (λ (z : Provider). z.number) t.next_provider t.providers p firm.graph.numbers.providers here)
 
   -- no bio is from a spent consumer
   no_bio_from : (c : ℕ) (d : Consumer) → consumer_at t c ≡ Some d → IsSpent w d → (x : Bio) → Contains w.bios x
       → x.source ≢ c
   no_bio_from c d found spent x here same =
       let s = found-with (consumer_at t x.source) (λ z. (z.provider ≡ Some x.target) × HasCountFor (granted_in w) t x z)
-      (All-contains (IsBioInOrder (granted_in w) t) w.bios x firm.sound.bios here).source in
+      (All-contains (IsBioInOrder (granted_in w) t) w.bios x firm.bios.order here).source in
       let one : s.item ≡ d = one-found (consumer_at t c) s.item d
       (subst (λ n. consumer_at t n ≡ Some s.item) same s.is) found in
       let idle : want (granted_in w) t s.item ≡ no_counts = ap (want (granted_in w) t) one ∙ spent.idle in
@@ -195,7 +195,7 @@ module _ (w : World) (firm : Firm w) where
       let in_graph : Contains t.consumers s.source =
       find-Contains (λ (z : Consumer). z.number == x.source) t.consumers s.source s.found in
       let its = has (geom_at t s.source.geom)
-      (All-contains (λ (z : Consumer). IsSome (geom_at t z.geom)) t.consumers s.source firm.steady.parts.consumers
+      (All-contains (λ (z : Consumer). IsSome (geom_at t z.geom)) t.consumers s.source firm.graph.parts.consumers
       in_graph) in
       let of_source : geom_of_consumer t x.source ≡ Some its.item =
       ap (option_and_then (λ (z : Consumer). geom_at t z.geom)) s.found ∙ its.is in
@@ -214,8 +214,8 @@ module _ (w : World) (firm : Firm w) where
   -- a bare geom is free
   bare_free : (g : ℕ) → IsBareGeom w g → Free w g
   bare_free g bare = record {
-    not_dev = not_upright w firm g bare 1 firm.sound.ranks.dev;
-    not_taste = not_upright w firm g bare 2 firm.sound.ranks.taste;
+    not_dev = not_upright w firm g bare 1 firm.graph.ranks.dev;
+    not_taste = not_upright w firm g bare 2 firm.graph.ranks.taste;
     withering = any-contained (λ (z : Geom Config). (z.number == g) && z.withering) t.geoms bare.geom
         (find-Contains (λ (z : Geom Config). z.number == g) t.geoms bare.geom bare.found)
         (and_from (bare.geom.number == g) bare.geom.withering
@@ -254,7 +254,7 @@ module _ (w : World) (firm : Firm w) where
           → All (λ x. x.source ≢ d.number) w.bios × IsTrue (is_zero (want (granted_in w) t d))
       consumer_idle d here gone (inl same) =
           let found : consumer_at t d.number ≡ Some d =
-          found_itself (λ (z : Consumer). z.number) t.next_consumer t.consumers d firm.sound.numbers.consumers
+          found_itself (λ (z : Consumer). z.number) t.next_consumer t.consumers d firm.graph.numbers.consumers
           here in
           let one : can.item ≡ d = one-found (consumer_at t d.number) can.item d
           (subst (λ n. consumer_at t n ≡ Some can.item) (sym same) can.is) found in
@@ -283,7 +283,7 @@ withering_there w firm n withers =
       p.item,
       subst (λ m. geom_at w.topology m ≡ Some p.item) (eqb-true p.item.number n both.0)
           (found_itself (λ (z : Geom Config). z.number) w.topology.next_geom w.topology.geoms p.item
-          firm.sound.numbers.geoms p.here),
+          firm.graph.numbers.geoms p.here),
       both.1,
     )
 
@@ -302,7 +302,7 @@ idle_spent w c firm here withers idle =
     record {
       item = c;
       is = found_itself (λ (z : Consumer). z.number) w.topology.next_consumer w.topology.consumers c
-          firm.sound.numbers.consumers here;
+          firm.graph.numbers.consumers here;
       fact = record {
         geom = x.0;
         found = x.1;

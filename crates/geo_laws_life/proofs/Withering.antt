@@ -122,16 +122,16 @@ fold-errored (p ∷ ps) q y here among =
 pub orphaned-firm : (w : World) (p : ℕ) → Lives w p → Firm w → Firm (with_queued w (orphan_provider (queued_of w) p))
 orphaned-firm w p lives firm =
     let after = orphan-more w (queued_of w) p lives
-    (record { less = less-self w firm; living = firm.sound.events.living }) in
+    (record { less = less-self w firm; living = firm.taste.living }) in
     less-firm w (set_error w.topology p) firm after.less (orphan_provider (queued_of w) p).events
     (all_of (λ (x : Provider). IsTrue (is_withering w.topology x.geom) → x.errored ≡ true)
     (set_error w.topology p).providers (λ y here withers.
     let o = fold-providers (p ∷ []) (queued_of w) y here in
     o.fact.errored
     (All-contains (λ (x : Provider). IsTrue (is_withering w.topology x.geom) → x.errored ≡ true) w.topology.providers
-    o.item firm.sound.providers.withering o.stands
+    o.item firm.graph.providers.withering o.stands
     (subst (λ (x : Provider). IsTrue (is_withering w.topology x.geom)) o.fact.same withers))))
-    firm.steady.unmarked after.living
+    firm.graph.unmarked after.living
 
 module _ (w : World) (g : ℕ) (firm : Firm w) where
   -- the providers of the geom without an error
@@ -154,7 +154,7 @@ module _ (w : World) (g : ℕ) (firm : Firm w) where
       let in_graph = filter-Contains (λ (z : Provider). z.geom == g) w.topology.providers x kept.0 in
       some-there (provider_at w.topology x.number) x
       (found_itself (λ (z : Provider). z.number) w.topology.next_provider w.topology.providers x
-      (sound-order w firm.sound.numbers).providers in_graph.0)))
+      (sound-order w firm.graph.numbers).providers in_graph.0)))
     where
       -- a fact of numbers
       map_facts : (xs : List Provider) → AllByRecursion (λ (x : Provider). IsSome (provider_at w.topology x.number)) xs
@@ -171,7 +171,7 @@ module _ (w : World) (g : ℕ) (firm : Firm w) where
         | inr other ↦
             o.fact.errored
             (All-contains (λ (x : Provider). IsTrue (is_withering w.topology x.geom) → x.errored ≡ true)
-            w.topology.providers o.item firm.sound.providers.withering o.stands
+            w.topology.providers o.item firm.graph.providers.withering o.stands
             (subst (λ (x : Provider). IsTrue (is_withering w.topology x.geom)) o.fact.same
             (sym (withering-found.other_geoms w.topology g y.geom other) ∙ withered)))
       ]
@@ -200,13 +200,13 @@ module _ (w : World) (g : ℕ) (firm : Firm w) where
   withered-firm not_dev not_taste =
       let so = fold-orphans w orphans begun orphans_live (record {
         less = less-withering w w.topology (less-self w firm) g (not_dev, not_taste);
-        living = firm.sound.events.living;
+        living = firm.taste.living;
       }) in
       less-firm w (wither (queued_of w) g).topology firm so.less (wither (queued_of w) g).events
       (all_of (λ (x : Provider). IsTrue (is_withering (wither (queued_of w) g).topology x.geom) → x.errored ≡ true)
       (wither (queued_of w) g).topology.providers all_errored)
       (subst (λ (cs : List Consumer). All (λ (c : Consumer). c.spoiled ≡ false)
-      (filter (λ (c : Consumer). c.geom == 1) cs)) (sym (fold-consumers orphans begun)) firm.steady.unmarked)
+      (filter (λ (c : Consumer). c.geom == 1) cs)) (sym (fold-consumers orphans begun)) firm.graph.unmarked)
       so.living
 
 -- one of two, whichever it comes to
@@ -229,8 +229,8 @@ started-firm w g firm =
     (All-weaker (λ (x : Provider). IsTrue (is_withering w.topology x.geom) → x.errored ≡ true)
     (λ (x : Provider). IsTrue (is_withering (note_started w.topology g) x.geom) → x.errored ≡ true)
     (λ x so withers. so (sym (start-found.withering w.topology g x.geom) ∙ withers))
-    w.topology.providers firm.sound.providers.withering)
-    firm.steady.unmarked firm.sound.events.living
+    w.topology.providers firm.graph.providers.withering)
+    firm.graph.unmarked firm.taste.living
 
 -- errors and withering keep a firm world firm
 pub errors_keep : ErrorsKeepFirm

@@ -48,11 +48,11 @@ module _ (w : World) (s : Taste) (p : Provider) (kind : Kind) (bytes : List ℕ)
   -- has a size
   pub media : IsMediaSize p.size p.sector
   media =
-      All-contains (λ (x : Provider). IsMediaSize x.size x.sector) t.providers p firm.sound.providers.sizes stands
+      All-contains (λ (x : Provider). IsMediaSize x.size x.sector) t.providers p firm.graph.providers.sizes stands
 
   -- and a sector size
   pub sector_size : IsSectorSize p.sector
-  sector_size = All-contains (λ (x : Provider). IsSectorSize x.sector) t.providers p firm.fitting.sectors stands
+  sector_size = All-contains (λ (x : Provider). IsSectorSize x.sector) t.providers p firm.sizes.sectors stands
 
   -- the class asks there, and the bytes are those of one sector
   asked : IsAskedInOrder t p (ReadBack kind (results.Bytes bytes))
@@ -60,7 +60,7 @@ module _ (w : World) (s : Taste) (p : Provider) (kind : Kind) (bytes : List ℕ)
       subst (IsAskedInOrder t p) accepted.asked
       (at-found (provider_at t s.provider) (λ x. IsAskedInOrder t x s.asked) p accepted.found
       (at-found w.taste (λ z. IfSome (provider_at t z.provider) (λ x. IsAskedInOrder t x z.asked)) s accepted.taste
-      firm.fitting.asked))
+      firm.taste.asked))
 
   -- so it asks
   pub asks : AsksThere t p kind
@@ -72,7 +72,7 @@ module _ (w : World) (s : Taste) (p : Provider) (kind : Kind) (bytes : List ℕ)
 
   -- the taste is in order
   pub tasting : IsTasteInOrder t s
-  tasting = at-found w.taste (IsTasteInOrder t) s accepted.taste firm.sound.events.taste
+  tasting = at-found w.taste (IsTasteInOrder t) s accepted.taste firm.taste.order
 
   -- the geom of the provider
   pub record HasGeom : Type 0 where

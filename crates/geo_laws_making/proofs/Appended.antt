@@ -80,7 +80,7 @@ pub appends_stay : AppendsStayFirm
 appends_stay = record {
   append = λ w line name prov firm.
       append-firm w line (growing_concat w.topology name) (found_provider w prov)
-      (λ x e. growing_stands w.topology name x (sound-order w firm.sound.numbers) e) (λ q e.
+      (λ x e. growing_stands w.topology name x (sound-order w firm.graph.numbers) e) (λ q e.
       let n = through (provider_at w.topology) (find_provider w.topology prov) q e in
       found_by_number w n.first q n.then) firm;
 }

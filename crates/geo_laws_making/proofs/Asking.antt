@@ -13,10 +13,10 @@ use Rattle.geo_model.specs.Topology.{Topology}
 use Rattle.geo_model.specs.Demand.{no_counts, one_read}
 use Rattle.geo_model.specs.Chain.{Chain}
 use Rattle.geo_model.specs.World.{World, Config, Handle, Taste, Asked, Bio, granted_in, taste_grant, is_read_out, is_taste_root}
-use Rattle.geo_model.specs.Sound.{CountsHold, IsTasting, HasTasteConsumer, LeadsDown, IsTasteInOrder}
+use Rattle.geo_model.specs.Sound.{IsTasting, HasTasteConsumer, IsTasteInOrder}
 use Rattle.geo_model.specs.SoundBios.{IsBioInOrder}
-use Rattle.geo_model.specs.Steady.{HasItsComponents, ComesFromItsOwner}
-use Rattle.geo_model.specs.Fitting.{Firm}
+use Rattle.geo_model.specs.Steady.{ComesFromItsOwner}
+use Rattle.geo_model.specs.Fitting.{DemandHolds, Firm}
 use Rattle.geo_laws_life.proofs.Killed.{grants-same}
 use Rattle.geo_laws_making.specs.TasteLaws.{taste_asking, world_with_taste, IsAsking}
 
@@ -53,11 +53,11 @@ module _ (w : World) (s : Taste) (classes : List Kind) (asked : Asked) (reads : 
 
   -- the taste was in order
   was : IsTasteInOrder t s
-  was = subst (λ (o : Option Taste). IfSome o (IsTasteInOrder t)) is firm.sound.events.taste
+  was = subst (λ (o : Option Taste). IfSome o (IsTasteInOrder t)) is firm.taste.order
 
   -- it had its consumer
   had : IsTasting t s
-  had = subst (HasTasteConsumer t) is firm.sound.handles.taste
+  had = subst (HasTasteConsumer t) is firm.handles.taste
 
   -- a root comes from its owner
   comes : (x : Bio) (o : Owner) → ComesFromItsOwner w.handles w.taste x o → ComesFromItsOwner w.handles v.taste x o
@@ -71,55 +71,36 @@ module _ (w : World) (s : Taste) (classes : List Kind) (asked : Asked) (reads : 
   read_out =
       let none : IsTrue (list_any (λ (x : Bio). is_taste_root x.owner) w.bios) ↔ IsTrue (is_read_out s.asked) =
       subst (λ (o : Option Taste). IsTrue (list_any (λ (x : Bio). is_taste_root x.owner) w.bios)
-      ↔ IsTrue (option_map_or (λ z. is_read_out z.asked) o false)) is firm.sound.events.read_out in
+      ↔ IsTrue (option_map_or (λ z. is_read_out z.asked) o false)) is firm.bios.read_out in
       subst (λ b. IsTrue (list_any (λ (x : Bio). is_taste_root x.owner) w.bios) ↔ IsTrue b) (before ∙ sym after) none
 
   -- so the world is firm
   pub asking-firm : Firm v
   asking-firm = record {
-    sound = record {
-      ranks = firm.sound.ranks;
-      counts = subst (λ (G : ℕ → Counts). CountsHold G t) (sym grants) firm.sound.counts;
-      providers = firm.sound.providers;
-      numbers = firm.sound.numbers;
-      handles = record {
-        numbers = firm.sound.handles.numbers;
-        consumers = firm.sound.handles.consumers;
-        handles = firm.sound.handles.handles;
-        taste = record { consumer = had.consumer; alone = had.alone; number = had.number; attached = had.attached };
-      };
-      places = subst (λ (G : ℕ → Counts). All (LeadsDown G t) t.providers) (sym grants) firm.sound.places;
-      bio_numbers = firm.sound.bio_numbers;
-      bios = subst (λ (G : ℕ → Counts). All (IsBioInOrder G t) w.bios) (sym grants) firm.sound.bios;
-      families = firm.sound.families;
-      disks = firm.sound.disks;
-      events = record {
-        living = firm.sound.events.living;
-        read_out = read_out;
-        taste = record { rank = was.rank; reads = asks.reads; chain = asks.chain };
-      };
+    graph = firm.graph;
+    demand = subst (λ (G : ℕ → Counts). DemandHolds G t) (sym grants) firm.demand;
+    sizes = firm.sizes;
+    handles = record {
+      numbers = firm.handles.numbers;
+      consumers = firm.handles.consumers;
+      handles = firm.handles.handles;
+      taste = record { consumer = had.consumer; alone = had.alone; number = had.number; attached = had.attached };
     };
-    steady = record {
-      made = firm.steady.made;
-      parts = firm.steady.parts;
-      attached = firm.steady.attached;
-      components = subst (λ (G : ℕ → Counts). All (HasItsComponents G t) t.geoms) (sym grants) firm.steady.components;
-      partial = firm.steady.partial;
-      owners = All-weaker (λ x. ComesFromItsOwner w.handles w.taste x x.owner)
-          (λ x. ComesFromItsOwner w.handles v.taste x x.owner) (λ x. comes x x.owner) w.bios firm.steady.owners;
-      results = firm.steady.results;
-      unmarked = firm.steady.unmarked;
-    };
-    fitting = record {
-      disks = firm.fitting.disks;
-      sectors = firm.fitting.sectors;
-      wholes = firm.fitting.wholes;
-      places = firm.fitting.places;
-      one = firm.fitting.one;
-      apart = firm.fitting.apart;
-      sums = firm.fitting.sums;
+    taste = record {
+      living = firm.taste.living;
+      order = record { rank = was.rank; reads = asks.reads; chain = asks.chain };
       asked = asks.asked;
-      read = firm.fitting.read;
-      commands = firm.fitting.commands;
     };
+    bios = record {
+      numbers = firm.bios.numbers;
+      order = subst (λ (G : ℕ → Counts). All (IsBioInOrder G t) w.bios) (sym grants) firm.bios.order;
+      families = firm.bios.families;
+      disks = firm.bios.disks;
+      read_out = read_out;
+      owners = All-weaker (λ x. ComesFromItsOwner w.handles w.taste x x.owner)
+          (λ x. ComesFromItsOwner w.handles v.taste x x.owner) (λ x. comes x x.owner) w.bios firm.bios.owners;
+      results = firm.bios.results;
+      read = firm.bios.read;
+    };
+    commands = firm.commands;
   }

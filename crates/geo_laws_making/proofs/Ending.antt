@@ -260,7 +260,7 @@ module _ (w : World) (firm : Firm w) (s : Taste) (is : w.taste ≡ Some s) (none
   none_reads some =
       let out : is_read_out s.asked ≡ true =
       subst (λ (o : Option Taste). option_map_or (λ z. is_read_out z.asked) o false ≡ true) is
-      (firm.sound.events.read_out.0 some) in
+      (firm.bios.read_out.0 some) in
       let no : true ≡ false = sym out ∙ none in cc
 
   -- so a root comes from its owner
@@ -274,72 +274,74 @@ module _ (w : World) (firm : Firm w) (s : Taste) (is : w.taste ≡ Some s) (none
   -- so the world is firm
   ended-firm : Firm v
   ended-firm = record {
-    sound = record {
-      ranks = sound-ranks.consumer_removed t d.number firm.sound.ranks (live w firm).geoms;
-      counts = record {
-        exclusive = demand.exclusive firm.sound.counts.exclusive;
-        limited = demand.limit firm.sound.counts.limited;
-      };
+    graph = record {
+      ranks = sound-ranks.consumer_removed t d.number firm.graph.ranks (live w firm).geoms;
       providers = record {
-        names = firm.sound.providers.names;
-        withering = firm.sound.providers.withering;
-        sizes = firm.sound.providers.sizes;
+        names = firm.graph.providers.names;
+        withering = firm.graph.providers.withering;
+        sizes = firm.graph.providers.sizes;
       };
       numbers = record {
-        geoms = firm.sound.numbers.geoms;
-        providers = firm.sound.numbers.providers;
+        geoms = firm.graph.numbers.geoms;
+        providers = firm.graph.numbers.providers;
         consumers = (removed-consumer.order t d.number (order w firm)).consumers;
-        classes = firm.sound.numbers.classes;
-        one_geom_of_disk = firm.sound.numbers.one_geom_of_disk;
-        disk_sizes = firm.sound.numbers.disk_sizes;
+        classes = firm.graph.numbers.classes;
+        one_geom_of_disk = firm.graph.numbers.one_geom_of_disk;
+        disk_sizes = firm.graph.numbers.disk_sizes;
       };
-      handles = record {
-        numbers = firm.sound.handles.numbers;
-        consumers = subst (All (IsHandleConsumer w.handles)) (sym same_dev) firm.sound.handles.consumers;
-        handles = All-weaker (HasItsConsumer t) (HasItsConsumer u) its_consumer w.handles firm.sound.handles.handles;
-        taste = no_taster;
-      };
-      places = all_members (LeadsDown (granted_in w) t) (LeadsDown (granted_in v) u) t.providers leads
-          firm.sound.places;
-      bio_numbers = firm.sound.bio_numbers;
-      bios = All-weaker (IsBioInOrder (granted_in w) t) (IsBioInOrder (granted_in v) u) bio w.bios firm.sound.bios;
-      families = All-weaker (IsFamilyInOrder t w.bios) (IsFamilyInOrder u w.bios) family w.bios firm.sound.families;
-      disks = record { at_disk = firm.sound.disks.at_disk; one_busy = firm.sound.disks.one_busy };
-      events = record {
-        living = firm.sound.events.living;
-        read_out = ((λ some. absurd (none_reads some)), (λ out. absurd (let bad : ⊥ = cc in bad)));
-        taste = tt;
-      };
-    };
-    steady = record {
-      made = firm.steady.made;
+      made = firm.graph.made;
       parts = record {
-        providers = firm.steady.parts.providers;
-        consumers = remove_consumer-geoms t d.number firm.steady.parts.consumers;
+        providers = firm.graph.parts.providers;
+        consumers = remove_consumer-geoms t d.number firm.graph.parts.consumers;
       };
       attached = All-filter (λ (x : Consumer). not (x.number == d.number))
-          (λ (c : Consumer). IsSome (option_and_then (provider_at t) c.provider)) t.consumers firm.steady.attached;
+          (λ (c : Consumer). IsSome (option_and_then (provider_at t) c.provider)) t.consumers firm.graph.attached;
+      partial = firm.graph.partial;
+      unmarked = subst (All (λ (c : Consumer). c.spoiled ≡ false)) (sym same_dev) firm.graph.unmarked;
+    };
+    demand = record {
+      counts = record {
+        exclusive = demand.exclusive firm.demand.counts.exclusive;
+        limited = demand.limit firm.demand.counts.limited;
+      };
+      places = all_members (LeadsDown (granted_in w) t) (LeadsDown (granted_in v) u) t.providers leads
+          firm.demand.places;
       components = all_members (HasItsComponents (granted_in w) t) (HasItsComponents (granted_in v) u) t.geoms
-          has_components firm.steady.components;
-      partial = firm.steady.partial;
+          has_components firm.demand.components;
+    };
+    sizes = record {
+      disks = firm.sizes.disks;
+      sectors = firm.sizes.sectors;
+      wholes = All-filter (λ (x : Consumer). not (x.number == d.number)) (FitsBelow t) t.consumers firm.sizes.wholes;
+      places = All-weaker (FitsPlaces t) (FitsPlaces u) fits_places t.geoms firm.sizes.places;
+      one = firm.sizes.one;
+      apart = firm.sizes.apart;
+      sums = firm.sizes.sums;
+    };
+    handles = record {
+      numbers = firm.handles.numbers;
+      consumers = subst (All (IsHandleConsumer w.handles)) (sym same_dev) firm.handles.consumers;
+      handles = All-weaker (HasItsConsumer t) (HasItsConsumer u) its_consumer w.handles firm.handles.handles;
+      taste = no_taster;
+    };
+    taste = record {
+      living = firm.taste.living;
+      order = tt;
+      asked = tt;
+    };
+    bios = record {
+      numbers = firm.bios.numbers;
+      order = All-weaker (IsBioInOrder (granted_in w) t) (IsBioInOrder (granted_in v) u) bio w.bios firm.bios.order;
+      families = All-weaker (IsFamilyInOrder t w.bios) (IsFamilyInOrder u w.bios) family w.bios firm.bios.families;
+      disks = record { at_disk = firm.bios.disks.at_disk; one_busy = firm.bios.disks.one_busy };
+      read_out = ((λ some. absurd (none_reads some)), (λ out. absurd (let bad : ⊥ = cc in bad)));
       owners = all_members (λ z. ComesFromItsOwner w.handles w.taste z z.owner)
           (λ z. ComesFromItsOwner w.handles None z z.owner) w.bios
-          (λ z here fact. comes z here z.owner refl fact) firm.steady.owners;
-      results = firm.steady.results;
-      unmarked = subst (All (λ (c : Consumer). c.spoiled ≡ false)) (sym same_dev) firm.steady.unmarked;
+          (λ z here fact. comes z here z.owner refl fact) firm.bios.owners;
+      results = firm.bios.results;
+      read = record { one = firm.bios.read.one; sector = firm.bios.read.sector };
     };
-    fitting = record {
-      disks = firm.fitting.disks;
-      sectors = firm.fitting.sectors;
-      wholes = All-filter (λ (x : Consumer). not (x.number == d.number)) (FitsBelow t) t.consumers firm.fitting.wholes;
-      places = All-weaker (FitsPlaces t) (FitsPlaces u) fits_places t.geoms firm.fitting.places;
-      one = firm.fitting.one;
-      apart = firm.fitting.apart;
-      sums = firm.fitting.sums;
-      asked = tt;
-      read = record { one = firm.fitting.read.one; sector = firm.fitting.read.sector };
-      commands = firm.fitting.commands;
-    };
+    commands = firm.commands;
   }
 
   -- the consumer is named by its number

@@ -69,11 +69,11 @@ module _ (w : World) (g : Geom Config) (name : List ℕ) (sector : ℕ) (firm : 
 
   -- before, all stood in order
   order : IsInOrder t
-  order = sound-order w firm.sound.numbers
+  order = sound-order w firm.graph.numbers
 
   -- and lived
   live : PartsLive t
-  live = steady-parts t firm.steady.parts firm.steady.attached
+  live = steady-parts t firm.graph.parts firm.graph.attached
 
   -- the geom was one of them
   here : Contains t.geoms g
@@ -84,7 +84,7 @@ module _ (w : World) (g : Geom Config) (name : List ℕ) (sector : ℕ) (firm : 
   kept =
       offered-keeps n sector (granted_in w) (slice ∷ []) (queued_of w) (isnt-dev w g firm waits)
       (isnt-taste w g firm waits)
-      (some-there (geom_at t n) g waits.stands) order live firm.sound.ranks
+      (some-there (geom_at t n) g waits.stands) order live firm.graph.ranks
 
   -- a provider that was found is found
   provider_still : (m : ℕ) (x : Provider) → provider_at t m ≡ Some x → provider_at u m ≡ Some x
@@ -95,7 +95,7 @@ module _ (w : World) (g : Geom Config) (name : List ℕ) (sector : ℕ) (firm : 
       → option_and_then (provider_at u) x.provider ≡ option_and_then (provider_at t) x.provider
   below_still x stands =
       by x.provider (All-contains (λ (c : Consumer). IsSome (option_and_then (provider_at t) c.provider))
-      t.consumers x firm.steady.attached stands) where
+      t.consumers x firm.graph.attached stands) where
         -- by what it names
         by : (o : Option ℕ) → IsSome (option_and_then (provider_at t) o)
             → option_and_then (provider_at u) o ≡ option_and_then (provider_at t) o
@@ -110,7 +110,7 @@ module _ (w : World) (g : Geom Config) (name : List ℕ) (sector : ℕ) (firm : 
   all_below : AllZip (HasBelow t n sector) (places_of g.config) (sizes_of g.config)
   all_below =
       zip_members (FitsPlace t n) (HasBelow t n sector) (places_of g.config) (sizes_of g.config) one
-      (All-contains (FitsPlaces t) t.geoms g firm.fitting.places here)
+      (All-contains (FitsPlaces t) t.geoms g firm.sizes.places here)
     where
       -- one place
       one : (a : Option ℕ) (b : ℕ) → Contains (places_of g.config) a → FitsPlace t n a b → HasBelow t n sector a b
@@ -123,7 +123,7 @@ module _ (w : World) (g : Geom Config) (name : List ℕ) (sector : ℕ) (firm : 
           (component-there w g firm waits d.item among) in
           let q = has (option_and_then (provider_at t) x.item.provider)
           (All-contains (λ (c : Consumer). IsSome (option_and_then (provider_at t) c.provider)) t.consumers x.item
-          firm.steady.attached (consumer_here d.item x.item x.is)) in
+          firm.graph.attached (consumer_here d.item x.item x.is)) in
           let fits = at-found (option_and_then (provider_at t) x.item.provider)
           (λ q. (b ≤ q.size) × (b % q.sector ≡ 0)) q.item q.is
           (at-found (option_and_then (consumer_at t) a)
@@ -197,7 +197,7 @@ module _ (w : World) (g : Geom Config) (name : List ℕ) (sector : ℕ) (firm : 
   fits_places : FitsPlaces u g
   fits_places =
       zip_members (FitsPlace t n) (FitsPlace u n) (places_of g.config) (sizes_of g.config) one
-      (All-contains (FitsPlaces t) t.geoms g firm.fitting.places here)
+      (All-contains (FitsPlaces t) t.geoms g firm.sizes.places here)
     where
       -- one place
       one : (a : Option ℕ) (b : ℕ) → Contains (places_of g.config) a → FitsPlace t n a b → FitsPlace u n a b
@@ -220,12 +220,12 @@ module _ (w : World) (g : Geom Config) (name : List ℕ) (sector : ℕ) (firm : 
     disk_sizes = if-found (disk_of g.config) _ (λ d e.
         let none = (has-places g.config waits.assembly).no_disk in
         absurd (let no : ⊥ = cc in no));
-    components = All-contains (HasItsComponents (granted_in w) t) t.geoms g firm.steady.components here
+    components = All-contains (HasItsComponents (granted_in w) t) t.geoms g firm.demand.components here
         (inl waits.upright);
     partial = λ free. false_true (sym (none_free (places_of g.config) can.full) ∙ free);
     places = fits_places;
     one = λ concat. let all : length (providers_of u n) ≡ 1 = ap length own in omega arith;
-    apart = All-contains PlacesHold t.geoms g firm.fitting.apart here;
+    apart = All-contains PlacesHold t.geoms g firm.sizes.apart here;
     sums = λ joined.
         subst (All (λ (x : Provider). x.size ≡ size)) (sym own)
         (All-from_recursion (λ (x : Provider). x.size ≡ size) (new ∷ []) (refl, tt));
@@ -273,8 +273,8 @@ module _ (w : World) (g : Geom Config) (name : List ℕ) (sector : ℕ) (firm : 
     order = kept.order;
     live = kept.live;
     ranks = kept.ranks;
-    exclusive = kept.demand.exclusive firm.sound.counts.exclusive;
-    limited = kept.demand.limit firm.sound.counts.limited;
+    exclusive = kept.demand.exclusive firm.demand.counts.exclusive;
+    limited = kept.demand.limit firm.demand.counts.limited;
     old_geoms = λ m x apart e. e;
     old_providers = λ m x e.
         record { now = x; found = provider_still m x e; is = record { same = refl; larger = omega arith } };
@@ -286,13 +286,13 @@ module _ (w : World) (g : Geom Config) (name : List ℕ) (sector : ℕ) (firm : 
     others = λ m apart. added-provider.others_of t n name size sector m apart;
     dev = refl;
     tasting = refl;
-    names = offered-names n sector (slice ∷ []) (queued_of w) (can.free, tt) (tt, tt) firm.sound.providers.names;
-    disks = firm.sound.numbers.one_geom_of_disk;
+    names = offered-names n sector (slice ∷ []) (queued_of w) (can.free, tt) (tt, tt) firm.graph.providers.names;
+    disks = firm.graph.numbers.one_geom_of_disk;
     wholes = λ y stands own_one.
         subst (λ o. IfSome o (λ q. IsWholeIn g.config q.sector)) (sym (below_still y stands))
         (at-found (geom_at t y.geom) (λ h. IfSome (option_and_then (provider_at t) y.provider) (λ q.
         IsWholeIn h.config q.sector)) g (ap (geom_at t) own_one ∙ waits.stands)
-        (All-contains (FitsBelow t) t.consumers y firm.fitting.wholes stands));
+        (All-contains (FitsBelow t) t.consumers y firm.sizes.wholes stands));
     fits = geom_fits;
     wants = λ y stands.
         subst (λ a. IsAtMost (want (granted_in w) t y) a) (sym (kept.demand.wants y tt))
@@ -300,14 +300,14 @@ module _ (w : World) (g : Geom Config) (name : List ℕ) (sector : ℕ) (firm : 
     opened = λ y stands used. inl (sym (ap is_zero (kept.demand.haves y.number)) ∙ used);
     bios = λ x stands. untouched x.target;
     tasted = if-found w.taste (λ s. IsUntouched t u g s.provider) (λ s e. untouched s.provider);
-    rank = low_still w.taste firm.sound.events.taste;
+    rank = low_still w.taste firm.taste.order;
   }
 
   -- so the world is firm
   pub finished-firm : Firm (with_queued w (offer (queued_of w) n name size sector))
   finished-firm =
       more-firm w u g firm finished-more (offer (queued_of w) n name size sector).events
-      (offered-living n sector (slice ∷ []) (queued_of w) order firm.sound.events.living)
+      (offered-living n sector (slice ∷ []) (queued_of w) order firm.taste.living)
 
 -- so say all completions
 pub finishes_stay : FinishesStayFirm

@@ -62,7 +62,7 @@ module _ (w : World) (item : ℕ × HeaderDisk) (firm : Firm w) (is : IsNumbered
 
   -- the disk's sizes are those of one
   sizes : IsHeaderDisk item.1
-  sizes = All-contains IsHeaderDisk w.disks item.1 firm.fitting.disks is.here
+  sizes = All-contains IsHeaderDisk w.disks item.1 firm.sizes.disks is.here
 
   -- the place in the header
   at_number : slice_get w.disks item.0 ≡ Some item.1

@@ -102,7 +102,7 @@ module _ (w : World) (firm : Firm w) (ps : List Provider)
   -- has a size
   media : (p : Provider) → Contains ps p → IsMediaSize p.size p.sector
   media p here =
-      All-contains (λ (x : Provider). IsMediaSize x.size x.sector) w.topology.providers p firm.sound.providers.sizes
+      All-contains (λ (x : Provider). IsMediaSize x.size x.sector) w.topology.providers p firm.graph.providers.sizes
       (stands p here)
 
   -- and the sector size of all
@@ -118,7 +118,7 @@ module _ (w : World) (firm : Firm w) (ps : List Provider)
         → IsSectorSize (sector_of qs)
     by [] so = inl refl
     by (q ∷ qs) so =
-        All-contains (λ (x : Provider). IsSectorSize x.sector) w.topology.providers q firm.fitting.sectors
+        All-contains (λ (x : Provider). IsSectorSize x.sector) w.topology.providers q firm.sizes.sectors
         (so q (Contains-here q qs))
 
   -- each place fits

@@ -97,14 +97,14 @@ module _ (w : World) (firm : Firm w) (s : Taste) (is : w.taste ≡ Some s)
 
     -- the taste was in order
     was : IsTasteInOrder t s
-    was = subst (λ (o : Option Taste). IfSome o (IsTasteInOrder t)) is firm.sound.events.taste
+    was = subst (λ (o : Option Taste). IfSome o (IsTasteInOrder t)) is firm.taste.order
 
     -- so was how far the class was asked
     was_asked : IsAskedInOrder t p s.asked
     was_asked = at-found (provider_at t s.provider) (λ p. IsAskedInOrder t p s.asked) p found
         (subst (λ (o : Option Taste).
         IfSome o (λ s. IfSome (provider_at t s.provider) (λ p. IsAskedInOrder t p s.asked)))
-        is firm.fitting.asked)
+        is firm.taste.asked)
 
     -- a fact of the provider
     there : (P : Provider → Type 0) → P p → IfSome (provider_at t s.provider) P
@@ -227,8 +227,8 @@ module _ (w : World) (firm : Firm w) (s : Taste) (is : w.taste ≡ Some s)
     some_sector =
         let here = find-Contains (λ (x : Provider). x.number == s.provider) t.providers p found in
         has_sector p.size p.sector
-        (All-contains (λ (x : Provider). IsSectorSize x.sector) t.providers p firm.fitting.sectors here)
-        (All-contains (λ (x : Provider). IsMediaSize x.size x.sector) t.providers p firm.sound.providers.sizes here)
+        (All-contains (λ (x : Provider). IsSectorSize x.sector) t.providers p firm.sizes.sectors here)
+        (All-contains (λ (x : Provider). IsMediaSize x.size x.sector) t.providers p firm.graph.providers.sizes here)
 
     -- the first sector of a class may be read
     first_read : (kind : Kind) (sector : ℕ) → taste_where kind f ≡ Some sector → CanRead t p kind sector 0 no_links

@@ -28,6 +28,7 @@ use Rattle.geo_model.specs.Graph.{IsInOrder, PartsLive}
 use Rattle.geo_model.specs.Sound.{fits_kind, DifferInName, DifferInDisk, IsMediaSize, IsOfItsClass, IsPlaceInside, IsPlaced, IsTasteInOrder, LeadsDown}
 use Rattle.geo_model.specs.Steady.{HasItsComponents, WaitsForPlaces}
 use Rattle.geo_model.specs.Fitting.{IsWholeIn, sizes_of, FitsPlace, FitsPlaces, PlacesHold, HasItsSum, Firm}
+use Rattle.geo_model.proofs.FirmLemmas.{sound_of, steady_of}
 use Rattle.geo_laws_graph.proofs.Members.{has, find-Contains, filter-Contains, Contains-filter, Contains-map, nothing_in, All-from_contained}
 use Rattle.geo_laws_graph.proofs.Lists.{found_fresh, found_itself, unhit, length-changed}
 use Rattle.geo_laws_graph.proofs.Numbered.{number_found, any-contained}
@@ -111,7 +112,7 @@ module _ (w : World) (x : Growing) (q : Provider) (firm : Firm w) (is : IsStandi
 
   -- the geom is of its class
   class : IsOfItsClass x.geom
-  class = All-contains IsOfItsClass t.geoms x.geom firm.sound.numbers.classes (geom_here w x firm is)
+  class = All-contains IsOfItsClass t.geoms x.geom firm.graph.numbers.classes (geom_here w x firm is)
 
   -- the configuration before
   before : IsConcat x.geom.config
@@ -132,12 +133,12 @@ module _ (w : World) (x : Growing) (q : Provider) (firm : Firm w) (is : IsStandi
   -- its places fitted
   fitted : AllZip (FitsPlace t n) before.places before.sizes
   fitted = subst (λ z. AllZip (FitsPlace t n) (places_of z) (sizes_of z)) before.is
-      (All-contains (FitsPlaces t) t.geoms x.geom firm.fitting.places (geom_here w x firm is))
+      (All-contains (FitsPlaces t) t.geoms x.geom firm.sizes.places (geom_here w x firm is))
 
   -- none was free
   no_free : list_any is_none before.places ≡ false
   no_free = false_from_ne_true (list_any is_none before.places) (λ free.
-      let none_left = All-contains (WaitsForPlaces t) t.geoms x.geom firm.steady.partial (geom_here w x firm is)
+      let none_left = All-contains (WaitsForPlaces t) t.geoms x.geom firm.graph.partial (geom_here w x firm is)
       (ap (λ z. list_any is_none (places_of z)) before.is ∙ free) in
       nothing_in x.provider (subst (λ ys. Contains ys x.provider) none_left (provider_own w x firm is)))
 
@@ -146,14 +147,14 @@ module _ (w : World) (x : Growing) (q : Provider) (firm : Firm w) (is : IsStandi
       (flat_map option_to_list before.places)
   stood = subst (λ z. All (λ d. IsSomeAnd (consumer_at t d) (λ z. (z.geom ≡ n) × IsSome z.provider))
       (components z)) before.is
-      (All-contains (HasItsComponents (granted_in w) t) t.geoms x.geom firm.steady.components
+      (All-contains (HasItsComponents (granted_in w) t) t.geoms x.geom firm.demand.components
       (geom_here w x firm is) (inl is.upright))
 
   -- as long as its provider
   summed : x.provider.size ≡ sum before.sizes
   summed =
       All-contains (λ (y : Provider). y.size ≡ joined_size x.geom.config) (providers_of t n) x.provider
-      (All-contains (HasItsSum t) t.geoms x.geom firm.fitting.sums (geom_here w x firm is) (inl is.kind))
+      (All-contains (HasItsSum t) t.geoms x.geom firm.sizes.sums (geom_here w x firm is) (inl is.kind))
       (provider_own w x firm is)
       ∙ ap joined_size before.is
 
@@ -275,7 +276,7 @@ module _ (w : World) (x : Growing) (q : Provider) (firm : Firm w) (is : IsStandi
       if-found (option_and_then (provider_at u) d.item.provider) (λ r. (b ≤ r.size) × (b % r.sector ≡ 0)) (λ r e.
       let s = under d.item.provider
       (All-contains (λ (z : Consumer). IsSome (option_and_then (provider_at t) z.provider))
-      t.consumers d.item firm.steady.attached
+      t.consumers d.item firm.graph.attached
       (find-Contains (λ (z : Consumer). z.number == k) t.consumers d.item d.is)) r e in
       let fit = at-found (option_and_then (provider_at t) d.item.provider) (λ r. (b ≤ r.size)
       × (b % r.sector ≡ 0)) s.was
@@ -298,7 +299,7 @@ module _ (w : World) (x : Growing) (q : Provider) (firm : Firm w) (is : IsStandi
 
   -- the provider below the new consumer
   q_media : IsMediaSize q.size q.sector
-  q_media = All-contains (λ (z : Provider). IsMediaSize z.size z.sector) t.providers q firm.sound.providers.sizes
+  q_media = All-contains (λ (z : Provider). IsMediaSize z.size z.sector) t.providers q firm.graph.providers.sizes
       (find-Contains (λ (z : Provider). z.number == q.number) t.providers q there)
 
   -- is found
@@ -334,7 +335,7 @@ module _ (w : World) (x : Growing) (q : Provider) (firm : Firm w) (is : IsStandi
   -- the places before name different consumers
   apart_before : AllPairs (λ a b. a ≢ b) (flat_map option_to_list before.places)
   apart_before = subst (λ z. AllPairs (λ a b. a ≢ b) (components z)) before.is
-      (All-contains PlacesHold t.geoms x.geom firm.fitting.apart (geom_here w x firm is)).apart
+      (All-contains PlacesHold t.geoms x.geom firm.sizes.apart (geom_here w x firm is)).apart
 
   -- they are no more than its consumers
   few_before : length before.places ≤ length (consumers_of t n)
@@ -376,7 +377,7 @@ module _ (w : World) (x : Growing) (q : Provider) (firm : Firm w) (is : IsStandi
       let few : length (providers_of t n) ≤ 1 =
       All-contains (λ (z : Geom Config). z.kind ≡ kinds.Concat → length (providers_of t z.number) ≤ 1) t.geoms
       x.geom
-      firm.fitting.one (geom_here w x firm is) is.kind in
+      firm.sizes.one (geom_here w x firm is) is.kind in
       let same : length (providers_of u n) ≡ length (providers_of t n) =
       ap length (size_found.of (set_config (add_consumer t n (Some q.number)) n config) p
       (x.provider.size + q.size) n)
@@ -439,7 +440,7 @@ module _ (w : World) (x : Growing) (q : Provider) (firm : Firm w) (is : IsStandi
   larger_media : IsMediaSize (x.provider.size + q.size) x.provider.sector
   larger_media =
       let own = All-contains (λ (z : Provider). IsMediaSize z.size z.sector) t.providers x.provider
-      firm.sound.providers.sizes (provider_here w x firm is) in
+      firm.graph.providers.sizes (provider_here w x firm is) in
       let some : 1 ≤ x.provider.size = own.positive in
       record {
         positive = omega arith;
@@ -489,7 +490,7 @@ module _ (w : World) (x : Growing) (q : Provider) (firm : Firm w) (is : IsStandi
       elim (at-some (geom_at t x.provider.geom) (λ h. (is_zero (have (granted_in w) t x.provider.number) ≡ false)
       ⊎ (h.withering ≡ false) → IsSome (disk_of h.config) ⊎ IsPlaced t h x.provider) x.geom
       (ap (geom_at t) is.found.own ∙ is.found.geom)
-      (All-contains (LeadsDown (granted_in w) t) t.providers x.provider firm.sound.places
+      (All-contains (LeadsDown (granted_in w) t) t.providers x.provider firm.demand.places
       (provider_here w x firm is)) (inr is.upright)) [
         | inl disk ↦ false_true (subst (λ z. IsSome (disk_of z)) before.is disk)
         | inr so ↦ so
@@ -540,7 +541,7 @@ module _ (w : World) (x : Growing) (q : Provider) (firm : Firm w) (is : IsStandi
   larger_fits : ProviderFits u g larger
   larger_fits = record {
     geom = is.found.own;
-    sector = All-contains (λ (z : Provider). IsSectorSize z.sector) t.providers x.provider firm.fitting.sectors
+    sector = All-contains (λ (z : Provider). IsSectorSize z.sector) t.providers x.provider firm.sizes.sectors
         (provider_here w x firm is);
     size = larger_media;
     leads = inr placed;
@@ -648,9 +649,9 @@ module _ (w : World) (x : Growing) (q : Provider) (firm : Firm w) (is : IsStandi
   larger-more = record {
     order = u_order;
     live = u_live;
-    ranks = appends_hold.ranks w x q firm.sound firm.steady is.found there none;
-    exclusive = appends_hold.exclusive w x q firm.sound none;
-    limited = appends_hold.limit w x q firm.sound none;
+    ranks = appends_hold.ranks w x q (sound_of w firm) (steady_of w firm) is.found there none;
+    exclusive = appends_hold.exclusive w x q (sound_of w firm) none;
+    limited = appends_hold.limit w x q (sound_of w firm) none;
     old_geoms = λ m h apart e. grown_is_found.other_geoms w x q m apart ∙ e;
     old_providers = provider_in;
     old_consumers = consumer_in;
@@ -677,11 +678,11 @@ module _ (w : World) (x : Growing) (q : Provider) (firm : Firm w) (is : IsStandi
         subst (λ z. DifferInName z e) (sym first.same)
         (subst (λ z. DifferInName (record a { size = d.size }) z) (sym second.same) apart))
         t.next_provider u.next_provider t.providers u.providers (order w x firm is).providers u_order.providers
-        provider_comes firm.sound.providers.names;
+        provider_comes firm.graph.providers.names;
     disks = pairs-from (λ (z : Geom Config). z.number) DifferInDisk SameDisk (λ a b of. of.0)
         (λ a b d e first second apart k one two. apart k (sym first.1 ∙ one) (sym second.1 ∙ two))
         t.next_geom u.next_geom t.geoms u.geoms (order w x firm is).geoms u_order.geoms geom_comes
-        firm.sound.numbers.one_geom_of_disk;
+        firm.graph.numbers.one_geom_of_disk;
     wholes = λ d here own.
         if-found (option_and_then (provider_at u) d.provider) (λ r. IsWholeIn config r.sector) (λ r e.
         subst (λ z. IsWholeIn z r.sector) (sym config_is) tt);
@@ -690,7 +691,7 @@ module _ (w : World) (x : Growing) (q : Provider) (firm : Firm w) (is : IsStandi
     opened = opened_upright w x firm is q there none;
     bios = λ b here. untouched b.target (bio_away b here);
     tasted = taste_away w.taste above.1;
-    rank = taste_low w.taste above.1 firm.sound.events.taste;
+    rank = taste_low w.taste above.1 firm.taste.order;
   }
 
   -- events are of providers that live still
@@ -706,7 +707,7 @@ module _ (w : World) (x : Growing) (q : Provider) (firm : Firm w) (is : IsStandi
       more-firm w u g firm larger-more w.events
       (All-weaker (λ e. IsSome (provider_at t (provider_of_event e)))
       (λ e. IsSome (provider_at u (provider_of_event e)))
-      (λ e. living_still (provider_of_event e)) w.events firm.sound.events.living)
+      (λ e. living_still (provider_of_event e)) w.events firm.taste.living)
 
   -- and each provider of the graph before lives
   pub larger-lives : All (λ (y : Provider). IsSome (provider_at u y.number)) t.providers

@@ -91,11 +91,11 @@ module _ (w : World) (kind : Kind) (name : List ℕ) (config : Config) (automati
 
   -- before, all stood in order
   order : IsInOrder t
-  order = sound-order w firm.sound.numbers
+  order = sound-order w firm.graph.numbers
 
   -- and lived
   live : PartsLive t
-  live = steady-parts t firm.steady.parts firm.steady.attached
+  live = steady-parts t firm.graph.parts firm.graph.attached
 
   -- another geom that lives isn't the new one
   lives_apart : (h : ℕ) → IsSome (geom_at t h) → h ≢ n
@@ -168,7 +168,7 @@ module _ (w : World) (kind : Kind) (name : List ℕ) (config : Config) (automati
 
   -- the geom alone changes no rank
   rank_base : (h : ℕ) → rank base h ≡ rank t h
-  rank_base h = (adding-stay.geom t kind name config automatic firm.sound.ranks.ranked live.geoms).same h
+  rank_base h = (adding-stay.geom t kind name config automatic firm.graph.ranks.ranked live.geoms).same h
 
   -- the ranks with the consumers: others stay, and that of the geom is the one over the providers
   pub record RanksOver : Type 0 where
@@ -178,8 +178,8 @@ module _ (w : World) (kind : Kind) (name : List ℕ) (config : Config) (automati
   -- so they are
   ranks_over : RanksOver
   ranks_over =
-      let stay = adding-stay.geom t kind name config automatic firm.sound.ranks.ranked live.geoms in
-      let held = sound-ranks.geom_added t kind name config automatic firm.sound.ranks live.geoms order in
+      let stay = adding-stay.geom t kind name config automatic firm.graph.ranks.ranked live.geoms in
+      let held = sound-ranks.geom_added t kind name config automatic firm.graph.ranks live.geoms order in
       let all = over-ranks n ps base stay.ranked (add_geom-geoms t kind name config automatic live.geoms)
       (some-there (geom_at base n) g new_found) none_of_it found_list in
       let before : map (λ (p : Provider). rank base p.geom) ps ≡ map (λ (p : Provider). rank t p.geom) ps =
@@ -187,7 +187,7 @@ module _ (w : World) (kind : Kind) (name : List ℕ) (config : Config) (automati
       (All-from_contained (λ (p : Provider). rank base p.geom ≡ rank t p.geom) ps (λ p here. stay.same p.geom)) in
       let lower : largest (map (λ (p : Provider). rank base p.geom) ps)
       ≡ largest (map (λ (p : Provider). rank t p.geom) ps) = ap largest before in
-      let one : rank base n ≡ 1 = stay.same n ∙ rank-next t order firm.sound.ranks.ranked live.geoms in
+      let one : rank base n ≡ 1 = stay.same n ∙ rank-next t order firm.graph.ranks.ranked live.geoms in
       let top : rank v n ≡ max (rank base n) (1 + largest (map (λ (p : Provider). rank base p.geom) ps)) = all.1 in
       let low : 1 + largest (map (λ (p : Provider). rank t p.geom) ps) ≤ MAX_RANK = can.low in
       let others : (h : ℕ) → h ≢ n → rank v h ≡ rank t h = λ h apart. all.0.same h apart ∙ stay.same h in
@@ -200,7 +200,7 @@ module _ (w : World) (kind : Kind) (name : List ℕ) (config : Config) (automati
               (all_of (λ (x : Geom Config). x.number ≢ 1 → x.number ≢ 2 → rank v x.number ≤ MAX_RANK) t.geoms
               (λ x here dev taste.
               let was : rank t x.number ≤ MAX_RANK = All-contains (λ (x : Geom Config). x.number ≢ 1 → x.number ≢ 2
-              → rank t x.number ≤ MAX_RANK) t.geoms x firm.sound.ranks.not_deep here dev taste in
+              → rank t x.number ≤ MAX_RANK) t.geoms x firm.graph.ranks.not_deep here dev taste in
               let is : rank v x.number ≡ rank t x.number = others x.number (old_geom_apart x here) in
               omega arith))
               (λ dev taste. omega arith));
@@ -228,7 +228,7 @@ module _ (w : World) (kind : Kind) (name : List ℕ) (config : Config) (automati
   -- demand stays
   demand : DemandStays (granted_in w) t (granted_in w) u (Contains t.consumers)
   demand =
-      let first = geom_came (granted_in w) t kind name config automatic firm.sound.ranks.ranked
+      let first = geom_came (granted_in w) t kind name config automatic firm.graph.ranks.ranked
       (each-found.providers t order)
       (all_of (λ (c : Consumer). c.geom ≢ n) t.consumers (λ c here.
       lives_apart c.geom (All-contains (λ (z : Consumer). IsSome (geom_at t z.geom)) t.consumers c live.geoms
@@ -354,7 +354,7 @@ module _ (w : World) (kind : Kind) (name : List ℕ) (config : Config) (automati
   disks_differ : AllPairs DifferInDisk u.geoms
   disks_differ =
       subst (AllPairs DifferInDisk) (sym geoms_are)
-      (all_pairs_push DifferInDisk t.geoms g firm.sound.numbers.one_geom_of_disk (λ k d short a first second.
+      (all_pairs_push DifferInDisk t.geoms g firm.graph.numbers.one_geom_of_disk (λ k d short a first second.
       let x : Geom Config = get_or t.geoms k d in
       let new = at-found (disk_of config) (IsNewDisk w sector slices) a second can.disk in
       let is : is_geom_of_disk a x ≡ true =
@@ -465,7 +465,7 @@ module _ (w : World) (kind : Kind) (name : List ℕ) (config : Config) (automati
       ∙ offers.free)
       slices can.offers))
       (recursion-from_pairs (λ (x y : NewSlice). same_name x.name y.name ≡ false) slices can.names)
-      (subst (AllPairs DifferInName) (sym (over-providers n ps base)) firm.sound.providers.names)
+      (subst (AllPairs DifferInName) (sym (over-providers n ps base)) firm.graph.providers.names)
 
   -- the graph has come to more
   made-more : IsMore w u g
@@ -473,8 +473,8 @@ module _ (w : World) (kind : Kind) (name : List ℕ) (config : Config) (automati
     order = kept.order;
     live = kept.live;
     ranks = kept.ranks;
-    exclusive = demand.exclusive firm.sound.counts.exclusive;
-    limited = demand.limit firm.sound.counts.limited;
+    exclusive = demand.exclusive firm.demand.counts.exclusive;
+    limited = demand.limit firm.demand.counts.limited;
     old_geoms = λ m x apart e. geom_in_end m x (found-before (λ (z : Geom Config). z.number == m) t.geoms _ x e);
     old_providers = λ m x e.
         record { now = x; found = provider_in_end m x e; is = record { same = refl; larger = omega arith } };
@@ -517,7 +517,7 @@ module _ (w : World) (kind : Kind) (name : List ℕ) (config : Config) (automati
     opened = λ y here used. inl (sym (ap is_zero (demand.haves y.number)) ∙ used);
     bios = λ x here. untouched x.target;
     tasted = if-found w.taste (λ s. IsUntouched t u g s.provider) (λ s e. untouched s.provider);
-    rank = low_still w.taste firm.sound.events.taste;
+    rank = low_still w.taste firm.taste.order;
   }
 
   -- so the world is firm
@@ -528,7 +528,7 @@ module _ (w : World) (kind : Kind) (name : List ℕ) (config : Config) (automati
       (over-order n ps base (added-geom.order t kind name config automatic order))
       (subst (λ (xs : List Provider). All
       (λ e. IsSome (find (λ (z : Provider). z.number == provider_of_event e) xs)) w.events)
-      (sym (over-providers n ps base)) firm.sound.events.living))
+      (sym (over-providers n ps base)) firm.taste.living))
 
 -- a geom that is made keeps a firm world firm
 pub makes_keep : MakesKeepFirm

@@ -6,17 +6,15 @@ use Rattle.std.proofs.lemmas.Bool.{and_parts, eqb-true}
 use Rattle.std.proofs.lemmas.List.Elements.{All-contains, All-weaker, Contains-get_or}
 use Rattle.geo_base.proofs.FindLists.{some-passes}
 use Rattle.geo_base.specs.declared.limits.TheConstants.{UNTASTED_RANK}
-use Rattle.geo_model.specs.declared.step.Event.{Event}
 use Rattle.geo_model.specs.Words.{is_read, is_flush}
 use Rattle.geo_model.specs.Topology.{Topology, Geom, Provider, Consumer, geom_at, provider_at, consumer_at, geom_of_provider, is_withering}
 use Rattle.geo_model.specs.Rank.{rank}
 use Rattle.geo_model.specs.Demand.{have, want, is_zero}
-use Rattle.geo_model.specs.Events.{provider_of_event}
 use Rattle.geo_model.specs.Bios.{piece_targets, disk_at}
 use Rattle.geo_model.specs.Place.{Spot, place, component, disk_of}
 use Rattle.geo_model.specs.World.{World, Config, Taste, Bio, granted_in, children_of, is_sent, is_busy}
 use Rattle.geo_model.specs.Graph.{IsInOrder}
-use Rattle.geo_model.specs.Sound.{IsMediaSize, ProvidersHold, CountsHold, IsOfItsClass, HasDiskSizes, NumbersHold, IsHandleConsumer, HasItsConsumer, HasTasteConsumer, HandlesHold, IsPlaceInside, IsPlaced, LeadsDown, ChainHolds, IsTasteInOrder, EventsHold}
+use Rattle.geo_model.specs.Sound.{IsMediaSize, ProvidersHold, CountsHold, IsOfItsClass, HasDiskSizes, NumbersHold, IsHandleConsumer, HasItsConsumer, HasTasteConsumer, HandlesHold, IsPlaceInside, IsPlaced, LeadsDown, ChainHolds, IsTasteInOrder}
 use Rattle.geo_model.specs.SoundBios.{IsRangeInside, HasCountFor, IsBioInOrder, shape_of_child, shape_of_piece, HasItsPieces, IsFamilyInOrder, DisksHold}
 use Rattle.geo_model.specs.Fitting.{Firm}
 use Rattle.geo_laws_graph.proofs.Members.{has, find-Contains}
@@ -55,7 +53,7 @@ module _ (w : World) (u : Topology Config) (g : Geom Config) (firm : Firm w) (mo
 
   -- it stood in order
   pub before_order : IsInOrder t
-  before_order = sound-order w firm.sound.numbers
+  before_order = sound-order w firm.graph.numbers
 
   -- a geom that withers did before, and isn't the one
   pub withered_before : (n : ℕ) → is_withering u n ≡ true → (n ≢ g.number) × (is_withering t n ≡ true)
@@ -83,14 +81,14 @@ module _ (w : World) (u : Topology Config) (g : Geom Config) (firm : Firm w) (mo
         elim (more.providers y here) [
           | inl old ↦
               All-contains (λ (x : Provider). IsTrue (is_withering t x.geom) → x.errored ≡ true) t.providers y
-              firm.sound.providers.withering old.0 before.1
+              firm.graph.providers.withering old.0 before.1
           | inr made ↦ absurd (before.0 made.geom)
         ]);
     sizes = all_of (λ (x : Provider). IsMediaSize x.size x.sector) u.providers (λ y here.
         elim (more.providers y here) [
           | inl old ↦
               All-contains (λ (x : Provider). IsMediaSize x.size x.sector) t.providers y
-              firm.sound.providers.sizes old.0
+              firm.graph.providers.sizes old.0
           | inr made ↦ made.size
         ]);
   }
@@ -107,7 +105,7 @@ module _ (w : World) (u : Topology Config) (g : Geom Config) (firm : Firm w) (mo
             subst (λ (ps : List Provider). IfSome (disk_of y.config) (λ d. IsSomeAnd (slice_get w.disks d) (λ disk.
             All (λ (p : Provider). (p.sector ≡ disk.sector) × (p.size ≡ disk.size)) ps)))
             (sym (more.others y.number old.1))
-            (All-contains (HasDiskSizes t w.disks) t.geoms y firm.sound.numbers.disk_sizes old.0)
+            (All-contains (HasDiskSizes t w.disks) t.geoms y firm.graph.numbers.disk_sizes old.0)
         | inr same ↦ subst (HasDiskSizes u w.disks) (sym same) more.fits.disk_sizes
       ]
 
@@ -119,7 +117,7 @@ module _ (w : World) (u : Topology Config) (g : Geom Config) (firm : Firm w) (mo
     consumers = more.order.consumers;
     classes = all_of IsOfItsClass u.geoms (λ y here.
         elim (more.geoms y here) [
-          | inl old ↦ All-contains IsOfItsClass t.geoms y firm.sound.numbers.classes old.0
+          | inl old ↦ All-contains IsOfItsClass t.geoms y firm.graph.numbers.classes old.0
           | inr same ↦ subst IsOfItsClass (sym same) more.fits.class
         ]);
     one_geom_of_disk = more.disks;
@@ -148,11 +146,11 @@ module _ (w : World) (u : Topology Config) (g : Geom Config) (firm : Firm w) (mo
   -- handles and the taste's consumer hold
   pub more-handles : HandlesHold u w.handles w.next_handle w.taste
   more-handles = record {
-    numbers = firm.sound.handles.numbers;
-    consumers = subst (All (IsHandleConsumer w.handles)) (sym more.dev) firm.sound.handles.consumers;
+    numbers = firm.handles.numbers;
+    consumers = subst (All (IsHandleConsumer w.handles)) (sym more.dev) firm.handles.consumers;
     handles = All-weaker (HasItsConsumer t) (HasItsConsumer u) (λ h. its_consumer h.consumer h.dead) w.handles
-        firm.sound.handles.handles;
-    taste = tasting_still w.taste firm.sound.handles.taste;
+        firm.handles.handles;
+    taste = tasting_still w.taste firm.handles.taste;
   }
 
   -- Places
@@ -229,7 +227,7 @@ module _ (w : World) (u : Topology Config) (g : Geom Config) (firm : Firm w) (mo
       elim (more.providers p here) [
         | inl old ↦
             old_leads p old.0 old.1
-            (All-contains (LeadsDown (granted_in w) t) t.providers p firm.sound.places old.0)
+            (All-contains (LeadsDown (granted_in w) t) t.providers p firm.demand.places old.0)
         | inr made ↦
             some-with (geom_at u p.geom) (λ h. (is_zero (have (granted_in w) u p.number) ≡ false)
             ⊎ (h.withering ≡ false) → IsSome (disk_of h.config) ⊎ IsPlaced u h p) g
@@ -244,7 +242,7 @@ module _ (w : World) (u : Topology Config) (g : Geom Config) (firm : Firm w) (mo
       → StandsBoth t u p
   stands_both p x was still =
       let h = has (geom_at t x.geom) (All-contains (λ (z : Provider). IsSome (geom_at t z.geom)) t.providers x
-      firm.steady.parts.providers (find-Contains (λ (z : Provider). z.number == p) t.providers x was)) in
+      firm.graph.parts.providers (find-Contains (λ (z : Provider). z.number == p) t.providers x was)) in
       record {
         provider = x;
         was = was;
@@ -258,13 +256,13 @@ module _ (w : World) (u : Topology Config) (g : Geom Config) (firm : Firm w) (mo
   pub target_stands : (x : Bio) → Contains w.bios x → StandsBoth t u x.target
   target_stands x here =
       let p = found-with (provider_at t x.target) (λ p. is_flush x.cmd ≡ false → IsRangeInside x p)
-      (All-contains (IsBioInOrder (granted_in w) t) w.bios x firm.sound.bios here).target in
+      (All-contains (IsBioInOrder (granted_in w) t) w.bios x firm.bios.order here).target in
       stands_both x.target p.item p.is (more.bios x here p.item p.is)
 
   -- a bio is in order
   bio_in_order : (x : Bio) → Contains w.bios x → IsBioInOrder (granted_in w) u x
   bio_in_order x here =
-      let old = All-contains (IsBioInOrder (granted_in w) t) w.bios x firm.sound.bios here in
+      let old = All-contains (IsBioInOrder (granted_in w) t) w.bios x firm.bios.order here in
       let d = found-with (consumer_at t x.source)
       (λ c. (c.provider ≡ Some x.target) × HasCountFor (granted_in w) t x c) old.source in
       let less = more.wants d.item (find-Contains (λ (z : Consumer). z.number == x.source) t.consumers d.item
@@ -307,7 +305,7 @@ module _ (w : World) (u : Topology Config) (g : Geom Config) (firm : Firm w) (mo
   -- families are in order
   family_in_order : (x : Bio) → Contains w.bios x → IsFamilyInOrder u w.bios x
   family_in_order x here =
-      let old = All-contains (IsFamilyInOrder t w.bios) w.bios x firm.sound.families here in
+      let old = All-contains (IsFamilyInOrder t w.bios) w.bios x firm.bios.families here in
       record {
         parent = old.parent;
         pieces = λ waits. has_pieces x here (old.pieces waits);
@@ -337,12 +335,12 @@ module _ (w : World) (u : Topology Config) (g : Geom Config) (firm : Firm w) (mo
         (λ x here out.
         subst (λ o. IsSome o) (sym (same_disk x here))
         (All-contains (λ x. IsTrue (is_sent x.phase || is_busy x.phase) → IsSome (disk_at t x.target)) w.bios x
-        firm.sound.disks.at_disk here out));
+        firm.bios.disks.at_disk here out));
     one_busy = λ i j d less_than short a b disk first second.
         let here : Contains w.bios (get_or w.bios i d) = Contains-get_or w.bios i d
         (omega (arith, less_than, short)) in
         let there : Contains w.bios (get_or w.bios j d) = Contains-get_or w.bios j d short in
-        firm.sound.disks.one_busy i j d less_than short a b disk
+        firm.bios.disks.one_busy i j d less_than short a b disk
         (sym (same_disk (get_or w.bios i d) here) ∙ first)
         (sym (same_disk (get_or w.bios j d) there) ∙ second);
   }
@@ -379,11 +377,6 @@ module _ (w : World) (u : Topology Config) (g : Geom Config) (firm : Firm w) (mo
             (both.was ∙ sym both.found) (old.chain ebr);
       }
 
-  -- events and the taste hold
-  pub more-events : (queue : List Event) → All (λ e. IsSome (provider_at u (provider_of_event e))) queue
-      → EventsHold u queue w.taste w.bios
-  more-events queue living = record {
-    living = living;
-    read_out = firm.sound.events.read_out;
-    taste = taste_holds w.taste firm.sound.events.taste more.tasted more.rank;
-  }
+  -- the taste is in order
+  pub more-taste : IfSome w.taste (IsTasteInOrder u)
+  more-taste = taste_holds w.taste firm.taste.order more.tasted more.rank

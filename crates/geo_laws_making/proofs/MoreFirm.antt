@@ -18,8 +18,8 @@ use Rattle.geo_model.specs.Acceptance.{taste_where, places_of, joined_size}
 use Rattle.geo_model.specs.Tasting.{facts_of}
 use Rattle.geo_model.specs.World.{World, Config, Taste, Asked, NoClass, NextSector, ReadOut, ReadBack, granted_in, is_taste_root}
 use Rattle.geo_model.specs.Sound.{IsTasteInOrder}
-use Rattle.geo_model.specs.Steady.{Steady, has_free_place, has_open_provider, HasItsComponents, WaitsForPlaces}
-use Rattle.geo_model.specs.Fitting.{IsWholeIn, FitsBelow, sizes_of, FitsPlace, FitsPlaces, IsAskedInOrder, HasOneProvider, PlacesHold, HasItsSum, Fitting, Firm}
+use Rattle.geo_model.specs.Steady.{has_free_place, has_open_provider, HasItsComponents, WaitsForPlaces}
+use Rattle.geo_model.specs.Fitting.{IsWholeIn, FitsBelow, sizes_of, FitsPlace, FitsPlaces, IsAskedInOrder, HasOneProvider, PlacesHold, HasItsSum, TasteReadHolds, GraphHolds, SizesHold, Firm}
 use Rattle.geo_laws_graph.proofs.Members.{has, find-Contains, filter-Contains}
 use Rattle.geo_laws_graph.proofs.Lists.{found_itself}
 use Rattle.geo_laws_graph.proofs.Numbered.{any-contained, number_found}
@@ -27,7 +27,7 @@ use Rattle.geo_laws_counts.proofs.LimitFacts.{all_of}
 use Rattle.geo_laws_life.proofs.Found.{found-with, some-with, some-there, if-found, at-found, at-some, one-found, all_zip-weaker}
 use Rattle.geo_laws_life.proofs.Less.{remade}
 use Rattle.geo_laws_making.specs.MoreLaws.{IsGrownFrom, IsMore, MoreIsFirm}
-use Rattle.geo_laws_making.proofs.More.{WasBelow, before_order, target_stands, taste_stands, more-providers, more-counts, more-numbers, more-handles, more-places, more-bios, more-families, more-disks, more-events}
+use Rattle.geo_laws_making.proofs.More.{WasBelow, before_order, target_stands, taste_stands, more-providers, more-counts, more-numbers, more-handles, more-places, more-bios, more-families, more-disks, more-taste}
 
 -- what is asked stays in order where the facts are the same
 asked_still : (t u : Topology Config) (p : Provider) → facts_of u p ≡ facts_of t p → (a : Asked)
@@ -131,7 +131,7 @@ module _ (w : World) (u : Topology Config) (g : Geom Config) (firm : Firm w) (mo
             let d = found-with (consumer_at t c) (λ x. (x.geom ≡ y.number) × IsSome x.provider) fact in
             some-with (consumer_at u c) (λ x. (x.geom ≡ y.number) × IsSome x.provider) d.item
             (more.old_consumers c d.item d.is) d.fact) (components y.config)
-            (All-contains (HasItsComponents (granted_in w) t) t.geoms y firm.steady.components old.0
+            (All-contains (HasItsComponents (granted_in w) t) t.geoms y firm.demand.components old.0
             (used_before y old.0 old.1 used)))
         | inr same ↦ (λ used.
             subst (λ (z : Geom Config). All (λ c. IsSomeAnd (consumer_at u c) (λ x. (x.geom ≡ z.number)
@@ -139,14 +139,17 @@ module _ (w : World) (u : Topology Config) (g : Geom Config) (firm : Firm w) (mo
             (components z.config)) (sym same) more.fits.components)
       ]
 
-  -- the world is steady
-  more-steady : (queue : List Event) → Steady (remade w u queue)
-  more-steady queue = record {
+  -- the graph holds
+  more-graph : GraphHolds u w.disks
+  more-graph = record {
+    ranks = more.ranks;
+    providers = more-providers w u g firm more;
+    numbers = more-numbers w u g firm more;
     made = all_of (λ (x : Geom Config). (x.number ≡ 1) ⊎ (x.number ≡ 2) → x.automatic ≡ false) u.geoms (λ y here.
         elim (more.geoms y here) [
           | inl old ↦
               All-contains (λ (x : Geom Config). (x.number ≡ 1) ⊎ (x.number ≡ 2) → x.automatic ≡ false) t.geoms y
-              firm.steady.made old.0
+              firm.graph.made old.0
           | inr same ↦ (λ which.
               let number = ap (λ (z : Geom Config). z.number) (sym same) in
               absurd (elim which [
@@ -160,24 +163,21 @@ module _ (w : World) (u : Topology Config) (g : Geom Config) (firm : Firm w) (mo
           | inl old ↦
               attached_before c.provider
               (All-contains (λ (c : Consumer). IsSome (option_and_then (provider_at t) c.provider)) t.consumers c
-              firm.steady.attached old)
+              firm.graph.attached old)
           | inr made ↦ made.attached
         ]);
-    components = all_of (HasItsComponents (granted_in w) u) u.geoms components_stand;
     partial = all_of (WaitsForPlaces u) u.geoms (λ y here.
         elim (more.geoms y here) [
           | inl old ↦ (λ free.
-              more.others y.number old.1 ∙ All-contains (WaitsForPlaces t) t.geoms y firm.steady.partial old.0 free)
+              more.others y.number old.1 ∙ All-contains (WaitsForPlaces t) t.geoms y firm.graph.partial old.0 free)
           | inr same ↦
               subst (λ (z : Geom Config). IsTrue (has_free_place z) → providers_of u z.number ≡ []) (sym same)
               more.fits.partial
         ]);
-    owners = firm.steady.owners;
-    results = firm.steady.results;
-    unmarked = subst (All (λ (c : Consumer). c.spoiled ≡ false)) (sym more.dev) firm.steady.unmarked;
+    unmarked = subst (All (λ (c : Consumer). c.spoiled ≡ false)) (sym more.dev) firm.graph.unmarked;
   }
 
-  -- Fitting
+  -- Sizes
 
   -- what is below a consumer fits
   fits_below : (c : Consumer) → Contains u.consumers c → FitsBelow u c
@@ -197,17 +197,17 @@ module _ (w : World) (u : Topology Config) (g : Geom Config) (firm : Firm w) (mo
       by h found (inr apart) =
           let old = other_consumer c here apart in
           let was = old_geom c.geom apart
-          (All-contains (λ (z : Consumer). IsSome (geom_at t z.geom)) t.consumers c firm.steady.parts.consumers
+          (All-contains (λ (z : Consumer). IsSome (geom_at t z.geom)) t.consumers c firm.graph.parts.consumers
           old) h found in
           if-found (option_and_then (provider_at u) c.provider) (λ q. IsWholeIn h.config q.sector) (λ q under.
           let b = was_below c.provider
           (All-contains (λ (z : Consumer). IsSome (option_and_then (provider_at t) z.provider)) t.consumers c
-          firm.steady.attached old) q under in
+          firm.graph.attached old) q under in
           subst (λ n. IsWholeIn h.config n) (sym (ap (λ (z : Provider). z.sector) b.is.same))
           (at-found (option_and_then (provider_at t) c.provider) (λ q. IsWholeIn h.config q.sector) b.before b.was
           (at-found (geom_at t c.geom)
           (λ h. IfSome (option_and_then (provider_at t) c.provider) (λ q. IsWholeIn h.config q.sector)) h was
-          (All-contains (FitsBelow t) t.consumers c firm.fitting.wholes old))))
+          (All-contains (FitsBelow t) t.consumers c firm.sizes.wholes old))))
 
   -- a place of another geom fits
   fits_place : (n : ℕ) → n ≢ g.number → (place : Option ℕ) (size : ℕ) → FitsPlace t n place size
@@ -227,7 +227,7 @@ module _ (w : World) (u : Topology Config) (g : Geom Config) (firm : Firm w) (mo
       (λ q under.
       let b = was_below c.provider
       (All-contains (λ (z : Consumer). IsSome (option_and_then (provider_at t) z.provider)) t.consumers c
-      firm.steady.attached old) q under in
+      firm.graph.attached old) q under in
       let fit = at-found (option_and_then (provider_at t) c.provider) (λ q. (size ≤ q.size)
       × (size % q.sector ≡ 0)) b.before
       b.was (at-found (consumer_at t k) (λ c. c.geom ≡ n
@@ -251,13 +251,13 @@ module _ (w : World) (u : Topology Config) (g : Geom Config) (firm : Firm w) (mo
       (ap (with_kind both.provider) both.of ∙ sym (ap (with_kind both.provider) both.was_of)) s.asked
       (at-found (provider_at t s.provider) (λ p. IsAskedInOrder t p s.asked) both.provider both.was old))
 
-  -- the world is fitting
-  more-fitting : (queue : List Event) → Fitting (remade w u queue)
-  more-fitting queue = record {
-    disks = firm.fitting.disks;
+  -- sizes fit
+  more-sizes : SizesHold u w.disks
+  more-sizes = record {
+    disks = firm.sizes.disks;
     sectors = all_of (λ (p : Provider). IsSectorSize p.sector) u.providers (λ p here.
         elim (more.providers p here) [
-          | inl old ↦ All-contains (λ (p : Provider). IsSectorSize p.sector) t.providers p firm.fitting.sectors
+          | inl old ↦ All-contains (λ (p : Provider). IsSectorSize p.sector) t.providers p firm.sizes.sectors
               old.0
           | inr made ↦ made.sector
         ]);
@@ -267,7 +267,7 @@ module _ (w : World) (u : Topology Config) (g : Geom Config) (firm : Firm w) (mo
           | inl old ↦
               all_zip-weaker (FitsPlace t y.number) (FitsPlace u y.number) (λ a b. fits_place y.number old.1 a b)
               (places_of y.config) (sizes_of y.config)
-              (All-contains (FitsPlaces t) t.geoms y firm.fitting.places old.0)
+              (All-contains (FitsPlaces t) t.geoms y firm.sizes.places old.0)
           | inr same ↦ subst (FitsPlaces u) (sym same) more.fits.places
         ]);
     one = all_of (HasOneProvider u) u.geoms (λ y here.
@@ -275,12 +275,12 @@ module _ (w : World) (u : Topology Config) (g : Geom Config) (firm : Firm w) (mo
           | inl old ↦
               subst (λ (ps : List Provider). y.kind ≡ kinds.Concat → length ps ≤ 1)
               (sym (more.others y.number old.1))
-              (All-contains (HasOneProvider t) t.geoms y firm.fitting.one old.0)
+              (All-contains (HasOneProvider t) t.geoms y firm.sizes.one old.0)
           | inr same ↦ subst (HasOneProvider u) (sym same) more.fits.one
         ]);
     apart = all_of PlacesHold u.geoms (λ y here.
         elim (more.geoms y here) [
-          | inl old ↦ All-contains PlacesHold t.geoms y firm.fitting.apart old.0
+          | inl old ↦ All-contains PlacesHold t.geoms y firm.sizes.apart old.0
           | inr same ↦ subst PlacesHold (sym same) more.fits.apart
         ]);
     sums = all_of (HasItsSum u) u.geoms (λ y here.
@@ -288,43 +288,53 @@ module _ (w : World) (u : Topology Config) (g : Geom Config) (firm : Firm w) (mo
           | inl old ↦
               subst (λ (ps : List Provider). (y.kind ≡ kinds.Concat) ⊎ (y.kind ≡ kinds.Stripe)
               → All (λ p. p.size ≡ joined_size y.config) ps)
-              (sym (more.others y.number old.1)) (All-contains (HasItsSum t) t.geoms y firm.fitting.sums old.0)
+              (sym (more.others y.number old.1)) (All-contains (HasItsSum t) t.geoms y firm.sizes.sums old.0)
           | inr same ↦ subst (HasItsSum u) (sym same) more.fits.sums
         ]);
-    asked = asks w.taste firm.sound.events.taste more.tasted firm.fitting.asked;
-    read = record {
-      one = firm.fitting.read.one;
-      sector = all_of (λ x. IsTrue (is_taste_root x.owner)
-          → IsSomeAnd (provider_at u x.target) (λ p. x.len ≡ p.sector)) w.bios (λ x here root.
-          let s = target_stands w u g firm more x here in
-          some-with (provider_at u x.target) (λ p. x.len ≡ p.sector) s.provider s.found
-          (at-some (provider_at t x.target) (λ p. x.len ≡ p.sector) s.provider s.was
-          (All-contains (λ x. IsTrue (is_taste_root x.owner)
-          → IsSomeAnd (provider_at t x.target) (λ p. x.len ≡ p.sector)) w.bios x firm.fitting.read.sector here
-          root)));
-    };
-    commands = firm.fitting.commands;
+  }
+
+  -- the taste's read is of one sector
+  more-read : TasteReadHolds u w.bios
+  more-read = record {
+    one = firm.bios.read.one;
+    sector = all_of (λ x. IsTrue (is_taste_root x.owner)
+        → IsSomeAnd (provider_at u x.target) (λ p. x.len ≡ p.sector)) w.bios (λ x here root.
+        let s = target_stands w u g firm more x here in
+        some-with (provider_at u x.target) (λ p. x.len ≡ p.sector) s.provider s.found
+        (at-some (provider_at t x.target) (λ p. x.len ≡ p.sector) s.provider s.was
+        (All-contains (λ x. IsTrue (is_taste_root x.owner)
+        → IsSomeAnd (provider_at t x.target) (λ p. x.len ≡ p.sector)) w.bios x firm.bios.read.sector here
+        root)));
   }
 
   -- a firm world with a graph that has come to more is firm
   pub more-firm : (queue : List Event) → All (λ e. IsSome (provider_at u (provider_of_event e))) queue
       → Firm (remade w u queue)
   more-firm queue living = record {
-    sound = record {
-      ranks = more.ranks;
+    graph = more-graph;
+    demand = record {
       counts = more-counts w u g firm more;
-      providers = more-providers w u g firm more;
-      numbers = more-numbers w u g firm more;
-      handles = more-handles w u g firm more;
       places = more-places w u g firm more;
-      bio_numbers = firm.sound.bio_numbers;
-      bios = more-bios w u g firm more;
+      components = all_of (HasItsComponents (granted_in w) u) u.geoms components_stand;
+    };
+    sizes = more-sizes;
+    handles = more-handles w u g firm more;
+    taste = record {
+      living = living;
+      order = more-taste w u g firm more;
+      asked = asks w.taste firm.taste.order more.tasted firm.taste.asked;
+    };
+    bios = record {
+      numbers = firm.bios.numbers;
+      order = more-bios w u g firm more;
       families = more-families w u g firm more;
       disks = more-disks w u g firm more;
-      events = more-events w u g firm more queue living;
+      read_out = firm.bios.read_out;
+      owners = firm.bios.owners;
+      results = firm.bios.results;
+      read = more-read;
     };
-    steady = more-steady queue;
-    fitting = more-fitting queue;
+    commands = firm.commands;
   }
 
 -- a graph that has come to more keeps a firm world firm

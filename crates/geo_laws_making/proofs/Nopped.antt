@@ -78,7 +78,7 @@ module _ (w : World) (firm : Firm w) (p : Provider) (name : List ℕ) (offset si
   -- the provider's own size
   media : IsMediaSize p.size p.sector
   media = All-contains (λ (x : Provider). IsMediaSize x.size x.sector) w.topology.providers p
-      firm.sound.providers.sizes
+      firm.graph.providers.sizes
       (find-Contains (λ (x : Provider). x.number == p.number) w.topology.providers p found)
 
   -- the size of the window is one
@@ -111,7 +111,7 @@ module _ (w : World) (firm : Firm w) (p : Provider) (name : List ℕ) (offset si
     few = omega arith;
     places = tt;
     disk = tt;
-    sectors = All-contains (λ (x : Provider). IsSectorSize x.sector) w.topology.providers p firm.fitting.sectors
+    sectors = All-contains (λ (x : Provider). IsSectorSize x.sector) w.topology.providers p firm.sizes.sectors
         (find-Contains (λ (x : Provider). x.number == p.number) w.topology.providers p found);
     offers = All-from_recursion (CanOffer w (nop_config w.topology offset fail) (p ∷ []) p.sector) (slice ∷ [])
         (record { free = free; size = window_size; leads = inr has_place }, tt);

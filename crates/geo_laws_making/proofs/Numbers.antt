@@ -37,13 +37,13 @@ module _ (w : World) (firm : Firm w) where
   -- so ranks hold
   ranks_hold : RanksHold u
   ranks_hold = record {
-    ranked = ranks_stay.ranked firm.sound.ranks.ranked;
+    ranked = ranks_stay.ranked firm.graph.ranks.ranked;
     not_deep = All-weaker (λ (x : Geom Config). x.number ≢ 1 → x.number ≢ 2 → rank t x.number ≤ MAX_RANK)
         (λ (x : Geom Config). x.number ≢ 1 → x.number ≢ 2 → rank u x.number ≤ MAX_RANK)
         (λ x so apart other. let low = so apart other in let same = ranks_stay.same x.number in omega arith)
-        t.geoms firm.sound.ranks.not_deep;
-    dev = bare 1 firm.sound.ranks.dev;
-    taste = bare 2 firm.sound.ranks.taste;
+        t.geoms firm.graph.ranks.not_deep;
+    dev = bare 1 firm.graph.ranks.dev;
+    taste = bare 2 firm.graph.ranks.taste;
   }
 
   -- the graph has come to less by nothing
@@ -71,11 +71,11 @@ module _ (w : World) (firm : Firm w) where
     consumers = less.consumers;
     fewer = less.fewer;
     stay = less.stay;
-    tasting = same_tasting t u refl w.taste firm.sound.handles.taste;
+    tasting = same_tasting t u refl w.taste firm.handles.taste;
   }
 
   -- so the world is firm
   pub number_firm : Firm (without_number w)
   number_firm =
-      less-firm w u firm less_by_number w.events firm.sound.providers.withering firm.steady.unmarked
-      firm.sound.events.living
+      less-firm w u firm less_by_number w.events firm.graph.providers.withering firm.graph.unmarked
+      firm.taste.living

@@ -31,12 +31,12 @@ module _ (w : World) (g : Geom Config) (firm : Firm w) (waits : IsOpenAssembly w
       one-found (geom_at t g.number) x g
       (subst (λ m. geom_at t m ≡ Some x) same
       (found_itself (λ (z : Geom Config). z.number) t.next_geom t.geoms x
-      (sound-order w firm.sound.numbers).geoms stands))
+      (sound-order w firm.graph.numbers).geoms stands))
       waits.stands
 
   -- its class
   pub its-class : IsOfItsClass g
-  its-class = All-contains IsOfItsClass t.geoms g firm.sound.numbers.classes is-there
+  its-class = All-contains IsOfItsClass t.geoms g firm.graph.numbers.classes is-there
 
   -- is that of an assembly
   pub its-assembly : IsOfAssembly g.kind g.config
@@ -67,5 +67,5 @@ module _ (w : World) (g : Geom Config) (firm : Firm w) (waits : IsOpenAssembly w
   component-there d stands =
       All-contains (λ d. IsSomeAnd (consumer_at t d) (λ x. (x.geom ≡ g.number) × IsSome x.provider))
       (components g.config) d
-      (All-contains (HasItsComponents (granted_in w) t) t.geoms g firm.steady.components is-there
+      (All-contains (HasItsComponents (granted_in w) t) t.geoms g firm.demand.components is-there
       (inl waits.upright)) stands

@@ -101,11 +101,11 @@ module _ (w : World) (p : Provider) (g : Geom Config) (k : ℕ) (firm : Firm w) 
 
   -- before, all stood in order
   order : IsInOrder t
-  order = sound-order w firm.sound.numbers
+  order = sound-order w firm.graph.numbers
 
   -- and lived
   live : PartsLive t
-  live = steady-parts t firm.steady.parts firm.steady.attached
+  live = steady-parts t firm.graph.parts firm.graph.attached
 
   -- the geom was one of them
   here : Contains t.geoms g
@@ -154,7 +154,7 @@ module _ (w : World) (p : Provider) (g : Geom Config) (k : ℕ) (firm : Firm w) 
 
   -- only the rank of the geom rises
   abbrev rises : OneRankRises t v n × (rank v n ≡ max (rank t n) (1 + rank t p.geom))
-  rises = open-rises t n p.number p firm.sound.ranks.ranked live.geoms lives waits.offers_none can.found
+  rises = open-rises t n p.number p firm.graph.ranks.ranked live.geoms lives waits.offers_none can.found
 
   -- the ranks hold
   ranks_v : RanksHold v
@@ -163,10 +163,10 @@ module _ (w : World) (p : Provider) (g : Geom Config) (k : ℕ) (firm : Firm w) 
     not_deep = all_of (λ (x : Geom Config). x.number ≢ 1 → x.number ≢ 2 → rank v x.number ≤ MAX_RANK) t.geoms
         (λ x stands dev taste.
         let was : rank t x.number ≤ MAX_RANK = All-contains (λ (x : Geom Config). x.number ≢ 1 → x.number ≢ 2
-        → rank t x.number ≤ MAX_RANK) t.geoms x firm.sound.ranks.not_deep stands dev taste in
+        → rank t x.number ≤ MAX_RANK) t.geoms x firm.graph.ranks.not_deep stands dev taste in
         by x.number was (x.number == n) refl);
-    dev = record { stands = firm.sound.ranks.dev.stands; no_provider = firm.sound.ranks.dev.no_provider };
-    taste = record { stands = firm.sound.ranks.taste.stands; no_provider = firm.sound.ranks.taste.no_provider };
+    dev = record { stands = firm.graph.ranks.dev.stands; no_provider = firm.graph.ranks.dev.no_provider };
+    taste = record { stands = firm.graph.ranks.taste.stands; no_provider = firm.graph.ranks.taste.no_provider };
   }
     where
       -- by whether it is the one
@@ -243,7 +243,7 @@ module _ (w : World) (p : Provider) (g : Geom Config) (k : ℕ) (firm : Firm w) 
           )
         ];
       })
-      firm.sound.numbers.one_geom_of_disk
+      firm.graph.numbers.one_geom_of_disk
 
   -- The geom
 
@@ -257,7 +257,7 @@ module _ (w : World) (p : Provider) (g : Geom Config) (k : ℕ) (firm : Firm w) 
   whole_size : size % p.sector ≡ 0
   whole_size =
       let media =
-      All-contains (λ (x : Provider). IsMediaSize x.size x.sector) t.providers p firm.sound.providers.sizes
+      All-contains (λ (x : Provider). IsMediaSize x.size x.sector) t.providers p firm.graph.providers.sizes
       (find-Contains (λ (x : Provider). x.number == p.number) t.providers p can.found) in
       mod-eq-zero_of_dvd p.sector (dvd-sub p.sector (dvd_of_mod-eq-zero p.sector media.whole) (dvd_refl p.sector))
 
@@ -287,7 +287,7 @@ module _ (w : World) (p : Provider) (g : Geom Config) (k : ℕ) (firm : Firm w) 
       (subst (λ ys. AllZip (FitsPlace u n) (slice_set (places_of g.config) k (Some c)) ys) (sym is.sizes_are)
       (zip-set (FitsPlace u n) (places_of g.config) (sizes_of g.config) k (Some c) size
       (zip_members (FitsPlace t n) (FitsPlace u n) (places_of g.config) (sizes_of g.config) old
-      (All-contains (FitsPlaces t) t.geoms g firm.fitting.places here)) new))
+      (All-contains (FitsPlaces t) t.geoms g firm.sizes.places here)) new))
     where
       -- the new place
       new : FitsPlace u n (Some c) size
@@ -316,7 +316,7 @@ module _ (w : World) (p : Provider) (g : Geom Config) (k : ℕ) (firm : Firm w) 
   -- its places are apart and few
   places_hold : PlacesHold joined
   places_hold =
-      let before = All-contains PlacesHold t.geoms g firm.fitting.apart here in
+      let before = All-contains PlacesHold t.geoms g firm.sizes.apart here in
       let is = filled-is g.config k c size waits.assembly in
       record {
         apart = subst (AllPairs (λ a b. a ≢ b)) (sym components-now)
@@ -387,7 +387,7 @@ module _ (w : World) (p : Provider) (g : Geom Config) (k : ℕ) (firm : Firm w) 
         | inl old ↦
             (let fits = at-found (geom_at t y.geom) (λ h. IfSome (option_and_then (provider_at t) y.provider) (λ q.
             IsWholeIn h.config q.sector)) g (ap (geom_at t) own ∙ waits.stands)
-            (All-contains (FitsBelow t) t.consumers y firm.fitting.wholes old) in
+            (All-contains (FitsBelow t) t.consumers y firm.sizes.wholes old) in
             if-found (option_and_then (provider_at t) y.provider) (λ q. IsWholeIn filled q.sector) (λ q e.
             so q.sector (at-found (option_and_then (provider_at t) y.provider)
             (λ q. IsWholeIn g.config q.sector) q e fits)))
@@ -407,8 +407,8 @@ module _ (w : World) (p : Provider) (g : Geom Config) (k : ℕ) (firm : Firm w) 
         (parts-alive.consumer_added t n (Some p.number) lives
         (some-there (provider_at t p.number) p can.found) live);
     ranks = ranks_u;
-    exclusive = demand.exclusive firm.sound.counts.exclusive;
-    limited = demand.limit firm.sound.counts.limited;
+    exclusive = demand.exclusive firm.demand.counts.exclusive;
+    limited = demand.limit firm.demand.counts.limited;
     old_geoms = λ m x apart e. config-found.others v n filled m apart ∙ e;
     old_providers = λ m x e. record { now = x; found = e; is = record { same = refl; larger = omega arith } };
     old_consumers = consumer-still;
@@ -425,7 +425,7 @@ module _ (w : World) (p : Provider) (g : Geom Config) (k : ℕ) (firm : Firm w) 
     others = λ m apart. refl;
     dev = added-consumer.others_of t n (Some p.number) 1 (λ same. not_dev (sym same));
     tasting = added-consumer.others_of t n (Some p.number) 2 (λ same. not_taste (sym same));
-    names = firm.sound.providers.names;
+    names = firm.graph.providers.names;
     disks = disks_differ;
     wholes = whole_below;
     fits = geom_fits;
@@ -435,12 +435,12 @@ module _ (w : World) (p : Provider) (g : Geom Config) (k : ℕ) (firm : Firm w) 
     opened = λ y stands used. inl (sym (ap is_zero (demand.haves y.number)) ∙ used);
     bios = λ x stands. untouched x.target;
     tasted = if-found w.taste (λ s. IsUntouched t u joined s.provider) (λ s e. untouched s.provider);
-    rank = low_still w.taste firm.sound.events.taste;
+    rank = low_still w.taste firm.taste.order;
   }
 
   -- so the world is firm
   pub taken-firm : Firm (record w { topology = u; events = w.events })
-  taken-firm = more-firm w u joined firm taken-more w.events firm.sound.events.living
+  taken-firm = more-firm w u joined firm taken-more w.events firm.taste.living
 
 -- so say all places
 pub takes_stay : TakesStayFirm

@@ -121,7 +121,7 @@ module _ (w : World) (p : Provider) (g : Geom Config) (k : ℕ) (name : List ℕ
       subst (λ q. Firm (with_queued w q)) free.is
       (finished-firm taken now name p.sector firm_taken waits_still (record {
         full = full;
-        sectors = All-contains (λ (x : Provider). IsSectorSize x.sector) t.providers p firm.fitting.sectors
+        sectors = All-contains (λ (x : Provider). IsSectorSize x.sector) t.providers p firm.sizes.sectors
             (find-Contains (λ (x : Provider). x.number == p.number) t.providers p can.found);
         whole = (filled-is g.config k t.next_consumer (p.size - p.sector) waits.assembly).whole p.sector whole;
         same = same_still;
@@ -274,10 +274,10 @@ module _ (w : World) (p : Provider) (m : Member) (count : ℕ) (made : QueuedTop
   new_firm : join_place (queued_of begun) p before.next_geom m.empty m.place m.name ≡ Some made
       → Firm (with_queued w made)
   new_firm e =
-      let order = sound-order w firm.sound.numbers in
-      let live = steady-parts before firm.steady.parts firm.steady.attached in
+      let order = sound-order w firm.graph.numbers in
+      let live = steady-parts before firm.graph.parts firm.graph.attached in
       let same : rank begun.topology p.geom ≡ rank before p.geom =
-      (adding-stay.geom before m.kind m.geom_name m.empty true firm.sound.ranks.ranked live.geoms).same p.geom in
+      (adding-stay.geom before m.kind m.geom_name m.empty true firm.graph.ranks.ranked live.geoms).same p.geom in
       joined-firm begun p (new_geom before m.kind m.geom_name m.empty true) m.place m.name made
       (made-firm w m.kind m.geom_name m.empty true [] 512 [] firm empty_can)
       (record { found = can.found; low = subst (λ n. n < MAX_RANK) (sym same) can.low })
@@ -303,10 +303,10 @@ module _ (w : World) (p : Provider) (m : Member) (count : ℕ) (made : QueuedTop
       joined-firm w p g m.place m.name made firm can
       (record {
         stands = found_itself (λ (z : Geom Config). z.number) before.next_geom before.geoms g
-            (sound-order w firm.sound.numbers).geoms here;
+            (sound-order w firm.graph.numbers).geoms here;
         upright = upright;
         assembly = is.assembly;
-        offers_none = All-contains (WaitsForPlaces before) before.geoms g firm.steady.partial here free;
+        offers_none = All-contains (WaitsForPlaces before) before.geoms g firm.graph.partial here free;
       })
       is.whole (λ d x q among found below.
       let place : Contains (places_of g.config) (Some d) =

@@ -39,7 +39,7 @@ class_of_found : (w : World) → Firm w → (test : Geom Config → Bool) (g : G
     → find test w.topology.geoms ≡ Some g
     → IsOfItsClass g
 class_of_found w firm test g found =
-    All-contains IsOfItsClass w.topology.geoms g firm.sound.numbers.classes
+    All-contains IsOfItsClass w.topology.geoms g firm.graph.numbers.classes
     (find-Contains test w.topology.geoms g found)
 
 -- where a number is the one of an optional one, it is there

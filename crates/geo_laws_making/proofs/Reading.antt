@@ -30,8 +30,7 @@ use Rattle.geo_laws_counts.specs.DemandLaws.{DiffersAt, StaysAround}
 use Rattle.geo_laws_counts.specs.AllowedLaws.{IsAllowed}
 use Rattle.geo_laws_counts.proofs.Singles.{differing_stays}
 use Rattle.geo_laws_counts.proofs.Refusing.{allowed}
-use Rattle.geo_laws_bios.specs.BioFrames.{RestHolds}
-use Rattle.geo_laws_bios.proofs.Apart.{rest_of}
+use Rattle.geo_laws_bios.specs.BioFrames.{BiosOf}
 use Rattle.geo_laws_life.proofs.Found.{found-with, some-with, one-found}
 use Rattle.geo_laws_life.proofs.Killed.{grants-same}
 use Rattle.geo_laws_making.specs.TasteLaws.{IsAsking, IsGranted, taste_asking}
@@ -137,7 +136,7 @@ module _ (w : World) (firm : Firm w) (s : Taste) (p : Provider) (granted : IsGra
 
   -- only what is below the provider changes
   around : StaysAround (granted_in w) t (granted_in v) t (below t s.provider)
-  around = differing_stays (granted_in w) (granted_in v) t s.consumer s.provider differs firm.sound.ranks.ranked
+  around = differing_stays (granted_in w) (granted_in v) t s.consumer s.provider differs firm.graph.ranks.ranked
       (numbers_lead t (order w firm).providers.0)
 
   -- a provider with an error isn't below
@@ -162,7 +161,7 @@ module _ (w : World) (firm : Firm w) (s : Taste) (p : Provider) (granted : IsGra
       (rw (eq-eqb g.number q.geom number, withers) refl) in
       around.haves q.number (not_below q here
       (All-contains (λ (y : Provider). IsTrue (is_withering t y.geom) → y.errored ≡ true) t.providers q
-      firm.sound.providers.withering here is))
+      firm.graph.providers.withering here is))
 
   -- each provider leads down
   leads : (q : Provider) → Contains t.providers q → LeadsDown (granted_in w) t q → LeadsDown (granted_in v) t q
@@ -213,45 +212,35 @@ module _ (w : World) (firm : Firm w) (s : Taste) (p : Provider) (granted : IsGra
 
   -- All but the bios
 
-  -- what held before
-  rest : RestHolds w
-  rest = rest_of w firm
-
   -- the taste was in order
   was : IsTasteInOrder t s
-  was = subst (λ (o : Option Taste). IfSome o (IsTasteInOrder t)) granted.taste rest.tasting.taste
+  was = subst (λ (o : Option Taste). IfSome o (IsTasteInOrder t)) granted.taste firm.taste.order
 
-  -- all but the bios then
-  pub read-rest : RestHolds v
-  read-rest = record {
-    graph = record {
-      ranks = rest.graph.ranks;
+  -- a world with these bios is firm where they are in order
+  pub read-firm : BiosOf v → Firm v
+  read-firm hold = record {
+    graph = firm.graph;
+    demand = record {
       counts = record { exclusive = allows.exclusive; limited = allows.limit };
-      providers = rest.graph.providers;
-      numbers = rest.graph.numbers;
       places = all_members (LeadsDown (granted_in w) t) (LeadsDown (granted_in v) t) t.providers leads
-          rest.graph.places;
-      made = rest.graph.made;
-      parts = rest.graph.parts;
-      attached = rest.graph.attached;
+          firm.demand.places;
       components = all_members (HasItsComponents (granted_in w) t) (HasItsComponents (granted_in v) t) t.geoms
-          has_components rest.graph.components;
-      partial = rest.graph.partial;
-      unmarked = rest.graph.unmarked;
+          has_components firm.demand.components;
     };
+    sizes = firm.sizes;
     handles = record {
-      numbers = rest.handles.numbers;
-      consumers = rest.handles.consumers;
-      handles = rest.handles.handles;
+      numbers = firm.handles.numbers;
+      consumers = firm.handles.consumers;
+      handles = firm.handles.handles;
       taste =
           let had = tasting w firm s granted.taste in
           record { consumer = had.consumer; alone = had.alone; number = had.number; attached = had.attached };
     };
-    sizes = rest.sizes;
-    tasting = record {
-      living = rest.tasting.living;
-      taste = record { rank = was.rank; reads = asks.reads; chain = asks.chain };
+    taste = record {
+      living = firm.taste.living;
+      order = record { rank = was.rank; reads = asks.reads; chain = asks.chain };
       asked = asks.asked;
     };
-    commands = rest.commands;
+    bios = hold;
+    commands = firm.commands;
   }

@@ -16,6 +16,7 @@ use Rattle.geo_model.specs.Append.{Growing, component_refusal}
 use Rattle.geo_model.specs.Graph.{IsInOrder, PartsLive}
 use Rattle.geo_model.specs.Fitting.{Firm}
 use Rattle.geo_base.specs.declared.kind.Kind.TheVariants as kinds
+use Rattle.geo_model.proofs.FirmLemmas.{sound_of, steady_of}
 use Rattle.geo_laws_graph.proofs.Members.{has, find-Contains, Contains-filter}
 use Rattle.geo_laws_graph.proofs.Numbered.{any-contained, number_found}
 use Rattle.geo_laws_graph.proofs.Found.{added-consumer}
@@ -47,11 +48,11 @@ module _ (w : World) (x : Growing) (firm : Firm w) (is : IsStanding w.topology x
 
   -- it stood in order
   pub order : IsInOrder t
-  order = sound-order w firm.sound.numbers
+  order = sound-order w firm.graph.numbers
 
   -- and what its parts named lived
   pub live : PartsLive t
-  live = steady-parts t firm.steady.parts firm.steady.attached
+  live = steady-parts t firm.graph.parts firm.graph.attached
 
   -- the geom is one of the list
   pub geom_here : Contains t.geoms x.geom
@@ -74,7 +75,7 @@ module _ (w : World) (x : Growing) (firm : Firm w) (is : IsStanding w.topology x
       one_only (providers_of t x.geom.number) y x.provider
       (All-contains (λ (z : Geom Config). z.kind ≡ kinds.Concat → length (providers_of t z.number) ≤ 1) t.geoms
       x.geom
-      firm.fitting.one geom_here is.kind)
+      firm.sizes.one geom_here is.kind)
       (Contains-filter (λ (z : Provider). z.geom == x.geom.number) t.providers y here
       (eq-eqb y.geom x.geom.number own))
       provider_own
@@ -100,7 +101,7 @@ module _ (w : World) (x : Growing) (firm : Firm w) (is : IsStanding w.topology x
       let number : b.provider.number ≡ r.first =
       number_found (λ (z : Provider). z.number) t.providers r.first b.provider r.then in
       let next : Contains (below t s) r.first =
-      below_closed t firm.sound.ranks.ranked s y.number r.first b.consumer b.stands r.is
+      below_closed t firm.graph.ranks.ranked s y.number r.first b.consumer b.stands r.is
       (some-with (provider_at t y.number) (λ z. z.geom ≡ b.consumer.geom) y stands (own ∙ sym b.above)) reached in
       way_down s m k over b.provider (subst (Contains (below t s)) (sym number) next)
       (subst (λ z. provider_at t z ≡ Some b.provider) (sym number) r.then) b.below path.1
@@ -163,7 +164,7 @@ module _ (w : World) (x : Growing) (firm : Firm w) (is : IsStanding w.topology x
 
     -- so it joins
     joins : Joins bare t.next_consumer q.number
-    joins = appends_hold.joins w x q firm.sound firm.steady is.found there none
+    joins = appends_hold.joins w x q (sound_of w firm) (steady_of w firm) is.found there none
 
     -- once it is attached it is as if it were made so
     made : attach bare t.next_consumer q.number ≡ added
@@ -195,7 +196,7 @@ module _ (w : World) (x : Growing) (firm : Firm w) (is : IsStanding w.topology x
         → IsSomeAnd (geom_at t y.geom) (λ h. h.withering ≡ false)
     upright_below y here reached =
         let h = has (geom_at t y.geom) (All-contains (λ (z : Provider). IsSome (geom_at t z.geom)) t.providers y
-        firm.steady.parts.providers here) in
+        firm.graph.parts.providers here) in
         some-with (geom_at t y.geom) (λ h. h.withering ≡ false) h.item h.is
         (false_from_ne_true h.item.withering (λ withers.
         let geom_withers : is_withering t y.geom ≡ true =
@@ -206,7 +207,7 @@ module _ (w : World) (x : Growing) (firm : Firm w) (is : IsStanding w.topology x
         withers) in
         let errored : y.errored ≡ true =
         All-contains (λ (z : Provider). IsTrue (is_withering t z.geom) → z.errored ≡ true) t.providers y
-        firm.sound.providers.withering here geom_withers in
+        firm.graph.providers.withering here geom_withers in
         let told : is_errored bare y.number ≡ true =
         any-contained (λ (z : Provider). (z.number == y.number) && z.errored) t.providers y here
         (and_from (y.number == y.number) y.errored (eq-eqb y.number y.number refl) errored) in
@@ -256,7 +257,7 @@ module _ (w : World) (x : Growing) (firm : Firm w) (is : IsStanding w.topology x
     pub rank_away : (h : ℕ) → reaches t h x.geom.number ≡ false → rank u h ≡ rank t h
     unfolding can
     rank_away h away =
-        let stay = adding-stay.consumer t x.geom.number firm.sound.ranks.ranked live.geoms geom_there in
+        let stay = adding-stay.consumer t x.geom.number firm.graph.ranks.ranked live.geoms geom_there in
         let rises = attach-rises bare t.next_consumer q.number can stay.ranked
         (add_consumer-geoms t x.geom.number None geom_there live.geoms)
         (added-consumer.order t x.geom.number None order)

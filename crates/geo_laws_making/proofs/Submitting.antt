@@ -31,12 +31,11 @@ use Rattle.geo_laws_graph.proofs.Numbered.{filter-pushed, filter-pushed_hit, any
 use Rattle.geo_laws_counts.specs.CountWords.{IsAtMost}
 use Rattle.geo_laws_counts.proofs.Levels.{want-at_most}
 use Rattle.geo_laws_counts.proofs.Openers.{wants_grant}
-use Rattle.geo_laws_bios.specs.BioFrames.{BiosHold}
-use Rattle.geo_laws_bios.proofs.Apart.{bios_of, firm_of}
+use Rattle.geo_laws_bios.specs.BioFrames.{BiosOf}
 use Rattle.geo_laws_life.proofs.Found.{found-with, some-with}
 use Rattle.geo_laws_making.specs.TasteLaws.{taste_asking, world_with_taste, IsAsking, IsGranted}
 use Rattle.geo_laws_making.proofs.Tasters.{tasting, taster, taster_found, taster_holds}
-use Rattle.geo_laws_making.proofs.Reading.{more, taster_reads, read-rest}
+use Rattle.geo_laws_making.proofs.Reading.{more, taster_reads, read-firm}
 
 -- where nothing passes, nothing is kept
 nothing_kept : {X : Type 0} (test : X → Bool) (xs : List X) → list_any test xs ≡ false → filter test xs ≡ []
@@ -94,8 +93,8 @@ module _ (w : World) (firm : Firm w) (s : Taste) (p : Provider) (granted : IsGra
   v = record w { bios = w.bios ++ x ∷ []; next_bio = w.next_bio + 1; taste = Some later }
 
   -- the bios before
-  hold : BiosHold w
-  hold = bios_of w firm
+  hold : BiosOf w
+  hold = firm.bios
 
   -- the taste's consumer
   abbrev d : Consumer
@@ -149,7 +148,7 @@ module _ (w : World) (firm : Firm w) (s : Taste) (p : Provider) (granted : IsGra
   -- the range of the read
   range : IsRange p.sector (sector * p.sector) p.sector p.size
   range = range_of p.sector sector p.size (All-contains (λ (q : Provider). IsSectorSize q.sector) t.providers p
-      firm.fitting.sectors (find-Contains (λ (q : Provider). q.number == s.provider) t.providers p granted.found)) below
+      firm.sizes.sectors (find-Contains (λ (q : Provider). q.number == s.provider) t.providers p granted.found)) below
 
   -- the read is in order
   own_order : IsBioInOrder (granted_in v) t x
@@ -222,7 +221,7 @@ module _ (w : World) (firm : Firm w) (s : Taste) (p : Provider) (granted : IsGra
       ∙ ap (λ (zs : List Bio). zs ++ x ∷ []) (nothing_kept (λ (z : Bio). is_taste_root z.owner) w.bios none_out))
 
   -- the bios then
-  read-bios : BiosHold v
+  read-bios : BiosOf v
   read-bios = record {
     numbers = numbers-push (λ (z : Bio). z.number) w.next_bio w.bios x refl hold.numbers;
     order = All-push (IsBioInOrder (granted_in v) t) w.bios x
@@ -256,10 +255,9 @@ module _ (w : World) (firm : Firm w) (s : Taste) (p : Provider) (granted : IsGra
   }
 
   -- so the world is firm
-  read-firm : Firm v
-  read-firm = firm_of v read-bios
-      (read-rest w firm s p granted classes kind reads chain asks v.bios v.next_bio)
+  all-firm : Firm v
+  all-firm = read-firm w firm s p granted classes kind reads chain asks v.bios v.next_bio read-bios
 
   -- the sector's size is that of the provider
   pub submitted-firm : Firm (submit_read (world_with_taste w later) later sector)
-  submitted-firm = rw granted.found read-firm
+  submitted-firm = rw granted.found all-firm

@@ -31,11 +31,11 @@ module _ (w : World) (firm : Firm w) where
 
   -- it stands in order
   pub order : IsInOrder t
-  order = sound-order w firm.sound.numbers
+  order = sound-order w firm.graph.numbers
 
   -- what its parts name lives
   pub live : PartsLive t
-  live = steady-parts t firm.steady.parts firm.steady.attached
+  live = steady-parts t firm.graph.parts firm.graph.attached
 
   -- geom 2 is of TASTE
   kind_of_taste : (g : Geom Config) → geom_at t 2 ≡ Some g → g.kind ≡ kinds.Taste
@@ -61,13 +61,13 @@ module _ (w : World) (firm : Firm w) where
   -- no provider is of TASTE
   pub not_of_taste : (p : Provider) → Contains t.providers p → p.geom ≢ 2
   not_of_taste p here own =
-      nothing_in p (subst (λ ps. Contains ps p) firm.sound.ranks.taste.no_provider
+      nothing_in p (subst (λ ps. Contains ps p) firm.graph.ranks.taste.no_provider
       (Contains-filter (λ (x : Provider). x.geom == 2) t.providers p here (eq-eqb p.geom 2 own)))
 
   module _ (s : Taste) (is : w.taste ≡ Some s) where
     -- the taste has its consumer
     pub tasting : IsTasting t s
-    tasting = subst (HasTasteConsumer t) is firm.sound.handles.taste
+    tasting = subst (HasTasteConsumer t) is firm.handles.taste
 
     -- its consumer
     abbrev pub taster : Consumer
@@ -107,7 +107,7 @@ module _ (w : World) (firm : Firm w) where
         let names : h.consumer ≡ Some taster.number =
         names_some h.consumer taster.number
         (find_passes (λ (h : Handle). names_number h.consumer taster.number) w.handles h e) in
-        let its : HasItsConsumer t h = All-contains (HasItsConsumer t) w.handles h firm.sound.handles.handles
+        let its : HasItsConsumer t h = All-contains (HasItsConsumer t) w.handles h firm.handles.handles
         (find-Contains (λ (h : Handle). names_number h.consumer taster.number) w.handles h e) in
         let d = found-with (consumer_at t taster.number) (λ z. z.geom ≡ 1)
         (subst (λ o. MatchOption o (h.dead ≡ true) (λ c. IsSomeAnd (consumer_at t c) (λ z. z.geom ≡ 1))) names its) in

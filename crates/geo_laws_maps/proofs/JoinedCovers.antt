@@ -100,7 +100,7 @@ module _ (w : World) (firm : Firm w) (x : Bio) (here : Contains w.bios x) (waiti
 
   -- it is in order
   family : IsFamilyInOrder t w.bios x
-  family = All-contains (IsFamilyInOrder t w.bios) w.bios x firm.sound.families here
+  family = All-contains (IsFamilyInOrder t w.bios) w.bios x firm.bios.families here
 
   -- its children are its pieces
   shapes : map shape_of_child cs
@@ -139,7 +139,7 @@ module _ (w : World) (firm : Firm w) (x : Bio) (here : Contains w.bios x) (waiti
   -- a sector isn't empty
   some_sector : 0 < p.sector
   some_sector =
-      elim (All-contains (λ (z : Provider). IsSectorSize z.sector) t.providers p firm.fitting.sectors
+      elim (All-contains (λ (z : Provider). IsSectorSize z.sector) t.providers p firm.sizes.sectors
       (find-Contains (λ (z : Provider). z.number == x.target) t.providers p at_target)) [
         | inl small ↦ omega (arith, small)
         | inr large ↦ omega (arith, large)
@@ -155,7 +155,7 @@ module _ (w : World) (firm : Firm w) (x : Bio) (here : Contains w.bios x) (waiti
   child_source : (y : Bio) → Contains w.bios y → provider_of_consumer t y.source ≡ Some y.target
   child_source y stands =
       let order : IsBioInOrder (granted_in w) t y =
-      All-contains (IsBioInOrder (granted_in w) t) w.bios y firm.sound.bios stands in
+      All-contains (IsBioInOrder (granted_in w) t) w.bios y firm.bios.order stands in
       let c = found-with (consumer_at t y.source)
       (λ c. (c.provider ≡ Some y.target) × HasCountFor (granted_in w) t y c) order.source in
       ap (option_and_then (λ (z : Consumer). z.provider)) c.is ∙ c.fact.0
@@ -283,7 +283,7 @@ module _ (w : World) (firm : Firm w) (x : Bio) (here : Contains w.bios x) (waiti
       whole : y.len % p.sector ≡ 0
       whole =
           let order : IsBioInOrder (granted_in w) t y =
-          All-contains (IsBioInOrder (granted_in w) t) w.bios y firm.sound.bios stands in
+          All-contains (IsBioInOrder (granted_in w) t) w.bios y firm.bios.order stands in
           subst (λ n. y.len % n ≡ 0) same_sector
           (at-some (provider_at t y.target)
           (λ v. is_flush y.cmd ≡ false → IsRangeInside y v) q at_child order.target
@@ -295,7 +295,7 @@ module _ (w : World) (firm : Firm w) (x : Bio) (here : Contains w.bios x) (waiti
       same_byte j less =
           let spot : Spot = record { component = z.piece.child; offset = z.piece.span.offset + j } in
           ap (λ n. flat t y.target (n + j)) is.offset
-          ∙ sym (flat-down t firm.sound.ranks.ranked (IsOpen w) (open-down w firm) x.target opened p g at_target of
+          ∙ sym (flat-down t firm.graph.ranks.ranked (IsOpen w) (open-down w firm) x.target opened p g at_target of
           (x.offset + z.piece.at + j)
           ∙ flat_step-place (flat t) t g.config p (x.offset + z.piece.at + j) spot y.target
           (good.placed j (subst (λ n. j < n) is.len less))
@@ -420,7 +420,7 @@ module _ (w : World) (firm : Firm w) (x : Bio) (here : Contains w.bios x) (waiti
           commands = joined_commands cs (each_command cs (piece_targets g.config p x) each_piece covered);
           bytes = λ write.
               let order : IsBioInOrder (granted_in w) t x =
-              All-contains (IsBioInOrder (granted_in w) t) w.bios x firm.sound.bios here in
+              All-contains (IsBioInOrder (granted_in w) t) w.bios x firm.bios.order here in
               let long : length x.bytes ≡ x.len = order.bytes write in
               joined.bytes_are write
               ∙ ap (λ n. take n (drop 0 x.bytes)) size
@@ -435,7 +435,7 @@ module _ (w : World) (firm : Firm w) (x : Bio) (here : Contains w.bios x) (waiti
       record {
         disks = flushed cs (components g.config) flush (subst (AllZip (IsPieceOf x) cs) targets each_piece) covered
             ∙ sym (ends_step-down (ends t) t g.config no_disk)
-            ∙ sym (ends-down t firm.sound.ranks.ranked (IsOpen w)
+            ∙ sym (ends-down t firm.graph.ranks.ranked (IsOpen w)
             (open-down w firm) x.target opened p g at_target of)
             ∙ ap (ends t) (sym number);
         commands = joined_commands cs (each_command cs (piece_targets g.config p x) each_piece covered);

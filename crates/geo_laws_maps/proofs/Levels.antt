@@ -210,7 +210,7 @@ module _ (t : Topology Config) (ranked : Ranked t) (U : ℕ → Type 0) (ways : 
 pub map_goes_down : MapGoesDown
 map_goes_down = record {
   flat = λ w p x g firm opened found of o.
-      flat-down w.topology firm.sound.ranks.ranked (IsOpen w) (open-down w firm) p opened x g found of o;
+      flat-down w.topology firm.graph.ranks.ranked (IsOpen w) (open-down w firm) p opened x g found of o;
   ends = λ w p x g firm opened found of.
-      ends-down w.topology firm.sound.ranks.ranked (IsOpen w) (open-down w firm) p opened x g found of;
+      ends-down w.topology firm.graph.ranks.ranked (IsOpen w) (open-down w firm) p opened x g found of;
 }

@@ -51,7 +51,7 @@ module _ (w : World) (firm : Firm w) where
 
   -- the counts of a provider are what the consumers attached to it want together
   total : (p : ℕ) → have (granted_in w) t p ≡ sum_counts (map (want (granted_in w) t) (attached_to t p))
-  total p = have_is_sum t firm.sound.ranks.ranked (numbers_lead t firm.sound.numbers.providers.0) (granted_in w) p
+  total p = have_is_sum t firm.graph.ranks.ranked (numbers_lead t firm.graph.numbers.providers.0) (granted_in w) p
 
   -- a consumer at a provider without counts wants nothing
   wants_none : (c : Consumer) (p : ℕ) → Contains t.consumers c → c.provider ≡ Some p
@@ -78,7 +78,7 @@ module _ (w : World) (firm : Firm w) where
   pub live-open : (x : Bio) → Contains w.bios x → IsOpen w x.target
   live-open x here none =
       let order : IsBioInOrder (granted_in w) t x =
-      All-contains (IsBioInOrder (granted_in w) t) w.bios x firm.sound.bios here in
+      All-contains (IsBioInOrder (granted_in w) t) w.bios x firm.bios.order here in
       let s = found-with (consumer_at t x.source)
       (λ c. (c.provider ≡ Some x.target) × HasCountFor (granted_in w) t x c) order.source in
       counted x s.item s.fact.1 (is_read x.cmd) refl
@@ -93,7 +93,7 @@ module _ (w : World) (firm : Firm w) where
       (subst (λ xs. Contains xs c) (sym e) (Contains-here c cs)) in
       subst (λ o. IsSome (option_and_then (provider_at t) o)) (names_some c.provider p kept.1)
       (All-contains (λ (x : Consumer). IsSome (option_and_then (provider_at t) x.provider)) t.consumers c
-      firm.steady.attached kept.0)
+      firm.graph.attached kept.0)
 
   module _ (p : ℕ) (opened : IsOpen w p) (x : Provider) (found : provider_at t p ≡ Some x) (g : Geom Config)
       (of : geom_at t x.geom ≡ Some g) where
@@ -135,7 +135,7 @@ module _ (w : World) (firm : Firm w) where
     wants_some : (c : Consumer) → c.geom ≡ g.number → (n : ℕ) → Contains (components g.config) n
         → want (granted_in w) t c ≡ no_counts → ⊥
     wants_some c own n among none =
-        let class : IsOfItsClass g = All-contains IsOfItsClass t.geoms g firm.sound.numbers.classes g_stands in
+        let class : IsOfItsClass g = All-contains IsOfItsClass t.geoms g firm.graph.numbers.classes g_stands in
         let middle = middle_kind g.kind g.config class.config (components-below g.config n among) in
         x_open
         (All-contains (λ (y : Provider). have (granted_in w) t y.number ≡ no_counts) (providers_of t g.number) x
@@ -147,7 +147,7 @@ module _ (w : World) (firm : Firm w) where
     -- each component leads to an open provider
     leads : (n : ℕ) → Contains (components g.config) n → LeadsInto t (IsOpen w) g n
     leads n among =
-        let all = All-contains (HasItsComponents (granted_in w) t) t.geoms g firm.steady.components g_stands
+        let all = All-contains (HasItsComponents (granted_in w) t) t.geoms g firm.demand.components g_stands
         (inr in_use) in
         let c = found-with (consumer_at t n) (λ z. (z.geom ≡ g.number) × IsSome z.provider)
         (All-contains (λ m. IsSomeAnd (consumer_at t m) (λ z. (z.geom ≡ g.number) × IsSome z.provider))
@@ -169,7 +169,7 @@ module _ (w : World) (firm : Firm w) where
   open-down p opened =
       let x = has (provider_at t p) (open_by p opened (attached_to t p) refl) in
       let g = has (geom_at t x.item.geom)
-      (All-contains (λ (z : Provider). IsSome (geom_at t z.geom)) t.providers x.item firm.steady.parts.providers
+      (All-contains (λ (z : Provider). IsSome (geom_at t z.geom)) t.providers x.item firm.graph.parts.providers
       (find-Contains (λ (z : Provider). z.number == p) t.providers x.item x.is)) in
       record {
         provider = x.item;

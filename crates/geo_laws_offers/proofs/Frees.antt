@@ -19,7 +19,7 @@ module _ (w : World) (firm : Firm w) where
 
   -- it stands in order
   order : IsInOrder t
-  order = sound-order w firm.sound.numbers
+  order = sound-order w firm.graph.numbers
 
   -- a consumer that stands is found
   pub consumer-found : (c : Consumer) → Contains t.consumers c → consumer_at t c.number ≡ Some c

@@ -117,4 +117,4 @@ pub geoms-add : (w : World) (seat actor : ℕ) → IfSome (next_command w actor)
     → Firm w → Adds w (world_by w seat (steps.Go actor))
 unfolding step go
 geoms-add w seat actor of firm =
-    left-adds w (sound-order w firm.sound.numbers) actor (slice_get w.actors actor) of
+    left-adds w (sound-order w firm.graph.numbers) actor (slice_get w.actors actor) of

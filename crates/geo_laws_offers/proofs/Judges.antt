@@ -186,4 +186,4 @@ module _ (w : World) (order : IsInOrder w.topology) where
 pub judges-add : (w : World) (seat : ℕ) → Firm w
     → Adds w (world_by w seat steps.Judge) ⊎ EndsTaste w (world_by w seat steps.Judge)
 unfolding step judge_next
-judges-add w seat firm = judges-goes w (sound-order w firm.sound.numbers) w.taste refl
+judges-add w seat firm = judges-goes w (sound-order w firm.graph.numbers) w.taste refl

@@ -107,7 +107,7 @@ module _ (w : World) (firm : Firm w) (x : Bio) (found : bio_at w x.number ≡ So
 
   -- a root that goes
   pub root_owes : owed (without_bio w x.number) ≡ owed w
-  root_owes = let same = gone_owes w x firm.sound.bio_numbers found in omega (arith, same, up_idle)
+  root_owes = let same = gone_owes w x firm.bios.numbers found in omega (arith, same, up_idle)
 
   -- whether it is the bio, and how it is Done
   abbrev is_it : Bio → Bool
@@ -123,13 +123,13 @@ module _ (w : World) (firm : Firm w) (x : Bio) (found : bio_at w x.number ≡ So
   -- owes the same
   gathered_owes : owed gathered ≡ owed w
   gathered_owes =
-      let same = change_owes w x as_done firm.sound.bio_numbers found in omega (arith, same, up_idle)
+      let same = change_owes w x as_done firm.bios.numbers found in omega (arith, same, up_idle)
 
   -- its bios are in order
   gathered_order : BiosInOrder gathered
   gathered_order =
       subst (λ (ns : List ℕ). AreNumbers ns w.next_bio)
-      (sym (map-changed is_it as_done (λ (y : Bio). y.number) (λ y e. refl) w.bios)) firm.sound.bio_numbers
+      (sym (map-changed is_it as_done (λ (y : Bio). y.number) (λ y e. refl) w.bios)) firm.bios.numbers
 
   module _ (parent index : ℕ) (own : x.owner ≡ owners.Child parent index) where
     -- the parent waited
@@ -137,7 +137,7 @@ module _ (w : World) (firm : Firm w) (x : Bio) (found : bio_at w x.number ≡ So
     parent_waits =
         let here : Contains w.bios x = find-Contains is_it w.bios x found in
         let family : IsFamilyInOrder w.topology w.bios x =
-        All-contains (IsFamilyInOrder w.topology w.bios) w.bios x firm.sound.families here in
+        All-contains (IsFamilyInOrder w.topology w.bios) w.bios x firm.bios.families here in
         let has : HasItsParent w.bios x.owner = family.parent in
         subst (HasItsParent w.bios) own has
 

@@ -90,7 +90,7 @@ module _ (w : World) (seat : ℕ) (firm : Firm w) where
       → Changes w (steps.Go actor) (Ok (do_command (with_commands w actor rest) c.line actor c.command))
   go_owes actor c rest left =
       let next : next_command w actor ≡ Some c = ap (option_and_then first_command) left in
-      let same = command_owes (with_commands w actor rest) c.line actor firm.sound.handles.numbers c.command in
+      let same = command_owes (with_commands w actor rest) c.line actor firm.handles.numbers c.command in
       rw next same
 
   -- a bio that is taken
@@ -98,7 +98,7 @@ module _ (w : World) (seat : ℕ) (firm : Firm w) where
       → owed (change_bio w x.number (λ y. record y { phase = phases.Busy seat })) ≡ owed w + 1
   take_owes disk b x is =
       let quiet = idle is_sent (λ s. refl) x (can_take w disk x is.free).sent in
-      let same = change_owes w x (λ y. record y { phase = phases.Busy seat }) firm.sound.bio_numbers
+      let same = change_owes w x (λ y. record y { phase = phases.Busy seat }) firm.bios.numbers
       (found_there w b x is.found) in
       omega (arith, same, quiet)
 
@@ -107,7 +107,7 @@ module _ (w : World) (seat : ℕ) (firm : Firm w) where
       → owed (change_bio w x.number (up_with (result_of_device got))) + 1 ≡ owed w
   deliver_owes b got x is =
       let counts : busy x ≡ 1 = rw (can_deliver w seat x got x.phase is.fits).0 refl in
-      let same = change_owes w x (up_with (result_of_device got)) firm.sound.bio_numbers
+      let same = change_owes w x (up_with (result_of_device got)) firm.bios.numbers
       (found_there w b x is.found) in
       omega (arith, same, counts)
 
@@ -122,7 +122,7 @@ step_owes w seat s firm =
       reaps = λ h c is. let same = reaped_owes w c in omega (arith, same);
       washes = λ work is. let same = washed_owes w work in omega (arith, same);
       starts = λ b x way is.
-          let same = way_owes w x firm.sound.bio_numbers (found_there w b x is.found) is.down way in
+          let same = way_owes w x firm.bios.numbers (found_there w b x is.found) is.down way in
           omega (arith, same);
       takes = λ disk b x is. let same = take_owes w seat firm disk b x is in omega (arith, same);
       delivers = λ b got x is. let same = deliver_owes w seat firm b got x is in omega (arith, same);

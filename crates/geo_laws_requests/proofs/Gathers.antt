@@ -101,7 +101,7 @@ module _ (h : List Moment) (w v : World) (seat b : ℕ) (o : Outcome) (ledger : 
   pub child_ends : v.bios ≡ change_number x.number (in_phase phases.Done) w.bios → v.next_bio ≡ w.next_bio
       → Ledger (h ++ this ∷ []) v
   child_ends bios next =
-      turned_keeps h w v seat (steps.Up b) o ledger firm.sound.bio_numbers x (in_phase phases.Done) []
+      turned_keeps h w v seat (steps.Up b) o ledger firm.bios.numbers x (in_phase phases.Done) []
       (record {
         keeps = keeps_phase phases.Done;
         found = found;
@@ -168,15 +168,15 @@ module _ (h : List Moment) (w v : World) (seat b : ℕ) (o : Outcome) (ledger : 
     not_own : is_gone y ≡ false
     not_own =
         not_own_child w y y.owner
-        (All-contains (λ (z : Bio). ComesFromItsOwner w.handles w.taste z z.owner) w.bios y firm.steady.owners y_here)
+        (All-contains (λ (z : Bio). ComesFromItsOwner w.handles w.taste z z.owner) w.bios y firm.bios.owners y_here)
 
     -- only the parent has its number
     only_y : AllByRecursion (λ (z : Bio). is_it z ≡ true → z ≡ y) w.bios
-    only_y = unique (λ (z : Bio). z.number) w.next_bio y.number w.bios y firm.sound.bio_numbers there
+    only_y = unique (λ (z : Bio). z.number) w.next_bio y.number w.bios y firm.bios.numbers there
 
     -- only the child has its number
     only_x : AllByRecursion (λ (z : Bio). (z.number == x.number) ≡ true → z ≡ x) w.bios
-    only_x = unique (λ (z : Bio). z.number) w.next_bio x.number w.bios x firm.sound.bio_numbers found
+    only_x = unique (λ (z : Bio). z.number) w.next_bio x.number w.bios x firm.bios.numbers found
 
     -- a bio that stays isn't the child
     stays_apart : (z : Bio) → Contains w.bios z → is_gone z ≡ false → z.number ≢ x.number
@@ -194,7 +194,7 @@ module _ (h : List Moment) (w v : World) (seat b : ℕ) (o : Outcome) (ledger : 
         find-spared is_gone (λ (q : Bio). q.number == n) w.bios
         (all_weaker (λ (q : Bio). (q.number == n) ≡ true → q ≡ z) (IsSpared is_gone (λ (q : Bio). q.number == n))
         (λ q one gone. spared q one gone (q.number == n) refl) w.bios
-        (unique (λ (q : Bio). q.number) w.next_bio n w.bios z firm.sound.bio_numbers at))
+        (unique (λ (q : Bio). q.number) w.next_bio n w.bios z firm.bios.numbers at))
         ∙ at
       where
         spared : (q : Bio) → ((q.number == n) ≡ true → q ≡ z) → is_gone q ≡ true → (c : Bool) → (q.number == n) ≡ c
@@ -294,7 +294,7 @@ module _ (h : List Moment) (w v : World) (seat b : ℕ) (o : Outcome) (ledger : 
     live_then =
         subst (λ qs. All (IsLogged (h ++ this ∷ []) v) qs) (sym bios_then)
         (all_changed (λ (z : Bio). z.number) up_then w.next_bio staying y
-        (numbers-kept (λ (z : Bio). z.number) (λ (z : Bio). not (is_gone z)) w.next_bio w.bios firm.sound.bio_numbers)
+        (numbers-kept (λ (z : Bio). z.number) (λ (z : Bio). not (is_gone z)) w.next_bio w.bios firm.bios.numbers)
         (found_staying y.number y there not_own)
         (IsLogged (h ++ this ∷ []) v) Known
         (λ known. logged_up known.0.1)
@@ -373,6 +373,6 @@ module _ (h : List Moment) (w v : World) (seat b : ℕ) (o : Outcome) (ledger : 
         to_come : (n : ℕ) → w.next_bio ≤ n → n ≢ x.number
         to_come n above it =
             let below : x.number < w.next_bio =
-            All-contains (λ k. k < w.next_bio) (map (λ (z : Bio). z.number) w.bios) x.number firm.sound.bio_numbers.1
+            All-contains (λ k. k < w.next_bio) (map (λ (z : Bio). z.number) w.bios) x.number firm.bios.numbers.1
             (Contains-map (λ (z : Bio). z.number) w.bios x x_here) in
             absurd (omega (arith, it, above, below))

@@ -11,25 +11,25 @@ use Rattle.geo_laws_requests.proofs.Ups.{ups_keep}
 -- each step keeps the ledger, where the maps stay
 pub steps_keep_ledger : StepsKeepLedger
 steps_keep_ledger h w v seat (steps.Go actor) o ledger firm maps made =
-    quiet_keeps h w v seat (steps.Go actor) o ledger firm.sound.bio_numbers (λ b. refl) made maps
+    quiet_keeps h w v seat (steps.Go actor) o ledger firm.bios.numbers (λ b. refl) made maps
     (bios_stay_or_arrive.go w v seat actor o made)
 steps_keep_ledger h w v seat steps.Event o ledger firm maps made =
-    quiet_keeps h w v seat steps.Event o ledger firm.sound.bio_numbers (λ b. refl) made maps
+    quiet_keeps h w v seat steps.Event o ledger firm.bios.numbers (λ b. refl) made maps
     (bios_stay_or_arrive.event w v seat o made)
 steps_keep_ledger h w v seat steps.Judge o ledger firm maps made =
-    quiet_keeps h w v seat steps.Judge o ledger firm.sound.bio_numbers (λ b. refl) made maps
+    quiet_keeps h w v seat steps.Judge o ledger firm.bios.numbers (λ b. refl) made maps
     (bios_stay_or_arrive.judge w v seat o made)
 steps_keep_ledger h w v seat steps.Reap o ledger firm maps made =
-    quiet_keeps h w v seat steps.Reap o ledger firm.sound.bio_numbers (λ b. refl) made maps
+    quiet_keeps h w v seat steps.Reap o ledger firm.bios.numbers (λ b. refl) made maps
     (bios_stay_or_arrive.reap w v seat o made)
 steps_keep_ledger h w v seat steps.Wash o ledger firm maps made =
-    quiet_keeps h w v seat steps.Wash o ledger firm.sound.bio_numbers (λ b. refl) made maps
+    quiet_keeps h w v seat steps.Wash o ledger firm.bios.numbers (λ b. refl) made maps
     (bios_stay_or_arrive.wash w v seat o made)
 steps_keep_ledger h w v seat (steps.Start b) o ledger firm maps made =
-    starts_keep h w v seat b o ledger firm.sound.bio_numbers firm.sound.families maps made
+    starts_keep h w v seat b o ledger firm.bios.numbers firm.bios.families maps made
 steps_keep_ledger h w v seat (steps.Take disk b) o ledger firm maps made =
-    takes_keep h w v seat disk b o ledger firm.sound.bio_numbers firm.sound.bios firm.fitting.sectors maps made
+    takes_keep h w v seat disk b o ledger firm.bios.numbers firm.bios.order firm.sizes.sectors maps made
 steps_keep_ledger h w v seat (steps.Deliver b got) o ledger firm maps made =
-    delivers_keep h w v seat b got o ledger firm.sound.bio_numbers maps made
+    delivers_keep h w v seat b got o ledger firm.bios.numbers maps made
 steps_keep_ledger h w v seat (steps.Up b) o ledger firm maps made =
     ups_keep h w v seat b o ledger firm maps made

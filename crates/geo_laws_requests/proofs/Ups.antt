@@ -91,7 +91,7 @@ ups_keep h w v seat b o ledger firm maps made = by x.owner refl (it.made)
         ap (λ (m : World × Outcome). m.1) is
         ∙ ap (λ z. outcomes.Replied line (reply_of_result (unwrap_or z results.Done))) back.is in
         subst (λ k. Ledger (h ++ moment_of w seat (steps.Up b) k ∷ []) v) (sym outcome)
-        (leaves_keep h w v seat b (outcomes.Replied line (reply_of_result back.result)) ledger firm.sound.bio_numbers
+        (leaves_keep h w v seat b (outcomes.Replied line (reply_of_result back.result)) ledger firm.bios.numbers
         x same
         (record {
           found = found;
@@ -109,7 +109,7 @@ ups_keep h w v seat b o ledger firm maps made = by x.owner refl (it.made)
     taste_by of is =
         let outcome : o ≡ outcomes.TasteBack = ap (λ (m : World × Outcome). m.1) is in
         subst (λ k. Ledger (h ++ moment_of w seat (steps.Up b) k ∷ []) v) (sym outcome)
-        (leaves_keep h w v seat b outcomes.TasteBack ledger firm.sound.bio_numbers x same
+        (leaves_keep h w v seat b outcomes.TasteBack ledger firm.bios.numbers x same
         (record {
           found = found;
           root = rw of refl;
@@ -133,7 +133,7 @@ ups_keep h w v seat b o ledger firm maps made = by x.owner refl (it.made)
         gathers c e = ap (λ (m : World × Outcome). m.1) is ∙ ap (λ z. outcomes.Gathered parent z) e
 
         family : IsFamilyInOrder w.topology w.bios x
-        family = All-contains (IsFamilyInOrder w.topology w.bios) w.bios x firm.sound.families here
+        family = All-contains (IsFamilyInOrder w.topology w.bios) w.bios x firm.bios.families here
 
         world_then : (c : Bool) → is_complete done parent ≡ c
             → v ≡ (if c then option_map_or (λ y. complete_parent done y) (bio_at done parent) done else done)

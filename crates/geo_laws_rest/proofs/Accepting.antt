@@ -143,11 +143,11 @@ module _ (w : World) (firm : Firm w) (p : Provider) (there : provider_at w.topol
 
   -- it is in order
   order : IsInOrder t
-  order = sound-order w firm.sound.numbers
+  order = sound-order w firm.graph.numbers
 
   -- its parts live
   live : PartsLive t
-  live = steady-parts t firm.steady.parts firm.steady.attached
+  live = steady-parts t firm.graph.parts firm.graph.attached
 
   -- the rank of the provider's geom
   abbrev below : ℕ
@@ -158,12 +158,12 @@ module _ (w : World) (firm : Firm w) (p : Provider) (there : provider_at w.topol
       → IsRaised t (with_geom_over (queued_of w) p kind config).topology w t.next_geom below
   over-raised kind config =
       let u : Topology Config =
-      grown w t kind p.name config true firm.sound.ranks.ranked live.geoms live.offerers order in
-      raised-on w t kind p.name config true firm.sound.ranks.ranked live.geoms live.offerers order
+      grown w t kind p.name config true firm.graph.ranks.ranked live.geoms live.offerers order in
+      raised-on w t kind p.name config true firm.graph.ranks.ranked live.geoms live.offerers order
       (with_geom_over (queued_of w) p kind config).topology t.next_geom p.geom
       (joined-raised w u t.next_geom p
-      (grown_can w t kind p.name config true firm.sound.ranks.ranked live.geoms live.offerers order)
-      (grown_none w t kind p.name config true firm.sound.ranks.ranked live.geoms live.offerers order) there)
+      (grown_can w t kind p.name config true firm.graph.ranks.ranked live.geoms live.offerers order)
+      (grown_none w t kind p.name config true firm.graph.ranks.ranked live.geoms live.offerers order) there)
 
   -- with a provider for each slice
   pub slices-make : (kind : Kind) (config : Config) (slices : List NewSlice) (number : ℕ) → length slices ≤ number
@@ -203,17 +203,17 @@ module _ (w : World) (firm : Firm w) (p : Provider) (there : provider_at w.topol
     new-makes : join_at (queued_of w) p m None ≡ Some made → Makes w t made below 1
     new-makes e =
         let u : Topology Config =
-        grown w t m.kind m.geom_name m.empty true firm.sound.ranks.ranked live.geoms live.offerers order in
+        grown w t m.kind m.geom_name m.empty true firm.graph.ranks.ranked live.geoms live.offerers order in
         let joined = joined-makes w u t.next_geom p
-        (grown_can w t m.kind m.geom_name m.empty true firm.sound.ranks.ranked live.geoms live.offerers order)
-        (grown_none w t m.kind m.geom_name m.empty true firm.sound.ranks.ranked live.geoms live.offerers order)
+        (grown_can w t m.kind m.geom_name m.empty true firm.graph.ranks.ranked live.geoms live.offerers order)
+        (grown_none w t m.kind m.geom_name m.empty true firm.graph.ranks.ranked live.geoms live.offerers order)
         there m.name made m.empty m.place e in
         record {
           graph = joined.graph;
           geom = joined.geom;
           sector = joined.sector;
           slices = joined.slices;
-          raised = raised-on w t m.kind m.geom_name m.empty true firm.sound.ranks.ranked live.geoms live.offerers order
+          raised = raised-on w t m.kind m.geom_name m.empty true firm.graph.ranks.ranked live.geoms live.offerers order
               joined.graph joined.geom p.geom joined.raised;
           few = joined.few;
           is = joined.is;
@@ -232,12 +232,12 @@ module _ (w : World) (firm : Firm w) (p : Provider) (there : provider_at w.topol
         found_itself (λ (z : Geom Config). z.number) t.next_geom t.geoms g order.geoms here in
         joined-makes w t g.number p
         (record {
-          ranked = firm.sound.ranks.ranked;
+          ranked = firm.graph.ranks.ranked;
           live = live.geoms;
           order = order;
           there = subst (λ (o : Option (Geom Config)). IsSome o) (sym stands) refl;
         })
-        (All-contains (WaitsForPlaces t) t.geoms g firm.steady.partial here free)
+        (All-contains (WaitsForPlaces t) t.geoms g firm.graph.partial here free)
         there m.name made g.config m.place e
 
     -- by whether one stands

@@ -125,7 +125,7 @@ module _ (w : World) (firm : Firm w) (none : w.taste ≡ None) (e : Event) (rest
 
   -- the numbers of providers are in order
   order : InOrder (queued_of left)
-  order = firm.sound.numbers.providers
+  order = firm.graph.numbers.providers
 
   -- after what only loses the queue costs what the rest cost
   rest_costs : (k : World) (r : QueuedTopology Config) → OnlyLoses (queued_of left) r
@@ -160,12 +160,12 @@ module _ (w : World) (firm : Firm w) (none : w.taste ≡ None) (e : Event) (rest
       let lives : IsSome (provider_at w.topology p) =
       subst (λ (x : Event). IsSome (provider_at w.topology (provider_of_event x))) is
       (All-contains (λ (x : Event). IsSome (provider_at w.topology (provider_of_event x))) w.events e
-      firm.sound.events.living (subst (λ (es : List Event). Contains es e) (sym queue) (Contains-here e rest))) in
+      firm.taste.living (subst (λ (es : List Event). Contains es e) (sym queue) (Contains-here e rest))) in
       let stands = has (provider_at w.topology p) lives in
-      let ranks = (open-rises w.topology 2 p stands.item firm.sound.ranks.ranked firm.steady.parts.consumers
-      (taste_there (geom_at w.topology 2) firm.sound.ranks.taste.stands)
-      firm.sound.ranks.taste.no_provider stands.is).0 in
-      let same = elsewhere v w 2 firm.sound.ranks.taste.no_provider (λ q. refl) ranks.same in
+      let ranks = (open-rises w.topology 2 p stands.item firm.graph.ranks.ranked firm.graph.parts.consumers
+      (taste_there (geom_at w.topology 2) firm.graph.ranks.taste.stands)
+      firm.graph.ranks.taste.no_provider stands.is).0 in
+      let same = elsewhere v w 2 firm.graph.ranks.taste.no_provider (λ q. refl) ranks.same in
       let costs = weights_same v w same rest in
       let cost : taste_left v v.taste ≡ 331 + 39 * taste_weight (rank_of_provider v p + 1) = refl in
       let step : taste_weight (rank_of_provider w p) ≡ 400 + 39 * taste_weight (rank_of_provider w p + 1) =

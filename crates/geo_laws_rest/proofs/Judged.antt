@@ -101,7 +101,7 @@ module _ (w : World) (firm : Firm w) (s : Taste) (is : w.taste ≡ Some s) where
   -- the taste's consumer
   tasting : IsTasting w.topology s
   tasting = subst (λ (o : Option Taste). MatchOption o (consumers_of w.topology 2 ≡ []) (IsTasting w.topology)) is
-      firm.sound.handles.taste
+      firm.handles.taste
 
   -- it stands, of geom 2
   taster_stands : Contains w.topology.consumers tasting.consumer × ((tasting.consumer.geom == 2) ≡ true)
@@ -117,14 +117,14 @@ module _ (w : World) (firm : Firm w) (s : Taste) (is : w.taste ≡ Some s) where
       (at_contained (λ (x : Consumer). consumer_at w.topology x.number
       ≡ Some x) w.topology.consumers tasting.consumer
       (each_found (λ (x : Consumer). x.number) w.topology.next_consumer w.topology.consumers
-      firm.sound.numbers.consumers) taster_stands.0)
+      firm.graph.numbers.consumers) taster_stands.0)
 
   -- the tasted provider stands
   tasted : IsSome (provider_at w.topology s.provider)
   tasted =
       subst (λ (o : Option ℕ). IsSome (option_and_then (provider_at w.topology) o)) tasting.attached
       (All-contains (λ (x : Consumer). IsSome (option_and_then (provider_at w.topology) x.provider))
-      w.topology.consumers tasting.consumer firm.steady.attached taster_stands.0)
+      w.topology.consumers tasting.consumer firm.graph.attached taster_stands.0)
 
   -- so the consumer is attached
   attached : IsAttached w.topology s.consumer
@@ -143,19 +143,19 @@ module _ (w : World) (firm : Firm w) (s : Taste) (is : w.taste ≡ Some s) where
   abort_ranks : (n : ℕ) → n ≢ 2 → rank (remove_consumer w.topology s.consumer) n ≡ rank w.topology n
   unfolding attached tasting
   abort_ranks n apart =
-      let lowers = (removal-lowers w.topology s.consumer attached firm.sound.ranks.ranked
-      firm.steady.parts.consumers
-      (sound-order w firm.sound.numbers)).1 in
+      let lowers = (removal-lowers w.topology s.consumer attached firm.graph.ranks.ranked
+      firm.graph.parts.consumers
+      (sound-order w firm.graph.numbers)).1 in
       let two : tasting.consumer.geom ≡ 2 = eqb-true tasting.consumer.geom 2 taster_stands.1 in
       sym (lowers.elsewhere n
       (subst (λ (m : ℕ). reaches (remove_consumer w.topology s.consumer) n m ≡ false) (sym two)
-      (reaches-none (remove_consumer w.topology s.consumer) n 2 firm.sound.ranks.taste.no_provider apart)))
+      (reaches-none (remove_consumer w.topology s.consumer) n 2 firm.graph.ranks.taste.no_provider apart)))
 
   -- the taste ends
   abort_lower : IsLess (measure (abort_taste w s)) (measure w)
   abort_lower =
       let v : World = abort_taste w s in
-      let same = elsewhere v w 2 firm.sound.ranks.taste.no_provider (λ p. refl) abort_ranks in
+      let same = elsewhere v w 2 firm.graph.ranks.taste.no_provider (λ p. refl) abort_ranks in
       let queue = weights_same v w same w.events in
       tasting_less v w (omega arith) (omega arith) (omega (arith, queue, had))
 
@@ -188,7 +188,7 @@ module _ (w : World) (firm : Firm w) (s : Taste) (is : w.taste ≡ Some s) where
 
   -- the reads made are few
   few : IsTasteInOrder w.topology s
-  few = subst (λ (o : Option Taste). IfSome o (IsTasteInOrder w.topology)) is firm.sound.events.taste
+  few = subst (λ (o : Option Taste). IfSome o (IsTasteInOrder w.topology)) is firm.taste.order
 
   -- a class that is asked no more costs less, where it still had a step
   ended_less : (a : Taste) (asked : Asked) → s.asked ≡ asked → IsAs a s → 1 ≤ judges_left asked s.reads

@@ -73,7 +73,7 @@ module _ (w : World) (firm : Firm w) (p : ℕ) (r number : ℕ) (rank_is : rank_
   events_live : All (IsLiving makes.graph) w.events
   events_live =
       subst (λ (ps : List Provider). All (λ (e : Event). IsSome (find (λ (x : Provider). x.number
-      == provider_of_event e) ps)) w.events) (sym makes.raised.kept) firm.sound.events.living
+      == provider_of_event e) ps)) w.events) (sym makes.raised.kept) firm.taste.living
 
   -- the offers
   offering : Offering w makes.geom makes.sector begun
@@ -84,7 +84,7 @@ module _ (w : World) (firm : Firm w) (p : ℕ) (r number : ℕ) (rank_is : rank_
   begun_costs : sum_by (event_weight (with_queued w begun)) w.events ≡ sum_by (event_weight w) w.events
   begun_costs =
       living_weights (with_queued w begun) w makes.raised.living w.events
-      (recursion_from_All (IsLiving w.topology) w.events firm.sound.events.living)
+      (recursion_from_All (IsLiving w.topology) w.events firm.taste.living)
 
   -- with them it costs no more than all that the class can make
   queue_most : sum_by (event_weight after) made.events ≤ sum_by (event_weight w) w.events + number * above

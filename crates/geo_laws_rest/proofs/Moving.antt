@@ -96,7 +96,7 @@ module _ (w : World) (firm : Firm w) (idle : NoneBusy w) where
     sent_by x here true e =
         let at_disk : IsSome (disk_of_bio w x) =
         All-contains (λ (y : Bio). IsTrue (is_sent y.phase || is_busy y.phase) → IsSome (disk_of_bio w y)) w.bios x
-        firm.sound.disks.at_disk here (rw e refl) in
+        firm.bios.disks.at_disk here (rw e refl) in
         let d = has (disk_of_bio w x) at_disk in
         let can_take : is_to_take w x ≡ true = rw (e, d.is) (free_by d.item (busy_bio w d.item) refl) in
         let cannot = at_contained (λ (y : Bio). is_to_take w y ≡ false) w.bios x no_take here in
@@ -115,15 +115,15 @@ module _ (w : World) (firm : Firm w) (idle : NoneBusy w) where
     none_waits zero x here waits high =
         let low : x.number < w.next_bio =
         at_contained (λ (y : Bio). y.number < w.next_bio) w.bios x
-        (each_below w.bios w.next_bio firm.sound.bio_numbers.1) here in
+        (each_below w.bios w.next_bio firm.bios.numbers.1) here in
         omega (arith, high, low)
     none_waits (suc steps) x here waits high =
         let family : IsFamilyInOrder w.topology w.bios x =
-        All-contains (IsFamilyInOrder w.topology w.bios) w.bios x firm.sound.families here in
+        All-contains (IsFamilyInOrder w.topology w.bios) w.bios x firm.bios.families here in
         let o = one_fails (λ (y : Bio). is_done y.phase) (children_of w x.number) (family.not_complete waits) in
         let child = filter-Contains (λ (y : Bio). is_child_of y.owner x.number) w.bios o.item o.stands in
         let comes : ComesFromItsOwner w.handles w.taste o.item o.item.owner =
-        All-contains (λ (y : Bio). ComesFromItsOwner w.handles w.taste y y.owner) w.bios o.item firm.steady.owners
+        All-contains (λ (y : Bio). ComesFromItsOwner w.handles w.taste y y.owner) w.bios o.item firm.bios.owners
         child.0 in
         let above = child_above o.item x.number o.item.owner comes child.1 in
         none_waits steps o.item child.0 (not_both o.item.phase o.fact (stuck o.item child.0))
@@ -133,7 +133,7 @@ module _ (w : World) (firm : Firm w) (idle : NoneBusy w) where
     root_done : (x : Bio) → Contains w.bios x → is_done x.phase ≡ true → is_root x.owner ≡ true → ⊥
     root_done x here done root =
         let family : IsFamilyInOrder w.topology w.bios x =
-        All-contains (IsFamilyInOrder w.topology w.bios) w.bios x firm.sound.families here in
+        All-contains (IsFamilyInOrder w.topology w.bios) w.bios x firm.bios.families here in
         let not_done : is_done x.phase ≡ false = family.root root in
         let no : ⊥ = cc in no
 
@@ -141,7 +141,7 @@ module _ (w : World) (firm : Firm w) (idle : NoneBusy w) where
     none_done : (x : Bio) → Contains w.bios x → is_done x.phase ≡ true → (o : Owner) → x.owner ≡ o → ⊥
     none_done x here done (owners.Child parent index) own =
         let family : IsFamilyInOrder w.topology w.bios x =
-        All-contains (IsFamilyInOrder w.topology w.bios) w.bios x firm.sound.families here in
+        All-contains (IsFamilyInOrder w.topology w.bios) w.bios x firm.bios.families here in
         let parent_waits : HasItsParent w.bios (owners.Child parent index) =
         subst (HasItsParent w.bios) own family.parent in
         let y = found-with (bio_at w parent) (λ z. IsTrue (is_waiting z.phase)) parent_waits in

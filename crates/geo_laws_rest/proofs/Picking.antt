@@ -73,7 +73,7 @@ module _ (w : World) (firm : Firm w) where
   -- a bio that is found is the one of its number
   itself : (test : Bio → Bool) (x : Bio) → find test w.bios ≡ Some x → bio_at w x.number ≡ Some x
   itself test x found =
-      found_itself (λ (y : Bio). y.number) w.next_bio w.bios x firm.sound.bio_numbers
+      found_itself (λ (y : Bio). y.number) w.next_bio w.bios x firm.bios.numbers
       (find-Contains test w.bios x found)
 
   -- one that is Up goes up
@@ -134,7 +134,7 @@ no_taste w firm none (Some s) is e =
     let wants : option_map_or (λ (t : Taste). is_read_out t.asked) w.taste false ≡ true =
     ap (λ (o : Option Taste). option_map_or (λ (t : Taste). is_read_out t.asked) o false) is ∙ out in
     let has_root : list_any (λ (x : Bio). is_taste_root x.owner) w.bios ≡ true =
-    firm.sound.events.read_out.1 wants in
+    firm.bios.read_out.1 wants in
     let has_none : list_any (λ (x : Bio). is_taste_root x.owner) w.bios ≡ false =
     ap (list_any (λ (x : Bio). is_taste_root x.owner)) none in
     absurd (let no : ⊥ = cc in no)

@@ -121,7 +121,7 @@ module _ (w : World) (firm : Firm w) (x : Bio) (found : bio_at w x.number ≡ So
   parent_waits =
       let here : Contains w.bios x = find-Contains (λ (y : Bio). y.number == x.number) w.bios x found in
       let family : IsFamilyInOrder w.topology w.bios x =
-      All-contains (IsFamilyInOrder w.topology w.bios) w.bios x firm.sound.families here in
+      All-contains (IsFamilyInOrder w.topology w.bios) w.bios x firm.bios.families here in
       let has : HasItsParent w.bios x.owner = family.parent in
       subst (HasItsParent w.bios) own has
 
@@ -188,7 +188,7 @@ module _ (w : World) (firm : Firm w) (x : Bio) (found : bio_at w x.number ≡ So
   complete_falls y at =
       let r : BioResult = joined_result y.cmd (child_results gathered y.number) in
       let same = unique (λ (z : Bio). z.number) w.next_bio y.number gathered.bios y
-      (subst (λ (ns : List ℕ). AreNumbers ns w.next_bio) (sym gathered_numbers) firm.sound.bio_numbers)
+      (subst (λ (ns : List ℕ). AreNumbers ns w.next_bio) (sym gathered_numbers) firm.bios.numbers)
       (found_there gathered parent y at) in
       let one = sum_kept (steps_of w) (steps_of w) (λ (z : Bio). not (is_child_of z.owner y.number))
       (change_number y.number (up_with r) gathered.bios)

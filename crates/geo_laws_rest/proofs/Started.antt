@@ -156,7 +156,7 @@ module _ (w : World) (firm : Firm w) (x : Bio) (here : Contains w.bios x) where
       } in
       omega (
         arith,
-        rank-falls t firm.sound.ranks.ranked s.geom p.geom edge,
+        rank-falls t firm.graph.ranks.ranked s.geom p.geom edge,
         rank_within-le (length t.geoms) t s.geom,
       )
 
@@ -164,7 +164,7 @@ module _ (w : World) (firm : Firm w) (x : Bio) (here : Contains w.bios x) where
   low : (p : Provider) → provider_at t x.target ≡ Some p → rank t p.geom ≤ length t.geoms
   low =
       let order : IsBioInOrder (granted_in w) t x =
-      All-contains (IsBioInOrder (granted_in w) t) w.bios x firm.sound.bios here in
+      All-contains (IsBioInOrder (granted_in w) t) w.bios x firm.bios.order here in
       low_by (consumer_at t x.source) refl order.source
 
   module _ (p : Provider) (found : provider_at t x.target ≡ Some p) (g : Geom Config)
@@ -189,7 +189,7 @@ module _ (w : World) (firm : Firm w) (x : Bio) (here : Contains w.bios x) where
         let is : provider_of_consumer t z.consumer ≡ Some into.under = rw into.found into.attached in
         let goes : into.under ≡ unwrap_or (provider_of_consumer t z.consumer) 0 =
         sym (ap (λ (o : Option ℕ). unwrap_or o 0) is) in
-        down_most w w (IsOpen w) (open-down w firm) firm.sound.ranks.ranked (keeps_itself t)
+        down_most w w (IsOpen w) (open-down w firm) firm.graph.ranks.ranked (keeps_itself t)
         (length t.geoms) levels (piece_child t w.next_bio x i z) (piece_child t w.next_bio x 0 z)
         (subst (IsOpen w) goes into.inside) (record { cmd = refl; offset = refl; len = refl; target = refl })
         (inr (λ q at.
@@ -202,7 +202,7 @@ module _ (w : World) (firm : Firm w) (x : Bio) (here : Contains w.bios x) where
               ∙ subst (λ (n : ℕ). provider_at t n ≡ Some q) (sym goes) at;
           below = refl;
         } in
-        omega (arith, rank-falls t firm.sound.ranks.ranked p.geom q.geom edge, low p found, many)))
+        omega (arith, rank-falls t firm.graph.ranks.ranked p.geom q.geom edge, low p found, many)))
 
     -- what the bio needs is two more than its children
     split_most : (levels : ℕ) → length t.geoms ≡ levels → disk_of g.config ≡ None
@@ -338,7 +338,7 @@ send_falls w firm x found down after =
     let there : Contains v.bios (record x { phase = phases.Sent }) = rw itself at among in
     let disk : IsSome (disk_of_bio w x) =
     All-contains (λ (y : Bio). IsTrue (is_sent y.phase || is_busy y.phase) → IsSome (disk_of_bio v y)) v.bios
-    (record x { phase = phases.Sent }) after.sound.disks.at_disk there refl in
+    (record x { phase = phases.Sent }) after.bios.disks.at_disk there refl in
     steps_fall w (change_number x.number (λ y. record y { phase = phases.Sent }) w.bios) after
     (changed_falls w firm x found (λ y. record y { phase = phases.Sent }) 1
     (omega (

@@ -73,7 +73,7 @@ pub changed_falls : (w : World) → Firm w → (x : Bio) → bio_at w x.number �
     → steps_of w (change x) + d ≤ steps_of w x
     → sum_by (steps_of w) (change_number x.number change w.bios) + d ≤ bio_steps_of w
 changed_falls w firm x found change d falls =
-    let same = unique (λ (y : Bio). y.number) w.next_bio x.number w.bios x firm.sound.bio_numbers found in
+    let same = unique (λ (y : Bio). y.number) w.next_bio x.number w.bios x firm.bios.numbers found in
     let most : AllByRecursion (λ (y : Bio).
     steps_of w (if y.number == x.number then change y else y) ≤ steps_of w y) w.bios =
     by w.bios same in

@@ -198,7 +198,7 @@ pub steps_most : (v w : World) → Firm v → Keeps w.topology v.topology
     → length v.topology.geoms ≤ length w.topology.geoms
     → (x : Bio) → Contains v.bios x → (phase : Phase) → steps_left v x phase ≤ steps_left w x phase
 steps_most v w firm keeps fewer x here phases.Down =
-    down_most v w (IsOpen v) (open-down v firm) firm.sound.ranks.ranked keeps
+    down_most v w (IsOpen v) (open-down v firm) firm.graph.ranks.ranked keeps
     (length v.topology.geoms) (length w.topology.geoms) x x
     (live-open v firm x here) (record { cmd = refl; offset = refl; len = refl; target = refl }) (inl fewer)
 steps_most v w firm keeps fewer x here phases.Sent = omega arith

@@ -185,8 +185,8 @@ module _ (w : World) (firm : Firm w) where
       | inr other ↦
           let found : provider_at provider_gone.topology q ≡ provider_at w.topology q =
           removed-provider.others w.topology p q other.1 in
-          let ranks = removing-stay.provider w.topology p firm.sound.ranks.ranked
-          firm.steady.parts.consumers none in
+          let ranks = removing-stay.provider w.topology p firm.graph.ranks.ranked
+          firm.graph.parts.consumers none in
           let same : rank_of_provider provider_gone q ≡ rank_of_provider w q =
           ap rank_at found
           ∙ rank_by (rank provider_gone.topology) (rank w.topology) (geom_of_provider w.topology q)
@@ -268,7 +268,7 @@ module _ (w : World) (firm : Firm w) where
     -- ranks stay
     geom_ranks : (q : ℕ) → rank_of_provider geom_gone q ≡ rank_of_provider w q
     geom_ranks =
-        let ranks = removing-stay.geom w.topology g firm.sound.ranks.ranked firm.steady.parts.consumers
+        let ranks = removing-stay.geom w.topology g firm.graph.ranks.ranked firm.graph.parts.consumers
         bare.no_consumer in
         elsewhere geom_gone w g bare.no_provider (λ q. geoms_by q (provider_at w.topology q) refl)
         (λ h apart. ranks.same h)

@@ -34,7 +34,7 @@ module _ (w : World) (firm : Firm w) (s : Taste) (is : w.taste ≡ Some s) (none
   no_bio_from : (x : Bio) → Contains w.bios x → x.source ≢ d.number
   no_bio_from x here same =
       let c = found-with (consumer_at t x.source) (λ z. (z.provider ≡ Some x.target) × HasCountFor (granted_in w) t x z)
-      (All-contains (IsBioInOrder (granted_in w) t) w.bios x firm.sound.bios here).source in
+      (All-contains (IsBioInOrder (granted_in w) t) w.bios x firm.bios.order here).source in
       let there : consumer_at t d.number ≡ Some c.item = subst (λ n. consumer_at t n ≡ Some c.item) same c.is in
       let one : d ≡ c.item = one-found (consumer_at t d.number) d c.item (taster_found w firm s is) there in
       let idle : want (granted_in w) t c.item ≡ no_counts =

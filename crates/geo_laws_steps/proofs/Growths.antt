@@ -59,7 +59,7 @@ module _ (w : World) (firm : Firm w) (top : ℕ) where
       sym (ap (option_and_then (λ (z : Consumer). z.provider)) leads.found) ∙ next.attached in
       let number : down.geom.number ≡ down.provider.geom =
       number_found (λ (z : Geom Config). z.number) t.geoms down.provider.geom down.geom down.of in
-      below_closed t firm.sound.ranks.ranked top p q leads.consumer
+      below_closed t firm.graph.ranks.ranked top p q leads.consumer
       (find-Contains (λ (z : Consumer). z.number == next.component) t.consumers leads.consumer leads.found) attached
       (some-with (provider_at t p) (λ z. z.geom ≡ leads.consumer.geom) down.provider down.found
       (sym (leads.own ∙ number))) reached
@@ -125,7 +125,7 @@ module _ (w : World) (x : Growing) (q : Provider) (firm : Firm w) (is : IsStandi
       let at : provider_at t x.provider.number ≡ Some y =
       subst (λ n. provider_at t n ≡ Some y) (eqb-true y.number x.provider.number e)
       (found_itself (λ (z : Provider). z.number) t.next_provider t.providers y
-      (sound-order w firm.sound.numbers).providers here) in
+      (sound-order w firm.graph.numbers).providers here) in
       ap (λ (z : Provider). z.geom) (one-found (provider_at t x.provider.number) y x.provider at is.found.provider)
       ∙ is.found.own))
 
@@ -164,4 +164,4 @@ pub appends-keep : (w : World) (firm : Firm w) (line : ℕ) (name prov : List �
     → Keeps w (do_append w line (growing_concat w.topology name) (found_provider w prov)).0
 appends-keep w firm line name prov =
     append_by w firm line (growing_concat w.topology name) (found_provider w prov)
-    (λ x e. growing_stands w.topology name x (sound-order w firm.sound.numbers) e)
+    (λ x e. growing_stands w.topology name x (sound-order w firm.graph.numbers) e)

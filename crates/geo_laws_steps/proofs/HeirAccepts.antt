@@ -142,11 +142,11 @@ module _ (w : World) (firm : Firm w) (p : Provider) where
       → list_any is_none (places_of g.config) ≡ b → (IsBare t g.number → ⊥)
       → fill_place g.config k c size ≡ g.config
   stands_bare g here k c size free true some touched =
-      absurd (touched (All-contains (WaitsForPlaces t) t.geoms g firm.steady.partial here some))
+      absurd (touched (All-contains (WaitsForPlaces t) t.geoms g firm.graph.partial here some))
   stands_bare g here k c size free false full touched =
       let past = past_full (places_of g.config) k full free in
       let same = AllZip-long (FitsPlace t g.number) (places_of g.config) (sizes_of g.config)
-      (All-contains (FitsPlaces t) t.geoms g firm.fitting.places here) in
+      (All-contains (FitsPlaces t) t.geoms g firm.sizes.places here) in
       fill_past g.config k c size past (omega (arith, past, same))
 
   -- so its configuration may become that with the place filled
@@ -154,7 +154,7 @@ module _ (w : World) (firm : Firm w) (p : Provider) where
       → is_none (option_flatten (slice_get (places_of g.config) k)) ≡ true
       → MayBe (IsBare t) t q (inherits-same (IsBare t) t) p g.number (fill_place g.config k c size)
   stands_may g here k c size free y stands number =
-      let order = sound-order w firm.sound.numbers in
+      let order = sound-order w firm.graph.numbers in
       let at : geom_at t g.number ≡ Some y =
       subst (λ n. geom_at t n ≡ Some y) (eqb-true y.number g.number number)
       (found_itself (λ (x : Geom Config). x.number) t.next_geom t.geoms y order.geoms stands) in

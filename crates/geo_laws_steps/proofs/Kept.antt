@@ -53,7 +53,7 @@ module _ (w v : World) (firm : Firm w) (after : Firm v) (T : ℕ → Type 0)
 
   -- it stood in order
   order : IsInOrder t
-  order = sound-order w firm.sound.numbers
+  order = sound-order w firm.graph.numbers
 
   -- a provider in both
   provider_both : (p : ℕ) (x y : Provider) → provider_at t p ≡ Some x → provider_at u p ≡ Some y

@@ -8,17 +8,16 @@ use Rattle.geo_model.specs.Log.{replay, after_entry}
 use Rattle.geo_model.specs.Fitting.{Firm}
 use Rattle.geo_model.specs.History.{LegalAndSound}
 use Rattle.geo_model.specs.Laws.{OfEachLegalLog, LegalLogsStaySteady, LegalLogsStayFitting}
+use Rattle.geo_model.proofs.FirmLemmas.{sound_of, steady_of, fitting_of, firm_of}
 use Rattle.geo_laws_life.proofs.Opened.{opening-sound, opening-steady}
 use Rattle.geo_laws_life.proofs.Fits.{opening-fitting}
 use Rattle.geo_laws_steps.proofs.Stepped.{steps_stay_firm}
 
 -- the world with which a plan begins is firm
 pub opened_firm : (plan : Plan) (facts : List (ℕ × ℕ)) → IsPlan plan → FactsFit plan facts → Firm (opening plan facts)
-opened_firm plan facts is fit = record {
-  sound = opening-sound plan facts is fit;
-  steady = opening-steady plan facts is fit;
-  fitting = opening-fitting plan facts is fit;
-}
+opened_firm plan facts is fit =
+    firm_of (opening plan facts) (opening-sound plan facts is fit) (opening-steady plan facts is fit)
+    (opening-fitting plan facts is fit)
 
 -- a firm world stays firm along any entries
 pub stays_firm : (w : World) (log : List Entry) → Firm w → Firm (replay w log)
@@ -34,13 +33,15 @@ firm_after plan facts is fit log = stays_firm (opening plan facts) log (opened_f
 pub legal_logs_stay_sound : OfEachLegalLog LegalAndSound
 legal_logs_stay_sound plan facts is fit log legal = record {
   legal = legal;
-  sound = λ earlier begins. (firm_after plan facts is fit earlier).sound;
+  sound = λ earlier begins. sound_of (replay (opening plan facts) earlier) (firm_after plan facts is fit earlier);
 }
 
 -- it is steady
 pub legal_logs_stay_steady : LegalLogsStaySteady
-legal_logs_stay_steady plan facts is fit log legal = (firm_after plan facts is fit log).steady
+legal_logs_stay_steady plan facts is fit log legal =
+    steady_of (replay (opening plan facts) log) (firm_after plan facts is fit log)
 
 -- it is fitting
 pub legal_logs_stay_fitting : LegalLogsStayFitting
-legal_logs_stay_fitting plan facts is fit log legal = (firm_after plan facts is fit log).fitting
+legal_logs_stay_fitting plan facts is fit log legal =
+    fitting_of (replay (opening plan facts) log) (firm_after plan facts is fit log)

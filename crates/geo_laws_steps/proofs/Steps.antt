@@ -84,7 +84,7 @@ steps_keep_used = record {
   ways = λ w seat s firm. step_kept w seat s firm (steps_stay_firm w seat s firm);
   maps = λ w seat s x firm here.
       same-map w.topology (world_by w seat s).topology (Used w) (used-down w firm)
-      (step_kept w seat s firm (steps_stay_firm w seat s firm)) firm.sound.ranks.ranked
-      (steps_stay_firm w seat s firm).sound.ranks.ranked x.target
+      (step_kept w seat s firm (steps_stay_firm w seat s firm)) firm.graph.ranks.ranked
+      (steps_stay_firm w seat s firm).graph.ranks.ranked x.target
       (record { bio = x; stands = here; under = record { over = []; way = refl } });
 }

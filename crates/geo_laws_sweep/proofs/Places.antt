@@ -234,7 +234,7 @@ module _ (w : World) (firm : Firm w) (log : List Entry) (e : Entry) (disk : ℕ)
   rises : RisesFrom 0 before w.next_bio
   rises =
       waiting_rises w disk 0 w.next_bio w.bios
-      (rise-from w.next_bio (map (λ (x : Bio). x.number) w.bios) firm.sound.bio_numbers)
+      (rise-from w.next_bio (map (λ (x : Bio). x.number) w.bios) firm.bios.numbers)
 
   -- of those that wait, a number has one
   only_one : (n : ℕ) (x : Waiting) → Contains before x → x.bio ≡ n
@@ -386,7 +386,7 @@ module _ (plan : Plan) (facts : List (ℕ × ℕ)) (is_plan : IsPlan plan) (fit 
       let one = next_at earlier e split disk b is in
       let rise : RisesFrom 0 (waiting_for w disk) w.next_bio =
       waiting_rises w disk 0 w.next_bio w.bios
-      (rise-from w.next_bio (map (λ (x : Bio). x.number) w.bios) (firm_at earlier).sound.bio_numbers) in
+      (rise-from w.next_bio (map (λ (x : Bio). x.number) w.bios) (firm_at earlier).bios.numbers) in
       All-from_recursion (λ (x : Waiting). IsTrue x.flush → b ≤ x.bio) (waiting_for w disk)
       (all_weaker (λ (x : Waiting). x.flush ≡ true → one.one.bio ≤ x.bio) (λ (x : Waiting). IsTrue x.flush → b ≤ x.bio)
       (λ x low flush. subst (λ (n : ℕ). n ≤ x.bio) one.number (low flush)) (waiting_for w disk)

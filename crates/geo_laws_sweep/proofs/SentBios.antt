@@ -127,7 +127,7 @@ Same w a = sent_in (world_after w a).bios ≡ sent_in w.bios
 module _ (w : World) (firm : Firm w) where
   -- one that is found and isn't Sent
   alone : (n : ℕ) (x : Bio) → bio_at w n ≡ Some x → is_sent x.phase ≡ false → NotSentAt n w.bios
-  alone n x found quiet = found_not_sent w.next_bio n w.bios x firm.sound.bio_numbers found quiet
+  alone n x found quiet = found_not_sent w.next_bio n w.bios x firm.bios.numbers found quiet
 
   -- a Deliver, by what is against it
   deliver_by : (seat b : ℕ) (x : Bio) → bio_at w x.number ≡ Some x → (got : DeviceResult) (o : Option Found)
@@ -163,7 +163,7 @@ module _ (w : World) (firm : Firm w) where
       parent_quiet : NotSentAt parent w.bios
       parent_quiet =
           let family : IsFamilyInOrder w.topology w.bios x =
-          All-contains (IsFamilyInOrder w.topology w.bios) w.bios x firm.sound.families
+          All-contains (IsFamilyInOrder w.topology w.bios) w.bios x firm.bios.families
           (find-Contains (λ (y : Bio). y.number == x.number) w.bios x found) in
           let waits : IsSomeAnd (bio_at w parent) (λ y. IsTrue (is_waiting y.phase)) = rw own at family.parent in
           let y = found-with (bio_at w parent) (λ y. IsTrue (is_waiting y.phase)) waits in

@@ -95,7 +95,7 @@ module _ (w : World) (firm : Firm w) where
       → d < length w.disks
   of_header g d here is =
       let sizes : HasDiskSizes w.topology w.disks g =
-      All-contains (HasDiskSizes w.topology w.disks) w.topology.geoms g firm.sound.numbers.disk_sizes here in
+      All-contains (HasDiskSizes w.topology w.disks) w.topology.geoms g firm.graph.numbers.disk_sizes here in
       let at : IsSomeAnd (slice_get w.disks d) (λ (disk : HeaderDisk).
       All (λ (p : Provider). (p.sector ≡ disk.sector) × (p.size ≡ disk.size)) (providers_of w.topology g.number)) =
       subst (λ (o : Option ℕ). IfSome o (λ (n : ℕ). IsSomeAnd (slice_get w.disks n) (λ (disk : HeaderDisk).
@@ -148,7 +148,7 @@ module _ (w : World) (firm : Firm w) where
   sent_by log none x here true e =
       let at_disk : IsSome (disk_of_bio w x) =
       All-contains (λ (y : Bio). IsTrue (is_sent y.phase || is_busy y.phase) → IsSome (disk_of_bio w y)) w.bios x
-      firm.sound.disks.at_disk here (rw e refl) in
+      firm.bios.disks.at_disk here (rw e refl) in
       let d = has (disk_of_bio w x) at_disk in
       absurd (none_sent_to log none x here e d.item d.is)
 
@@ -167,7 +167,7 @@ module _ (w : World) (firm : Firm w) where
     at_its disk x here sent (Some d) at is =
         let same : d ≡ disk = eqb-true d disk is in
         let found : bio_at w x.number ≡ Some x =
-        found_itself (λ (y : Bio). y.number) w.next_bio w.bios x firm.sound.bio_numbers here in
+        found_itself (λ (y : Bio). y.number) w.next_bio w.bios x firm.bios.numbers here in
         subst (λ (n : ℕ). is_enabled w 0 (steps.Take n x.number) ≡ true) same
         (take_by w firm x found sent (Some d) at (free_by w firm idle d (busy_bio w d) refl))
 

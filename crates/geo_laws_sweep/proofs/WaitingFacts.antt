@@ -50,7 +50,7 @@ module _ (w v : World) (firm : Firm w) (seat b : ℕ) (o : Outcome) (made : step
   -- nor is another of its number
   quiet : NotSentAt started.number w.bios
   quiet =
-      found_not_sent w.next_bio started.number w.bios started firm.sound.bio_numbers
+      found_not_sent w.next_bio started.number w.bios started firm.bios.numbers
       (ap (bio_at w) its_number ∙ it.found) not_yet
 
   -- where it isn't sent, the same are Sent
@@ -96,7 +96,7 @@ module _ (w v : World) (firm : Firm w) (seat b : ℕ) (o : Outcome) (made : step
       (subst (λ (xs : List Bio). OneSent started.number (as_sent started) (sent_in w.bios) (sent_in xs))
       (sym (ap (λ (m : World × Outcome). m.0.bios) is))
       (queued_in started.number w.next_bio started not_yet 0 w.bios
-      (rise-from w.next_bio (map (λ (y : Bio). y.number) w.bios) firm.sound.bio_numbers)
+      (rise-from w.next_bio (map (λ (y : Bio). y.number) w.bios) firm.bios.numbers)
       (ap (bio_at w) its_number ∙ it.found)))
   starts_by (Splits targets) way is =
       Stays (split_same w.topology targets (ap (λ (m : World × Outcome). m.0.bios) is))
@@ -235,7 +235,7 @@ module _ (w v : World) (firm : Firm w) (seat other b : ℕ) (o : Outcome)
     not_seen_by x hit here apart =
         let only : x ≡ taken =
         at_contained (λ (y : Bio). (y.number == b) ≡ true → y ≡ taken) w.bios x
-        (unique (λ (y : Bio). y.number) w.next_bio b w.bios taken firm.sound.bio_numbers taking.found) here hit in
+        (unique (λ (y : Bio). y.number) w.next_bio b w.bios taken firm.bios.numbers taking.found) here hit in
         let goes : disk_at w.topology x.target ≡ Some other =
         ap (λ (y : Bio). disk_at w.topology y.target) only ∙ taking.can.disk_is in
         rw goes (rw apart refl)

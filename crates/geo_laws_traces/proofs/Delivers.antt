@@ -36,7 +36,7 @@ fitting_few : (w : World) (x : Bio) (seat : ℕ) (bytes : List ℕ) → Firm w �
     → deliver_found w seat x (devices.Bytes bytes) x.phase ≡ None → AreFew bytes
 fitting_few w x seat bytes firm here none =
     let order : IsBioInOrder (granted_in w) w.topology x =
-    All-contains (IsBioInOrder (granted_in w) w.topology) w.bios x firm.sound.bios here in
+    All-contains (IsBioInOrder (granted_in w) w.topology) w.bios x firm.bios.order here in
     let fits = fitting_result (sector_of_bio w x) x (devices.Bytes bytes)
     (can_deliver w seat x (devices.Bytes bytes) x.phase none).1 in
     let p = found-with (provider_at w.topology x.target)

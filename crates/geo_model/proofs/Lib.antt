@@ -13,6 +13,7 @@ pub mod PlaceLemmas
 pub mod PartitionLemmas
 pub mod WayLemmas
 pub mod SectorLemmas
+pub mod FirmLemmas
 pub mod CommandWalk
 pub mod StepWalk
 pub use Rattle.geo_base.proofs.AllLists

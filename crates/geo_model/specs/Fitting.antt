@@ -1,22 +1,28 @@
 -- The headline doesn't rest on this file: its proofs keep these facts beside soundness.
 -- What else holds at every moment of sizes and sectors, of concats and their places, of the taste's read, and of the
 -- commands that are left. Soundness and steadiness alone aren't kept by each step.
-use Rattle.std.specs.Prelude.{◌≡◌, ◌≢◌, ◌⊎◌, ℕ, ◌/◌, ◌%◌, ◌<◌, ◌≤◌, List, [], length, count_by, Option, IsSome, IsSomeAnd, IfSome, IsTrue, All, AllPairs, ⊤, option_and_then}
-use Rattle.std.specs.List.{AllZip}
+use Rattle.std.specs.Prelude.{◌≡◌, ◌≢◌, ◌↔◌, ◌⊎◌, ℕ, ◌/◌, ◌%◌, ◌<◌, ◌≤◌, false, List, [], length, map, count_by, Option, IsSome, IsSomeAnd, IfSome, IsTrue, All, AllPairs, ⊤, option_and_then}
+use Rattle.std.specs.List.{AllZip, list_any}
+use Rattle.std.specs.Option.{option_map_or}
 use Rattle.geo_base.specs.Sectors.{IsSectorSize}
 use Rattle.geo_base.specs.declared.kind.Kind.{Kind}
 use Rattle.geo_base.specs.declared.kind.Kind.TheVariants as kinds
 use Rattle.geo_base.specs.declared.limits.TheConstants.{MAX_COMPONENTS}
+use Rattle.geo_base.specs.declared.request.Counts.{Counts}
 use Rattle.geo_model.specs.declared.step.BioResult.{BioResult}
 use Rattle.geo_model.specs.declared.step.BioResult.TheVariants as results
-use Rattle.geo_model.specs.Topology.{Topology, Geom, Provider, Consumer, geom_at, provider_at, consumer_at, providers_of}
-use Rattle.geo_model.specs.World.{World, Config, Bio, Mbr, Ebr, Concat, Stripe, Nop, HeaderDisk, Asked, NoClass, NextSector, ReadOut, ReadBack, is_taste_root}
+use Rattle.geo_model.specs.declared.step.Event.{Event}
+use Rattle.geo_model.specs.Topology.{Topology, Geom, Provider, Consumer, geom_at, provider_at, consumer_at, providers_of, consumers_of}
+use Rattle.geo_model.specs.Graph.{AreNumbers}
+use Rattle.geo_model.specs.World.{World, Config, Bio, Handle, Taste, Mbr, Ebr, Concat, Stripe, Nop, HeaderDisk, Asked, NoClass, NextSector, ReadOut, ReadBack, granted_in, is_read_out, is_taste_root}
 use Rattle.geo_model.specs.Place.{components}
 use Rattle.geo_model.specs.Acceptance.{taste_where, places_of, joined_size}
+use Rattle.geo_model.specs.Events.{provider_of_event}
 use Rattle.geo_model.specs.Tasting.{facts_of}
 use Rattle.geo_model.specs.Plans.{IsCommand}
-use Rattle.geo_model.specs.Sound.{Sound, IsMediaSize}
-use Rattle.geo_model.specs.Steady.{Steady}
+use Rattle.geo_model.specs.SoundBios.{IsBioInOrder, IsFamilyInOrder, DisksHold}
+use Rattle.geo_model.specs.Sound.{IsMediaSize, RanksHold, CountsHold, ProvidersHold, NumbersHold, HandlesHold, LeadsDown, IsTasteInOrder}
+use Rattle.geo_model.specs.Steady.{AreMade, PartsHaveGeoms, AreAttached, HasItsComponents, WaitsForPlaces, ComesFromItsOwner, HasItsResult}
 
 -- a disk of the header has a sector size and a size that a provider may have
 pub record IsHeaderDisk (d : HeaderDisk) : Type 0 where
@@ -106,8 +112,60 @@ pub record Fitting (w : World) : Type 0 where
   pub read : TasteReadHolds w.topology w.bios
   pub commands : All (All (λ c. IsCommand c.command)) w.actors
 
--- sound, steady and fitting: what each step is to keep
+-- Sound, steady and fitting by what the facts speak of: this each step is to keep
+
+-- what holds of the graph, whatever was granted
+pub record GraphHolds (t : Topology Config) (ds : List HeaderDisk) : Type 0 where
+  pub ranks : RanksHold t
+  pub providers : ProvidersHold t
+  pub numbers : NumbersHold t ds
+  pub made : AreMade t
+  pub parts : PartsHaveGeoms t
+  pub attached : AreAttached t
+  pub partial : All (WaitsForPlaces t) t.geoms
+  pub unmarked : All (λ c. c.spoiled ≡ false) (consumers_of t 1)
+
+-- what holds of the graph by what was granted to consumers
+pub record DemandHolds (granted : ℕ → Counts) (t : Topology Config) : Type 0 where
+  pub counts : CountsHold granted t
+  pub places : All (LeadsDown granted t) t.providers
+  pub components : All (HasItsComponents granted t) t.geoms
+
+-- what holds of sizes, sectors and places
+pub record SizesHold (t : Topology Config) (ds : List HeaderDisk) : Type 0 where
+  pub disks : All IsHeaderDisk ds
+  pub sectors : All (λ p. IsSectorSize p.sector) t.providers
+  pub wholes : All (FitsBelow t) t.consumers
+  pub places : All (FitsPlaces t) t.geoms
+  pub one : All (HasOneProvider t) t.geoms
+  pub apart : All PlacesHold t.geoms
+  pub sums : All (HasItsSum t) t.geoms
+
+-- what holds of the queue and the taste
+pub record TasteHolds (t : Topology Config) (es : List Event) (o : Option Taste) : Type 0 where
+  pub living : All (λ e. IsSome (provider_at t (provider_of_event e))) es
+  pub order : IfSome o (IsTasteInOrder t)
+  pub asked : IfSome o (λ s. IfSome (provider_at t s.provider) (λ p. IsAskedInOrder t p s.asked))
+
+-- what holds of the bios
+pub record BiosHold (granted : ℕ → Counts) (t : Topology Config) (hs : List Handle) (o : Option Taste)
+    (bios : List Bio) (next : ℕ) : Type 0 where
+  pub numbers : AreNumbers (map (λ x. x.number) bios) next
+  pub order : All (IsBioInOrder granted t) bios
+  pub families : All (IsFamilyInOrder t bios) bios
+  pub disks : DisksHold t bios
+  pub read_out : IsTrue (list_any (λ x. is_taste_root x.owner) bios) ↔ IsTrue
+      (option_map_or (λ s. is_read_out s.asked) o false)
+  pub owners : All (λ x. ComesFromItsOwner hs o x x.owner) bios
+  pub results : All HasItsResult bios
+  pub read : TasteReadHolds t bios
+
+-- all of it
 pub record Firm (w : World) : Type 0 where
-  pub sound : Sound w
-  pub steady : Steady w
-  pub fitting : Fitting w
+  pub graph : GraphHolds w.topology w.disks
+  pub demand : DemandHolds (granted_in w) w.topology
+  pub sizes : SizesHold w.topology w.disks
+  pub handles : HandlesHold w.topology w.handles w.next_handle w.taste
+  pub taste : TasteHolds w.topology w.events w.taste
+  pub bios : BiosHold (granted_in w) w.topology w.handles w.taste w.bios w.next_bio
+  pub commands : All (All (λ c. IsCommand c.command)) w.actors

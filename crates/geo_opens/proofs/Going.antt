@@ -140,7 +140,7 @@ module _ (s : State) (kept : Holds s) where
     placed-all =
         All-weaker (λ (x : Consumer). IsSome (option_and_then (provider_at t) x.provider))
         (λ x. x.provider ≡ None → filter (λ (y : Provider). y.geom == x.geom) t.providers ≡ [])
-        (λ x there none. absurd (nowhere x.provider none there)) t.consumers firm.steady.attached
+        (λ x there none. absurd (nowhere x.provider none there)) t.consumers firm.graph.attached
       where
         nowhere : (o : Option ℕ) → o ≡ None → IsSome (option_and_then (provider_at t) o) → ⊥
         nowhere None none lives = let no : false ≡ true = lives in absurd (cc)
@@ -157,7 +157,7 @@ module _ (s : State) (kept : Holds s) where
     pub held : (h : Handle) (c : ℕ) → Contains hs h → h.consumer ≡ Some c → IsHeld c
     held h c here names =
         let its : HasItsConsumer w_at.topology h =
-        All-contains (HasItsConsumer w_at.topology) hs h firm.sound.handles.handles here in
+        All-contains (HasItsConsumer w_at.topology) hs h firm.handles.handles here in
         let d = some_and_of (λ (x : Consumer). x.geom ≡ 1) (consumer_at t c)
         (subst (λ o. MatchOption o (h.dead ≡ true) (λ m. IsSomeAnd (consumer_at t m) (λ x. x.geom ≡ 1))) names its) in
         record {
@@ -166,7 +166,7 @@ module _ (s : State) (kept : Holds s) where
           dev = d.2;
           attached = there d.0.provider
               (All-contains (λ (x : Consumer). IsSome (option_and_then (provider_at t) x.provider)) t.consumers d.0
-              firm.steady.attached
+              firm.graph.attached
               (find-Contains (λ (x : Consumer). x.number == c) t.consumers d.0 d.1));
         }
       where

@@ -48,7 +48,7 @@ disk_geom : (w : World) → Firm w → (g : Geom Config) → Contains w.topology
 disk_geom w firm g here None e disk is = absurd cc
 disk_geom w firm g here (Some d) e disk is =
     let sizes : HasDiskSizes w.topology w.disks g =
-    All-contains (HasDiskSizes w.topology w.disks) w.topology.geoms g firm.sound.numbers.disk_sizes here in
+    All-contains (HasDiskSizes w.topology w.disks) w.topology.geoms g firm.graph.numbers.disk_sizes here in
     let same : d ≡ disk = cc in
     subst (λ n. IsSome (slice_get w.disks n)) same (some_and _ (slice_get w.disks d) (rw e at sizes))
   where

@@ -66,7 +66,7 @@ module _ (w : World) (firm : Firm w) (c : ℕ) (v : Consumer) (found : consumer_
   nobodys (Some h) e =
       let stands = find-Contains (λ (x : Handle). names_number x.consumer c) w.handles h e in
       let its : HasItsConsumer w.topology h =
-      All-contains (HasItsConsumer w.topology) w.handles h firm.sound.handles.handles stands in
+      All-contains (HasItsConsumer w.topology) w.handles h firm.handles.handles stands in
       absurd (held_by h h.consumer refl (find_passes (λ (x : Handle). names_number x.consumer c) w.handles h e) its)
 
 module _ (w : World) (firm : Firm w) (x : Bio) (here : Contains w.bios x) (p : Provider)
@@ -90,7 +90,7 @@ module _ (w : World) (firm : Firm w) (x : Bio) (here : Contains w.bios x) (p : P
       (eq-eqb p.geom g.number (sym geom_number))
 
   media : IsMediaSize p.size p.sector
-  media = All-contains (λ (v : Provider). IsMediaSize v.size v.sector) t.providers p firm.sound.providers.sizes p_stands
+  media = All-contains (λ (v : Provider). IsMediaSize v.size v.sector) t.providers p firm.graph.providers.sizes p_stands
 
   -- each offset lies before MAX_MEDIA_BYTES
   lies_by : (o : Option Spot) → IsSomeAnd o (IsPlaceInside t g p) → IsSomeAnd o (λ spot. spot.offset < MAX_MEDIA_BYTES)
@@ -100,7 +100,7 @@ module _ (w : World) (firm : Firm w) (x : Bio) (here : Contains w.bios x) (p : P
       let stands = find-Contains (λ (v : Provider). v.number == b.under) t.providers b.provider b.stands in
       let size : IsMediaSize b.provider.size b.provider.sector =
       All-contains
-      (λ (v : Provider). IsMediaSize v.size v.sector) t.providers b.provider firm.sound.providers.sizes stands in
+      (λ (v : Provider). IsMediaSize v.size v.sector) t.providers b.provider firm.graph.providers.sizes stands in
       omega (arith, b.low, size.limited)
 
   lies : LiesBefore g.config p.name p.size
@@ -110,15 +110,15 @@ module _ (w : World) (firm : Firm w) (x : Bio) (here : Contains w.bios x) (p : P
   whole : list_any is_none (places_of g.config) ≡ false
   whole = false_from_ne_true (list_any is_none (places_of g.config)) (λ free.
       let waits : WaitsForPlaces w.topology g =
-      All-contains (WaitsForPlaces w.topology) t.geoms g firm.steady.partial g_stands in
+      All-contains (WaitsForPlaces w.topology) t.geoms g firm.graph.partial g_stands in
       nothing_in p (subst (λ ps. Contains ps p) (waits free) p_offered))
 
   -- a stripe is as long as its provider
   long_by : (config : Config) → g.config ≡ config → IsAsLong config p.size
   long_by (Stripe id stripe places sizes) is =
-      let class : IsOfItsClass g = All-contains IsOfItsClass t.geoms g firm.sound.numbers.classes g_stands in
+      let class : IsOfItsClass g = All-contains IsOfItsClass t.geoms g firm.graph.numbers.classes g_stands in
       let kind = stripe_kind g.kind id stripe places sizes (rw is at class.config) in
-      let sum_fact : HasItsSum t g = All-contains (HasItsSum t) t.geoms g firm.fitting.sums g_stands in
+      let sum_fact : HasItsSum t g = All-contains (HasItsSum t) t.geoms g firm.sizes.sums g_stands in
       let total : p.size ≡ joined_size g.config =
       All-contains (λ (v : Provider). v.size ≡ joined_size g.config) (providers_of t g.number) p
       (sum_fact (inr kind)) p_offered in
@@ -160,7 +160,7 @@ module _ (w : World) (firm : Firm w) (x : Bio) (here : Contains w.bios x) (p : P
       let its : (p.geom == 1) ≡ true = eq-eqb p.geom 1 is in
       let offered : Contains (providers_of t 1) p =
       Contains-filter (λ (v : Provider). v.geom == 1) t.providers p p_stands its in
-      nothing_in p (subst (λ ps. Contains ps p) firm.sound.ranks.dev.no_provider offered)
+      nothing_in p (subst (λ ps. Contains ps p) firm.graph.ranks.dev.no_provider offered)
 
   -- each piece goes through a consumer that lives and is no handle's
   abbrev pub GoesThrough : PieceTarget → Type 0

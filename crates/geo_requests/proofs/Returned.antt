@@ -104,11 +104,11 @@ module _ (s : State) (firm : IsFirm s) (b : ℕ) (x : BioOf Held) (found : bio_a
 
   comes : ComesFromItsOwner w.handles w.taste y owners.Taste
   comes = subst (ComesFromItsOwner w.handles w.taste y) owner
-      (All-contains (λ (v : Bio). ComesFromItsOwner w.handles w.taste v v.owner) w.bios y firm.1.1.steady.owners stands)
+      (All-contains (λ (v : Bio). ComesFromItsOwner w.handles w.taste v v.owner) w.bios y firm.1.1.bios.owners stands)
 
   -- its read is out
   some_out : option_map_or (λ (a : Taste). is_read_out a.asked) s.taste false ≡ true
-  some_out = firm.1.1.sound.events.read_out.0
+  some_out = firm.1.1.bios.read_out.0
       (any-contained (λ (v : Bio). is_taste_root v.owner) w.bios y stands root)
 
   pub read_of : IsReadOf s x
@@ -136,7 +136,7 @@ module _ (s : State) (firm : IsFirm s) (b : ℕ) (x : BioOf Held) (found : bio_a
 
   -- there is one read
   one_read_out : count_by (λ (z : Trip). is_taste_root z.owner) (trips s.traffic.bios) ≤ 1
-  one_read_out = subst (λ n. n ≤ 1) (reads_counted (delivered_at firm.0) s.traffic.bios) firm.1.1.fitting.read.one
+  one_read_out = subst (λ n. n ≤ 1) (reads_counted (delivered_at firm.0) s.traffic.bios) firm.1.1.bios.read.one
 
   pub came_back : CameThrough s b
   came_back =
@@ -157,7 +157,7 @@ module _ (s : State) (firm : IsFirm s) (b : ℕ) (x : BioOf Held) (found : bio_a
       All-weaker (λ (v : Consumer). IsSome (option_and_then (provider_at s.topo.topology) v.provider))
       (λ (v : Consumer). IsSome v.provider)
       (λ v lives. attached_there (provider_at s.topo.topology) v.provider lives) s.topo.topology.consumers
-      firm.1.1.steady.attached
+      firm.1.1.graph.attached
 
   -- what it is granted: one read
   granted_it : granted_of s.handles.handles s.taste a.consumer ≡ held_by_taste a

@@ -98,18 +98,18 @@ module _ (w : World) (firm : Firm w) where
     waits_for : is_waiting y.phase ≡ true → Nobodys z.source
     waits_for waits =
         let family : IsFamilyInOrder w.topology w.bios y =
-        All-contains (IsFamilyInOrder w.topology w.bios) w.bios y firm.sound.families y_here in
+        All-contains (IsFamilyInOrder w.topology w.bios) w.bios y firm.bios.families y_here in
         by_provider (provider_at t y.target) refl (family.pieces waits)
 
   module _ (x : Bio) (here : Contains w.bios x) where
     comes : ComesFromItsOwner w.handles w.taste x x.owner
-    comes = All-contains (λ (v : Bio). ComesFromItsOwner w.handles w.taste v v.owner) w.bios x firm.steady.owners here
+    comes = All-contains (λ (v : Bio). ComesFromItsOwner w.handles w.taste v v.owner) w.bios x firm.bios.owners here
 
     -- its consumer is there
     pub source_lives : IsSome (consumer_at t x.source)
     source_lives =
         let order : IsBioInOrder (granted_in w) w.topology x =
-        All-contains (IsBioInOrder (granted_in w) w.topology) w.bios x firm.sound.bios here in
+        All-contains (IsBioInOrder (granted_in w) w.topology) w.bios x firm.bios.order here in
         there_with_fact (λ c. (c.provider ≡ Some x.target) × HasCountFor (granted_in w) w.topology x c)
         (consumer_at t x.source) order.source
 
@@ -127,7 +127,7 @@ module _ (w : World) (firm : Firm w) where
     pub child_nobodys : (parent index : ℕ) → x.owner ≡ owners.Child parent index → Nobodys x.source
     child_nobodys parent index owner =
         let family : IsFamilyInOrder w.topology w.bios x =
-        All-contains (IsFamilyInOrder w.topology w.bios) w.bios x firm.sound.families here in
+        All-contains (IsFamilyInOrder w.topology w.bios) w.bios x firm.bios.families here in
         by_parent parent index owner (bio_at w parent) refl (rw owner at family.parent)
 
     -- the root of a line came through the consumer of the line's handle

@@ -180,7 +180,7 @@ module _ (s : State) (firm : IsFirm s) (b : ℕ) where
         let one : at (shown_bio l x) ≡ true = rw (busy, goes, eq-eqb disk disk refl) refl in
         seen_alone x (number_found (λ (y : BioOf Held). y.number) s.traffic.bios b x is) s.traffic.bios
         (alone_by (shown_bio l x) one (shown_bios l s.traffic.bios)
-        (recursion-from_pairs (NotBothBusy w.topology) (shown_bios l s.traffic.bios) firm.1.1.sound.disks.one_busy)
+        (recursion-from_pairs (NotBothBusy w.topology) (shown_bios l s.traffic.bios) firm.1.1.bios.disks.one_busy)
         (here s firm b x is))
 
 -- A Take
@@ -252,7 +252,7 @@ module _ (s new : State) (b seat : ℕ) (x : BioOf Held) (is : bio_among s.traff
       let numbers : AreNumbers (map (λ (z : BioOf Held). z.number) s.traffic.bios) s.traffic.next =
       subst (λ ns. AreNumbers ns s.traffic.next)
       (map-map (λ (z : Bio). z.number) (shown_bio (delivered_at firm.0)) s.traffic.bios)
-      firm.1.1.sound.bio_numbers in
+      firm.1.1.bios.numbers in
       let answer : resolved more (Some (delivered_result x.cmd (length log) (errno_of got))) ≡ result_of_device got =
       place_is_answer log [] e b (sector_at s.topo.topology x.target) x got step fits in
       let made : deliver v y got ≡ (
@@ -324,7 +324,7 @@ module _ (s : State) (firm : IsFirm s) (b seat : ℕ) (got : DeviceResult)
       delivered_bio.fact.0 in
       rw is (All-contains
       (λ (y : Bio). IsTrue (is_sent y.phase || is_busy y.phase) → IsSome (disk_of_bio (world firm.1.0 firm.0 s) y))
-      (world firm.1.0 firm.0 s).bios (shown_bio (delivered_at firm.0) x) firm.1.1.sound.disks.at_disk
+      (world firm.1.0 firm.0 s).bios (shown_bio (delivered_at firm.0) x) firm.1.1.bios.disks.at_disk
       (here s firm b x is) busy)
 
   pub delivers_at : (disk : ℕ) → option_and_then (λ (x : BioOf Held). disk_at s.topo.topology x.target)

@@ -69,11 +69,11 @@ module _ (log : List Entry) (s : State) (actors : List (List LineCommand)) where
   pub under-way_in : Firm (world actors log s) → AreUnderWay s.topo.topology s.handles.handles (trips s.traffic.bios)
   under-way_in firm =
       each s.traffic.bios
-      (recursion_from_All (IsBioInOrder granted s.topo.topology) (world actors log s).bios firm.sound.bios)
+      (recursion_from_All (IsBioInOrder granted s.topo.topology) (world actors log s).bios firm.bios.order)
       (recursion_from_All (λ (x : Bio). ComesFromItsOwner s.handles.handles s.taste x x.owner) (world actors log s).bios
-      firm.steady.owners)
+      firm.bios.owners)
       (recursion_from_All (IsFamilyInOrder s.topo.topology (world actors log s).bios) (world actors log s).bios
-      firm.sound.families)
+      firm.bios.families)
 
   -- each handle's consumer lives
   pub holders-live : Firm (world actors log s)
@@ -83,7 +83,7 @@ module _ (log : List Entry) (s : State) (actors : List (List LineCommand)) where
       all_weaker (HasItsConsumer s.topo.topology)
       (λ h. (c : ℕ) → h.consumer ≡ Some c → IsSome (consumer_at s.topo.topology c))
       (λ h has c is. lives h c is has) s.handles.handles
-      (recursion_from_All (HasItsConsumer s.topo.topology) s.handles.handles firm.sound.handles.handles)
+      (recursion_from_All (HasItsConsumer s.topo.topology) s.handles.handles firm.handles.handles)
     where
       lives : (h : Handle) (c : ℕ) → h.consumer ≡ Some c → HasItsConsumer s.topo.topology h
           → IsSome (consumer_at s.topo.topology c)
@@ -103,7 +103,7 @@ module _ (log : List Entry) (s : State) (firm : StandsFirm log s) where
 
   pub consumer-numbers : AreNumbers (map (λ (x : Consumer). x.number) s.topo.topology.consumers)
       s.topo.topology.next_consumer
-  consumer-numbers = firm.1.sound.numbers.consumers
+  consumer-numbers = firm.1.graph.numbers.consumers
 
 -- a number that isn't given yet is nobody's
 pub unknown : {X : Type 0} (number : X → ℕ) (next n : ℕ) (xs : List X) → AreNumbers (map number xs) next → next ≤ n

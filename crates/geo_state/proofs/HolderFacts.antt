@@ -76,7 +76,7 @@ pub record IsHeld (s : State) (c : ℕ) : Type 0 where
 module _ (log : List Entry) (s : State) (actors : List (List LineCommand)) (firm : Firm (world actors log s)) where
   -- geom 1 holds what was granted to its consumers
   pub dev-holds_in : HoldsGrants s.topo.topology 1
-  dev-holds_in = on (geom_at s.topo.topology 1) refl firm.sound.ranks.dev.stands
+  dev-holds_in = on (geom_at s.topo.topology 1) refl firm.graph.ranks.dev.stands
     where
       on : (o : Option (Geom Config)) → geom_at s.topo.topology 1 ≡ o → IsSomeAnd o (λ x. x.withering ≡ false)
           → IsSomeAnd o (λ x. is_granted_kind x.kind ≡ true)
@@ -84,14 +84,14 @@ module _ (log : List Entry) (s : State) (actors : List (List LineCommand)) (firm
       on (Some g) e stays =
           let class : IsOfItsClass g =
           found-fact IsOfItsClass (λ (x : Geom Config). x.number == 1) s.topo.topology.geoms g
-          (recursion_from_All IsOfItsClass s.topo.topology.geoms firm.sound.numbers.classes) e in
+          (recursion_from_All IsOfItsClass s.topo.topology.geoms firm.graph.numbers.classes) e in
           dev-granted g.kind
           (class.dev ∙ found_passes (λ (x : Geom Config). x.number == 1) s.topo.topology.geoms g e)
 
   -- a consumer of DEV isn't the taste's
   untasted_in : (c : ℕ) (x : Consumer) → consumer_at s.topo.topology c ≡ Some x → x.geom ≡ 1
       → taste_grant s.taste c ≡ no_counts
-  untasted_in c x found dev = on s.taste refl firm.sound.handles.taste
+  untasted_in c x found dev = on s.taste refl firm.handles.taste
     where
       never : (a : Taste) → a.consumer ≡ c → IsTasting s.topo.topology a → ⊥
       never a same tasting =
@@ -103,7 +103,7 @@ module _ (log : List Entry) (s : State) (actors : List (List LineCommand)) (firm
           tasting.alone members in
           let itself : consumer_at s.topo.topology tasting.consumer.number ≡ Some tasting.consumer =
           found_itself (λ (y : Consumer). y.number) s.topo.topology.next_consumer s.topo.topology.consumers
-          tasting.consumer firm.sound.numbers.consumers one.0.0 in
+          tasting.consumer firm.graph.numbers.consumers one.0.0 in
           let it : Some x ≡ Some tasting.consumer =
           sym found ∙ ap (consumer_at s.topo.topology) (sym (tasting.number ∙ same)) ∙ itself in
           let geom : x.geom ≡ tasting.consumer.geom =
@@ -131,7 +131,7 @@ module _ (log : List Entry) (s : State) (actors : List (List LineCommand)) (firm
           subst (λ o. MatchOption o (h.dead ≡ true) (λ d. IsSomeAnd (consumer_at s.topo.topology d) (λ x. x.geom ≡ 1)))
           has
           (found-fact (HasItsConsumer s.topo.topology) (λ (k : Handle). k.number == n) s.handles.handles h
-          (recursion_from_All (HasItsConsumer s.topo.topology) s.handles.handles firm.sound.handles.handles) found)
+          (recursion_from_All (HasItsConsumer s.topo.topology) s.handles.handles firm.handles.handles) found)
 
       on : (o : Option Consumer) → consumer_at s.topo.topology c ≡ o → IsSomeAnd o (λ x. x.geom ≡ 1) → IsHeld s c
       on None e never = absurd never
@@ -143,7 +143,7 @@ module _ (log : List Entry) (s : State) (actors : List (List LineCommand)) (firm
           kept-fact (IsHandleConsumer s.handles.handles) (λ (y : Consumer). y.geom == 1) (λ y. y.number == c)
           s.topo.topology.consumers x
           (recursion_from_All (IsHandleConsumer s.handles.handles) (consumers_of s.topo.topology 1)
-          firm.sound.handles.consumers) e of_one in
+          firm.handles.consumers) e of_one in
           record {
             consumer = x;
             found = e;

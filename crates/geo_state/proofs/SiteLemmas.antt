@@ -247,7 +247,7 @@ offerers : (log : List Entry) (s : State) → StandsFirm log s
     → AllByRecursion (λ (p : Provider). IsSome (geom_at s.topo.topology p.geom)) s.topo.topology.providers
 offerers log s firm =
     recursion_from_All (λ (p : Provider). IsSome (geom_at s.topo.topology p.geom)) s.topo.topology.providers
-    firm.1.steady.parts.providers
+    firm.1.graph.parts.providers
 
 pub kept_after_comers : KeptAfterComers
 kept_after_comers log s u q taste new h firm came fresh none granted settled =
@@ -554,7 +554,7 @@ kept_after_geom log s new geom g h firm found bare gone granted settled disks is
     let providers : u.providers ≡ t.providers = ap (λ (w : TopoView Config). w.topology.providers) gone in
     let consumers : u.consumers ≡ t.consumers = ap (λ (w : TopoView Config). w.topology.consumers) gone in
     let r : Around (λ (x : Geom Config). x.number) geom g t.geoms =
-    around (λ (x : Geom Config). x.number) t.next_geom geom g t.geoms firm.1.sound.numbers.geoms found in
+    around (λ (x : Geom Config). x.number) t.next_geom geom g t.geoms firm.1.graph.numbers.geoms found in
     let targets : TargetsStay t u xs = each t u rest providers bare xs in
     subst Holds (sym is)
     (record {
@@ -570,7 +570,7 @@ kept_after_geom log s new geom g h firm found bare gone granted settled disks is
       read = h.read;
       seats =
           subst (λ seats. AreSeats seats u xs) (sym disks)
-          (seats t u rest r firm.1.sound.numbers.one_geom_of_disk targets (disk_of g.config) refl h.seats);
+          (seats t u rest r firm.1.graph.numbers.one_geom_of_disk targets (disk_of g.config) refl h.seats);
       providers = h.providers ∙ sym (ap (λ (ps : List Provider). length ps) providers);
       room = settled.room;
     })

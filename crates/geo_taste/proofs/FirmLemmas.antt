@@ -58,8 +58,8 @@ firm_sizes w firm =
     All-from_recursion (λ (x : Provider). is_provider_size x.size x.sector ≡ true) w.topology.providers
     (All-from_contained (λ (x : Provider). is_provider_size x.size x.sector ≡ true) w.topology.providers (λ x here.
     media_size x.size x.sector
-    (All-contains (λ (y : Provider). IsSectorSize y.sector) w.topology.providers x firm.fitting.sectors here)
-    (All-contains (λ (y : Provider). IsMediaSize y.size y.sector) w.topology.providers x firm.sound.providers.sizes
+    (All-contains (λ (y : Provider). IsSectorSize y.sector) w.topology.providers x firm.sizes.sectors here)
+    (All-contains (λ (y : Provider). IsMediaSize y.size y.sector) w.topology.providers x firm.graph.providers.sizes
     here)))
 
 -- Places
@@ -87,7 +87,7 @@ module _ (w : World) (s : Taste) (p : Provider) (kind : Kind) (bytes : List ℕ)
   not_high : rank t p.geom < MAX_RANK
   not_high =
       let tasting : IsTasteInOrder w.topology s =
-      at-found w.taste (IsTasteInOrder w.topology) s has.taste firm.sound.events.taste in
+      at-found w.taste (IsTasteInOrder w.topology) s has.taste firm.taste.order in
       let h = found-with (geom_of_provider t s.provider) (λ (g : Geom Config). rank t g.number < UNTASTED_RANK)
       tasting.rank in
       let x = through (λ (x : Provider). geom_at t x.geom) (provider_at t s.provider) h.item h.is in
@@ -120,9 +120,9 @@ module _ (w : World) (s : Taste) (p : Provider) (kind : Kind) (bytes : List ℕ)
         (no_error, not_high);
     place = verdict_named (granted_in w) s bytes (facts_of t p) shape kind has.verdict;
     may = record {
-      classes = firm.sound.numbers.classes;
-      made = firm.steady.made;
-      waiting = firm.steady.partial;
+      classes = firm.graph.numbers.classes;
+      made = firm.graph.made;
+      waiting = firm.graph.partial;
       sizes = made_sizes (accept (queued_of w) p shape) refl;
     };
   }

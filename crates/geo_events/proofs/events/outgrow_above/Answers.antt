@@ -1,5 +1,6 @@
 use Rattle.std.specs.Prelude.{◌+◌}
 use Rattle.geo_model.specs.declared.step.Event.TheVariants as heads
+use Rattle.geo_model.proofs.FirmLemmas.{sound_of, steady_of}
 use Rattle.geo_life.specs.Life.{sound_providers}
 use Rattle.geo_life.proofs.Spared.{handles_are_spared}
 use Rattle.geo_state.specs.World.{world}
@@ -11,8 +12,8 @@ drop_head-requires c = head-there c.args.state.now (heads.Resize c.args.prov) c.
 
 pub resize-requires-clause-made : goal.resize-requires-clause-made
 resize-requires-clause-made c =
-    handles_are_spared.made (world c.requires.firm.1.0 c.requires.firm.0 c.args.state.now)
-    c.requires.firm.1.1.sound c.requires.firm.1.1.steady
+    let w = world c.requires.firm.1.0 c.requires.firm.0 c.args.state.now in
+    handles_are_spared.made w (sound_of w c.requires.firm.1.1) (steady_of w c.requires.firm.1.1)
 
 pub resize-requires-clause-room : goal.resize-requires-clause-room
 resize-requires-clause-room c =

@@ -10,7 +10,7 @@ pub drop_head-requires : goal.drop_head-requires
 drop_head-requires c = head-there c.args.state.now (heads.Spoil c.args.prov) c.requires.head
 
 pub spoil-requires-clause-unmarked : goal.spoil-requires-clause-unmarked
-spoil-requires-clause-unmarked c = c.requires.firm.1.1.steady.unmarked
+spoil-requires-clause-unmarked c = c.requires.firm.1.1.graph.unmarked
 
 pub spoil-requires-clause-room : goal.spoil-requires-clause-room
 spoil-requires-clause-room c =

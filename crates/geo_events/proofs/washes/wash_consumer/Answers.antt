@@ -4,10 +4,10 @@ use Rattle.geo_events.proofs.Washed.{washed-world, consumer-kept}
 use Rattle.geo_events.proofs.washes.wash_consumer.Goals as goal
 
 pub wash-requires-clause-dev : goal.wash-requires-clause-dev
-wash-requires-clause-dev c = c.requires.firm.1.1.sound.ranks.dev.stands
+wash-requires-clause-dev c = c.requires.firm.1.1.graph.ranks.dev.stands
 
 pub wash-requires-clause-taste : goal.wash-requires-clause-taste
-wash-requires-clause-taste c = c.requires.firm.1.1.sound.ranks.taste.stands
+wash-requires-clause-taste c = c.requires.firm.1.1.graph.ranks.taste.stands
 
 pub returns-clause-made : goal.returns-clause-made
 returns-clause-made c =

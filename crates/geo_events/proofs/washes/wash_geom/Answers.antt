@@ -5,10 +5,10 @@ use Rattle.geo_events.proofs.Washed.{geom-stands, has-seat, geom-world, geom-kep
 use Rattle.geo_events.proofs.washes.wash_geom.Goals as goal
 
 pub wash-requires-clause-dev : goal.wash-requires-clause-dev
-wash-requires-clause-dev c = c.requires.firm.1.1.sound.ranks.dev.stands
+wash-requires-clause-dev c = c.requires.firm.1.1.graph.ranks.dev.stands
 
 pub wash-requires-clause-taste : goal.wash-requires-clause-taste
-wash-requires-clause-taste c = c.requires.firm.1.1.sound.ranks.taste.stands
+wash-requires-clause-taste c = c.requires.firm.1.1.graph.ranks.taste.stands
 
 pub free_seat-requires : goal.free_seat-requires
 free_seat-requires c = record {

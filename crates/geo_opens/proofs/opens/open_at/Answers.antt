@@ -1,4 +1,5 @@
 use Rattle.std.proofs.Common.{ap, ◌∙◌}
+use Rattle.geo_model.proofs.FirmLemmas.{sound_of, steady_of}
 use Rattle.geo_life.proofs.Spared.{handles_are_spared}
 use Rattle.geo_state.specs.World.{world}
 use Rattle.geo_handles.specs.Handles.{holding_handle}
@@ -42,5 +43,5 @@ returns-clause-kept g c =
 
 pub take_in-requires-clause-made : goal.take_in-requires-clause-made
 take_in-requires-clause-made g c =
-    handles_are_spared.made (world c.requires.firm.1.0 c.requires.firm.0 c.args.state.now)
-    c.requires.firm.1.1.sound c.requires.firm.1.1.steady
+    let w = world c.requires.firm.1.0 c.requires.firm.0 c.args.state.now in
+    handles_are_spared.made w (sound_of w c.requires.firm.1.1) (steady_of w c.requires.firm.1.1)
