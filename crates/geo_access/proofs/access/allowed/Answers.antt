@@ -5,6 +5,7 @@ use Rattle.geo_access.proofs.Ready.{may_end, tells_of, end_of}
 use Rattle.geo_access.proofs.Allowing.{answered}
 use Rattle.geo_access.proofs.access.allowed.Goals as goal
 
+-- the consumer is attached, so its provider stands; no walk has left anything to try
 pub try_out-order-requires : goal.try_out-order-requires
 try_out-order-requires g c = record {
   lives =
@@ -14,6 +15,7 @@ try_out-order-requires g c = record {
   clear = c.requires.counted.clear;
 }
 
+-- the geoms that were met stand, and counts that are right tell of each consumer at the provider
 pub judge-refused-requires : goal.judge-refused-requires
 judge-refused-requires g c =
     let told = counted_told c.args.topo.now c.place_of-prov.ensures.sound c.requires.counted in
@@ -22,6 +24,7 @@ judge-refused-requires g c =
       tells = tells_of c.try_out-order.ensures.tried c.place_of-prov.ensures.sound told;
     }
 
+-- the walk met geoms that stand, each once
 pub finish-requires : goal.finish-requires
 finish-requires g c =
     let ends = may_end c.try_out-order.ensures.tried c.place_of-prov.ensures.sound c.requires.counted.clear in

@@ -6,6 +6,7 @@ use Rattle.geo_access.proofs.access.could_grant.Goals as goal
 pub try_out-order-requires : goal.try_out-order-requires
 try_out-order-requires g c = record { lives = c.requires.lives; clear = c.requires.counted.clear }
 
+-- the geoms that were met stand, and counts that are right tell of each consumer at the provider
 pub judge-refused-requires : goal.judge-refused-requires
 judge-refused-requires g c =
     let told = counted_told c.args.topo.now c.try_out-order.ensures.sound c.requires.counted in
@@ -19,6 +20,7 @@ finish-requires g c =
     let ends = may_end c.try_out-order.ensures.tried c.try_out-order.ensures.sound c.requires.counted.clear in
     record { lives = ends.lives; apart = ends.apart }
 
+-- for both ways: nothing that was tried is kept, and the judgement is that of the mesh with the new consumer
 pub returns-in-Some : goal.returns-in-Some
 returns-in-Some g c =
     let asked =

@@ -18,6 +18,7 @@ try_out-order-requires g c = record {
   clear = c.requires.counted.clear;
 }
 
+-- the geoms that were met stand, and counts that are right tell of each consumer at the provider
 pub judge-requires : goal.judge-requires
 judge-requires g c =
     let told = counted_told c.args.topo.now c.place_of-prov.ensures.sound c.requires.counted in
@@ -55,6 +56,7 @@ finish-requires-2 g c =
     let ends = may_end c.try_out-order.ensures.tried c.place_of-prov.ensures.sound c.requires.counted.clear in
     record { lives = ends.lives; apart = ends.apart }
 
+-- counts that rise take no consumer away
 pub set_want-requires : goal.set_want-requires
 set_want-requires g c =
     holder_stays (Some Rises) c.args.cons c.try_out-order.ensures.tried c.place_of-prov.ensures.sound

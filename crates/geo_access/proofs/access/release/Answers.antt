@@ -18,6 +18,7 @@ try_out-order-requires g c = record {
   clear = c.requires.counted.clear;
 }
 
+-- the walk met geoms that stand, each once
 pub finish-requires : goal.finish-requires
 finish-requires g c =
     let ends = may_end c.try_out-order.ensures.tried c.place_of-prov.ensures.sound c.requires.counted.clear in

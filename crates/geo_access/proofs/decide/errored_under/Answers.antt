@@ -9,6 +9,7 @@ loop-id-init g c =
     given_begin (λ (y : Consumer). y.number) (λ (y : Consumer). y.provider) (lesser c.args.topo.now)
     (consumers_of c.args.topo.now.topology c.args.geom) c.args.start
 
+-- the provider of this consumer was compared with the best so far, if it is attached to one
 pub loop-id-preserved : goal.loop-id-preserved
 loop-id-preserved g c =
     rw c.number-from.ensures

@@ -1,3 +1,4 @@
+-- The best so far, compared with what those left are attached to, is the best of all.
 use Rattle.std.proofs.Common.{◌≡◌, ◌-◌, fold}
 use Rattle.std.specs.Prelude.{filter_map}
 use Rattle.geo_laws_graph.specs.LookupLaws.{left_from}

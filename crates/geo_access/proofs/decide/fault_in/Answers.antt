@@ -10,6 +10,7 @@ loop-id-init g c =
     some_begin (λ (y : Provider). y.number) (λ (y : Provider). fault_at c.args.topo.now c.args.asked y.number)
     (providers_of c.args.topo.now.topology c.args.geom)
 
+-- nothing is wrong at this provider, so the first fault lies at those that are left
 pub loop-id-preserved : goal.loop-id-preserved
 loop-id-preserved g c =
     rw c.number-from.ensures

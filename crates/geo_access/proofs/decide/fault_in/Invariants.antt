@@ -1,3 +1,4 @@
+-- The first fault at the providers that are left is the first of all.
 use Rattle.std.proofs.Common.{◌≡◌, ◌-◌}
 use Rattle.geo_laws_graph.specs.LookupLaws.{left_from}
 use Rattle.geo_model.specs.Topology.{providers_of}

@@ -5,6 +5,7 @@ use Rattle.geo_model.specs.Topology.{geom_at, providers_under}
 use Rattle.geo_access.specs.Views.{order_of, lesser}
 use Rattle.geo_access.proofs.decide.first_errored.Goals as goal
 
+-- the best so far has what is under this geom, which the order has first
 pub loop-geom-preserved : goal.loop-geom-preserved
 loop-geom-preserved g c = record {
   lives =

@@ -1,3 +1,4 @@
+-- The best so far, compared with what is under the geoms left, is the best of all; the geoms left stand.
 use Rattle.std.proofs.Common.{◌≡◌, fold, All, IsSome, None}
 use Rattle.geo_model.specs.Topology.{geom_at, providers_under}
 use Rattle.geo_access.specs.Views.{order_of, lesser}

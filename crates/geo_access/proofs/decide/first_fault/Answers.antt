@@ -6,6 +6,7 @@ use Rattle.geo_model.specs.Topology.{geom_at}
 use Rattle.geo_access.specs.Views.{order_of, fault_in, first_given}
 use Rattle.geo_access.proofs.decide.first_fault.Goals as goal
 
+-- nothing is wrong in this geom, which the order has first
 pub loop-geom-preserved : goal.loop-geom-preserved
 loop-geom-preserved g c = record {
   lives =

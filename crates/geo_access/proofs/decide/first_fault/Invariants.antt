@@ -1,3 +1,4 @@
+-- The first fault in the geoms that are left is the first of all; the geoms left stand.
 use Rattle.std.proofs.Common.{◌≡◌, All, IsSome}
 use Rattle.geo_model.specs.Topology.{geom_at}
 use Rattle.geo_access.specs.Views.{order_of, fault_in, first_given}

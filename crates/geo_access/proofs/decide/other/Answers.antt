@@ -11,6 +11,7 @@ loop-id-init g c =
     && has_side c.args.side (raised c.args.topo.now y))
     (attached_to c.args.topo.now.topology c.args.prov)
 
+-- this consumer isn't one of that side, so the first that is lies among those that are left
 pub loop-id-preserved : goal.loop-id-preserved
 loop-id-preserved g c =
     rw c.number-from.ensures

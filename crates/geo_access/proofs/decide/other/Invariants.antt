@@ -1,3 +1,4 @@
+-- The first consumer of that side among those left is the first of all.
 use Rattle.std.proofs.Common.{◌≡◌, ◌-◌, option_map}
 use Rattle.std.specs.Prelude.{find, not, ◌==◌, ◌&&◌}
 use Rattle.geo_laws_graph.specs.LookupLaws.{left_from}

@@ -7,6 +7,7 @@ use Rattle.geo_access.specs.Views.{order_of, finish_geom}
 use Rattle.geo_access.proofs.Folding.{order_more, rest_same, finish_marks}
 use Rattle.geo_access.proofs.finish.finish.Goals as goal
 
+-- the walk met each geom once, so what ends at this one leaves the marks that lead through the others
 pub loop-geom-preserved : goal.loop-geom-preserved
 loop-geom-preserved g c =
     let apart : Apart (c.in-Some.geom ∷ order_of c.loop-geom.topo c.take.new.order) =

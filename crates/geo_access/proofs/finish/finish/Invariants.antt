@@ -1,3 +1,4 @@
+-- Once the geoms left are finished, all are; they stand, and each is left once.
 use Rattle.std.proofs.Common.{◌≡◌, fold, All, IsSome}
 use Rattle.geo_model.specs.Topology.{geom_at}
 use Rattle.geo_access.specs.Tries.{Apart}

@@ -1,3 +1,4 @@
+-- Once the providers left are finished, all of the geom are; the graph is as before.
 use Rattle.std.proofs.Common.{◌≡◌, ◌-◌, fold}
 use Rattle.geo_laws_graph.specs.LookupLaws.{left_from}
 use Rattle.geo_model.specs.Topology.{providers_of}

@@ -1,3 +1,4 @@
+-- Once the consumers left have what they gain, all of the geom have; the graph is as before.
 use Rattle.std.proofs.Common.{◌≡◌, ◌-◌, fold}
 use Rattle.geo_laws_graph.specs.LookupLaws.{left_from}
 use Rattle.geo_model.specs.Topology.{consumers_of}

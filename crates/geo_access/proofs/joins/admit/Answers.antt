@@ -8,6 +8,7 @@ use Rattle.geo_access.proofs.JoinStart.{loose_is}
 use Rattle.geo_access.proofs.JoinDemand.{detached_again}
 use Rattle.geo_access.proofs.joins.admit.Goals as goal
 
+-- for both conditions: the consumer stood there, and was just attached
 pub detach-requires-clause-lives : goal.detach-requires-clause-lives
 detach-requires-clause-lives g c =
     let loose = loose_is c.args.topo.now c.args.cons c.requires.loose in
@@ -27,6 +28,7 @@ detach-requires-clause-attached g c =
     (sym (AttachedIsFound.here attached-found c.args.topo.now.topology c.args.cons c.args.prov loose.one
     loose.found)) refl)
 
+-- the consumer was attached to nothing before, so the graph is as before once it is detached again
 pub returns-in-Err-answer-clause-same : goal.returns-in-Err-answer-clause-same
 returns-in-Err-answer-clause-same g c =
     let loose = loose_is c.args.topo.now c.args.cons c.requires.loose in

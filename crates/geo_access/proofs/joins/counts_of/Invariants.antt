@@ -1,3 +1,4 @@
+-- The sum so far, with the counts of the providers left, is the sum of all.
 use Rattle.std.proofs.Common.{◌≡◌, ◌-◌, fold}
 use Rattle.geo_laws_graph.specs.LookupLaws.{left_from}
 use Rattle.geo_model.specs.Topology.{providers_of}

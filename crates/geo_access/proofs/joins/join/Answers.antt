@@ -6,6 +6,7 @@ use Rattle.geo_access.proofs.Ready.{MayEnd, may_end, bound_of, tells_of, end_of}
 use Rattle.geo_access.proofs.JoinTold.{joiner_told, may_admit, attached_may_end, joiner_stays, join_told, join_stands}
 use Rattle.geo_access.proofs.joins.join.Goals as goal
 
+-- the joiner is attached to nothing, and all others' counts are right, so they tell of the provider's consumers
 pub judge-refused-requires : goal.judge-refused-requires
 judge-refused-requires g c =
     let told =
@@ -15,6 +16,7 @@ judge-refused-requires g c =
       tells = tells_of c.try_out-order.ensures.tried c.wanted-add.ensures.sound told;
     }
 
+-- what is tried leaves the graph and the stored counts, so the joiner is loose and holds nothing still
 pub admit-requires : goal.admit-requires
 admit-requires g c =
     let ready =
@@ -54,6 +56,7 @@ returns-in-Err g c =
       bound = omega (arith, c.tick.ensures, c.try_out-order.ensures.steps, few);
     }
 
+-- a consumer that is attached changes no geom and no mark, so the walk can end
 pub finish-requires-2 : goal.finish-requires-2
 finish-requires-2 g c =
     let ends =
@@ -62,6 +65,7 @@ finish-requires-2 g c =
     c.in_default.ensures.attached in
     record { lives = ends.lives; apart = ends.apart }
 
+-- the joiner stood before it was attached, and counts that rise take no consumer away
 pub set_want-requires : goal.set_want-requires
 set_want-requires g c =
     joiner_stays c.args.cons c.try_out-order.ensures.tried c.wanted-add.ensures.sound c.requires.counted

@@ -17,6 +17,7 @@ loop-id-init g t c = record {
       (record { view = c.args.topo.now; order = c.args.order.now });
 }
 
+-- a geom below has a smaller rank, so the descent ends
 pub gather-requires : goal.gather-requires
 gather-requires g t c κs within =
     let less : rank c.loop-id.topo.topology c.in-Some-fresh_under.under < rank c.loop-id.topo.topology c.args.geom =
@@ -27,6 +28,7 @@ gather-requires g t c κs within =
     ap (λ u. rank u c.args.geom) c.loop-id.invariant.graph in
     (omega (arith, c.decreases), ((λ a there. within a there), c.in-Some-fresh_under.ensures.lives))
 
+-- the geom below was gathered if it wasn't in the order, else passed over, as the model visits it
 pub loop-id-preserved : goal.loop-id-preserved
 loop-id-preserved g t c =
     let graph : c.match-fresh_under.topo.topology ≡ c.loop-id.topo.topology =
@@ -71,6 +73,7 @@ loop-id-preserved g t c =
           c.in-Some.ensures.next.left graph step (c.loop-id.invariant.gathered levels there));
     }
 
+-- all below is in the order now, so the geom itself comes in front
 pub returns-clause-gathered : goal.returns-clause-gathered
 returns-clause-gathered g t c levels high =
     gather_whole levels c.args.geom (record { view = c.args.topo.now; order = c.args.order.now }) c.loop-id.topo

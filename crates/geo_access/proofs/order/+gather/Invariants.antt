@@ -1,3 +1,4 @@
+-- What was visited so far, and then what is under the consumers left, is what is visited under all.
 use Rattle.std.proofs.Common.{◌≡◌, ℕ, suc, ◌-◌, ◌≤◌, fold}
 use Rattle.geo_model.specs.Topology.{consumers_of}
 use Rattle.geo_model.specs.Rank.{rank}

@@ -1,3 +1,4 @@
+-- Once the consumers left have handed down, all of the geom have, at a step each.
 use Rattle.std.proofs.Common.{◌≡◌, ◌+◌, ◌-◌, length, fold}
 use Rattle.geo_laws_graph.specs.LookupLaws.{left_from}
 use Rattle.geo_model.specs.Topology.{consumers_of}

@@ -6,6 +6,7 @@ use Rattle.geo_access.specs.Views.{order_of, spread_from, consumers_over}
 use Rattle.geo_access.proofs.Folding.{order_more, rest_same, spread_marks}
 use Rattle.geo_access.proofs.spread.spread.Goals as goal
 
+-- handing down changes what is gained and no mark, so the order leads through the others as before
 pub loop-geom-preserved : goal.loop-geom-preserved
 loop-geom-preserved g c =
     let same : order_of c.spread_from.new.topo c.take.new.order ≡ order_of c.loop-geom.topo c.take.new.order =

@@ -1,3 +1,4 @@
+-- Once the geoms left have spread, all of the order have, at a step for each of their consumers.
 use Rattle.std.proofs.Common.{◌≡◌, ◌+◌, fold, All, IsSome}
 use Rattle.geo_model.specs.Topology.{geom_at}
 use Rattle.geo_access.specs.Views.{order_of, spread_from, consumers_over}

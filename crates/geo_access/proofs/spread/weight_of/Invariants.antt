@@ -1,3 +1,4 @@
+-- The weight so far, with that of the providers left, is the weight of all.
 use Rattle.std.proofs.Common.{◌≡◌, ◌-◌, true, fold}
 use Rattle.geo_laws_graph.specs.LookupLaws.{left_from}
 use Rattle.geo_model.specs.Topology.{providers_of}

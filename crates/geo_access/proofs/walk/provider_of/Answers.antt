@@ -9,6 +9,7 @@ returns-in_err-id-clause-next g c =
     rw c.from_residual.ensures (providers_end (providers_of c.args.topo.now.topology c.args.geom) c.args.from
     (sym c.in_err-id.ensures.first))
 
+-- the number is that of a provider that was met on the walk, so one stands there
 pub returns-in_err-prov-clause-next : goal.returns-in_err-prov-clause-next
 returns-in_err-prov-clause-next g c =
     absurd

@@ -7,11 +7,13 @@ use Rattle.geo_base.proofs.RunsFault.{fault-at, fault-end, next-reached, next-ra
 use Rattle.geo_base.proofs.runs.read_runs.Goals as goal
 use Rattle.geo_base.proofs.runs.read_runs.Goals.{in_default-via-in-Times+else-times-ge1, in_default-via-in_default}
 
+-- the bytes up to here begin a text of runs, and no text of runs goes on with this one
 pub returns-in-None : goal.returns-in-None
 returns-in-None c =
     fault-at c.args.text.now c.loop-at.bytes.items c.loop-at.place c.loop-at.at (omega arith)
     c.loop-at.invariant.reached c.loop-at.invariant.ran (rw c.in-None.is at c.in_ok-next.ensures)
 
+-- the reader went on, so the bytes up to this one begin a text of runs too
 pub loop-at-preserved : goal.loop-at-preserved
 loop-at-preserved c =
     let goes = rw c.in-Some.is at c.in_ok-next.ensures in
@@ -22,6 +24,7 @@ loop-at-preserved c =
           c.loop-at.at (omega arith) c.loop-at.invariant.ran goes;
     }
 
+-- the text ends behind a number that isn't 0, so its last run stands
 pub returns-in_ok-push_bytes-in-Times : goal.returns-in_ok-push_bytes-in-Times
 returns-in_ok-push_bytes-in-Times c =
     let here = all-reached c.args.text.now c.loop-at.bytes.items c.loop-at.place c.loop-at.at c.loop-at-test.false
@@ -31,6 +34,7 @@ returns-in_ok-push_bytes-in-Times c =
     (reached-runs c.in-Times.byte c.in-Times.times c.loop-at.bytes.items c.args.text.now
     c.if-times-ge1.true at_times)
 
+-- the whole text begins one of runs, but ends in the middle of a run: elsewhere than behind a number that isn't 0
 pub returns-in_default : goal.returns-in_default
 returns-in_default c =
     fault-end c.args.text.now c.loop-at.bytes.items c.loop-at.place
@@ -44,6 +48,7 @@ returns-in_default c =
       | in_default-via-in_default w ↦ λ v n _ same. w.in_default.not-Times v n same
     ])
 
+-- nothing was read, and the reader stands before the first run
 pub loop-at-init : goal.loop-at-init
 loop-at-init c = record {
   reached = subst (λ (b : List ℕ). Reached Start b []) (sym c.new-bytes.ensures.items) reached_none;

@@ -4,12 +4,14 @@ use Rattle.geo_base.proofs.RunsLemmas.{text_first, text_on, text_next}
 use Rattle.geo_base.proofs.runs.runs_text.Goals as goal
 use Rattle.geo_base.proofs.runs.runs_text.Goals.{then-next-byte, else-next-byte+in_ok-push_run+in_ok-push}
 
+-- no byte is counted, so the whole text is still that of all bytes
 pub loop-next-init : goal.loop-next-init
 loop-next-init c = record {
   counted = omega arith;
   whole = rw c.new-text.ensures.items (text_first c.args.bytes.now c.requires.some_byte);
 }
 
+-- an equal byte makes the run longer; another one ends it in the text and begins a run of its own
 pub loop-next-preserved : goal.loop-next-preserved
 loop-next-preserved c =
     elim c.if-next-byte.branch [

@@ -1,6 +1,7 @@
 use Rattle.geo_bio.proofs.GatherLemmas.{bytes_from-more, join_step}
 use Rattle.geo_bio.proofs.gather.joined.Goals as goal
 
+-- the bytes of this child are added, and those of the children behind it are left
 pub loop-place-preserved : goal.loop-place-preserved
 loop-place-preserved g c =
     let more = bytes_from-more (g.B.LogBytes.place_bytes c.args.log.now) c.args.bios.now.rows c.args.first

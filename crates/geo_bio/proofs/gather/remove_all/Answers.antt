@@ -3,6 +3,7 @@ use Rattle.geo_bio.specs.Gather.{without_all}
 use Rattle.geo_bio.proofs.GatherLemmas.{without_all-more}
 use Rattle.geo_bio.proofs.gather.remove_all.Goals as goal
 
+-- one child more is gone, and the children behind it are left to go
 pub loop-place-preserved : goal.loop-place-preserved
 loop-place-preserved c =
     let i = c.loop-place.invariant in

@@ -7,6 +7,7 @@ use Rattle.geo_bio.specs.Rows.{at_phase}
 use Rattle.geo_bio.proofs.ValueLemmas.{value_at-changed_other}
 use Rattle.geo_bio.proofs.gather.rise_in.Goals as goal
 
+-- the parent is another bio than the child, so it still counts what it counted
 pub count_child-requires : goal.count_child-requires
 count_child-requires g c =
     let still = value_at-changed_other c.args.bios.now c.set_phase.new.bios c.args.number c.args.parent

@@ -2,6 +2,7 @@ use Rattle.std.proofs.Common.{◌≡◌, ◌+◌, ◌<◌, ◌≤◌, length}
 use Rattle.geo_bio.specs.Split.{with_all}
 use Rattle.geo_bio.proofs.split.insert_all.Given as goal
 
+-- the children that are left make of these bios what all make of the old, have room, and follow in number
 abbrev pub invariant-loop-child : goal.invariant-loop-child
 invariant-loop-child l = record {
   rest : with_all l.bios l.child-iterator.rest.items ≡ with_all l.fn.bios l.fn.children.items;

@@ -2,6 +2,7 @@ use Rattle.geo_class.proofs.TasteLemmas.{with-judge, chain-stays}
 use Rattle.std.proofs.Common.{◌∙◌}
 use Rattle.geo_class.proofs.taste.weigh.Goals as goal
 
+-- a class other than EBR isn't judged by a chain, and keeps no link
 pub returns-in_default : goal.returns-in_default
 returns-in_default c = record {
   verdict = c.judge.ensures

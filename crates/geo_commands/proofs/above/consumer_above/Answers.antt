@@ -9,12 +9,14 @@ returns-in_err-id c =
     rw c.from_residual.ensures (consumers_end (consumers_above c.args.topo.now.topology c.args.prov) c.args.from
     (sym c.in_err-id.ensures.first))
 
+-- the consumer that was met is one of the graph, so it can't be missing there
 pub returns-in_err-cons : goal.returns-in_err-cons
 returns-in_err-cons c =
     absurd
     (above_some c.args.topo.now.topology c.args.prov c.consumer.ensures.sound c.args.from c.in_ok-id.id
     (sym c.in_ok-id.ensures.first) c.in_err-cons.ensures.consumer)
 
+-- what is met is the first consumer from the number on that isn't DEV's, as the graph has it
 pub returns : goal.returns
 returns c =
     above_next c.args.topo.now.topology c.args.prov c.consumer.ensures.sound c.args.from c.in_ok-id.id

@@ -5,6 +5,7 @@ use Rattle.geo_commands.specs.Above.{has_number}
 use Rattle.geo_commands.proofs.Asked.{busy-is}
 use Rattle.geo_commands.proofs.above.is_busy.Goals as goal
 
+-- Either way: a bio that goes to one of them is enough, and where none does the taste decides
 pub returns-then-is_asked : goal.returns-then-is_asked
 returns-then-is_asked c = λ p reached actors log.
     busy-is c.args.state.now p c.args.above.now reached true

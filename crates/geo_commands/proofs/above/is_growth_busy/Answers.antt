@@ -2,6 +2,7 @@ use Rattle.std.proofs.Common.{List, ℕ, ap, ◌∙◌}
 use Rattle.geo_commands.specs.Above.{has_number}
 use Rattle.geo_commands.proofs.above.is_growth_busy.Goals as goal
 
+-- what was gathered is all that is reached upwards from the provider
 pub returns : goal.returns
 returns c = λ actors log.
     c.is_busy.ensures c.args.prov

@@ -9,6 +9,7 @@ loop-found-init c =
     (sym (c.in_ok-push.ensures.items ∙ ap (λ (xs : List ℕ). xs ++ c.args.prov ∷ []) c.new-above.ensures.items))
     (reached-begin c.args.topo.now.topology c.look.ensures c.args.prov)
 
+-- all right above the provider at this place were put behind, so one place more is done
 pub loop-found-preserved : goal.loop-found-preserved
 loop-found-preserved c =
     subst (λ (xs : List ℕ). IsReached c.args.topo.now.topology c.args.prov xs (c.loop-found.next + 1))
@@ -18,6 +19,7 @@ loop-found-preserved c =
     (ap (λ (xs : List ℕ). slice_get xs c.loop-found.next) (sym c.deref.ensures.value)
     ∙ sym c.at.ensures ∙ c.in-Some.is))
 
+-- no provider is in the list twice, so it has at most as many as there are, and one
 pub loop-found-smaller : goal.loop-found-smaller
 loop-found-smaller c =
     let few = reached-few c.args.topo.now.topology c.args.prov c.loop-found.above.items c.loop-found.next
@@ -27,6 +29,7 @@ loop-found-smaller c =
     ∙ sym c.at.ensures ∙ c.in-Some.is) in
     omega (arith, few, less)
 
+-- of each in the list those right above it are in it too, so all that is reached is
 pub returns : goal.returns
 returns c = λ p.
     reached-end c.args.topo.now.topology c.look.ensures c.args.prov c.loop-found.above.items c.loop-found.next

@@ -1,3 +1,4 @@
+-- All the geom's providers are left at first; each that is met is put behind the others; none is left in the end.
 use Rattle.std.proofs.Common.{List, sym, ap, ◌∙◌, map, fold, arith}
 use Rattle.geo_model.specs.Topology.{Provider, providers_of}
 use Rattle.geo_laws_graph.specs.LookupLaws.{WalksMeetAll}

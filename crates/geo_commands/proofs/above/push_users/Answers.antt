@@ -1,3 +1,4 @@
+-- All consumers above are left at first; what the geom of each offers is put behind; none is left in the end.
 use Rattle.std.proofs.Common.{List, sym, ap, ◌∙◌, flat_map, fold, arith}
 use Rattle.geo_model.specs.Topology.{Consumer}
 use Rattle.geo_laws_graph.specs.LookupLaws.{WalksMeetAll}

@@ -1,3 +1,4 @@
+-- Room for events was reserved first: the world is the same, so what is told of it then holds of it before.
 use Rattle.std.specs.Prelude.{◌≤◌, ◌+◌, ◌*◌, length}
 use Rattle.std.proofs.Common.{sym, ◌∙◌, ap, subst, arith}
 use Rattle.geo_model.specs.Topology.{Topology}

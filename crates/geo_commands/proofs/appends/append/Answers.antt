@@ -15,6 +15,7 @@ add_component-requires-clause-able g c =
     (sym c.in-Some.is ∙ c.growing_concat.ensures) (sym c.in-Some-below_named.is ∙ c.below_named.ensures) in
     append-able c.args.state.now a (λ k l. sym c.in_default-2.is ∙ c.in_ok-errno.ensures a.named k l)
 
+-- Each way out once the component was tried: it is tried at the provider that is found by the name
 pub returns-in_err-errno-2-clause-bound : goal.returns-in_err-errno-2-clause-bound
 returns-in_err-errno-2-clause-bound g c =
     append-bound c.args.state.now.topo.topology c.args.prov.now (sym c.in-Some-below_named.is ∙ c.below_named.ensures)
@@ -34,6 +35,7 @@ returns-in-Some-3-clause-bound g c =
     append-bound c.args.state.now.topo.topology c.args.prov.now (sym c.in-Some-below_named.is ∙ c.below_named.ensures)
     c.args.steps.now c.add_component.new.steps c.in_ok-errno-2.ensures.bound
 
+-- no test is against it and its consumer joined, so the component is appended
 pub returns-clause-does : goal.returns-clause-does
 returns-clause-does g c = λ log actors.
     let a = asked c.args.state.now c.requires.firm c.args.name.now c.args.prov.now

@@ -9,6 +9,7 @@ pub concat-requires-clause-fits : goal.concat-requires-clause-fits
 concat-requires-clause-fits c = λ none.
     subst (λ x. assembly_size x c.args.sizes.items ≤ MAX_MEDIA_BYTES) c.in-Concat.is c.requires.limited
 
+-- strips of no bytes make no size, and this one has a size within the limit
 pub stripe-requires-clause-fits : goal.stripe-requires-clause-fits
 stripe-requires-clause-fits c = λ none.
     assembly-striped c.args.assembly c.in-Stripe.stripe c.args.sizes.items c.in-Stripe.is c.requires.some

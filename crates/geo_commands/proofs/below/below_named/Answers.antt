@@ -3,6 +3,7 @@ use Rattle.geo_mesh.specs.Cells.{provider_seen}
 use Rattle.geo_commands.proofs.Joining.{geom_lives, no_rank}
 use Rattle.geo_commands.proofs.below.below_named.Goals as goal
 
+-- the geom of a provider lives, and a geom that lives has a rank
 pub unreachable-requires : goal.unreachable-requires
 unreachable-requires c =
     geom_lives c.args.topo.now.topology c.provider.ensures.sound c.in_ok-prov.prov

@@ -4,6 +4,7 @@ use Rattle.geo_commands.specs.Decisions.{IsDecided}
 use Rattle.geo_commands.proofs.Deciding.{no_decision, open_decided}
 use Rattle.geo_commands.proofs.decisions.decide.Goals as goal
 
+-- what refuses the open is what the model answers to it
 pub returns-in-Open-clause-decided : goal.returns-in-Open-clause-decided
 returns-in-Open-clause-decided g c =
     open_decided c.args.state.now c.args.actor c.args.command.now _ _ _ c.open_refusal.result c.in-Open.is

@@ -3,6 +3,7 @@ use Rattle.geo_commands.specs.Decisions.{owed_by}
 use Rattle.geo_commands.proofs.Deciding.{owes_after}
 use Rattle.geo_commands.proofs.decisions.owed_after.Goals as goal
 
+-- an open that nothing refuses owes one place more, a close that is answered ok one fewer
 pub returns : goal.returns
 returns c actors log line actor command decided =
     c.owed_by.ensures

@@ -3,6 +3,7 @@ use Rattle.geo_state.specs.declared.state.State.{State}
 use Rattle.geo_commands.proofs.Withered.{destroy-busy, destroy-done, found-lives, number-of}
 use Rattle.geo_commands.proofs.destroys.destroy.Goals as goal
 
+-- the geom is the first of the name that stands, and a provider of it has a count
 pub returns-then-is_in_use-clause-does : goal.returns-then-is_in_use-clause-does
 returns-then-is_in_use-clause-does c = λ log actors.
     let s : State = c.args.state.now in
@@ -16,6 +17,7 @@ wither_geom-requires-clause-lives c =
     found-lives s.topo.topology c.look.ensures.orderly.order.geoms _ c.in-Some.geom
     (number-of _ c.in-Some.geom (sym c.in-Some.is ∙ c.named_geom.ensures))
 
+-- no provider of the geom has a count, so it withers
 pub returns-clause-does : goal.returns-clause-does
 returns-clause-does c = λ log actors.
     let s : State = c.args.state.now in

@@ -25,6 +25,7 @@ wither_geom-requires-clause-lives c =
     found-lives s.topo.topology c.requires.firm.1.1.graph.numbers.geoms _ c.in-Some-standing_geom.geom
     (number-of _ c.in-Some-standing_geom.geom (sym c.in-Some-standing_geom.is ∙ c.standing_geom.ensures))
 
+-- the disk is the header's of the name, and the geom that withers is the one that stands for it
 pub returns-clause-does : goal.returns-clause-does
 returns-clause-does c = λ log actors.
     let s : State = c.args.state.now in

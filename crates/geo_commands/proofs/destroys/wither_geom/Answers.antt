@@ -1,6 +1,7 @@
 use Rattle.geo_commands.proofs.Withered.{orphan-room, withered-kept, withered-world}
 use Rattle.geo_commands.proofs.destroys.wither_geom.Goals as goal
 
+-- the queue keeps a place free for the Orphan of each provider without an error
 pub wither-requires-clause-room : goal.wither-requires-clause-room
 wither-requires-clause-room c = orphan-room c.args.state.now c.requires.kept
 
@@ -9,6 +10,7 @@ returns-clause-withered c =
     withered-world c.args.state.now c.requires.kept c.args.geom c.wither.new.topo c.wither.new.queue
     c.wither.ensures.withered
 
+-- each Orphan took the place that its provider was owed, and counts stayed
 pub returns-clause-kept : goal.returns-clause-kept
 returns-clause-kept c =
     withered-kept c.args.state.now c.requires.kept c.args.geom c.wither.new.topo c.wither.new.queue

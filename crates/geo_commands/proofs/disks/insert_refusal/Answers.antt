@@ -4,6 +4,7 @@ use Rattle.geo_model.specs.Topology.{is_name_taken}
 use Rattle.geo_commands.proofs.Finding.{refusal-at}
 use Rattle.geo_commands.proofs.disks.insert_refusal.Goals as goal
 
+-- Each way out: the disk's seat has a geom just where one of the mesh stands for the disk
 pub returns-then-is_some : goal.returns-then-is_some
 returns-then-is_some c =
     refusal-at c.args.state.now c.requires.kept c.args.disk c.index-seat.result.now c.requires.there

@@ -3,6 +3,7 @@ use Rattle.std.proofs.lemmas.Option.{slice_get_read}
 use Rattle.geo_commands.proofs.Finding.{disk-standing, disk-absent, disk-withering}
 use Rattle.geo_commands.proofs.disks.standing_geom.Goals as goal
 
+-- Each way out: the seat's geom, if it has one, is the only one of the disk, and may wither
 pub returns-in_err-geom : goal.returns-in_err-geom
 returns-in_err-geom c =
     let s = c.args.state.now in

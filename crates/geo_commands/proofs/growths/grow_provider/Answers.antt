@@ -1,6 +1,7 @@
 use Rattle.geo_commands.proofs.Larger.{is-larger, larger-is}
 use Rattle.geo_commands.proofs.growths.grow_provider.Goals as goal
 
+-- the mesh with both changes is the larger one, and each note and the Resize took a place of the queue
 pub returns : goal.returns
 returns c =
     is-larger c.args.topo.now c.args.queue.now c.args.growing.now c.args.config c.args.size c.announce_risen.new.topo

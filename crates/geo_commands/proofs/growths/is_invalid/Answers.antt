@@ -3,6 +3,7 @@ use Rattle.std.proofs.Common.{ap, sym, ◌∙◌}
 use Rattle.geo_commands.proofs.Testing.{invalid-told}
 use Rattle.geo_commands.proofs.growths.is_invalid.Goals as goal
 
+-- Each way out: the tests are those of the concat and the provider that were named, and one is enough
 pub returns-then-automatic : goal.returns-then-automatic
 returns-then-automatic c = λ n.
     c.if-automatic.true

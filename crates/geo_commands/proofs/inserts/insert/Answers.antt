@@ -12,6 +12,7 @@ returns-in_default-clause-does c = λ log actors.
     (disk-unread c.args.state.now c.args.name.now c.deref.ensures.value c.disk_named.ensures c.in_default.is actors log)
     c.refused.ensures
 
+-- the seat is the one of the disk that the header has by this name
 pub returns-in-Some-insert_refusal-clause-does : goal.returns-in-Some-insert_refusal-clause-does
 returns-in-Some-insert_refusal-clause-does c = λ log actors.
     let named = disk-read c.args.state.now c.args.name.now c.deref.ensures.value c.disk_named.ensures c.in-Some.is in
@@ -20,12 +21,14 @@ returns-in-Some-insert_refusal-clause-does c = λ log actors.
     (sym (seat-refusal named c.insert_refusal.result c.insert_refusal.ensures) ∙ c.in-Some-insert_refusal.is)
     c.refused-in-Some-insert_refusal.ensures
 
+-- nothing is against the insert, so no geom stands for the disk
 pub stand-requires-clause-absent : goal.stand-requires-clause-absent
 stand-requires-clause-absent c =
     let named = disk-read c.args.state.now c.args.name.now c.deref.ensures.value c.disk_named.ensures c.in-Some.is in
     none-absent c.args.state.now c.requires.kept c.in-Some.disk named.seat named.at
     (sym (seat-refusal named c.insert_refusal.result c.insert_refusal.ensures) ∙ c.in_default-insert_refusal.is)
 
+-- nothing is against the disk of the name, and it stands now
 pub returns-clause-does : goal.returns-clause-does
 returns-clause-does c = λ log actors.
     let s = c.args.state.now in

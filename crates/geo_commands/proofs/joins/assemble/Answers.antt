@@ -16,11 +16,13 @@ pub make-requires-clause-no_disk : goal.make-requires-clause-no_disk
 make-requires-clause-no_disk c =
     ap disk_of c.assembly_config-config.ensures ∙ assembly-diskless c.args.assembly _ _
 
+-- providers that nothing is against are there, carry no error and aren't too deep
 pub make-requires-clause-stands : goal.make-requires-clause-stands
 make-requires-clause-stands c =
     subst (All (CanStandOn c.args.state.now.topo.topology)) (sym (c.deref.ensures.value ∙ c.in_ok-over.ensures))
     c.requires.can.stands
 
+-- kind, configuration and consumers of the new geom are those of the model's assembly
 pub returns-clause-made : goal.returns-clause-made
 returns-clause-made c =
     assembly-built c.make.result c.args.state.now c.make.new.state c.args.name.now c.requires.can

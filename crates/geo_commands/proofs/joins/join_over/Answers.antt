@@ -31,6 +31,7 @@ assemble-requires-clause-can c =
     can-assemble c.args.state.now c.requires.firm c.requires.found judgement c.in_default.is c.in-Some-size.is
     c.assembly_name-full.ensures c.sector_below-sector.ensures c.in_ok-sizes.sizes.items c.in_ok-sizes.ensures
 
+-- the geom that was made is the model's assembly of what was found
 pub returns-clause-does : goal.returns-clause-does
 returns-clause-does c = λ log actors.
     let judgement = judged c.args.assembly c.args.name.now c.requires.found

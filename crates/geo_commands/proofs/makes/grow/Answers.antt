@@ -4,6 +4,7 @@ use Rattle.geo_state.specs.Holds.{Holds}
 use Rattle.geo_commands.proofs.Grown.{roomy-kept}
 use Rattle.geo_commands.proofs.makes.grow.Goals as goal
 
+-- memory was wanting after events had room: the mesh is the same, and more room harms nothing
 pub returns-in_err-id-clause-kept : goal.returns-in_err-id-clause-kept
 returns-in_err-id-clause-kept c =
     let r : State = c.reserve_events.new.state in

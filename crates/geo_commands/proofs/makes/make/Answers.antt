@@ -1,6 +1,7 @@
 use Rattle.geo_commands.proofs.Grown.{grown-kept}
 use Rattle.geo_commands.proofs.makes.make.Goals as goal
 
+-- the geom holds no grant and is of no disk, and its provider is counted
 pub returns-clause-kept : goal.returns-clause-kept
 returns-clause-kept c =
     grown-kept c.args.state.now c.grow.new.state c.args.geom c.args.below.now c.args.offer.now

@@ -3,11 +3,13 @@ use Rattle.geo_model.specs.World.{Nop}
 use Rattle.geo_commands.proofs.Nopping.{below-of, below-sectors, nop-found, nop-free, nop-made, nop-named, nop-sized, nop-stands}
 use Rattle.geo_commands.proofs.nops.nop.Goals as goal
 
+-- the provider below was found in a firm world, so it has a sector size
 pub nop_refusal-requires-clause-sector : goal.nop_refusal-requires-clause-sector
 nop_refusal-requires-clause-sector c =
     below-sectors c.args.state.now c.requires.firm
     (below-of c.args.state.now.topo.topology c.args.prov.now (sym c.in-Some.is ∙ c.below_named.ensures))
 
+-- no test is against the nop, so the name with its tail is one
 pub unreachable-requires : goal.unreachable-requires
 unreachable-requires c =
     let found = nop-found c.args.state.now.topo.topology c.args.prov.now (sym c.in-Some.is ∙ c.below_named.ensures)
@@ -15,6 +17,7 @@ unreachable-requires c =
     nop-named c.args.state.now c.requires.firm found c.args.offset c.args.size c.nop_refusal.ensures
     c.in_default-nop_refusal.is c.in_default-name.is
 
+-- Each that make asks: no test is against the nop, so what is below can carry it, its size fits, its name is free
 pub make-requires-clause-stands : goal.make-requires-clause-stands
 make-requires-clause-stands c =
     let found = nop-found c.args.state.now.topo.topology c.args.prov.now (sym c.in-Some.is ∙ c.below_named.ensures)
@@ -36,6 +39,7 @@ make-requires-clause-free c =
     nop-free c.args.state.now c.requires.firm found c.args.offset c.args.size c.nop_refusal.ensures
     c.in_default-nop_refusal.is c.in-Some-name.is
 
+-- the nop has the next consumer, and name, size and sectors of its provider are the model's
 pub returns-clause-does : goal.returns-clause-does
 returns-clause-does c = λ log actors.
     let found = nop-found c.args.state.now.topo.topology c.args.prov.now (sym c.in-Some.is ∙ c.below_named.ensures)

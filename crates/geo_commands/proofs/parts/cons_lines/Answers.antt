@@ -15,6 +15,7 @@ pub name_below-prov-requires : goal.name_below-prov-requires
 name_below-prov-requires c =
     attached-there c.args.topo.now.topology c.requires.attached _ _ c.in-Some.ensures.next.lives
 
+-- the counts that are stored at the consumer are what it is granted
 pub loop-id-preserved : goal.loop-id-preserved
 loop-id-preserved c =
     rw c.number-from.ensures

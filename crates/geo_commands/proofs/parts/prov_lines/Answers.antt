@@ -11,6 +11,7 @@ loop-id-init c =
     (map (prov_line (granted_by c.args.topo.now) c.args.topo.now.topology))
     (providers_of c.args.topo.now.topology c.args.geom) c.new-lines.result c.new-lines.ensures
 
+-- the counts that are stored at the provider are the sums over its consumers
 pub loop-id-preserved : goal.loop-id-preserved
 loop-id-preserved c =
     rw c.number-from.ensures

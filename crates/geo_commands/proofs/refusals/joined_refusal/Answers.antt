@@ -3,6 +3,7 @@ use Rattle.geo_model.specs.Words.{first_error}
 use Rattle.geo_commands.proofs.Joining.{tests_are}
 use Rattle.geo_commands.proofs.refusals.joined_refusal.Goals as goal
 
+-- what is kept of each provider is what the model's tests read of it
 pub returns : goal.returns
 returns c = λ config ps is size_is.
     c.first_against.ensures

@@ -8,6 +8,7 @@ use Rattle.geo_commands.proofs.requests.write.Goals as goal
 pub request-requires-clause-bytes_fit : goal.request-requires-clause-bytes_fit
 request-requires-clause-bytes_fit c = λ is_write. ap length c.in_ok-copied.ensures ∙ sym c.len.ensures
 
+-- the copy holds the same bytes, and the length of the request is their number
 pub returns-clause-does : goal.returns-clause-does
 returns-clause-does c log =
     subst

@@ -5,6 +5,7 @@ use Rattle.geo_commands.proofs.uses.is_in_use.Goals as goal
 pub loop-id-init : goal.loop-id-init
 loop-id-init c = use_begin c.args.topo.now c.args.geom
 
+-- this provider has no count, so one of those behind it has, or none
 pub loop-id-preserved : goal.loop-id-preserved
 loop-id-preserved c =
     rw c.number-from.ensures
@@ -12,6 +13,7 @@ loop-id-preserved c =
     c.in-Some.ensures.next c.in-Some.ensures.have (sym c.is_zero.ensures ∙ c.if-not-is_zero.false)
     ∙ c.loop-id.invariant)
 
+-- this provider has a count, and one is enough
 pub returns-then-not-is_zero : goal.returns-then-not-is_zero
 returns-then-not-is_zero c =
     use_here c.args.topo.now c.args.geom c.requires.counted c.loop-id.from _ _

@@ -1,6 +1,7 @@
 use Rattle.geo_commands.proofs.Waiting.{freed_reaped, freed_washed}
 use Rattle.geo_commands.proofs.waits.can_be_freed.Goals as goal
 
+-- Either way: a handle that is ready is one that the world reaps, and where none is the wash decides
 pub returns-then-is_some : goal.returns-then-is_some
 returns-then-is_some c =
     freed_reaped c.args.state.now c.requires.kept c.requires.firm c.is_some.result c.first_ready.result

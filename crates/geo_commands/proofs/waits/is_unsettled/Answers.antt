@@ -3,6 +3,7 @@ use Rattle.std.proofs.Common.{sym, ap, ◌∙◌}
 use Rattle.geo_commands.proofs.Waiting.{unsettled}
 use Rattle.geo_commands.proofs.waits.is_unsettled.Goals as goal
 
+-- nothing is under way, so it hangs on what can be freed
 pub returns-else-is_under_way : goal.returns-else-is_under_way
 returns-else-is_under_way c actors log =
     ap (λ b. b || c.can_be_freed.result) (sym c.if-is_under_way.false)

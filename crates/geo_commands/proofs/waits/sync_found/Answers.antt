@@ -2,6 +2,7 @@ use Rattle.std.proofs.Common.{sym, ◌∙◌, Some, None}
 use Rattle.geo_commands.proofs.Waiting.{sync_waits}
 use Rattle.geo_commands.proofs.waits.sync_found.Goals as goal
 
+-- the first bio of the actor's lines by the table is the first of the world
 pub returns-in-Some : goal.returns-in-Some
 returns-in-Some c =
     sync_waits c.args.state.now c.requires.kept c.requires.firm (Some c.in-Some.bio) c.args.actor

@@ -29,6 +29,7 @@ behind_head bytes found =
     unless-behind concat_magic 1 bytes (place_test (u16_at bytes 40) (u16_at bytes 42) ∷ []) (read_record bytes)
     (head_name-ok concat_magic 1 bytes _ found).0
 
+-- a head that is declined declines the record, for the same cause
 pub returns-in_err-name : goal.returns-in_err-name
 returns-in_err-name c =
     let same = err_from_is_err_and c.from_residual.result c.from_residual.ensures.1 in
@@ -37,6 +38,7 @@ returns-in_err-name c =
     (place_test (u16_at c.args.sector.now 40) (u16_at c.args.sector.now 42) ∷ [])
     (read_record c.args.sector.now) c.in_err-name.field-0.0.cause c.in_err-name.ensures)
 
+-- the head is in order, so what the place says is the first cause
 pub returns-then-not-is_place : goal.returns-then-not-is_place
 returns-then-not-is_place c =
     let none = is_place-tested c.u16_at-place.result c.u16_at-count.result (u16_at c.args.sector.now 40)
@@ -46,6 +48,7 @@ returns-then-not-is_place c =
     ∙ unless-place_declined (u16_at c.args.sector.now 40) (u16_at c.args.sector.now 42) []
     (read_record c.args.sector.now) none)
 
+-- head and place pass, and each field is read where it stands
 pub returns : goal.returns
 returns c =
     let head = head_name-ok concat_magic 1 c.args.sector.now c.in_ok-name.name c.in_ok-name.ensures in

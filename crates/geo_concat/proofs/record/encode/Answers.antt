@@ -5,12 +5,14 @@ use Rattle.geo_record.proofs.FieldLemmas.{free-behind, holds-behind}
 use Rattle.geo_record.proofs.RecordLemmas.{length-head}
 use Rattle.geo_concat.proofs.record.encode.Goals as goal
 
+-- the head has 36 bytes, and zeros stand behind it
 pub put_component-requires-clause-free : goal.put_component-requires-clause-free
 put_component-requires-clause-free c =
     free-behind (length c.args.out.now) 36 (record_head concat_magic 1 c.args.part.now.name) c.encode_head.new.sector
     c.encode_head.ensures
     (length-head concat_magic 1 c.args.part.now.name refl c.requires.short) (omega (arith, c.requires.room))
 
+-- the component stands behind the head
 pub returns : goal.returns
 returns c =
     holds-behind (length c.args.out.now) 36 (record_head concat_magic 1 c.args.part.now.name)

@@ -25,6 +25,7 @@ decoded bytes after x none named reads =
     ∙ ap (λ place. answer x.name x.id place (u16_at bytes 42)) reads.place_is
     ∙ ap (λ count. answer x.name x.id x.place count) reads.count_is
 
+-- the head is in order, and each field is read back from where it was written, so the place alone decides
 pub returns : goal.returns
 returns c size x room fits =
     let fields : List ℕ = to_le_bytes w32 x.id ++ (to_le_bytes w16 x.place ++ to_le_bytes w16 x.count) in

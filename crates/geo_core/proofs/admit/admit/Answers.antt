@@ -17,17 +17,20 @@ decide_step-decision-requires-clause-firm c = mesh_is_firm c.args.running.now c.
 pub make_place-requires : goal.make_place-requires
 make_place-requires c = let few = log_few c.args.running.now c.requires.mesh in omega (arith, few)
 
+-- what was found is what the step answers in the world of the log
 pub returns-in-Some-clause-refused : goal.returns-in-Some-clause-refused
 returns-in-Some-clause-refused c =
     let found =
     refused_found c.args.running.now c.requires.mesh c.args.seat c.args.step.now c.in-Some.found c.in-Some.ensures in
     (found, refl)
 
+-- a step that pays off is enabled, so nothing is against it
 pub returns-in-Some-clause-sure : goal.returns-in-Some-clause-sure
 returns-in-Some-clause-sure c = λ pays.
     absurd
     (pays_found c.args.running.now c.requires.mesh c.args.seat c.args.step.now c.in-Some.found c.in-Some.ensures pays)
 
+-- what was decided left the state as it was, so this is the same mesh
 pub places_after-owed-requires-clause-mesh : goal.places_after-owed-requires-clause-mesh
 places_after-owed-requires-clause-mesh c =
     other_mesh c.args.running.now c.requires.mesh c.decide_step-decision.new.state c.args.running.now.log
@@ -40,6 +43,7 @@ places_after-owed-requires-clause-ready c =
     (λ (s : State). IsReady r.plan.commands r.left s c.args.step.now c.decide_step-decision.result)
     (sym c.decide_step-decision.ensures.same) c.decide_step-decision.ensures.ready
 
+-- Each way out from here: deciding leaves the state, making a place adds room alone, so the mesh is the same
 pub returns-in-Err-clause-mesh : goal.returns-in-Err-clause-mesh
 returns-in-Err-clause-mesh c =
     other_mesh c.args.running.now c.requires.mesh c.decide_step-decision.new.state c.make_place.new.log
@@ -50,6 +54,7 @@ returns-in-Err-clause-same c =
     other_seen c.args.running.now c.requires.mesh c.decide_step-decision.new.state c.make_place.new.log
     c.decide_step-decision.ensures.same c.make_place.ensures.entries
 
+-- nothing is against the step, so it has no place for what is owed, or memory is wanting
 pub returns-in-Err-clause-refused : goal.returns-in-Err-clause-refused
 returns-in-Err-clause-refused c =
     other_refused c.args.running.now c.requires.mesh c.decide_step-decision.new.state c.make_place.new.log
@@ -57,6 +62,7 @@ returns-in-Err-clause-refused c =
     c.decide_step-decision.result c.places_after-owed.result c.in_default.is c.found_against.ensures
     c.decide_step-decision.ensures.ready c.places_after-owed.ensures c.in-Err.refusal c.in-Err.ensures.placed
 
+-- a step that pays off owes fewer places than before, so the place of its entry was kept for it
 pub returns-in-Err-clause-sure : goal.returns-in-Err-clause-sure
 returns-in-Err-clause-sure c = λ pays.
     let r = c.args.running.now in
@@ -76,6 +82,7 @@ returns-in-Ok-clause-same c =
     other_seen c.args.running.now c.requires.mesh c.decide_step-decision.new.state c.make_place.new.log
     c.decide_step-decision.ensures.same c.make_place.ensures.entries
 
+-- nothing is against the step, and the log has its place and those that are owed after it
 pub returns-in-Ok-clause-admitted : goal.returns-in-Ok-clause-admitted
 returns-in-Ok-clause-admitted c =
     other_admitted c.args.running.now c.requires.mesh c.decide_step-decision.new.state c.make_place.new.log

@@ -17,12 +17,14 @@ make-requires-clause-named c = mesh_names c.args.running.now c.requires.mesh
 pub make-requires-clause-commands : goal.make-requires-clause-commands
 make-requires-clause-commands c = mesh_commands c.args.running.now c.requires.mesh
 
+-- the step was admitted with room for its entry, and making it left the log alone
 pub push-requires : goal.push-requires
 push-requires c =
     one_place c.args.running.now c.make.new.left c.make.new.state c.args.seat c.args.step c.in_ok-outcome.outcome
     c.requires.mesh c.requires.admitted.place c.requires.admitted.room c.make.ensures.next c.make.ensures.kept
     c.in_ok-outcome.ensures.logged c.in_ok-outcome.ensures.made
 
+-- the log with the entry leads to the new state, and leaves room for what is owed then
 pub returns-clause-mesh : goal.returns-clause-mesh
 returns-clause-mesh c =
     subst
@@ -33,6 +35,7 @@ returns-clause-mesh c =
     c.requires.mesh c.requires.admitted.place c.requires.admitted.room c.make.ensures.next c.make.ensures.kept
     c.in_ok-outcome.ensures.logged c.in_ok-outcome.ensures.made)
 
+-- the log is the one before with the entry behind it, and the step leads there
 pub returns-clause-made : goal.returns-clause-made
 returns-clause-made c = (
   c.in_ok-outcome.outcome,
@@ -46,12 +49,14 @@ returns-clause-made c = (
       c.in_ok-outcome.ensures.logged c.in_ok-outcome.ensures.made),
 )
 
+-- memory was wanting: no command is gone, and the state stands for the same world
 pub returns-in_err-outcome-clause-mesh : goal.returns-in_err-outcome-clause-mesh
 returns-in_err-outcome-clause-mesh c =
     rw c.in_err-outcome.ensures.left_stays
     (same_mesh c.args.running.now c.make.new.state c.requires.mesh c.make.ensures.kept c.in_err-outcome.ensures.same
     c.in_err-outcome.ensures.bytes)
 
+-- in the world of the state too it is a step that is never refused, and that takes no memory
 pub returns-in_err-outcome-clause-sure : goal.returns-in_err-outcome-clause-sure
 returns-in_err-outcome-clause-sure c = λ sure.
     let ok = c.make.ensures.sure (sure_now c.args.running.now c.requires.mesh c.args.seat c.args.step sure) in

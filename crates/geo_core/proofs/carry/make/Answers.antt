@@ -16,6 +16,7 @@ pub go-requires-clause-ready : goal.go-requires-clause-ready
 go-requires-clause-ready c =
     ready_go c.args.plan.now.commands c.args.left.now c.args.state.now c.in-Go.is c.in-Some.is c.requires.ready
 
+-- nothing is against the Go, so there is a next command, and for that something was decided
 pub unreachable-requires : goal.unreachable-requires
 unreachable-requires c =
     let none = ready_go c.args.plan.now.commands c.args.left.now c.args.state.now c.in-Go.is c.in-None.is
@@ -26,12 +27,14 @@ unreachable-requires c =
     let next = go_next_of c.args.plan.now.commands c.args.left.now c.args.state.now c.in-Go.actor found in
     none next.0 next.1
 
+-- what the Go did is what the step does, whose seat doesn't matter
 pub returns-in-Some-clause-made : goal.returns-in-Some-clause-made
 returns-in-Some-clause-made c =
     go_moves c.args.plan.now.commands c.args.log.now.items c.args.left.now c.go.new.left c.args.state.now c.go.new.state
     c.args.seat c.in-Go.actor c.args.step.now c.go.result c.in-Go.is
     (c.go.ensures.logged c.args.log.now.items c.requires.logged) (c.go.ensures.made c.args.log.now.items)
 
+-- the bytes that bios name in the log stay where they are with one entry more
 pub returns-in-Some-clause-logged : goal.returns-in-Some-clause-logged
 returns-in-Some-clause-logged c =
     more_bytes c.args.log.now.items c.go.new.state c.go.result
@@ -56,11 +59,13 @@ turn-requires-clause-enabled c =
 pub turn-requires-clause-turn : goal.turn-requires-clause-turn
 turn-requires-clause-turn c = turn_step c.args.step.now c.in_default.not-Go
 
+-- a step that isn't a Go leaves each actor its commands
 pub returns-in_default-clause-made : goal.returns-in_default-clause-made
 returns-in_default-clause-made c =
     turn_result c.args.plan.now.commands c.args.log.now.items c.args.left.now c.args.state.now c.turn.new.state
     c.args.seat c.args.step.now c.turn.result c.turn.ensures.made
 
+-- of the steps that aren't a Go only a Deliver is never refused
 pub returns-in_default-clause-sure : goal.returns-in_default-clause-sure
 returns-in_default-clause-sure c = λ sure.
     c.turn.ensures.sure

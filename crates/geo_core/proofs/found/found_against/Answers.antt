@@ -4,6 +4,7 @@ use Rattle.geo_core.specs.Moves.{IsFound}
 use Rattle.geo_core.proofs.Founds.{found_event, found_judge, found_reap, found_wash, found_start, found_take, found_deliver, found_up}
 use Rattle.geo_core.proofs.found.found_against.Goals as goal
 
+-- Each kind of step: what was found is what that step answers in each world for which the state stands
 pub returns-in-Go : goal.returns-in-Go
 returns-in-Go c =
     let commands = c.args.plan.now.commands in

@@ -1,3 +1,4 @@
+-- No command from where the search began up to here is the actor's.
 use Rattle.std.proofs.Common.{◌≡◌}
 use Rattle.geo_core.specs.Left.{commands_from}
 use Rattle.geo_core.proofs.left.next_place.Given as goal

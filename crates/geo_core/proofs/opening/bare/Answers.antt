@@ -5,6 +5,7 @@ use Rattle.geo_model.specs.Opening.{disk_in_size}
 use Rattle.geo_core.proofs.Seats.{empty_result}
 use Rattle.geo_core.proofs.opening.bare.Goals as goal
 
+-- with no disk standing, no request out and all commands left, the world is that before the opening's first disk
 pub returns : goal.returns
 returns c =
     let opened =

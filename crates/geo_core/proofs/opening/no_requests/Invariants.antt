@@ -1,3 +1,4 @@
+-- None of the actors so far has a request out.
 use Rattle.std.proofs.Common.{◌≡◌}
 use Rattle.std.specs.List.{AllByRecursion}
 use Rattle.geo_state.specs.declared.state.OwnBios.{OwnBios}

@@ -10,6 +10,7 @@ pub bounds-facts-place-in-loop-place : goal.bounds-facts-place-in-loop-place
 bounds-facts-place-in-loop-place c =
     fact_inside c.args.disks.now c.args.facts.now c.loop-place.place c.requires c.loop-place-test.true
 
+-- the size of a disk in bytes is within what media may have
 pub overflow_mul-from : goal.overflow_mul-from
 overflow_mul-from c =
     let fits =
@@ -17,6 +18,7 @@ overflow_mul-from c =
     c.loop-place-test.true c.index-disks-place.is c.from.ensures in
     omega (arith, fits)
 
+-- the seat has the name of the declaration and the sizes that the disk has, and nothing stands for it
 pub loop-place-preserved : goal.loop-place-preserved
 loop-place-preserved c =
     rw c.in_ok-push.ensures.items

@@ -1,3 +1,4 @@
+-- So many disks have their seats, in header order.
 use Rattle.geo_core.proofs.Seats.{AreSeats}
 use Rattle.geo_core.proofs.opening.seats_of.Given as goal
 

@@ -1,3 +1,4 @@
+-- Of so many disks of the header those stand that don't come later.
 use Rattle.geo_core.specs.Openings.{IsOpened, stood}
 use Rattle.geo_core.proofs.opening.stand_all.Given as goal
 

@@ -7,6 +7,7 @@ pub overflow_cast-disk : goal.overflow_cast-disk
 overflow_cast-disk c =
     let few = c.disks.ensures.plan.few_disks in let there = c.requires.there in omega (arith, few, there)
 
+-- no geom stands for this disk yet, and those that stand are other disks, of other names
 pub stand-requires : goal.stand-requires
 stand-requires c =
     let facts = c.args.disks.now.items in
@@ -22,12 +23,14 @@ stand-requires c =
       free = can.free;
     }
 
+-- a disk that comes later leaves all as it is
 pub returns-then-is_later : goal.returns-then-is_later
 returns-then-is_later c =
     later_stays c.args.plan.now c.args.disks.now.items c.args.disk c.is_later.result c.disks.ensures.plan c.requires.fit
     c.requires.there (later_told c.args.disk c.is_later.result c.disks.ensures.disks c.is_later.ensures)
     c.args.state.now c.requires.opened c.if-is_later.true
 
+-- the disk stands, as the opening has it, or memory was wanting
 pub returns : goal.returns
 returns c =
     next_stands c.args.plan.now c.args.disks.now.items c.args.disk c.is_later.result c.disks.ensures.plan c.requires.fit

@@ -4,6 +4,7 @@ use Rattle.geo_core.specs.Goes.{IsReady}
 use Rattle.geo_core.proofs.Founds.{ready_some, ready_none, ready_other}
 use Rattle.geo_core.proofs.owed.decide_step.Goals as goal
 
+-- what was decided is decided of the actor's next command, and there is just one
 pub returns-in-Ok-clause-ready : goal.returns-in-Ok-clause-ready
 returns-in-Ok-clause-ready c =
     subst
@@ -12,6 +13,7 @@ returns-in-Ok-clause-ready c =
     (ready_some c.args.plan.now.commands c.args.left.now c.args.state.now c.in-Go.actor c.in-Ok.line.now
     c.decide.result c.in-Ok.ensures c.decide.ensures.decided)
 
+-- the actor has no next command, so nothing need be decided
 pub returns-in-Err-clause-ready : goal.returns-in-Err-clause-ready
 returns-in-Err-clause-ready c =
     subst (λ (st : Step). IsReady c.args.plan.now.commands c.args.left.now c.args.state.now st None) (sym c.in-Go.is)

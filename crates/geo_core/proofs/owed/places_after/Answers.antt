@@ -13,6 +13,7 @@ owed-now-requires c = owed_few c.args.running.now c.requires.mesh
 pub owed_after-requires-clause-few : goal.owed_after-requires-clause-few
 owed_after-requires-clause-few c = owed_few c.args.running.now c.requires.mesh
 
+-- a Go owes what its command does, by what was decided of it
 pub returns-in-Some : goal.returns-in-Some
 returns-in-Some c =
     let r = c.args.running.now in
@@ -20,6 +21,7 @@ returns-in-Some c =
     subst (λ (st : Step). IsOwedAfter (world_of (seen r)) st c.owed_after.result) (sym c.in-Go.is)
     (owed_go r c.requires.mesh c.in-Go.actor c.in-Some.decision c.owed_after.result ready c.owed_after.ensures)
 
+-- nothing was decided, so there is no next command, and no such Go is enabled
 pub returns-in-None : goal.returns-in-None
 returns-in-None c =
     let r = c.args.running.now in
@@ -27,6 +29,7 @@ returns-in-None c =
     subst (λ (st : Step). IsOwedAfter (world_of (seen r)) st c.owed-now.result) (sym c.in-Go.is)
     (owed_none r c.requires.mesh c.in-Go.actor c.owed-now.result ready)
 
+-- a Take makes a bio Busy, whose Deliver is owed from now on
 pub returns-in-Take : goal.returns-in-Take
 returns-in-Take c =
     let r = c.args.running.now in
@@ -34,6 +37,7 @@ returns-in-Take c =
     (owed_take r c.requires.mesh c.in-Take.disk c.in-Take.bio (c.owed-now.result + 1)
     (ap (λ n. n + 1) c.owed-now.ensures.owed))
 
+-- a Deliver that is enabled pays one of the places, so there is one
 pub returns-in-Deliver : goal.returns-in-Deliver
 returns-in-Deliver c =
     let r = c.args.running.now in
@@ -41,6 +45,7 @@ returns-in-Deliver c =
     (owed_deliver r c.requires.mesh c.in-Deliver.bio c.saturating_sub.result c.in-Deliver.got
     (let less = c.saturating_sub.ensures in let same = c.owed-now.ensures.owed in omega (arith, less, same)))
 
+-- Each other step: it begins to owe no place, and pays none
 pub returns-in-Event : goal.returns-in-Event
 returns-in-Event c =
     let r = c.args.running.now in

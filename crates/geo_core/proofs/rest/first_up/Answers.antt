@@ -5,6 +5,7 @@ use Rattle.geo_model.specs.World.{is_up}
 use Rattle.geo_core.proofs.Due.{first_step}
 use Rattle.geo_core.proofs.rest.first_up.Goals as goal
 
+-- Each way out: the table gives the number of the first that is Up, and the step is made of that
 pub returns-in-Some : goal.returns-in-Some
 returns-in-Some c =
     sym (first_step c.args.running.now c.requires is_up (λ n. steps.Up n)

@@ -5,6 +5,7 @@ use Rattle.geo_bio.specs.Rows.{as_bio}
 use Rattle.geo_core.proofs.Rooms.{held_is_short, room_gone, room_there}
 use Rattle.geo_core.proofs.rest.room.Goals as goal
 
+-- a READ of a firm mesh is no longer than the longest request
 pub bytes_read-requires : goal.bytes_read-requires
 bytes_read-requires c reads =
     let short : c.in-Some.found.now.span.len ≤ MAX_REQUEST_BYTES =
@@ -12,6 +13,7 @@ bytes_read-requires c reads =
     c.in-Some.ensures.found reads in
     omega (arith, short)
 
+-- the bio of the table is the one of the world, and the READ gives as many bytes as it spans
 pub returns-in-Some : goal.returns-in-Some
 returns-in-Some c =
     c.bytes_read.ensures

@@ -4,6 +4,7 @@ use Rattle.geo_bio.specs.Rows.{as_bio}
 use Rattle.geo_core.proofs.Spots.{spot_gone, spot_there}
 use Rattle.geo_core.proofs.sent.sent.Goals as goal
 
+-- where the bio of the table goes, that of the world goes
 pub returns-in-Some-clause-spot : goal.returns-in-Some-clause-spot
 returns-in-Some-clause-spot c =
     c.spot_in.ensures

@@ -13,6 +13,7 @@ use Rattle.geo_core.proofs.turns.turn.Goals as goal
 pub unreachable-requires : goal.unreachable-requires
 unreachable-requires c = subst IsTurn c.in-Go.is c.requires.turn
 
+-- For each step: what is enabled for the step of the seat is due for what it does
 pub do_event-requires-clause-due : goal.do_event-requires-clause-due
 do_event-requires-clause-due c =
     against_event c.args.state.now c.args.seat
@@ -37,6 +38,7 @@ do_wash-requires-clause-due c =
     (subst (λ (st : Step). IsAgainst (λ w. step w c.args.seat st) c.args.state.now None)
     c.in-Wash.is c.requires.enabled)
 
+-- a bio in another phase, or none, would be against the Start
 pub start-requires-clause-down : goal.start-requires-clause-down
 start-requires-clause-down c =
     is_down_now c.args.state.now c.args.seat c.in-Start.bio
@@ -55,12 +57,14 @@ do_deliver-requires-clause-enabled c =
     (subst (λ (st : Step). IsAgainst (λ w. step w c.args.seat st) c.args.state.now None)
     c.in-Deliver.is c.requires.enabled)
 
+-- a bio in another phase, or none, would be against the Up
 pub up-requires-clause-up : goal.up-requires-clause-up
 up-requires-clause-up c =
     is_up_now c.args.state.now c.args.seat c.in-Up.bio
     (subst (λ (st : Step). IsAgainst (λ w. step w c.args.seat st) c.args.state.now None)
     c.in-Up.is c.requires.enabled)
 
+-- From here on for each step that may want memory: what was made is what the step does in the model
 pub returns-in-Event-clause-made : goal.returns-in-Event-clause-made
 returns-in-Event-clause-made c =
     let log = c.args.log.now.items in
@@ -72,6 +76,7 @@ returns-in-Event-clause-made c =
     (λ o. turns_event log old new c.args.seat o bytes)
     c.do_event.result (c.do_event.ensures.made log))
 
+-- the bytes that bios name in the log are there still with one entry more
 pub returns-in-Event-clause-logged : goal.returns-in-Event-clause-logged
 returns-in-Event-clause-logged c =
     let log = c.args.log.now.items in
@@ -184,6 +189,7 @@ returns-in-Up-clause-bytes c =
 pub returns-in-Up-clause-sure : goal.returns-in-Up-clause-sure
 returns-in-Up-clause-sure c = λ is. absurd (subst IsDeliver c.in-Up.is is)
 
+-- From here on a Reap and a Wash, which take no memory
 pub returns-in-Reap-clause-made : goal.returns-in-Reap-clause-made
 returns-in-Reap-clause-made c =
     let log = c.args.log.now.items in
@@ -218,6 +224,7 @@ returns-in-Wash-clause-logged c = λ e.
 pub returns-in-Wash-clause-sure : goal.returns-in-Wash-clause-sure
 returns-in-Wash-clause-sure c = λ is. absurd (subst IsDeliver c.in-Wash.is is)
 
+-- the entry that comes next is that of the Deliver, so the bio may name its bytes by it
 pub returns-in-Deliver-clause-made : goal.returns-in-Deliver-clause-made
 returns-in-Deliver-clause-made c =
     let log = c.args.log.now.items in

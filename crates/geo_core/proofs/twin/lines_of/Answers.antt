@@ -13,6 +13,7 @@ pub returns-in_default-clause-outcome : goal.returns-in_default-clause-outcome
 returns-in_default-clause-outcome c =
     quiet_command c.args.running.now.state c.args.command.now _ c.in_default.not-Mesh
 
+-- what is listed before the step is what the command will list
 pub returns-in_ok-listing-in-Mesh-clause-outcome : goal.returns-in_ok-listing-in-Mesh-clause-outcome
 returns-in_ok-listing-in-Mesh-clause-outcome c =
     let s = c.args.running.now.state in

@@ -16,11 +16,13 @@ unwrap-at-requires c =
     rw (c.place_of.ensures, c.as_slice.ensures.value)
     (found_place (λ (x : Count). x.name) c.args.name.now c.args.counts.now.items c.requires)
 
+-- the counts were put into the first place of the name, which keeps its name
 pub returns-clause-now : goal.returns-clause-now
 returns-clause-now c =
     rw (named-set_same (λ (x : Count). x.name) c.args.name.now c.args.counts.now.items c.unwrap-at.result
     (record { name = c.args.name.now; tally = c.args.tally }) (place c) refl) refl
 
+-- no place changed its name, so the first place of another name is as before
 pub returns-clause-others : goal.returns-clause-others
 returns-clause-others c other apart =
     ap (λ o. option_map_or (λ (x : Count). x.tally) o no_faults)

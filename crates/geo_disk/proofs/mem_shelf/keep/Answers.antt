@@ -15,6 +15,7 @@ unwrap-at-requires c =
     rw (c.place_of.ensures, c.as_slice.ensures.value)
     (found_place (λ (x : Slot). x.name) c.args.name.now c.args.slots.now.items c.requires)
 
+-- Here and below: the disk was put into the first place of the name, and no place changed its name
 pub returns-clause-here : goal.returns-clause-here
 returns-clause-here c =
     let parts = c.into_parts-bytes.ensures in

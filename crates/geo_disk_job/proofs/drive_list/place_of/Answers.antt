@@ -12,6 +12,7 @@ returns-then-drives-k-clause-some g c =
           ∙ ap (λ n. Some (n, drive.1)) same,
     )
 
+-- no drive so far is of the disk, and all were met
 pub returns-clause-none : goal.returns-clause-none
 returns-clause-none g c k d lt =
     let all : length c.args.drives.now ≤ c.loop-k.k = search rules in

@@ -1,3 +1,4 @@
+-- None of the drives so far is of the disk.
 use Rattle.std.proofs.Common.{◌≡◌, ◌<◌, ℕ, slice_index_or}
 use Rattle.geo_disk_job.proofs.drive_list.place_of.Given as goal
 

@@ -9,6 +9,7 @@ use Rattle.geo_drain.proofs.Going.{begins, goes_on}
 use Rattle.geo_drain.proofs.Noting.{due_same, part_after}
 use Rattle.geo_drain.proofs.drain.run_to_rest.Goals as goal
 
+-- no step was made yet, and the order knows a part of the log
 pub loop-pool-init : goal.loop-pool-init
 loop-pool-init g c =
     let seen = drive_view g.D.Disk.view in (
@@ -17,6 +18,7 @@ loop-pool-init g c =
       record { same = refl; part = c.requires.known },
     )
 
+-- the step that was due was made, and what the order knew of all is a part of what there is now
 pub loop-pool-preserved : goal.loop-pool-preserved
 loop-pool-preserved g c =
     let seen = drive_view g.D.Disk.view in
@@ -36,6 +38,7 @@ loop-pool-preserved g c =
       },
     )
 
+-- the turn left the mesh as it was, and the step that was due there has no place in the log
 pub returns-in_err-turn-clause-full : goal.returns-in_err-turn-clause-full
 returns-in_err-turn-clause-full g c =
     let l = c.loop-pool in

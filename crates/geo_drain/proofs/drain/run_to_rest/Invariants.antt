@@ -1,3 +1,4 @@
+-- The steps so far were those that were due in the order, which knows a part of the log.
 use Rattle.std.proofs.Common.{◌-◌, length, map}
 use Rattle.geo_base.specs.declared.limits.TheConstants.{MAX_LOG_ENTRIES}
 use Rattle.geo_serve.specs.Drives.{drive_view}

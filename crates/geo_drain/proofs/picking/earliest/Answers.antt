@@ -5,6 +5,7 @@ use Rattle.geo_drain.specs.Earliest.{earlier_of, ready_at}
 use Rattle.geo_drain.proofs.Lines.{earliest_found, earliest_from, earliest_more}
 use Rattle.geo_drain.proofs.picking.earliest.Goals as goal
 
+-- the earliest from here on is the earlier of this actor and the earliest behind it
 pub loop-actor-preserved : goal.loop-actor-preserved
 loop-actor-preserved c =
     let k : ℕ = c.loop-actor.actor - 1 in

@@ -1,3 +1,4 @@
+-- The earliest of the actors that were met, which are those from here on.
 use Rattle.std.proofs.Common.{◌≡◌}
 use Rattle.geo_core.specs.Mesh.{world_of}
 use Rattle.geo_drain.proofs.Lines.{earliest_from}

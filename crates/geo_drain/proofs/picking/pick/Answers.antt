@@ -10,6 +10,7 @@ pub returns-then-at_rest-clause-picked : goal.returns-then-at_rest-clause-picked
 returns-then-at_rest-clause-picked c =
     sym (pick-rest (world_of c.args.mesh.now) (sym c.at_rest.ensures.rest ∙ c.if-at_rest.true))
 
+-- where a step is enabled the order has one, and at rest it has none
 pub returns-clause-rest : goal.returns-clause-rest
 returns-clause-rest c =
     none_at_rest fixed_order c.args.mesh.now pick_goes_on (λ w _ rest. pick-rest w rest) c.at_rest.ensures.history

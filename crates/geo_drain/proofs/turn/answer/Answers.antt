@@ -5,6 +5,7 @@ use Rattle.geo_serve.specs.Serve.{CanServe, HasRoom}
 use Rattle.geo_drain.proofs.Taking.{holds_at, seen_at}
 use Rattle.geo_drain.proofs.turn.answer.Goals as goal
 
+-- the drive at the place of the request's disk is the one that the request fits
 pub serve-requires-clause-can : goal.serve-requires-clause-can
 serve-requires-clause-can g c =
     holds_at (drive_view g.D.Disk.view)
@@ -17,6 +18,7 @@ serve-requires-clause-room g c =
     (λ d. HasRoom d c.args.request.now c.args.room) c.args.disks.now c.args.request.now.disk
     c.index-disks-request.result c.requires.inside c.requires.room
 
+-- just the drive of the request's disk served, and sharing the bytes leaves them
 pub returns : goal.returns
 returns g c =
     let seen = drive_view g.D.Disk.view in

@@ -9,6 +9,7 @@ use Rattle.geo_core.specs.Mesh.{Made}
 use Rattle.geo_drain.proofs.Taking.{TakesRequest, ends_with, last_can, last_enabled, last_room, seen_within, takes_last, takes_request}
 use Rattle.geo_drain.proofs.turn.take.Goals as goal
 
+-- the Take was made, so the last entry asks its disk
 pub last_request-requires : goal.last_request-requires
 last_request-requires g c =
     let seen = drive_view g.D.Disk.view in
@@ -21,6 +22,7 @@ last_request-requires g c =
           it.1.asked,
     )
 
+-- Each that an answer asks: the request is that of the Take, which fits the drive of its disk
 pub answer-got-requires-clause-inside : goal.answer-got-requires-clause-inside
 answer-got-requires-clause-inside g c =
     let it = takes_last (map (drive_view g.D.Disk.view) c.args.disks.now) c.requires.history
@@ -38,12 +40,14 @@ answer-got-requires-clause-room g c =
     c.in_ok-make.ensures.history c.requires.fit c.in_ok-make.ensures.made.1 c.last_request.ensures) c.in-Ok.room
     (ap length c.in-Ok.ensures ∙ length-replicate c.room.result 0 ∙ c.room.ensures)
 
+-- the bio was just taken by seat 0, and a drive gives an answer that fits the request
 pub deliver-requires : goal.deliver-requires
 deliver-requires g c =
     last_enabled (takes_last (map (drive_view g.D.Disk.view) c.args.disks.now) c.requires.history
     c.in_ok-make.ensures.history c.requires.fit c.in_ok-make.ensures.made.1 c.last_request.ensures)
     (map (drive_view g.D.Disk.view) c.answer-got.new.disks) c.answer-got.result c.answer-got.ensures
 
+-- the Take, the answer of the drive and its Deliver
 pub returns-clause-made : goal.returns-clause-made
 returns-clause-made g c =
     let it = takes_last (map (drive_view g.D.Disk.view) c.args.disks.now) c.requires.history

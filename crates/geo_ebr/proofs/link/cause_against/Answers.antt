@@ -4,6 +4,7 @@ use Rattle.geo_model.specs.TheConstants.{MAX_LINKS}
 use Rattle.geo_ebr.proofs.CauseLemmas.{against-end, against-back, against-far, against-long, against-none}
 use Rattle.geo_ebr.proofs.link.cause_against.Goals as goal
 
+-- Each way out: the model's tests before this one fail, so this is its first cause, or the last fails and it has none
 pub returns-then-is_any_kept : goal.returns-then-is_any_kept
 returns-then-is_any_kept c =
     sym (against-end c.args.sectors c.args.visited.now c.args.parts.now c.args.sector.now c.requires.alike

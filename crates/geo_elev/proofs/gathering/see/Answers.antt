@@ -4,6 +4,7 @@ use Rattle.geo_elev.specs.Disks.{ChangesOne, HeadMoves}
 use Rattle.geo_elev.proofs.Gathered.{moved_then}
 use Rattle.geo_elev.proofs.gathering.see.Goals as goal
 
+-- the entry asks a disk, whose head moves behind what was asked; no other entry moves a head
 pub returns-in-Asked-clause-seen : goal.returns-in-Asked-clause-seen
 returns-in-Asked-clause-seen c =
     let q = c.in-Asked.request in

@@ -11,6 +11,7 @@ loop-bio-init c = record {
   length = refl;
 }
 
+-- the number of the bio was given out, so it is below the next one, which 64 bits hold
 pub overflow_add-from : goal.overflow_add-from
 overflow_add-from c =
     let given : c.in-Some.bio < (world_of c.args.mesh.now).next_bio =
@@ -26,6 +27,7 @@ loop-bio-smaller c =
     not_before c.args.mesh.now c.requires.history c.loop-bio.from c.in-Some.bio c.in-Some.ensures in
     omega (arith, given, least)
 
+-- no bio stands between the place and this one, so what waits below it and it waits below the next place
 pub loop-bio-preserved : goal.loop-bio-preserved
 loop-bio-preserved c =
     let m = c.args.mesh.now in
@@ -39,6 +41,7 @@ loop-bio-preserved c =
       length = c.in_ok-put_in.ensures.length ∙ c.loop-bio.invariant.length;
     }
 
+-- no bio is left, so what waits below the place is all that waits
 pub returns-clause-walked : goal.returns-clause-walked
 returns-clause-walked c =
     λ log n old.

@@ -6,12 +6,14 @@ use Rattle.geo_elev.specs.Following.{ComesAfter, Followed, Starts, TakesIfFollow
 use Rattle.geo_elev.proofs.Histories.{if_ok, quiet_then, take_then, start_then}
 use Rattle.geo_elev.proofs.heads.follow.Goals as goal
 
+-- no head moves and nothing comes to wait at a disk, or leaves it
 pub returns-then-is_quiet-clause-followed : goal.returns-then-is_quiet-clause-followed
 returns-then-is_quiet-clause-followed c =
     λ seen n comes old.
     old ∙ quiet_then c.args.mesh.now c.requires.history seen c.args.entry.now c.args.is_last comes n
     (sym c.is_quiet.ensures ∙ c.if-is_quiet.true)
 
+-- if it was followed, the bio of the Take waits no longer, and the disk's head stands behind it
 pub returns-in-Asked-clause-followed : goal.returns-in-Asked-clause-followed
 returns-in-Asked-clause-followed c =
     let m = c.args.mesh.now in
@@ -26,6 +28,7 @@ returns-in-Asked-clause-followed c =
     (subst (λ (ds : List DiskHead). TakesIfFollowed b c.in-Asked.request e.step ds new) old does))
     c.follow_take.ensures.takes
 
+-- it is the last entry, so the mesh still tells where at the disk the bio begins
 pub returns-in-Queued-clause-followed : goal.returns-in-Queued-clause-followed
 returns-in-Queued-clause-followed c =
     let m = c.args.mesh.now in

@@ -3,6 +3,7 @@ use Rattle.geo_model.specs.declared.step.Entry.{Entry}
 use Rattle.geo_elev.proofs.Histories.{follows_on, there}
 use Rattle.geo_elev.proofs.heads.follow_all.Goals as goal
 
+-- the entry at the place comes right after those before, and was followed
 pub loop-at-preserved : goal.loop-at-preserved
 loop-at-preserved c =
     let m = c.args.mesh.now in

@@ -3,6 +3,7 @@ use Rattle.geo_elev.specs.Lists.{one_at}
 use Rattle.geo_elev.proofs.Kept.{put_later, then_ok}
 use Rattle.geo_elev.proofs.lists.add.Goals as goal
 
+-- it can't be taken next, so it stands behind, where its number is the greatest
 pub returns-else-joins-clause-lists : goal.returns-else-joins-clause-lists
 returns-else-joins-clause-lists c =
     let m = c.args.lists.now in

@@ -5,6 +5,7 @@ use Rattle.geo_elev.specs.Lists.{AreLists, all_waiting, one_at}
 use Rattle.geo_elev.proofs.Kept.{put_next}
 use Rattle.geo_elev.proofs.lists.add_next.Goals as goal
 
+-- nothing comes behind, so all that waits may be taken next, and so may this
 pub returns-clause-lists : goal.returns-clause-lists
 returns-clause-lists c =
     let m = c.args.lists.now in

@@ -3,11 +3,13 @@ use Rattle.geo_elev.specs.Lists.{are_below, waiting_in}
 use Rattle.geo_elev.proofs.Kept.{both_below, last_below}
 use Rattle.geo_elev.proofs.lists.are_below.Goals as goal
 
+-- no number is greater than the last that was put in
 pub returns-then-lists-bio : goal.returns-then-lists-bio
 returns-then-lists-bio c =
     let m = c.args.lists.now in
     last_below m.front.keys m.flush m.later.items m.last c.args.bio c.requires c.if-lists-bio.true
 
+-- Else: all that may be taken next, and all behind it, are asked
 pub returns-then-keys_below : goal.returns-then-keys_below
 returns-then-keys_below c =
     let m = c.args.lists.now in

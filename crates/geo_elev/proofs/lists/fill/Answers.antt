@@ -4,6 +4,7 @@ use Rattle.geo_elev.specs.Lists.{all_waiting, listed}
 use Rattle.geo_elev.proofs.Kept.{both_ok, keys_next}
 use Rattle.geo_elev.proofs.lists.fill.Goals as goal
 
+-- a FLUSH or nothing comes next behind, so what has a key is all that may be taken next
 pub returns-clause-next : goal.returns-clause-next
 returns-clause-next c =
     let keys = c.fill_on.new.front.keys in

@@ -7,6 +7,7 @@ use Rattle.geo_elev.proofs.Kept.{moved_on}
 use Rattle.geo_elev.proofs.Listed.{some_more}
 use Rattle.geo_elev.proofs.lists.fill_on.Goals as goal
 
+-- the first that comes behind is no FLUSH, so it may be taken next too, and waits as before
 pub loop-bio-preserved : goal.loop-bio-preserved
 loop-bio-preserved c =
     let keys = c.loop-bio.front.keys in

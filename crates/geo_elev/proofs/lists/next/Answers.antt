@@ -3,6 +3,7 @@ use Rattle.geo_elev.specs.Lists.{IsNextKey}
 use Rattle.geo_elev.proofs.Kept.{kept_ahead, kept_least}
 use Rattle.geo_elev.proofs.lists.next.Goals as goal
 
+-- keys stand by places, so the least from the head on is the next bio ahead of it
 pub returns-in-Some : goal.returns-in-Some
 returns-in-Some c =
     let m = c.args.lists.now in
@@ -10,6 +11,7 @@ returns-in-Some c =
     ∙ kept_ahead m.front.keys m.flush m.later.items m.last c.requires c.args.head c.in-Some.key
     (subst (λ (n : ℕ). IsNextKey m.front.keys (n * 2 ^ 64) (Some c.in-Some.key)) c.from.ensures c.in-Some.ensures)
 
+-- no place is ahead of the head, so the least of all is next
 pub returns-in-Some-next_key : goal.returns-in-Some-next_key
 returns-in-Some-next_key c =
     let m = c.args.lists.now in

@@ -14,6 +14,7 @@ returns-then-not-take_key-clause-taken c =
     let m = c.args.lists.now in
     ap (λ (ks : List ℕ). all_waiting ks m.flush m.later.items) (c.take_key.ensures.same c.if-not-take_key.true)
 
+-- the only one that could be taken next is gone, so what came behind is all that waits
 pub refill-requires-clause-rises : goal.refill-requires-clause-rises
 refill-requires-clause-rises c =
     let m = c.args.lists.now in
@@ -29,6 +30,7 @@ returns-in_ok-refill-clause-taken c =
     c.ranges.bio.fits c.key.ensures c.take_key.ensures.left c.take_key.ensures.was c.if-not-take_key.false
     (sym c.no_key.ensures ∙ c.if-no_key.true)
 
+-- another may be taken next still, so nothing of what comes behind need be moved
 pub returns-else-no_key-clause-lists : goal.returns-else-no_key-clause-lists
 returns-else-no_key-clause-lists c =
     let m = c.args.lists.now in

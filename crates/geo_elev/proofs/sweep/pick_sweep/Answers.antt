@@ -10,6 +10,7 @@ pub returns-then-at_rest-clause-picked : goal.returns-then-at_rest-clause-picked
 returns-then-at_rest-clause-picked c =
     sym (sweep_ends (world_of c.args.mesh.now) c.args.mesh.now.log (sym c.at_rest.ensures.rest ∙ c.if-at_rest.true))
 
+-- where a step is enabled the order has one, and at rest it has none
 pub returns-clause-rest : goal.returns-clause-rest
 returns-clause-rest c =
     none_at_rest sweep_order c.args.mesh.now sweep_goes_on sweep_ends c.at_rest.ensures.history c.requires.none_busy

@@ -17,6 +17,7 @@ begin_taste-requires-clause-tasted c =
 pub drop_head-requires : goal.drop_head-requires
 drop_head-requires c = head-there c.args.state.now (heads.NewProvider c.args.prov) c.requires.head
 
+-- the provider isn't to be tasted, so in the model too its event only goes
 pub returns-clause-made : goal.returns-clause-made
 returns-clause-made c =
     passed-at c.args.state.now c.requires.kept c.requires.firm c.drop_head.new.self c.drop_head.ensures c.args.prov

@@ -8,11 +8,13 @@ use Rattle.geo_events.specs.Steps.{IsHead}
 use Rattle.geo_events.proofs.Effects.{head-there, rest-of, owed-same, room-of, room-after, orphan-kept, orphan-from}
 use Rattle.geo_events.proofs.events.orphan_above.Goals as goal
 
+-- handles that die leave the queue
 pub drop_head-requires : goal.drop_head-requires
 drop_head-requires c =
     head-there c.kill_at.new.state (heads.Orphan c.args.prov)
     (subst (λ (z : State). IsHead z (heads.Orphan c.args.prov)) (sym c.kill_at.ensures.killed) c.requires.head)
 
+-- a place is owed to each provider without an error, and is kept
 pub orphan-requires : goal.orphan-requires
 orphan-requires c = record {
   room =
@@ -20,6 +22,7 @@ orphan-requires c = record {
       c.drop_head.ensures (room-of c.kill_at.new.state c.kill_at.ensures.kept);
 }
 
+-- the model lets the handles die and then the geoms above wither too
 pub returns-clause-made : goal.returns-clause-made
 returns-clause-made c =
     orphan-from c.args.state.now c.kill_at.new.state c.args.prov c.kill_at.ensures.killed
@@ -27,6 +30,7 @@ returns-clause-made c =
     (c.orphan.ensures.orphaned
     ∙ ap (λ (r : Queued). orphan (queued c.kill_at.new.state.topo r) c.args.prov) c.drop_head.ensures)
 
+-- an error takes one place, and one place less is owed then; no part comes or goes
 pub returns-clause-kept : goal.returns-clause-kept
 returns-clause-kept c =
     orphan-kept c.kill_at.new.state c.kill_at.ensures.kept c.orphan.new.topo c.orphan.new.queue
@@ -39,5 +43,6 @@ returns-clause-kept c =
     (c.orphan.ensures.orphaned
     ∙ ap (λ (r : Queued). orphan (queued c.kill_at.new.state.topo r) c.args.prov) c.drop_head.ensures)
 
+-- handles that die leave the requests
 pub returns-clause-requests : goal.returns-clause-requests
 returns-clause-requests c = ap (λ (z : State). z.traffic) c.kill_at.ensures.killed

@@ -12,6 +12,7 @@ drop_head-requires c = head-there c.args.state.now (heads.Spoil c.args.prov) c.r
 pub spoil-requires-clause-unmarked : goal.spoil-requires-clause-unmarked
 spoil-requires-clause-unmarked c = c.requires.firm.1.1.graph.unmarked
 
+-- a place is owed to each provider without an error, and is kept
 pub spoil-requires-clause-room : goal.spoil-requires-clause-room
 spoil-requires-clause-room c =
     room-after (sound_providers c.args.state.now.topo.topology) c.args.state.now.queue c.drop_head.new.self
@@ -23,6 +24,7 @@ returns-clause-made c =
     (c.spoil.ensures.spoiled
     ∙ ap (λ (r : Queued). spoil (queued c.args.state.now.topo r) c.args.prov) c.drop_head.ensures)
 
+-- an error takes one place, and one place less is owed then; no part comes or goes
 pub returns-clause-kept : goal.returns-clause-kept
 returns-clause-kept c =
     spoil-kept c.args.state.now c.requires.kept c.spoil.new.topo c.spoil.new.queue

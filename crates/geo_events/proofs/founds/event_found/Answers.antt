@@ -3,6 +3,7 @@ use Rattle.geo_events.specs.Steps.{event_against}
 use Rattle.geo_events.proofs.Deciding.{event-found}
 use Rattle.geo_events.proofs.founds.event_found.Goals as goal
 
+-- the model asks the same: whether a taste is under way, and whether an event waits
 pub returns : goal.returns
 returns c actors log =
     event-found c.args.state.now actors log

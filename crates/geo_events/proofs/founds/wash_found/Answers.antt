@@ -4,6 +4,7 @@ use Rattle.geo_state.specs.Steps.{IsAgainst}
 use Rattle.geo_events.proofs.Deciding.{wash_against, wash-found}
 use Rattle.geo_events.proofs.founds.wash_found.Goals as goal
 
+-- for both answers: by counts that are right the model looks for what can go, and finds the same
 pub returns-in-Some : goal.returns-in-Some
 returns-in-Some c =
     subst (λ o. IsAgainst wash_next c.args.state.now (wash_against o)) c.in-Some.is

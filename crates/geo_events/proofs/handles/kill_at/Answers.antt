@@ -5,12 +5,14 @@ use Rattle.geo_state.specs.declared.state.State.{State}
 use Rattle.geo_events.proofs.Dying.{dying_left, killing-begins, killing-goes-on, killing-ends, dying-lives}
 use Rattle.geo_events.proofs.handles.kill_at.Goals as goal
 
+-- none is dead of it yet, and all are left
 pub loop-cons-init : goal.loop-cons-init
 loop-cons-init c = record {
   far = killing-begins c.args.state.now c.args.prov;
   kept = c.requires.kept;
 }
 
+-- the consumer is attached to the provider, and a handle that dies changes no graph
 pub kill-requires-clause-lives : goal.kill-requires-clause-lives
 kill-requires-clause-lives c =
     subst (λ (z : State). IsSome (consumer_at z.topo.topology c.in-Some.cons)) (sym c.loop-cons.invariant.far.rest)
@@ -20,6 +22,7 @@ kill-requires-clause-lives c =
     ≡ c.in-Some.cons ∷ dying_left z.topo.topology c.args.prov (c.in-Some.cons + 1)) c.loop-cons.invariant.far.rest
     c.in-Some.ensures.next))
 
+-- handles that die change no graph, so the others are left to die as before
 pub loop-cons-preserved : goal.loop-cons-preserved
 loop-cons-preserved c = record {
   far =
@@ -33,6 +36,7 @@ loop-cons-preserved c = record {
   kept = c.kill.ensures.kept;
 }
 
+-- no consumer was made, and the walk goes past this one
 pub loop-cons-smaller : goal.loop-cons-smaller
 loop-cons-smaller c =
     let same = ap (λ (z : State). z.topo.topology.next_consumer) c.kill.ensures.killed in
@@ -44,6 +48,7 @@ loop-cons-smaller c =
       c.number-from.ensures,
     )
 
+-- none is left, so the handles of all are dead
 pub returns-clause-killed : goal.returns-clause-killed
 returns-clause-killed c =
     killing-ends c.args.state.now c.loop-cons.state c.args.prov c.loop-cons.from c.loop-cons.invariant.far

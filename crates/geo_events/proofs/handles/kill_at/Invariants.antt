@@ -1,3 +1,4 @@
+-- Once the handles of the consumers left are dead, all are; nothing but handles changed, and all is kept.
 use Rattle.std.proofs.Common.{◌-◌}
 use Rattle.geo_state.specs.Holds.{Holds}
 use Rattle.geo_events.proofs.Dying.{KilledSoFar}

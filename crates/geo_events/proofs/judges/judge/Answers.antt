@@ -1,3 +1,4 @@
+-- Room that is made is no part of the world, so what holds with it holds of the state before it.
 use Rattle.std.specs.Prelude.{◌+◌, ◌≤◌, IfSome}
 use Rattle.std.proofs.Common.{subst}
 use Rattle.geo_access.specs.Access.{consumers_below}

@@ -6,10 +6,12 @@ use Rattle.geo_events.proofs.Offering.{taste-settled}
 use Rattle.geo_events.proofs.Tasted.{is-taste, rank-low, read-none, reads-few, sector-long}
 use Rattle.geo_events.proofs.judges.judge_roomed.Goals as goal
 
+-- a Judge is due, so a taste is under way
 pub unreachable-requires : goal.unreachable-requires
 unreachable-requires g c =
     absurd (taste-there c.args.state.now c.requires.kept c.requires.due (sym c.take.ensures.value ∙ c.in_default.is))
 
+-- for each condition: it holds of the taste under way in a firm world
 pub judge_step-requires-clause-settled : goal.judge_step-requires-clause-settled
 judge_step-requires-clause-settled g c =
     taste-settled c.args.state.now c.requires.kept c.requires.firm
@@ -50,6 +52,7 @@ read_next-requires g c =
       inside = read-inside step c.take.new.self;
     }
 
+-- the read was granted as in the model, and is submitted as the bio that the model makes
 pub returns-in-Read-clause-made : goal.returns-in-Read-clause-made
 returns-in-Read-clause-made g c =
     read-made (stepped c.requires.kept c.requires.firm c.requires.due c.take.ensures.value c.in-Some.is
@@ -80,6 +83,7 @@ count_made-requires g c =
       all = rw c.coming_provider-first.ensures.number (made-all step);
     }
 
+-- how many providers are counted is no part of the world, so the step is the model's
 pub returns-in-Made-clause-made : goal.returns-in-Made-clause-made
 returns-in-Made-clause-made g c =
     rw c.count_made.ensures
@@ -88,6 +92,7 @@ returns-in-Made-clause-made g c =
     c.in-Ok.ensures.settled c.in-Ok.ensures.tasting c.judge_step.ensures.spare)
     (c.args.state.now.providers + (c.judge_step.new.topo.topology.next_provider - c.coming_provider-first.result)))
 
+-- the step made just the providers from the number on that was next before it, and they are counted
 pub returns-in-Made-clause-kept : goal.returns-in-Made-clause-kept
 returns-in-Made-clause-kept g c =
     rw (c.count_made.ensures, c.coming_provider-first.ensures.number)
@@ -108,6 +113,7 @@ abort-requires g c =
       none_out = ended-out step;
     }
 
+-- the taste has no read out and holds nothing, so its consumer alone goes, as in the model
 pub returns-in-Ended : goal.returns-in-Ended
 returns-in-Ended g c =
     let over = ended (stepped c.requires.kept c.requires.firm c.requires.due c.take.ensures.value c.in-Some.is
@@ -123,6 +129,7 @@ returns-in-Ended g c =
           c.judge_step.ensures.bound;
     }
 
+-- for both clauses: after want of memory mesh, events and taste are as before, and the taste is put back
 pub returns-in-Err-clause-kept : goal.returns-in-Err-clause-kept
 returns-in-Err-clause-kept g c =
     refused-holds (ready-of c.requires.kept c.requires.firm c.requires.due c.take.ensures.value c.in-Some.is
@@ -135,6 +142,7 @@ returns-in-Err-clause-same g c =
     c.coming_provider-first.ensures.sound c.requires.events)
     c.in-Err.ensures.same c.in-Err.ensures.taste c.in-Err.ensures.settled c.judge_step.ensures.spare
 
+-- for each outcome: the step of the taste alone ticks
 pub returns-in-Read-clause-bound : goal.returns-in-Read-clause-bound
 returns-in-Read-clause-bound g c =
     few-turns c.args.state.now c.args.steps.now c.judge_step.new.steps c.take.ensures.value c.in-Some.is

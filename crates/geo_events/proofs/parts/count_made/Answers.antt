@@ -2,6 +2,7 @@ use Rattle.std.proofs.Common.{arith}
 use Rattle.geo_events.proofs.Judged.{providers-few}
 use Rattle.geo_events.proofs.parts.count_made.Goals as goal
 
+-- there are fewer providers than numbers
 pub overflow_add-state : goal.overflow_add-state
 overflow_add-state c =
     let few = providers-few c.args.state.now.topo.topology c.coming_provider-next.ensures.sound in

@@ -2,6 +2,7 @@ use Rattle.std.proofs.Common.{arith}
 use Rattle.geo_events.proofs.Reading.{sector-fits}
 use Rattle.geo_events.proofs.reads.sector_span.Goals as goal
 
+-- the sector lies within the provider, whose size is in range
 pub overflow_mul-result : goal.overflow_mul-result
 overflow_mul-result c =
     let fits =

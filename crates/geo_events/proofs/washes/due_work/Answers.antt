@@ -2,6 +2,7 @@ use Rattle.std.proofs.Common.{sym, ◌∙◌}
 use Rattle.geo_events.proofs.Deciding.{some-work}
 use Rattle.geo_events.proofs.washes.due_work.Goals as goal
 
+-- a Wash is due, so something can go
 pub unreachable-requires : goal.unreachable-requires
 unreachable-requires c =
     absurd (some-work c.args.state.now c.requires.kept c.requires.firm c.wash_where.result

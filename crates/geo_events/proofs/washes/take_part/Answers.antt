@@ -11,6 +11,7 @@ wash_consumer-requires-clause-due c = subst (IsDue c.args.state.now) c.in-Consum
 pub wash_geom-requires-clause-due : goal.wash_geom-requires-clause-due
 wash_geom-requires-clause-due c = subst (IsDue c.args.state.now) c.in-Geom.is c.requires.due
 
+-- for each part: the one that goes is the one that was found
 pub returns-in-Provider-clause-made : goal.returns-in-Provider-clause-made
 returns-in-Provider-clause-made c =
     subst (HasWashed c.args.state.now c.wash_provider.new.state) (sym c.in-Provider.is) c.wash_provider.ensures.made

@@ -15,6 +15,7 @@ returns-clause-made c =
     (record c.args.state.now { topo = c.wash.new.topo; queue = c.wash.new.queue })
     (works.Consumer c.args.cons) refl refl c.wash.ensures.washed
 
+-- the consumer held nothing and no request was out through it, so only its own counts go with it
 pub returns-clause-kept : goal.returns-clause-kept
 returns-clause-kept c =
     consumer-kept c.args.state.now c.requires.kept c.requires.firm c.wash.new.topo c.wash.new.queue

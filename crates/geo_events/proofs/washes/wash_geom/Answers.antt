@@ -10,18 +10,21 @@ wash-requires-clause-dev c = c.requires.firm.1.1.graph.ranks.dev.stands
 pub wash-requires-clause-taste : goal.wash-requires-clause-taste
 wash-requires-clause-taste c = c.requires.firm.1.1.graph.ranks.taste.stands
 
+-- in a firm world the disk that a geom names is one of the header
 pub free_seat-requires : goal.free_seat-requires
 free_seat-requires c = record {
   there =
       has-seat c.args.state.now c.requires.firm c.args.geom c.disk_of_geom-disk.result c.disk_of_geom-disk.ensures;
 }
 
+-- which geom stands for a disk is no part of the world
 pub returns-clause-made : goal.returns-clause-made
 returns-clause-made c =
     geom-world c.args.state.now c.requires.kept c.requires.firm c.wash.new.topo c.wash.new.queue
     c.wash.ensures.memory c.wash.ensures.kept c.args.geom c.free_seat.new.state c.wash.ensures.washed
     c.free_seat.ensures.rest c.disk_of_geom-disk.result c.free_seat.ensures.seats
 
+-- the geom's disk, if it has one, has no geom any more, and the geom had no parts
 pub returns-clause-kept : goal.returns-clause-kept
 returns-clause-kept c =
     geom-kept c.args.state.now c.requires.kept c.requires.firm c.wash.new.topo c.wash.new.queue

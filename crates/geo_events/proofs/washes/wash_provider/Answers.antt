@@ -20,6 +20,7 @@ returns-clause-made c =
     })
     (works.Provider c.args.prov) refl refl c.wash.ensures.washed
 
+-- the provider stands, so it was counted
 pub overflow_sub-state : goal.overflow_sub-state
 overflow_sub-state c =
     let less = one-provider-less c.args.state.now c.requires.kept c.requires.firm c.wash.new.topo c.wash.new.queue
@@ -28,6 +29,7 @@ overflow_sub-state c =
     c.wash.ensures.mesh in
     omega (arith, less)
 
+-- nothing is attached to the provider, so it had no count; its events go, and it is counted no more
 pub returns-clause-kept : goal.returns-clause-kept
 returns-clause-kept c =
     let stands = provider-stands c.args.state.now c.requires.kept c.requires.firm c.args.prov c.requires.due in

@@ -2,6 +2,7 @@ use Rattle.std.proofs.Common.{refl}
 use Rattle.geo_family.proofs.LinkLemmas.{with_value-change, change_at-absent}
 use Rattle.geo_family.proofs.links.set_before.Goals as goal
 
+-- Here and below: numbers rise, so one link at most has the number; where none has, nothing changes
 pub returns-in-Some-get_mut : goal.returns-in-Some-get_mut
 returns-in-Some-get_mut c =
     rw (

@@ -2,6 +2,7 @@ use Rattle.std.proofs.Common.{refl, sym, ◌∙◌}
 use Rattle.geo_family.proofs.LinkLemmas.{with_value-change, change_at-absent, is_none}
 use Rattle.geo_family.proofs.links.set_last.Goals as goal
 
+-- Here and below: no child stands behind, so the parent's ends change, if there are any
 pub returns-in-Some : goal.returns-in-Some
 returns-in-Some c =
     rw (

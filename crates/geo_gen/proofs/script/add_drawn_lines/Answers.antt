@@ -2,6 +2,7 @@ use Rattle.std.proofs.Common.{arith}
 use Rattle.geo_gen.proofs.Drawn.{next_line}
 use Rattle.geo_gen.proofs.script.add_drawn_lines.Goals as goal
 
+-- the line takes the next three draws, and those behind the third are left for the other lines
 pub loop-i-preserved : goal.loop-i-preserved
 loop-i-preserved c = (
   c.in_ok-x.ensures.below,

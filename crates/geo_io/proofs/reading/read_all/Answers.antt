@@ -2,6 +2,7 @@ use Rattle.std.proofs.lemmas.Result.{err_from_is_err_and}
 use Rattle.geo_io.proofs.Refusals.{IsErrOf-passed}
 use Rattle.geo_io.proofs.reading.read_all.Goals as goal
 
+-- Here and below: the refusal is that of reading through, so what was taken there is what was taken
 pub returns-in_err-read_through-clause-too_long : goal.returns-in_err-read_through-clause-too_long
 returns-in_err-read_through-clause-too_long g c =
     let p = err_from_is_err_and c.from_residual.result c.from_residual.ensures.1 in

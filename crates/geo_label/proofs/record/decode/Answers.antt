@@ -12,6 +12,7 @@ use Rattle.geo_label.proofs.record.decode.Goals as goal
 abbrev record_of : List ℕ → Option ℕ → LabelRecord
 record_of name size = record { name = name; size = size }
 
+-- a head that is declined declines the record, for the same cause
 pub returns-in_err-name : goal.returns-in_err-name
 returns-in_err-name c =
     let same = err_from_is_err_and c.from_residual.result c.from_residual.ensures.1 in

@@ -5,6 +5,7 @@ use Rattle.geo_record.proofs.FieldLemmas.{free-behind, holds-behind}
 use Rattle.geo_record.proofs.RecordLemmas.{length-head}
 use Rattle.geo_label.proofs.record.encode.Goals as goal
 
+-- the head has 36 bytes, and zeros stand behind it
 pub put_u64-requires-clause-free : goal.put_u64-requires-clause-free
 put_u64-requires-clause-free c =
     free-behind (length c.args.out.now) 36 (record_head label_magic 2 c.args.part.now.name)
@@ -12,6 +13,7 @@ put_u64-requires-clause-free c =
     c.encode_head-in-Some.ensures (length-head label_magic 2 c.args.part.now.name refl c.requires.short)
     (omega (arith, c.requires.room))
 
+-- the media size stands behind the head
 pub returns-in-Some : goal.returns-in-Some
 returns-in-Some c =
     holds-behind (length c.args.out.now) 36 (record_head label_magic 2 c.args.part.now.name)

@@ -10,6 +10,7 @@ use Rattle.geo_life.proofs.Announced.{fall_step, fall_next, fall_less, fall_fewe
 use Rattle.geo_life.proofs.Announcing.{note_none}
 use Rattle.geo_life.proofs.announces.announce_fallen.Goals as goal
 
+-- the note that was taken counted for one place, which is spare still
 pub offer_again-requires : goal.offer_again-requires
 offer_again-requires g c =
     let less =
@@ -25,6 +26,7 @@ loop-prov-smaller g c =
     c.in-Some.ensures.dropped in
     omega (arith, fewer)
 
+-- the least note is gone, its provider was offered or not as the model does first, and the graph is as before
 pub loop-prov-preserved : goal.loop-prov-preserved
 loop-prov-preserved g c =
     let first = sym c.in-Some.ensures.first in

@@ -1,3 +1,4 @@
+-- What is left to announce gives what all gives; the notes alone changed, and there is a place for each that is left.
 use Rattle.std.proofs.Common.{◌≡◌, ◌+◌, ◌≤◌, length}
 use Rattle.geo_model.specs.Events.{announce_fallen}
 use Rattle.geo_access.specs.Access.{noted, IsCounted}

@@ -11,6 +11,7 @@ use Rattle.geo_life.proofs.Announcing.{note_none}
 use Rattle.geo_life.proofs.Announced.{rise_step, rise_stored, rise_end, rise_next, rise_less, rise_fewer, rise_notes, rise_mesh, rise_unseen, rise_made, rise_out, mid_is}
 use Rattle.geo_life.proofs.announces.announce_risen.Goals as goal
 
+-- taking a note leaves the graph, so DEV is as it was made
 pub spoil_at-requires-clause-made : goal.spoil_at-requires-clause-made
 spoil_at-requires-clause-made g c =
     subst (λ (v : TopoView g.row.C.Denot). IsDevMade v.topology)
@@ -18,6 +19,7 @@ spoil_at-requires-clause-made g c =
     c.loop-prov.invariant.mesh c.loop-prov.invariant.seen c.in-Some.prov (sym c.in-Some.ensures.first)
     c.next_risen.new.topo c.in-Some.ensures.dropped)) c.loop-prov.invariant.made
 
+-- the note that was taken counted for one place, which is spare still
 pub spoil_at-requires-clause-room : goal.spoil_at-requires-clause-room
 spoil_at-requires-clause-room g c =
     let less =
@@ -33,6 +35,7 @@ loop-prov-smaller g c =
     c.next_risen.new.topo c.in-Some.ensures.dropped c.spoil_at.new.topo c.spoil_at.ensures.rest.mesh in
     omega (arith, fewer)
 
+-- the provider noted first was spoiled as the model does it first; counts see no marks, so all stored ones are right
 pub loop-prov-preserved : goal.loop-prov-preserved
 loop-prov-preserved g c =
     let first = sym c.in-Some.ensures.first in
@@ -91,6 +94,7 @@ returns-clause-announced g c =
     (note_none c.loop-prov.topo.risen (sym c.in_default.ensures.first)))
     ∙ c.loop-prov.invariant.announced granted stored
 
+-- a spoil changes marks and events alone, and no note is left
 pub returns-clause-rest : goal.returns-clause-rest
 returns-clause-rest g c = record {
   mesh =

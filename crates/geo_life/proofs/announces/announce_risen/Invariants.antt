@@ -1,3 +1,4 @@
+-- What is left to announce gives what all gives; marks and notes alone changed, and each left note has a place.
 use Rattle.std.proofs.Common.{◌≡◌, ◌+◌, ◌≤◌, ℕ, length}
 use Rattle.geo_base.specs.declared.request.Counts.{Counts}
 use Rattle.geo_model.specs.Events.{announce_risen}

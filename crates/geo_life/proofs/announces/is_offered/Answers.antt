@@ -1,6 +1,7 @@
 use Rattle.geo_life.proofs.Errors.{not_offered_is, offered_sound, offered_errored}
 use Rattle.geo_life.proofs.announces.is_offered.Goals as goal
 
+-- for both ways: the geom that was looked up is the provider's, so its withering and the error decide
 pub returns-then-not-found : goal.returns-then-not-found
 returns-then-not-found g c =
     offered_sound c.in-Some.found.now.errored c.in-Some-geom.geom.now.withering _ c.if-not-found.true

@@ -2,6 +2,7 @@ use Rattle.std.proofs.Common.{sym, arith, ◌∙◌}
 use Rattle.geo_life.proofs.Dying.{dying_here, dying_pass, dying_end}
 use Rattle.geo_life.proofs.orphans.next_dying.Goals as goal
 
+-- a consumer that isn't one of DEV doesn't die, so those left to die are the same
 pub loop-id-preserved : goal.loop-id-preserved
 loop-id-preserved g c = record {
   left =

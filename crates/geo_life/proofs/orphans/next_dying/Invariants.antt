@@ -1,3 +1,4 @@
+-- None of the consumers met so far is one of DEV.
 use Rattle.std.proofs.Common.{◌≡◌, ◌-◌, ◌≤◌}
 use Rattle.geo_model.specs.Events.{dying_consumers}
 use Rattle.geo_laws_graph.specs.LookupLaws.{left_from}

@@ -7,6 +7,7 @@ use Rattle.geo_life.proofs.Seen.{seen_kept, seen_orphan}
 use Rattle.geo_life.proofs.Spoiling.{hear_begin, hear_step, hear_end, orphan_leaves}
 use Rattle.geo_life.proofs.orphans.orphan.Goals as goal
 
+-- nothing is done yet; consumers of DEV hear nothing, so those above that aren't DEV's are enough
 pub loop-id-init : goal.loop-id-init
 loop-id-init g c = record {
   orphaned =
@@ -17,6 +18,7 @@ loop-id-init g c = record {
   room = c.requires.room;
 }
 
+-- the consumer heard of it as the model has it next, and no consumer came or went, so the others are left
 pub loop-id-preserved : goal.loop-id-preserved
 loop-id-preserved g c = record {
   orphaned =

@@ -1,3 +1,4 @@
+-- Once those above that are left have heard of it, all have; a place is kept for each provider without an error.
 use Rattle.std.proofs.Common.{◌≡◌, ◌+◌, ◌-◌, ◌≤◌}
 use Rattle.geo_model.specs.Events.{orphan, orphan_consumer}
 use Rattle.geo_life.specs.Life.{queued, sound_providers, RestStays}

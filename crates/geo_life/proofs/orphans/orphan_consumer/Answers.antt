@@ -5,6 +5,7 @@ use Rattle.geo_life.specs.Life.{queued}
 use Rattle.geo_life.proofs.Spoiling.{next_is, unless_next}
 use Rattle.geo_life.proofs.orphans.orphan_consumer.Goals as goal
 
+-- for both ways: the test of DEV is the model's
 pub returns-then-not-is_of_dev-clause-orphaned : goal.returns-then-not-is_of_dev-clause-orphaned
 returns-then-not-is_of_dev-clause-orphaned g c =
     λ n.

@@ -9,6 +9,7 @@ use Rattle.geo_life.proofs.MarkWalk.{stored_still}
 use Rattle.geo_life.proofs.Spoiling.{hear_begin, hear_step, hear_end, outgrow_leaves, if_next}
 use Rattle.geo_life.proofs.resizes.outgrow.Goals as goal
 
+-- nothing is done yet; DEV isn't automatic, so no handle is outgrown and those above that aren't DEV's are enough
 pub loop-id-init : goal.loop-id-init
 loop-id-init g c = record {
   outgrown = λ granted stored.
@@ -21,6 +22,7 @@ loop-id-init g c = record {
   room = c.requires.room;
 }
 
+-- counts see no withering, so the stored want is the model's still and tells whether this one is outgrown
 pub loop-id-preserved : goal.loop-id-preserved
 loop-id-preserved g c = record {
   outgrown = λ granted stored.
@@ -57,6 +59,7 @@ pub returns-clause-kept : goal.returns-clause-kept
 returns-clause-kept g c =
     mesh_kept c.args.topo.now c.loop-id.topo c.loop-id.invariant.rest.mesh c.loop-id.invariant.seen
 
+-- a geom that withers makes no consumer, and the walk goes past this one
 pub loop-id-smaller : goal.loop-id-smaller
 loop-id-smaller g c =
     let next = if_next _ (queued c.loop-id.topo c.loop-id.queue)

@@ -1,3 +1,4 @@
+-- Once the outgrown ones that are left wither, all do; counts are as stored, and each sound provider has a place.
 use Rattle.std.proofs.Common.{◌≡◌, ◌+◌, ◌-◌, ◌≤◌, ℕ}
 use Rattle.std.specs.Prelude.{fold}
 use Rattle.geo_base.specs.declared.request.Counts.{Counts}

@@ -5,6 +5,7 @@ use Rattle.geo_life.proofs.Seen.{mesh_kept}
 use Rattle.geo_life.proofs.MarkWalk.{marks_begin, marks_step, marks_end, mark_mesh, mark_unseen}
 use Rattle.geo_life.proofs.spoils.mark_spoiled.Goals as goal
 
+-- no mark is set yet; DEV isn't automatic and isn't TASTE, so those above that aren't DEV's are enough
 pub loop-id-init : goal.loop-id-init
 loop-id-init g c = record {
   marked = λ granted stored.
@@ -13,6 +14,7 @@ loop-id-init g c = record {
   seen = refl;
 }
 
+-- counts see no marks, so the stored want is the model's still and tells whether this one is to be marked
 pub loop-id-preserved : goal.loop-id-preserved
 loop-id-preserved g c = record {
   marked = λ granted stored.
@@ -42,6 +44,7 @@ returns-clause-marked g c =
     c.in_default.ensures.next)
     ∙ c.loop-id.invariant.marked granted stored
 
+-- counts don't see the marks of consumers
 pub returns-clause-kept : goal.returns-clause-kept
 returns-clause-kept g c =
     mesh_kept c.args.topo.now c.loop-id.topo

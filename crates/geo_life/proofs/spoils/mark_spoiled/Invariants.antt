@@ -1,3 +1,4 @@
+-- Once those that are left to mark are marked, all are; the consumers alone changed, and counts don't see it.
 use Rattle.std.proofs.Common.{◌≡◌, ◌-◌, ℕ, true}
 use Rattle.geo_base.specs.declared.request.Counts.{Counts}
 use Rattle.geo_model.specs.Topology.{set_marks}

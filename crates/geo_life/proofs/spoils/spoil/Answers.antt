@@ -6,6 +6,7 @@ use Rattle.geo_life.proofs.Seen.{seen_kept, seen_spoil}
 use Rattle.geo_life.proofs.Spoiling.{spoil_begin, spoil_step, spoil_end}
 use Rattle.geo_life.proofs.spoils.spoil.Goals as goal
 
+-- nothing is done yet; no handle is marked, so those above that aren't DEV's are enough
 pub loop-id-init : goal.loop-id-init
 loop-id-init g c = record {
   spoiled = spoil_begin c.args.prov (queued c.args.topo.now c.args.queue.now) c.requires.unmarked;
@@ -14,6 +15,7 @@ loop-id-init g c = record {
   room = c.requires.room;
 }
 
+-- a marked one is spoiled as the model does it next; the others keep their marks and are left
 pub loop-id-preserved : goal.loop-id-preserved
 loop-id-preserved g c = record {
   spoiled =
@@ -30,6 +32,7 @@ loop-id-preserved g c = record {
   room = omega (arith, c.loop-id.invariant.room, c.spoil_if_marked.ensures.owed);
 }
 
+-- marks, errors and withering geoms aren't seen by counts
 pub returns-clause-kept : goal.returns-clause-kept
 returns-clause-kept g c =
     seen_kept c.args.topo.now c.args.queue.now c.loop-id.topo c.loop-id.queue

@@ -1,3 +1,4 @@
+-- Once the marked ones that are left are spoiled, all are; a place is kept for each provider without an error.
 use Rattle.std.proofs.Common.{◌≡◌, ◌+◌, ◌-◌, ◌≤◌}
 use Rattle.geo_model.specs.Events.{spoil}
 use Rattle.geo_life.specs.Life.{queued, sound_providers, RestStays}

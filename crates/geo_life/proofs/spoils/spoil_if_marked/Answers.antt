@@ -5,6 +5,7 @@ use Rattle.geo_life.specs.Life.{queued}
 use Rattle.geo_life.proofs.Spoiling.{next_is, unless_next}
 use Rattle.geo_life.proofs.spoils.spoil_if_marked.Goals as goal
 
+-- neither a mark that is lost nor a geom that withers makes a consumer
 pub returns-then-cons-clause-next : goal.returns-then-cons-clause-next
 returns-then-cons-clause-next g c =
     next_is

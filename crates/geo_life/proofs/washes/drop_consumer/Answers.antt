@@ -6,6 +6,7 @@ returns-clause-dropped g c =
     dropped_is c.args.topo.now c.detach_if_attached.new.topo c.destroy_consumer.new.self c.args.cons
     c.detach_if_attached.ensures.mesh c.detach_if_attached.ensures.same c.destroy_consumer.ensures
 
+-- the consumer held nothing, so all counts are right without it
 pub returns-clause-kept : goal.returns-clause-kept
 returns-clause-kept g c =
     dropped_kept c.args.topo.now c.destroy_consumer.new.self c.args.cons c.detach_if_attached.ensures.sound

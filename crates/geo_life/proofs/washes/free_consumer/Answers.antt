@@ -12,6 +12,7 @@ loop-id-init g c =
     (is_idle granted (is_out c.args.topo.now) c.args.topo.now.topology)
     (consumers_of c.args.topo.now.topology c.args.geom)
 
+-- the stored want is the model's, so this one isn't idle there either, and the first idle one is among the others
 pub loop-id-preserved : goal.loop-id-preserved
 loop-id-preserved g c =
     λ granted stored.

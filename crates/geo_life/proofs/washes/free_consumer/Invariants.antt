@@ -1,3 +1,4 @@
+-- The first idle consumer of those that are left is the first of all.
 use Rattle.std.proofs.Common.{◌≡◌, ◌-◌, ℕ}
 use Rattle.std.specs.Prelude.{find, option_map}
 use Rattle.geo_base.specs.declared.request.Counts.{Counts}

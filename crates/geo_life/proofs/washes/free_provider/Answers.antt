@@ -10,6 +10,7 @@ loop-id-init g c =
     (λ (p : Provider). length (attached_to c.args.topo.now.topology p.number) == 0)
     (providers_of c.args.topo.now.topology c.args.geom)
 
+-- something is attached to this one, so the first that is unused is among the others
 pub loop-id-preserved : goal.loop-id-preserved
 loop-id-preserved g c =
     rw c.number-from.ensures

@@ -1,3 +1,4 @@
+-- The first unused provider of those that are left is the first of all.
 use Rattle.std.proofs.Common.{◌≡◌, ◌-◌, length}
 use Rattle.std.specs.Prelude.{find, option_map, ◌==◌}
 use Rattle.geo_model.specs.Topology.{Provider, attached_to, providers_of}

@@ -4,6 +4,7 @@ use Rattle.geo_model.specs.Topology.{Provider, Consumer, providers_of, consumers
 use Rattle.geo_life.proofs.Washing.{none_first, told_none}
 use Rattle.geo_life.proofs.washes.is_bare.Goals as goal
 
+-- for both ways: a geom has no part of a kind just where none is found from number 0 on
 pub returns-then-is_none : goal.returns-then-is_none
 returns-then-is_none g c =
     let none : (length (providers_of c.args.topo.now.topology c.args.geom) == 0) ≡ true =

@@ -4,6 +4,7 @@ use Rattle.geo_model.specs.Topology.{Consumer, attached_to}
 use Rattle.geo_life.proofs.Washing.{none_first, none_there, told_none}
 use Rattle.geo_life.proofs.washes.is_unused.Goals as goal
 
+-- nothing is attached just where no consumer is found there from number 0 on
 pub returns-clause-unused : goal.returns-clause-unused
 returns-clause-unused g c =
     told_none c.attached_to.result c.is_none.result c.is_none.ensures ∙ ap is_none c.attached_to.ensures.first

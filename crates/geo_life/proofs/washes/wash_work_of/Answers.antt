@@ -3,6 +3,7 @@ use Rattle.geo_life.specs.Life.{is_out}
 use Rattle.geo_life.proofs.Washing.{work_provider, work_consumer, work_geom, work_none}
 use Rattle.geo_life.proofs.washes.wash_work_of.Goals as goal
 
+-- for each find: the model looks in this order, and what comes before was looked for and not found
 pub returns-in-Some-clause-found : goal.returns-in-Some-clause-found
 returns-in-Some-clause-found g c =
     λ granted stored.

@@ -5,11 +5,13 @@ use Rattle.geo_life.specs.Life.{sound_providers}
 use Rattle.geo_life.proofs.Errors.{error_owes_some}
 use Rattle.geo_life.proofs.withers.orphan_provider.Goals as goal
 
+-- the provider carries no error yet, so a place was kept for it
 pub post-requires : goal.post-requires
 post-requires g c =
     let less = error_owes_some c.args.topo.now.topology c.requires.sound.orderly.order c.args.prov c.requires.lives in
     omega (arith, less, c.requires.room)
 
+-- one sound provider less and one place less
 pub returns-clause-owed : goal.returns-clause-owed
 returns-clause-owed g c =
     let less : sound_providers c.set_error.new.self.topology + 1 ≡ sound_providers c.args.topo.now.topology =

@@ -9,6 +9,7 @@ use Rattle.geo_life.proofs.Withering.{orphan_begin, orphan_step, orphan_end}
 use Rattle.geo_life.proofs.Spoiling.{error_next}
 use Rattle.geo_life.proofs.withers.wither.Goals as goal
 
+-- the geom is marked; that gives no provider an error, and all its providers are left
 pub loop-id-init : goal.loop-id-init
 loop-id-init g c =
     let same : sound_providers c.set_withering.new.self.topology ≡ sound_providers c.args.topo.now.topology =
@@ -26,6 +27,7 @@ loop-id-init g c =
       room = omega (arith, same, c.requires.room);
     }
 
+-- one that carried no error was orphaned as the model does it next; the others are as before and are left
 pub loop-id-preserved : goal.loop-id-preserved
 loop-id-preserved g c = record {
   withered =
@@ -42,6 +44,7 @@ loop-id-preserved g c = record {
   room = omega (arith, c.loop-id.invariant.room, c.orphan_unless_errored.ensures.owed);
 }
 
+-- errors and withering geoms aren't seen by counts
 pub returns-clause-kept : goal.returns-clause-kept
 returns-clause-kept g c =
     seen_kept c.args.topo.now c.args.queue.now c.loop-id.topo c.loop-id.queue
@@ -50,6 +53,7 @@ returns-clause-kept g c =
     ∙ c.loop-id.invariant.withered)
     (seen_wither (queued c.args.topo.now c.args.queue.now) c.args.geom)
 
+-- no provider was made, and the walk goes past this one
 pub loop-id-smaller : goal.loop-id-smaller
 loop-id-smaller g c =
     let next =

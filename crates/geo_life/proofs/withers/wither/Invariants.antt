@@ -1,3 +1,4 @@
+-- Once those left without an error are orphaned, all are; a place is kept for each provider without an error.
 use Rattle.std.proofs.Common.{◌≡◌, ◌+◌, ◌-◌, ◌≤◌}
 use Rattle.geo_model.specs.Events.{wither}
 use Rattle.geo_life.specs.Life.{queued, sound_providers, RestStays}

@@ -46,6 +46,7 @@ module _ (bytes : List ℕ) (sectors : ℕ) where
       ≡ answer true false a (table_of (kept_entries bytes sectors))
   by_kept a is told = ap (λ a. answer true false a (table_of (kept_entries bytes sectors))) (sym is ∙ told)
 
+-- Each way out: the tests come in the model's order, so the first that fails names the cause
 pub returns-then-not-has_signature : goal.returns-then-not-has_signature
 returns-then-not-has_signature c =
     sym (by_signature c.args.sector.now c.args.sectors false c.has_signature.ensures c.if-not-has_signature.true)

@@ -6,6 +6,7 @@ use Rattle.geo_mesh.specs.Cells.{graph, topo_view}
 use Rattle.geo_mesh.specs.Going.{is_unattached}
 use Rattle.geo_mesh.proofs.going.has_unattached.Given as goal
 
+-- none before `from` is unattached: whether any provider is, those that are left tell
 abbrev pub invariant-loop-prov : goal.invariant-loop-prov
 invariant-loop-prov g l =
     list_any (λ (p : Provider). is_unattached (topo_view l.tables) p.number)

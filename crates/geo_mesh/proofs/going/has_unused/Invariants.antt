@@ -6,6 +6,7 @@ use Rattle.geo_mesh.specs.Cells.{graph, topo_view}
 use Rattle.geo_mesh.specs.Going.{is_unused}
 use Rattle.geo_mesh.proofs.going.has_unused.Given as goal
 
+-- none before `from` is unused: whether any consumer is, those that are left tell
 abbrev pub invariant-loop-cons : goal.invariant-loop-cons
 invariant-loop-cons g l =
     list_any (λ (x : Consumer). is_unused (topo_view l.tables) x.number)

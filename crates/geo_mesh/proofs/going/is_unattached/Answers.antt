@@ -6,6 +6,7 @@ use Rattle.geo_mesh.proofs.IndexLemmas.{attached_first}
 use Rattle.geo_mesh.proofs.GoingLook.{none-first, told_none}
 use Rattle.geo_mesh.proofs.going.is_unattached.Goals as goal
 
+-- the index has a first consumer under the provider unless none is attached to it
 pub returns : goal.returns
 returns g c =
     told_none c.first_from.result c.is_none.result c.is_none.ensures

@@ -7,6 +7,7 @@ use Rattle.geo_mesh.proofs.IndexLemmas.{owned_first}
 use Rattle.geo_mesh.proofs.GoingLook.{walk-next}
 use Rattle.geo_mesh.proofs.going.owned.Goals as goal
 
+-- the index gives the first of the geom's consumers that is left; numbers rise, so the rest comes behind it
 pub returns-clause-next : goal.returns-clause-next
 returns-clause-next g c =
     walk-next (λ (x : Consumer). x.number) (consumers_of (graph c.args.tables.now) c.args.geom)

@@ -30,6 +30,7 @@ lower-lower_attached-requires g t c κs within =
     let enough = c.loop-prov.invariant.lowered.enough in
     (omega (arith, c.decreases), ((λ a there. within a there), (step.walkable, (step.lives, enough))))
 
+-- the consumers of all its providers were passed, so all directly above is low, as if nothing had been stored
 pub lower-returns-clause-lowered : goal.lower-returns-clause-lowered
 lower-returns-clause-lowered g t c =
     let is = set-down c.args.geoms.now c.store.new.geoms c.args.edges.now c.args.geom c.requires.later c.requires.enough
@@ -41,6 +42,7 @@ lower-returns-clause-lowered g t c =
     (IsLow (ranked_below c.args.edges.now) (stored c.loop-prov.geoms)) c.args.geom
     (λ p m offered attached. c.loop-prov.invariant.low p m (none p offered) offered attached))
 
+-- the geom was given the rank that it has to have, and lowering what is above doesn't change that
 pub lower-returns-clause-low : goal.lower-returns-clause-low
 lower-returns-clause-low g t c =
     let is = set-down c.args.geoms.now c.store.new.geoms c.args.edges.now c.args.geom c.requires.later c.requires.enough
@@ -60,12 +62,14 @@ lower_attached-lower-requires g t c κs within =
       ),
     )
 
+-- its rank was enough, so each below has a smaller one
 pub lower-highest_below-new-requires-clause-most : goal.lower-highest_below-new-requires-clause-most
 lower-highest_below-new-requires-clause-most g t c =
     subst (λ ms. largest (map (stored c.args.geoms.now) ms) ≤ c.stored-rank.result - 1)
     (ranked-below c.args.edges.now c.args.geom c.requires.later)
     (omega (arith, c.stored-rank.ensures, c.requires.enough c.args.geom))
 
+-- its rank was enough, so one more than the highest below is no greater
 pub lower-overflow_add-new : goal.lower-overflow_add-new
 lower-overflow_add-new g t c =
     let most = highest-ranked c.args.geoms.now c.args.edges.now c.args.geom c.requires.later c.highest_below-new.result
@@ -74,6 +78,7 @@ lower-overflow_add-new g t c =
     omega (arith, c.stored-rank.ensures, c.requires.enough c.args.geom) in
     search rules
 
+-- its rank is no greater than one more than the highest below, so nothing is lowered
 pub lower-returns-then-rank-new-clause-low : goal.lower-returns-then-rank-new-clause-low
 lower-returns-then-rank-new-clause-low g t c =
     let most = highest-ranked c.args.geoms.now c.args.edges.now c.args.geom c.requires.later c.highest_below-new.result

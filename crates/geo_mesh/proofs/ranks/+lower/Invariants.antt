@@ -5,6 +5,7 @@ use Rattle.geo_mesh.specs.Mending.{above, height, Lowered}
 use Rattle.geo_mesh.specs.Ranks.{kinds, bare, offers, ranked_links, stored, ranked_below, owner, user, is_offered, is_attached}
 use Rattle.geo_mesh.proofs.ranks.+lower.Given as goal
 
+-- twice the levels that may lie above the geom; a provider lies between it and those, so it counts one less
 abbrev pub decreases-lower : goal.decreases-lower
 decreases-lower g l =
     2 * (length (kinds l.geoms.now) + 2 - height (ranked_below l.edges.now) (length (kinds l.geoms.now)) l.geom)
@@ -14,6 +15,7 @@ decreases-lower_attached g l =
     2 * (length (kinds l.geoms.now) + 2 - height (ranked_below l.edges.now) (length (kinds l.geoms.now))
     (owner l.edges.now l.prov)) - 1
 
+-- ranks alone changed, they only fell, and those directly above by providers before `at` are low
 abbrev pub invariant-lower-loop-prov : goal.invariant-lower-loop-prov
 invariant-lower-loop-prov g l = record {
   same : bare l.geoms ≡ bare l.initial.geoms;
@@ -26,6 +28,7 @@ invariant-lower-loop-prov g l = record {
 abbrev pub decreases-lower-loop-prov : goal.decreases-lower-loop-prov
 decreases-lower-loop-prov g l = l.edges.providers.next - l.at
 
+-- the same, and the geoms of the consumers before `at` are low
 abbrev pub invariant-lower_attached-loop-cons : goal.invariant-lower_attached-loop-cons
 invariant-lower_attached-loop-cons g l = record {
   same : bare l.geoms ≡ bare l.initial.geoms;

@@ -10,6 +10,7 @@ use Rattle.geo_mesh.proofs.RankWalk.{user-above, above-user, walk-more}
 use Rattle.geo_mesh.proofs.RankSteps.{at-provider, at-consumer, first-owned}
 use Rattle.geo_mesh.proofs.ranks.+raise.Goals as goal
 
+-- so far the geom alone has a greater rank, and no provider was passed
 pub raise-loop-prov-init : goal.raise-loop-prov-init
 raise-loop-prov-init g t c = record {
   same = refl;
@@ -18,6 +19,7 @@ raise-loop-prov-init g t c = record {
   passed = λ p m low. absurd (omega arith);
 }
 
+-- no more is asked for than a height and 2^33, and no height is greater than one more than the geoms
 pub raise-overflow_add-least : goal.raise-overflow_add-least
 raise-overflow_add-least g t c =
     let most : height (ranked_below c.args.edges.now) (length (kinds c.args.geoms.now)) c.args.geom
@@ -55,6 +57,7 @@ raise-raise_attached-high-requires g t c κs within =
       ),
     )
 
+-- what the earlier providers carry stays raised, and now the consumers of this one are raised too
 pub raise-loop-prov-preserved : goal.raise-loop-prov-preserved
 raise-loop-prov-preserved g t c =
     let own = first-owned c.args.edges.now c.args.geom c.in-Some.prov c.loop-prov.at c.in-Some.ensures in
@@ -81,6 +84,7 @@ raise-loop-prov-preserved g t c =
           (λ attached. c.raise_attached-high.ensures.raised m attached) p low offered;
     }
 
+-- all providers were passed, so each geom directly above is higher, as a lift of this geom wants
 pub raise-returns-clause-lifted : goal.raise-returns-clause-lifted
 raise-returns-clause-lifted g t c =
     let none : (m : ℕ) → passes (is_offered c.args.geom) (value_at (offers c.args.edges.now).rows m) ≡ true
@@ -110,6 +114,7 @@ raise_attached-raise-high-requires g t c κs within =
     rw (kinds-bare c.args.geoms.now c.loop-cons.geoms c.loop-cons.invariant.same) c.loop-cons.invariant.high in
     (omega (arith, c.decreases), ((λ a there. within a there), (step.walkable, (step.lives, (fits, high)))))
 
+-- the consumer's geom stands directly above the provider's, so its raise lifts no more than stands above that
 pub raise_attached-loop-cons-preserved : goal.raise_attached-loop-cons-preserved
 raise_attached-loop-cons-preserved g t c =
     let first : IsFirst (is_attached c.args.prov) (ranked_links c.args.edges.now).rows

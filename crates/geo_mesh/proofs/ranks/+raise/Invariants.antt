@@ -5,6 +5,7 @@ use Rattle.geo_mesh.specs.Mending.{height, Lifted}
 use Rattle.geo_mesh.specs.Ranks.{kinds, bare, offers, ranked_links, stored, ranked_below, owner, user, is_offered, is_attached, is_high}
 use Rattle.geo_mesh.proofs.ranks.+raise.Given as goal
 
+-- twice the levels that may lie above the geom; a provider lies between it and those, so it counts one less
 abbrev pub decreases-raise : goal.decreases-raise
 decreases-raise g l =
     2 * (length (kinds l.geoms.now) + 2 - height (ranked_below l.edges.now) (length (kinds l.geoms.now)) l.geom)
@@ -14,6 +15,7 @@ decreases-raise_attached g l =
     2 * (length (kinds l.geoms.now) + 2 - height (ranked_below l.edges.now) (length (kinds l.geoms.now))
     (owner l.edges.now l.prov)) - 1
 
+-- ranks alone changed, above the geom, and those directly above by providers before `at` are higher than `least`
 abbrev pub invariant-raise-loop-prov : goal.invariant-raise-loop-prov
 invariant-raise-loop-prov g l = record {
   same : bare l.geoms ≡ bare l.initial.geoms;
@@ -27,6 +29,7 @@ invariant-raise-loop-prov g l = record {
 abbrev pub decreases-raise-loop-prov : goal.decreases-raise-loop-prov
 decreases-raise-loop-prov g l = l.edges.providers.next - l.at
 
+-- the same above the provider's geom, and the geoms of the consumers before `at` have at least `least`
 abbrev pub invariant-raise_attached-loop-cons : goal.invariant-raise_attached-loop-cons
 invariant-raise_attached-loop-cons g l = record {
   same : bare l.geoms ≡ bare l.initial.geoms;

@@ -6,6 +6,7 @@ use Rattle.geo_mesh.proofs.RankRows.{rising-with, first-with, first-is}
 use Rattle.geo_mesh.proofs.IndexLemmas.{first-kin}
 use Rattle.geo_mesh.proofs.ranks.belonging.Goals as goal
 
+-- the index has each consumer under its geom, in the order of the rows, so the first child is the first row
 pub returns : goal.returns
 returns c =
     first-is (belongs c.args.geom) c.args.from _ (links c.args.edges.now)

@@ -7,6 +7,7 @@ use Rattle.geo_mesh.proofs.IndexLemmas.{names-above, first-kin}
 use Rattle.geo_mesh.proofs.RankRows.{rising-with, first-with, first-is}
 use Rattle.geo_mesh.proofs.ranks.consumer_above.Goals as goal
 
+-- the index has all but DEV's consumers under their providers, in order, so the first child is the first row
 pub returns : goal.returns
 returns c =
     first-is (is_above c.args.prov) c.args.from _ (links c.args.edges.now)

@@ -8,6 +8,7 @@ use Rattle.geo_mesh.proofs.RankWalk.{walk-more}
 use Rattle.geo_mesh.proofs.RankSteps.{under-first}
 use Rattle.geo_mesh.proofs.ranks.highest_below.Goals as goal
 
+-- a rank that is met below is no greater than the highest, which is at most `most`: both are `most`
 pub returns-then-highest-most : goal.returns-then-highest-most
 returns-then-highest-most g c =
     let here = under-first c.args.geoms.now c.args.edges.now c.args.geom c.in-Some.cons c.loop-cons.at
@@ -21,6 +22,7 @@ returns-then-highest-most g c =
       c.if-highest-most.true,
     )
 
+-- the highest so far takes in the rank below this consumer, which is one of those below the geom
 pub loop-cons-preserved : goal.loop-cons-preserved
 loop-cons-preserved g c =
     let here = under-first c.args.geoms.now c.args.edges.now c.args.geom c.in-Some.cons c.loop-cons.at
@@ -36,6 +38,7 @@ loop-cons-preserved g c =
           (omega (arith, c.max-highest.ensures, c.rank_below.ensures));
     }
 
+-- each consumer of the geom was met, so no rank below is greater than the highest that was met
 pub returns : goal.returns
 returns g c =
     let none : (m : ℕ) → passes (belongs c.args.geom) (value_at (links c.args.edges.now).rows m) ≡ true

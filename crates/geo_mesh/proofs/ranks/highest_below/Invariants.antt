@@ -5,6 +5,7 @@ use Rattle.geo_mesh.specs.Rows.{passes}
 use Rattle.geo_mesh.specs.Ranks.{offers, links, stored, below, belongs, rank_under}
 use Rattle.geo_mesh.proofs.ranks.highest_below.Given as goal
 
+-- the highest so far is no greater than the highest of all, and covers the consumers before `at`
 abbrev pub invariant-loop-cons : goal.invariant-loop-cons
 invariant-loop-cons g l = record {
   most : l.highest ≤ largest (map (stored l.geoms) (below l.edges l.geom));

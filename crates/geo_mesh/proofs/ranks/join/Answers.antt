@@ -7,6 +7,7 @@ use Rattle.geo_mesh.proofs.RankMesh.{stored-bound, stored-unique}
 use Rattle.geo_mesh.proofs.RankSteps.{raised-joinable}
 use Rattle.geo_mesh.proofs.ranks.join.Goals as goal
 
+-- Here and below: no rank is greater than one more than the geoms, so what is asked for fits, and a raise can reach it
 pub overflow_add-rank : goal.overflow_add-rank
 overflow_add-rank g c =
     let few : stored c.args.geoms.now c.args.under ≤ length (kinds c.args.geoms.now) + 1 =
@@ -28,11 +29,13 @@ pub lower-requires-clause-lives : goal.lower-requires-clause-lives
 lower-requires-clause-lives g c =
     rw (kinds-bare c.args.geoms.now c.raise-high.new.geoms c.raise-high.ensures.same) c.requires.lives
 
+-- a rank that grew has greater ones above it, so none became too small
 pub lower-requires-clause-enough : goal.lower-requires-clause-enough
 lower-requires-clause-enough g c =
     lifted-enough (ranked_below c.args.edges.now) (stored c.args.geoms.now) c.args.upper (c.stored-rank.result + 1)
     (stored c.raise-high.new.geoms) c.raise-high.ensures.lifted (λ x. omega (arith, c.requires.local x))
 
+-- the lower geom's own rank grew with the upper one's, so it stands above that
 pub returns-then-stored-rank-clause-refused : goal.returns-then-stored-rank-clause-refused
 returns-then-stored-rank-clause-refused g c =
     let asked : c.stored-rank.result + 1 ≡ stored c.args.geoms.now c.args.under + 1 =
@@ -41,6 +44,7 @@ returns-then-stored-rank-clause-refused g c =
     (stored c.raise-high.new.geoms) c.raise-high.ensures.lifted c.requires.local c.args.under asked
     (λ k. c.if-stored-rank.true (c.stored.ensures ∙ k ∙ sym c.stored-rank.ensures))
 
+-- once lowered each rank is one more than the highest below, and the same graph has one such: the old
 pub returns-then-stored-rank-clause-kept : goal.returns-then-stored-rank-clause-kept
 returns-then-stored-rank-clause-kept g c =
     stored-unique c.args.geoms.now c.lower.new.geoms (ranked_below c.args.edges.now) (c.lower.ensures.same
@@ -62,6 +66,7 @@ lower-requires-then-high-clause-enough g c =
     lifted-enough (ranked_below c.args.edges.now) (stored c.args.geoms.now) c.args.upper (c.stored-rank.result + 1)
     (stored c.raise-high.new.geoms) c.raise-high.ensures.lifted (λ x. omega (arith, c.requires.local x))
 
+-- the raised ranks are those of the graph with the edge, and one of them is above the limit
 pub returns-then-high-clause-refused : goal.returns-then-high-clause-refused
 returns-then-high-clause-refused g c = (
   c.raise-high.new.geoms,
@@ -72,6 +77,7 @@ returns-then-high-clause-refused g c = (
   sym c.raise-high.ensures.high ∙ c.if-high.true,
 )
 
+-- once lowered the ranks are the old ones, as after a loop
 pub returns-then-high-clause-kept : goal.returns-then-high-clause-kept
 returns-then-high-clause-kept g c =
     stored-unique c.args.geoms.now c.lower-then-high.new.geoms (ranked_below c.args.edges.now)
@@ -80,6 +86,7 @@ returns-then-high-clause-kept g c =
     (c.stored-rank.result + 1) (stored c.raise-high.new.geoms) c.raise-high.ensures.lifted c.requires.local
     (stored c.lower-then-high.new.geoms) c.lower-then-high.ensures.lowered c.lower-then-high.ensures.low)
 
+-- the lower geom's rank stood, so it isn't above the upper one, and the ranks fit the graph with the edge
 pub returns-clause-joined : goal.returns-clause-joined
 returns-clause-joined g c =
     raised-joinable c.args.geoms.now c.raise-high.new.geoms c.args.edges.now c.args.upper c.args.under

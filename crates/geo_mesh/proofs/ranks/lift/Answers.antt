@@ -7,6 +7,7 @@ use Rattle.geo_mesh.proofs.RankRows.{kinds-bare}
 use Rattle.geo_mesh.proofs.RankSteps.{high-raised}
 use Rattle.geo_mesh.proofs.ranks.lift.Goals as goal
 
+-- one was above the limit before, and no rank fell
 pub returns-then-high-clause-high : goal.returns-then-high-clause-high
 returns-then-high-clause-high g c =
     let whole = high-raised c.args.geoms.now c.store.new.geoms c.args.geom c.args.rank c.store.ensures.rising

@@ -6,6 +6,7 @@ use Rattle.geo_mesh.proofs.RankRows.{rising-with, first-with, first-is}
 use Rattle.geo_mesh.proofs.IndexLemmas.{first-kin}
 use Rattle.geo_mesh.proofs.ranks.offered.Goals as goal
 
+-- the index has each provider under its geom, in the order of the rows, so the first child is the first row
 pub returns : goal.returns
 returns c =
     first-is (is_offered c.args.geom) c.args.from _ (offers c.args.edges.now)

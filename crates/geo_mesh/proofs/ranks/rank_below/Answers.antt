@@ -4,6 +4,7 @@ use Rattle.geo_mesh.proofs.RowLemmas.{value_at-rows_with}
 use Rattle.geo_mesh.proofs.RankSteps.{below-cell, below-cells}
 use Rattle.geo_mesh.proofs.ranks.rank_below.Goals as goal
 
+-- Each way out: what the cells of consumer, provider and geom tell, and 0 where one of the first two is missing
 pub returns-in_default : goal.returns-in_default
 returns-in_default g c =
     rw (value_at-rows_with links_of c.args.cons c.args.edges.now.consumers.rows, ← c.in_default.ensures.value) refl

@@ -6,6 +6,7 @@ use Rattle.geo_mesh.specs.Ranks.{ranked_links, links, user, is_dev_or_taste, is_
 use Rattle.geo_mesh.proofs.RankFirst.{attached-later, attached-above, above-linked, attached-ranked}
 use Rattle.geo_mesh.proofs.ranks.ranked_consumer.Goals as goal
 
+-- this is the first from `at` on that isn't DEV's, it isn't TASTE's, and none before `at` counts
 pub returns-then-not-is_dev_or_taste : goal.returns-then-not-is_dev_or_taste
 returns-then-not-is_dev_or_taste c =
     let first : IsFirst (is_above c.args.prov) (links c.args.edges.now).rows c.args.edges.now.consumers.next
@@ -31,6 +32,7 @@ returns-then-not-is_dev_or_taste c =
     pick m from_here there false e =
         absurd (c.loop-cons.invariant.none m from_here (leb-false c.loop-cons.at m e) there)
 
+-- what was met is TASTE's, on which no rank stands, and what lies before it was passed
 pub loop-cons-preserved : goal.loop-cons-preserved
 loop-cons-preserved c =
     let first : IsFirst (is_above c.args.prov) (links c.args.edges.now).rows c.args.edges.now.consumers.next
@@ -63,6 +65,7 @@ loop-cons-preserved c =
     pick m from_here low there (inr differs) false e =
         c.loop-cons.invariant.none m from_here (leb-false c.loop-cons.at m e) there
 
+-- none from `at` on is attached to the provider but DEV's, and none before `at` counts
 pub returns : goal.returns
 returns c = λ m there. pick m there (nat_le c.args.from m) refl where
   pick : (m : ℕ) → passes (is_attached c.args.prov) (value_at (ranked_links c.args.edges.now).rows m) ≡ true

@@ -4,6 +4,7 @@ use Rattle.geo_mesh.specs.Rows.{passes}
 use Rattle.geo_mesh.specs.Ranks.{ranked_links, is_attached}
 use Rattle.geo_mesh.proofs.ranks.ranked_consumer.Given as goal
 
+-- no consumer from `from` on and before `at` is attached to the provider and of a later geom
 abbrev pub invariant-loop-cons : goal.invariant-loop-cons
 invariant-loop-cons l = record {
   past : l.from ≤ l.at;

@@ -2,6 +2,7 @@ use Rattle.std.specs.Prelude.{true, false}
 use Rattle.geo_opens.proofs.Stepping.{close-found, close-told, close-busy, close-done}
 use Rattle.geo_opens.proofs.closes.close.Goals as goal
 
+-- for both outcomes: the handle that was found is the model's, and so is whether a request is out through it
 pub returns-then-is_out-clause-made : goal.returns-then-is_out-clause-made
 returns-then-is_out-clause-made g c log actors =
     let f = close-found c.args.state.now c.requires.kept c.requires.firm c.args.line c.args.actor c.args.name.now

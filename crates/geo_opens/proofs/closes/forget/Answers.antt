@@ -7,6 +7,7 @@ use Rattle.geo_life.specs.Life.{is_out}
 use Rattle.geo_opens.proofs.Stepping.{forget-idle}
 use Rattle.geo_opens.proofs.closes.forget.Goals as goal
 
+-- nothing is out through the handle's consumer in the world, so a count of zero is kept of it
 pub forget_held-requires-clause-idle : goal.forget_held-requires-clause-idle
 forget_held-requires-clause-idle g c =
     forget-idle c.args.state.now c.requires.kept c.requires.firm c.args.id c.in-Some.cons

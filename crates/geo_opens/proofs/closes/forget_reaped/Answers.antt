@@ -2,6 +2,7 @@ use Rattle.geo_opens.proofs.Stepping.{forget-made, forget-kept}
 use Rattle.geo_state.proofs.KeptLemmas.{kept_with_handles}
 use Rattle.geo_opens.proofs.closes.forget_reaped.Goals as goal
 
+-- a handle without a consumer holds nothing, so nothing falls and the handle alone goes
 pub returns-clause-made : goal.returns-clause-made
 returns-clause-made c =
     forget-made c.args.state.now c.requires.kept c.requires.firm c.args.id c.requires.reaped c.remove.new.self

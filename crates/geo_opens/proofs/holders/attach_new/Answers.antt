@@ -11,6 +11,7 @@ attach-requires-clause-consumer g c =
     ∙ ap (λ n. record (with_consumer c.args.topo.now n) { room = c.new_consumer.new.self.room }) c.new.ensures)
     c.in_ok-cons.cons c.in_ok-cons.ensures.number
 
+-- counts that nothing refuses mean no error below; a consumer of DEV closes no loop and is never too deep
 pub unreachable-requires : goal.unreachable-requires
 unreachable-requires g c =
     let none = attach_goes c.args.topo.now c.new_consumer.new.self c.look.ensures.sound

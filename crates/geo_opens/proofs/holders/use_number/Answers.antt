@@ -10,6 +10,7 @@ destroy_consumer-requires g c =
     ∙ ap (λ n. record (with_consumer c.args.topo.now n) { room = c.new_consumer.new.self.room }) c.new.ensures)
     c.in_ok-cons.cons c.in_ok-cons.ensures.number
 
+-- a consumer made and destroyed at once leaves only its number used up
 pub returns-clause-used : goal.returns-clause-used
 returns-clause-used g c =
     made_gone c.args.topo.now c.new_consumer.new.self c.look.ensures.sound

@@ -4,11 +4,13 @@ use Rattle.geo_opens.proofs.Opening.{found-there}
 use Rattle.geo_opens.proofs.Admitting.{free-found, free-name, free-allowed, made-then, same-then}
 use Rattle.geo_opens.proofs.opens.admit.Goals as goal
 
+-- nothing refuses the open, so its provider is found
 pub unreachable-requires : goal.unreachable-requires
 unreachable-requires g c =
     free-found c.args.state.now c.make_room.new.state c.make_room.ensures.rest c.make_room.ensures.kept c.args.actor
     c.args.name.now c.args.prov.now c.args.grant c.requires.decided (sym c.find.ensures ∙ c.in_default.is)
 
+-- for each condition: room that is made changes nothing of the world, where nothing refuses the open
 pub open_at-requires-clause-firm : goal.open_at-requires-clause-firm
 open_at-requires-clause-firm g c = (
   c.requires.firm.0,
@@ -30,6 +32,7 @@ open_at-requires-clause-allowed g c =
     free-allowed c.args.state.now c.make_room.new.state c.make_room.ensures.rest c.make_room.ensures.kept c.args.actor
     c.args.name.now c.args.prov.now c.args.grant c.requires.decided c.in-Some.found (sym c.find.ensures ∙ c.in-Some.is)
 
+-- the world with more room is the same world, and the provider that was found is the model's
 pub returns-clause-made : goal.returns-clause-made
 returns-clause-made g c =
     made-then c.open_at.result c.args.state.now c.make_room.new.state c.open_at.new.state c.make_room.ensures.rest

@@ -3,6 +3,7 @@ use Rattle.geo_opens.specs.Handles.{IsOpenRefusal}
 use Rattle.geo_opens.proofs.Admitting.{open-refused, open-done}
 use Rattle.geo_opens.proofs.opens.open.Goals as goal
 
+-- for both outcomes: what was decided is what the model decides
 pub returns-in-Some-clause-made : goal.returns-in-Some-clause-made
 returns-in-Some-clause-made g c =
     λ log actors.

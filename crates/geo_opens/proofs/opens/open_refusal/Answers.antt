@@ -9,6 +9,7 @@ could_grant-requires-clause-lives g c =
     found-there c.args.state.now.topo.topology c.args.prov.now c.in-Some.found c.look.ensures.sound
     (sym c.find.ensures ∙ c.in-Some.is)
 
+-- for both answers: the name is free and the provider found, so what refuses the counts refuses the open
 pub returns-in-Ok-clause-answer : goal.returns-in-Ok-clause-answer
 returns-in-Ok-clause-answer g c actors log =
     let free = free-of c.args.state.now c.args.actor c.args.name.now c.by_name.result c.is_some.result

@@ -5,6 +5,7 @@ use Rattle.geo_opens.proofs.opens.refuse.Goals as goal
 pub use_number-requires-clause-unknown : goal.use_number-requires-clause-unknown
 use_number-requires-clause-unknown c = next-unknown c.args.state.now c.requires.kept c.look.ensures.sound
 
+-- a number that is used up is no part of what is kept
 pub returns-clause-kept : goal.returns-clause-kept
 returns-clause-kept c =
     refuse-kept c.args.state.now c.requires.kept kept_with_handles c.use_number.new.topo c.use_number.result

@@ -2,6 +2,7 @@ use Rattle.std.proofs.Common.{sym, ◌∙◌}
 use Rattle.geo_opens.proofs.Stepping.{next-names, next-idle}
 use Rattle.geo_opens.proofs.reaps.consumer_of_dead.Goals as goal
 
+-- for both: a handle is noted as ready only while it has a consumer and nothing is out through it
 pub unreachable-requires : goal.unreachable-requires
 unreachable-requires c =
     let never = sym c.in_default.is ∙ c.consumer_of.ensures

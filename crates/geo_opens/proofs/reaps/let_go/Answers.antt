@@ -6,11 +6,13 @@ use Rattle.geo_opens.proofs.Stepping.{step-placed, step-holder, step-idle, step-
 use Rattle.geo_state.proofs.KeptLemmas.{kept_with_handles}
 use Rattle.geo_opens.proofs.reaps.let_go.Goals as goal
 
+-- the handle stays when it has no consumer any more
 pub set_ready-requires : goal.set_ready-requires
 set_ready-requires g c =
     subst (λ (v : HandlesView). IsSome (handle_at v.handles c.args.id)) (sym c.release.ensures.released)
     (step-there c.args.state.now c.requires.kept c.requires.firm c.args.id c.args.cons c.requires.idle)
 
+-- for each condition: consumers are attached, this one is DEV's and idle, and a place is kept for each written provider
 pub give_back-requires-clause-placed : goal.give_back-requires-clause-placed
 give_back-requires-clause-placed g c = step-placed c.args.state.now c.requires.kept c.requires.firm
 
@@ -26,6 +28,7 @@ give_back-requires-clause-idle g c =
 pub give_back-requires-clause-room : goal.give_back-requires-clause-room
 give_back-requires-clause-room g c = written-room c.args.state.now c.requires.kept
 
+-- no other handle has the consumer, so letting it go is the model's reap, with what falls by it
 pub returns-clause-made : goal.returns-clause-made
 returns-clause-made g c =
     reap-made c.args.state.now c.requires.kept c.requires.firm c.args.id c.args.cons c.requires.idle

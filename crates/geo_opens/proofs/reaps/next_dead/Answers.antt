@@ -3,6 +3,7 @@ use Rattle.std.proofs.Common.{sym, ◌∙◌}
 use Rattle.geo_opens.proofs.Actives.{none-to-reap}
 use Rattle.geo_opens.proofs.reaps.next_dead.Goals as goal
 
+-- a Reap is due, so a handle is noted as ready
 pub unreachable-requires : goal.unreachable-requires
 unreachable-requires c =
     let never = sym (c.requires.due [] [])

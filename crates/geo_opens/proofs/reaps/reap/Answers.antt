@@ -2,11 +2,13 @@ use Rattle.std.proofs.Common.{arith}
 use Rattle.geo_opens.proofs.Stepping.{reap-done, reap-steps}
 use Rattle.geo_opens.proofs.reaps.reap.Goals as goal
 
+-- the first handle that is noted as ready is the first that the model can reap
 pub returns-clause-made : goal.returns-clause-made
 returns-clause-made g c =
     λ log actors. reap-done c.args.state.now c.requires.kept c.requires.firm c.next_dead-id.result
     c.next_dead-id.ensures c.let_go.new.state c.let_go.ensures.made actors log
 
+-- the handle is the model's, so its consumer's provider is the one whose consumers below are counted
 pub returns-clause-bound : goal.returns-clause-bound
 returns-clause-bound g c =
     λ actors log.

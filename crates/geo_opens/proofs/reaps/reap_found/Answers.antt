@@ -2,6 +2,7 @@ use Rattle.geo_opens.proofs.Actives.{some-to-reap, none-to-reap}
 use Rattle.std.proofs.Common.{sym, ◌∙◌}
 use Rattle.geo_opens.proofs.reaps.reap_found.Goals as goal
 
+-- for both answers: noted as ready are just the dead handles with a consumer through which nothing is out
 pub returns-in-Some : goal.returns-in-Some
 returns-in-Some c =
     λ actors log. some-to-reap c.args.state.now c.requires.kept actors log _ _ c.first_ready.ensures c.in-Some.is

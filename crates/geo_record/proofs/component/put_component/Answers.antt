@@ -24,6 +24,7 @@ place_written sector with_id with_place id place room holds written =
     holds-behind (length sector) 40 (take 36 sector ++ to_le_bytes w32 id) (to_le_bytes w16 place) with_id with_place
     holds (to_id sector id room) (omega arith) written
 
+-- Here and below: what was written ends where the next field begins, and zeros are left behind it
 pub put_u16-requires-clause-free : goal.put_u16-requires-clause-free
 put_u16-requires-clause-free c =
     free-behind (length c.args.sector.now) 40 (take 36 c.args.sector.now ++ to_le_bytes w32 c.args.id)
@@ -38,6 +39,7 @@ put_u16-requires-2-clause-free c =
     c.put_u32.ensures c.put_u16.ensures) (to_place c.args.sector.now c.args.id c.args.place c.requires.room)
     (omega (arith, c.requires.room))
 
+-- id, place and count follow each other behind the head
 pub returns : goal.returns
 returns c =
     holds-behind (length c.args.sector.now) 42

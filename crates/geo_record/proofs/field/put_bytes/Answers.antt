@@ -2,6 +2,7 @@ use Rattle.std.proofs.Common.{◌≡◌, ◌+◌, ◌-◌, length, refl, arith}
 use Rattle.geo_record.proofs.FieldLemmas.{put-zeros}
 use Rattle.geo_record.proofs.field.put_bytes.Goals as goal
 
+-- bytes over zeros, which still stand behind them
 pub returns : goal.returns
 returns c =
     let same : c.copy_from_slice.new.self ≡ c.args.bytes.now = c.copy_from_slice.ensures.after in

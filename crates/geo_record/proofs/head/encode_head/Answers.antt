@@ -6,6 +6,7 @@ use Rattle.geo_record.proofs.RecordLemmas.{holds_version, length-version}
 use Rattle.geo_record.proofs.NameLemmas.{short_name}
 use Rattle.geo_record.proofs.head.encode_head.Goals as goal
 
+-- the sector was blanked, and the magic takes its first 16 bytes
 pub put_u32-requires-clause-free : goal.put_u32-requires-clause-free
 put_u32-requires-clause-free c =
     let blank : c.fill.new.self ≡ replicate (length c.args.sector.now) 0 = search rules in
@@ -14,6 +15,7 @@ put_u32-requires-clause-free c =
     c.put_bytes.ensures)
     c.told-magic (omega (arith, c.requires.room))
 
+-- magic and version take the first 20 bytes, and zeros stand behind them
 pub put_bytes-requires-2-clause-free : goal.put_bytes-requires-2-clause-free
 put_bytes-requires-2-clause-free c =
     let blank : c.fill.new.self ≡ replicate (length c.args.sector.now) 0 = search rules in
@@ -22,6 +24,7 @@ put_bytes-requires-2-clause-free c =
     c.put_u32.new.sector c.told-magic c.requires.room blank c.put_bytes.ensures c.put_u32.ensures)
     (length-version c.args.magic.now c.args.version c.told-magic) (omega (arith, c.requires.room))
 
+-- the name has at most 16 bytes, so the zeros behind it fill its field
 pub returns : goal.returns
 returns c =
     let blank : c.fill.new.self ≡ replicate (length c.args.sector.now) 0 = search rules in

@@ -14,12 +14,14 @@ test_of_rest field len tested answer by_slice is =
     (take_all (length field - len) (drop len field) (omega (arith, length-drop len field))))
     ∙ sym by_slice ∙ is
 
+-- a byte other than zero stands behind the first zero
 pub returns-then-not-are_zero : goal.returns-then-not-are_zero
 returns-then-not-are_zero c =
     sym (padded_name-rest c.args.field.now c.len_before_zero-len.result c.requires c.len_before_zero-len.ensures.len
     (test_of_rest c.args.field.now c.len_before_zero-len.result c.are_zero.result false c.are_zero.ensures
     c.if-not-are_zero.true))
 
+-- the bytes before the first zero are a short name, and zeros alone follow
 pub returns-then-is_short : goal.returns-then-is_short
 returns-then-is_short c =
     sym (padded_name-some c.args.field.now c.len_before_zero-len.result c.requires c.len_before_zero-len.ensures.len
@@ -28,6 +30,7 @@ returns-then-is_short c =
     (test_of_rest c.args.field.now c.len_before_zero-len.result c.are_zero.result true c.are_zero.ensures
     c.if-not-are_zero.false))
 
+-- the bytes before the first zero aren't a name at all
 pub returns-in-Err : goal.returns-in-Err
 returns-in-Err c =
     sym (padded_name-no_name c.args.field.now c.len_before_zero-len.result c.requires

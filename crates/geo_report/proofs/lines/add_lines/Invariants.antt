@@ -1,3 +1,4 @@
+-- The lines of the commands so far were added.
 use Rattle.std.proofs.Common.{◌≡◌, ◌++◌, take, flat_map}
 use Rattle.geo_model.specs.Report.{line_text}
 use Rattle.geo_report.proofs.lines.add_lines.Given as goal

@@ -1,3 +1,4 @@
+-- The lines of the consumers so far were added.
 use Rattle.std.proofs.Common.{◌≡◌, ◌++◌, take, flat_map}
 use Rattle.geo_report.specs.MeshTexts.{consumer_line}
 use Rattle.geo_report.proofs.mesh.add_consumers.Given as goal

@@ -1,3 +1,4 @@
+-- The lines of the geoms so far were added.
 use Rattle.std.proofs.Common.{◌≡◌, ◌++◌, take, flat_map}
 use Rattle.geo_report.specs.MeshTexts.{geom_lines}
 use Rattle.geo_report.proofs.mesh.add_geoms.Given as goal

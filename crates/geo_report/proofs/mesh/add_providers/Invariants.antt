@@ -1,3 +1,4 @@
+-- The lines of the providers so far were added.
 use Rattle.std.proofs.Common.{◌≡◌, ◌++◌, take, flat_map}
 use Rattle.geo_report.specs.MeshTexts.{provider_line}
 use Rattle.geo_report.proofs.mesh.add_providers.Given as goal

@@ -1,3 +1,4 @@
+-- With the entries that are left, the places that were found become those of all.
 use Rattle.std.proofs.Common.{◌≡◌, drop, replicate, None}
 use Rattle.geo_report.specs.Places.{places}
 use Rattle.geo_report.proofs.places.places_below.Given as goal

@@ -1,3 +1,4 @@
+-- The lines of the errors so far were added.
 use Rattle.std.proofs.Common.{◌≡◌, ◌++◌, take, flat_map}
 use Rattle.geo_report.specs.Tallies.{error_line}
 use Rattle.geo_report.proofs.print.add_errors.Given as goal

@@ -4,12 +4,14 @@ use Rattle.geo_base.proofs.RunsLemmas.{text_first, text_on, text_next}
 use Rattle.geo_report.proofs.runs.add_some_runs.Goals as goal
 use Rattle.geo_report.proofs.runs.add_some_runs.Goals.{then-next-byte, else-next-byte+in_ok-add_run_before}
 
+-- the first byte begins a run, in which none was counted yet
 pub loop-next-init : goal.loop-next-init
 loop-next-init c = record {
   counted = omega arith;
   whole = ap (λ l. c.args.text.now ++ l) (text_first c.args.bytes.now c.requires);
 }
 
+-- the byte makes the run longer, or the run is written and it begins another
 pub loop-next-preserved : goal.loop-next-preserved
 loop-next-preserved c =
     elim c.if-next-byte.branch [

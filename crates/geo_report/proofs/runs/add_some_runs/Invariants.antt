@@ -1,3 +1,4 @@
+-- What was written, then the run under way with the bytes that are left, is the text of all bytes.
 use Rattle.std.proofs.Common.{◌≡◌, ◌++◌, ◌≤◌, drop}
 use Rattle.geo_base.specs.Runs.{runs_text}
 use Rattle.geo_base.proofs.RunsLemmas.{text_after}

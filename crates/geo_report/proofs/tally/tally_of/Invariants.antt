@@ -1,3 +1,4 @@
+-- The replies to the lines so far were counted, each of fewer than 2^64 bytes.
 use Rattle.std.proofs.Common.{◌*◌, ◌^◌, ◌≤◌, take}
 use Rattle.geo_report.specs.Tallies.{IsTally, replies_of}
 use Rattle.geo_report.proofs.tally.tally_of.Given as goal

@@ -6,6 +6,7 @@ use Rattle.geo_requests.specs.Ways.{through}
 use Rattle.geo_requests.proofs.Cuts.{cut_of}
 use Rattle.geo_requests.proofs.cut.cut_flush.Goals as goal
 
+-- a FLUSH goes once through each component, in their order, and each consumer to the provider that it is attached to
 pub returns : goal.returns
 returns c =
     cut_of c.args.topo.now.topology _ _ _ _

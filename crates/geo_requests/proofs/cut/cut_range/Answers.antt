@@ -7,6 +7,7 @@ use Rattle.geo_requests.specs.Ways.{through}
 use Rattle.geo_requests.proofs.Cuts.{cut_of}
 use Rattle.geo_requests.proofs.cut.cut_range.Goals as goal
 
+-- a consumer fills the place of each piece, so the pieces with their consumers' providers are the model's
 pub returns : goal.returns
 returns c =
     let p = provider_seen c.args.bio.now.to c.args.prov.now in

@@ -2,6 +2,7 @@ use Rattle.std.proofs.Common.{arith}
 use Rattle.geo_requests.proofs.Errored.{wide_sector}
 use Rattle.geo_requests.proofs.disk.sector_at.Goals as goal
 
+-- a provider of a sound graph has sectors of at least 512 bytes
 pub returns-in-Some-clause-some : goal.returns-in-Some-clause-some
 returns-in-Some-clause-some c =
     omega (

@@ -2,6 +2,7 @@ use Rattle.std.proofs.Common.{arith}
 use Rattle.geo_requests.proofs.Errored.{wide_sector}
 use Rattle.geo_requests.proofs.gate.look_through.Goals as goal
 
+-- a provider of a sound graph has sectors of at least 512 bytes
 pub refusal-requires : goal.refusal-requires
 refusal-requires c =
     omega (

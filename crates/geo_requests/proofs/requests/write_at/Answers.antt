@@ -10,6 +10,7 @@ request-requires-clause-bytes_fit c write =
     ap length c.from_block-bytes.ensures ∙ c.in_ok-block.ensures.len
     ∙ sym (ap (λ (z : Span). z.len) c.last_sector-span.ensures)
 
+-- the model writes the record too: the same bytes in the last sector of the handle's provider
 pub returns-clause-does : goal.returns-clause-does
 returns-clause-does c log =
     let span = sym c.last_sector-span.ensures in

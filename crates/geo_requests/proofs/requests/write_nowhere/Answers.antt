@@ -4,6 +4,7 @@ use Rattle.geo_model.specs.Commands.{asking}
 use Rattle.geo_requests.proofs.Asking.{record_does}
 use Rattle.geo_requests.proofs.requests.write_nowhere.Goals as goal
 
+-- without a provider the model asks for a WRITE of no bytes at offset 0 too
 pub returns-clause-does : goal.returns-clause-does
 returns-clause-does c log =
     let nothing = sym c.none-nothing.ensures in

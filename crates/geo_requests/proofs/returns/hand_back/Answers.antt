@@ -6,18 +6,21 @@ use Rattle.geo_requests.proofs.Parting.{same_moved}
 use Rattle.geo_requests.proofs.Returned.{read_up, came_back, settled_mid, reading_mid, holds_back, read_of, same_taste, nobodys_mid, kind_mid, makes_back, logged_back, read_steps, steps_mid}
 use Rattle.geo_requests.proofs.returns.hand_back.Goals as goal
 
+-- the read is a root of the taste, so it is out through the taste's consumer
 pub up-requires-clause-came : goal.up-requires-clause-came
 up-requires-clause-came g c =
     let s = c.args.state.now in
     let r = read_up s c.args.bio c.requires.up c.requires.taste in
     came_back s c.requires.firm c.args.bio r.bio r.found r.root
 
+-- the bios and their next number are as before, and nothing else is part of the world
 pub returns-in_err-risen-clause-same : goal.returns-in_err-risen-clause-same
 returns-in_err-risen-clause-same g c =
     on_error (SameWorld c.args.state.now c.up.new.state) c.from_residual.result
     (same_moved c.args.state.now c.up.new.state c.up.ensures.only c.in_err-risen.ensures.bios_stay
     c.up.ensures.next_stays)
 
+-- for both conditions: what the read's rise changed isn't seen by counts or by the taste
 pub give_back-requires-clause-settled : goal.give_back-requires-clause-settled
 give_back-requires-clause-settled g c =
     let s = c.args.state.now in
@@ -30,6 +33,7 @@ give_back-requires-clause-reading g c =
     let r = read_up s c.args.bio c.requires.up c.requires.taste in
     reading_mid s c.requires.firm c.args.bio r.bio r.found r.root c.up.new.state c.up.ensures.only c.up.ensures.kept
 
+-- the read is gone and what it held is the taste's, which gives back its one read, as in the model
 pub returns-clause-made : goal.returns-clause-made
 returns-clause-made g c =
     let s = c.args.state.now in
@@ -39,6 +43,7 @@ returns-clause-made g c =
     (c.root_result.ensures ∙ ap root_result (rw r.found at c.in_ok-risen.ensures.told))
     c.give_back.ensures.topo c.give_back.ensures.taste c.give_back.ensures.rest
 
+-- the taste's read is out no more, so it is right that no number of one is kept
 pub returns-clause-kept : goal.returns-clause-kept
 returns-clause-kept g c =
     let s = c.args.state.now in
@@ -61,6 +66,7 @@ returns-clause-logged g c entries logged =
     (c.root_result.ensures ∙ ap root_result (rw r.found at c.in_ok-risen.ensures.told))
     c.give_back.ensures.topo c.give_back.ensures.taste c.give_back.ensures.rest (length entries) logged
 
+-- the provider that the read went to is the tasted one, so as many consumers are below it
 pub returns-clause-bound : goal.returns-clause-bound
 returns-clause-bound g c =
     let s = c.args.state.now in

@@ -15,6 +15,7 @@ returns-in_err-risen-clause-same c =
     (same_moved c.args.state.now c.up.new.state c.up.ensures.only c.in_err-risen.ensures.bios_stay
     c.up.ensures.next_stays)
 
+-- the bio is in its parent or gone as a root, and the outcome tells of it what the model tells
 pub returns-clause-made : goal.returns-clause-made
 returns-clause-made c =
     rise_made c.args.state.now c.args.bio c.requires.up c.requires.no_taste c.up.new.state c.args.log.now.items

@@ -2,6 +2,7 @@ use Rattle.std.proofs.Common.{sym}
 use Rattle.geo_requests.proofs.Serving.{delivers_at, deliver_has_disk, deliver_requires, delivery_made, delivery_logged, some_disk}
 use Rattle.geo_requests.proofs.serve.deliver.Goals as goal
 
+-- in a firm world a bio that a seat has is at its disk, and alone there
 pub deliver-requires : goal.deliver-requires
 deliver-requires c =
     let at = delivers_at c.args.state.now c.requires.firm c.args.bio c.args.seat c.args.got.now c.requires.enabled
@@ -16,18 +17,21 @@ deliver-requires c =
       alone = well.alone;
     }
 
+-- the place that is kept is that of the entry that comes, so its bytes are those that were answered
 pub returns-in-Some-clause-made : goal.returns-in-Some-clause-made
 returns-in-Some-clause-made c =
     delivery_made c.args.state.now c.deliver.new.state c.requires.firm c.args.bio c.args.seat c.in-Some.disk
     c.len.result c.errno_of.result c.args.got.now c.args.log.now.items c.requires.enabled (sym c.in-Some.ensures)
     c.requires.logged c.deliver.ensures.only c.deliver.ensures.delivered c.len.ensures c.errno_of.ensures
 
+-- the log has the new place too once this entry is in it
 pub returns-in-Some-clause-logged : goal.returns-in-Some-clause-logged
 returns-in-Some-clause-logged c =
     delivery_logged c.args.state.now c.deliver.new.state c.requires.firm c.args.bio c.args.seat c.in-Some.disk
     c.len.result c.errno_of.result c.args.got.now c.args.log.now.items c.requires.enabled (sym c.in-Some.ensures)
     c.requires.logged c.deliver.ensures.only c.deliver.ensures.delivered c.len.ensures c.errno_of.ensures
 
+-- for both clauses: a bio that is at a disk goes to one
 pub returns-in-None-clause-made : goal.returns-in-None-clause-made
 returns-in-None-clause-made c e step actors =
     absurd (some_disk _ c.in-None.ensures

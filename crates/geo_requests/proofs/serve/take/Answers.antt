@@ -3,6 +3,7 @@ use Rattle.geo_bio.specs.BioTable.{BioTableView}
 use Rattle.geo_requests.proofs.Serving.{taken_bio, take_sent, take_goes, take_free, makes_taken, logged_taken}
 use Rattle.geo_requests.proofs.serve.take.Goals as goal
 
+-- for each condition: nothing is against the Take, so the bio is Sent, to this disk, at which nothing is
 pub take-requires-clause-sent : goal.take-requires-clause-sent
 take-requires-clause-sent c =
     take_sent c.args.state.now c.requires.firm c.requires.kept c.args.bio c.args.seat c.args.disk c.requires.enabled
@@ -15,6 +16,7 @@ pub take-requires-clause-free : goal.take-requires-clause-free
 take-requires-clause-free c =
     take_free c.args.state.now c.requires.firm c.requires.kept c.args.bio c.args.seat c.args.disk c.requires.enabled
 
+-- the bio is Busy by this seat, and what is asked of the disk is what the model asks
 pub returns-clause-made : goal.returns-clause-made
 returns-clause-made c log =
     let s = c.args.state.now in

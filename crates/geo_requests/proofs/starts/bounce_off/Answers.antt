@@ -6,6 +6,7 @@ use Rattle.geo_requests.specs.Started.{HasStarted}
 use Rattle.geo_requests.proofs.Parting.{bounced_started}
 use Rattle.geo_requests.proofs.starts.bounce_off.Goals as goal
 
+-- whichever bio it is, going up with this error is all that the model does
 pub returns-clause-started : goal.returns-clause-started
 returns-clause-started c =
     if-any (bio_among c.args.state.now.traffic.bios c.args.bio)

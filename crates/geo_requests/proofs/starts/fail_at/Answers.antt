@@ -15,6 +15,7 @@ bounce-requires-clause-down c =
     subst (λ (z : State). IsTrue (has_phase is_down z.traffic.bios c.args.bio)) (sym c.note_started.ensures.noted)
     c.requires.down
 
+-- counting and bouncing touch different parts, so together they are what the model does
 pub returns-clause-started : goal.returns-clause-started
 returns-clause-started c =
     if-any (bio_among c.args.state.now.traffic.bios c.args.bio)

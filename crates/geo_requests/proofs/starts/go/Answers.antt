@@ -2,11 +2,13 @@ use Rattle.geo_model.specs.Bios.{Bounces, Fails, Sends, Splits, Passes}
 use Rattle.geo_requests.proofs.Going.{went_at_once, went_by, split_well, pass_well, fails_there, fails_counted, passes_there, passes_counted}
 use Rattle.geo_requests.proofs.starts.go.Goals as goal
 
+-- for each way: the way that was found is the model's, and so is what the bio did
 pub returns-in-Bounces-clause-started : goal.returns-in-Bounces-clause-started
 returns-in-Bounces-clause-started c =
     went_at_once c.args.state.now c.bounce_off.new.state c.args.bio (Bounces c.in-Bounces.errno) c.bounce_off.result
     (rw c.in-Bounces.is at c.requires.way) c.bounce_off.ensures.started
 
+-- a way that fails was only found where one more request can be counted at the geom
 pub fail_at-requires-clause-count : goal.fail_at-requires-clause-count
 fail_at-requires-clause-count c =
     fails_counted c.args.state.now c.args.bio c.in-Fails.geom (rw c.in-Fails.is at c.requires.way) c.requires.down
@@ -22,6 +24,7 @@ returns-in-Sends-clause-started c =
     went_at_once c.args.state.now c.send_down.new.state c.args.bio (Sends c.in-Sends.disk) c.send_down.result
     (rw c.in-Sends.is at c.requires.way) c.send_down.ensures.started
 
+-- for both cuts: the model's has a piece at least, a target for each, and goes through no handle's consumer
 pub split_by-requires : goal.split_by-requires
 split_by-requires c =
     let well = split_well c.args.state.now c.requires.firm c.args.bio c.requires.down c.in-Splits.cut

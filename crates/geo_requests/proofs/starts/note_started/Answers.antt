@@ -6,6 +6,7 @@ use Rattle.geo_state.specs.Holds.{Holds}
 use Rattle.geo_requests.proofs.Noting.{noted_holds}
 use Rattle.geo_requests.proofs.starts.note_started.Goals as goal
 
+-- how many requests a geom has started is seen by nothing that is kept
 pub returns-clause-kept : goal.returns-clause-kept
 returns-clause-kept c =
     subst (λ (t : TopoView Config). let s : State = record c.args.state.now { topo = t } in Holds s)

@@ -8,6 +8,7 @@ use Rattle.geo_requests.proofs.Errored.{errored_found, errored_nowhere}
 use Rattle.geo_requests.proofs.Ways.{way_errored, way_nowhere, way_bare, way_there}
 use Rattle.geo_requests.proofs.way.way_of.Goals as goal
 
+-- there is no provider of that number, so none that carries an error, and the bio bounces
 pub returns-in_default : goal.returns-in_default
 returns-in_default c =
     let t = c.args.topo.now.topology in
@@ -21,12 +22,14 @@ returns-then-prov c =
     (errored_found t c.provider.ensures.sound.orderly.order c.args.bio.now.to _ c.in-Some.ensures.provider
     ∙ c.if-prov.true)
 
+-- the bio can go down, and its provider and geom are those that were looked up
 pub way_at-requires-clause-cut : goal.way_at-requires-clause-cut
 way_at-requires-clause-cut c no_disk moves =
     c.requires (provider_seen c.args.bio.now.to c.in-Some.prov.now)
     (geom_seen c.in-Some.prov.now.geom c.in-Some-geom.geom.now) c.in-Some.ensures.provider
     c.in-Some-geom.ensures.geom no_disk moves
 
+-- the provider carries no error and its geom stands, so the geom's class decides
 pub returns-in-Some-geom : goal.returns-in-Some-geom
 returns-in-Some-geom c =
     let t = c.args.topo.now.topology in
@@ -36,6 +39,7 @@ returns-in-Some-geom c =
     ∙ c.if-prov.false) c.in-Some.ensures.provider c.in-Some-geom.ensures.geom))
     c.way_at.ensures
 
+-- the provider carries no error, but without a geom there is no way
 pub returns-in-None : goal.returns-in-None
 returns-in-None c =
     let t = c.args.topo.now.topology in

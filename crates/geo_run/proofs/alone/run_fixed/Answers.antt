@@ -5,6 +5,7 @@ use Rattle.geo_run.proofs.Idle.{idle_mesh}
 use Rattle.geo_run.proofs.OneThread.{ran_alone}
 use Rattle.geo_run.proofs.alone.run_fixed.Goals as goal
 
+-- a mesh without a step has taken no bio
 pub fixed_over-answer-requires-clause-idle : goal.fixed_over-answer-requires-clause-idle
 fixed_over-answer-requires-clause-idle g c = idle_mesh c.args.mesh c.requires.new
 

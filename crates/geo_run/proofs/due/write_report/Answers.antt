@@ -9,6 +9,7 @@ pub returns-in-None : goal.returns-in-None
 returns-in-None g c =
     same_ends _ Reported _ _ _ _ (ap ending_with c.in-None.is) (ends _ Reported _ _ _ c.written.ensures)
 
+-- the line of the disk stands behind the report, and memory for both may be wanting
 pub returns-in-Some : goal.returns-in-Some
 returns-in-Some g c =
     same_ends _ (ReportedButFault c.in-Some.name) _ _ _ _ (ap ending_with c.in-Some.is)

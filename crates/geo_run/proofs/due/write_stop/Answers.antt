@@ -5,10 +5,12 @@ use Rattle.geo_run.specs.Stops.{ending_of}
 use Rattle.geo_run.proofs.Writing.{ends, made_ends, same_ends}
 use Rattle.geo_run.proofs.due.write_stop.Goals as goal
 
+-- An ending whose text stands in the program: it is written whole, or the sink fails
 pub returns-in-BadWords : goal.returns-in-BadWords
 returns-in-BadWords g c =
     same_ends _ BadWords _ _ _ _ (ap ending_of c.in-BadWords.is) (ends _ BadWords _ _ _ c.written.ensures)
 
+-- An ending whose text is made: memory for it may be wanting
 pub returns-in-NoScript : goal.returns-in-NoScript
 returns-in-NoScript g c =
     same_ends _ (NoScript c.in-NoScript.line c.in-NoScript.cause) _ _ _ _ (ap ending_of c.in-NoScript.is)

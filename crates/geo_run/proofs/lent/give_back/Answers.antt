@@ -7,6 +7,7 @@ use Rattle.geo_run.specs.Lending.{AreOut}
 use Rattle.geo_run.proofs.Loops.{gave_all, gave_item, item_out, name_at, name_left, name_there, next_out, rest_out}
 use Rattle.geo_run.proofs.lent.give_back.Goals as goal
 
+-- there are as many names as drives, and a drive is left
 pub index-name-requires : goal.index-name-requires
 index-name-requires g c =
     let lt = name_there (drive_view g.H.D.Disk.view) (g.H.Shelf.view c.loop-drive.shelf) c.args.lent.names.items
@@ -14,6 +15,7 @@ index-name-requires g c =
     (into_iter_items c.next.new.self) c.in-Some.ensures.steps.0 c.loop-drive.invariant.out in
     omega (arith, lt, c.args.lent.names.ok.0, c.loop-drive.invariant.place)
 
+-- the drive that is next has the name at its place, and is out by it
 pub give_drive-given-requires : goal.give_drive-given-requires
 give_drive-given-requires g c =
     let f = drive_view g.H.D.Disk.view in
@@ -43,6 +45,7 @@ loop-drive-init g c =
       out = subst (λ xs. AreOut s c.args.lent.names.items (map f xs)) (sym gives) c.requires.out;
     }
 
+-- this drive was given back by its name or kept, and that leaves the others out
 pub loop-drive-preserved : goal.loop-drive-preserved
 loop-drive-preserved g c =
     let f = drive_view g.H.D.Disk.view in
@@ -69,6 +72,7 @@ loop-drive-preserved g c =
           c.index-name.result.now _ lt at here c.give_drive-given.ensures;
     }
 
+-- none is left, so all were given back but those that are kept, the first of which comes back
 pub returns : goal.returns
 returns g c =
     let f = drive_view g.H.D.Disk.view in

@@ -4,6 +4,7 @@ use Rattle.geo_run.specs.Drives.{drive_view}
 use Rattle.geo_run.proofs.Loops.{named_next, opens_item, stops_at}
 use Rattle.geo_run.proofs.lent.take_into.Goals as goal
 
+-- all before this disk were had, and this one couldn't be
 pub returns-in-Err-clause-stopped : goal.returns-in-Err-clause-stopped
 returns-in-Err-clause-stopped g c =
     let v = g.H.Shelf.view in
@@ -12,6 +13,7 @@ returns-in-Err-clause-stopped g c =
     c.decl-item.result c.loop-decl.lent.names.items _ c.in-Err.stop c.loop-decl-test.true c.decl-item.is
     c.loop-decl.invariant.named c.loop-decl.invariant.opened c.in-Err.ensures.stopped
 
+-- this disk was had too, and it and its name stand behind the others
 pub loop-decl-preserved : goal.loop-decl-preserved
 loop-decl-preserved g c =
     let f = drive_view g.H.D.Disk.view in

@@ -12,23 +12,27 @@ take_disks-requires-clause-decls g c = decls_all c.args.plan _ c.disks.ensures.p
 pub take_disks-requires-clause-names : goal.take_disks-requires-clause-names
 take_disks-requires-clause-names g c = names_apart c.args.plan _ c.disks.ensures.plan c.disks.ensures.disks
 
+-- each disk was had in the sectors of its declaration
 pub open_mesh-requires : goal.open_mesh-requires
 open_mesh-requires g c =
     subst (λ (ds : List _). FactsFit c.args.plan (map size_of (map (drive_view g.H.D.Disk.view) ds)))
     (sym c.as_slice.ensures.value)
     (sizes_fit c.args.plan c.disks.result.now _ _ _ c.disks.ensures.plan c.disks.ensures.disks c.in-Ok.ensures.taken)
 
+-- memory for the mesh was wanting: all disks of the plan are out by their names
 pub give_back-requires : goal.give_back-requires
 give_back-requires g c = record {
   out = drives_out c.args.plan c.disks.result.now c.in-Ok.lent.names.items _ _ _ c.disks.ensures.plan
       c.disks.ensures.disks c.in-Ok.ensures.named c.in-Ok.ensures.taken;
 }
 
+-- a disk couldn't be had, and those before it were given back
 pub returns-in-Err-clause-stopped : goal.returns-in-Err-clause-stopped
 returns-in-Err-clause-stopped g c =
     plan_stops c.args.plan c.disks.result.now c.in-Err.stop _ _ c.disks.ensures.plan c.disks.ensures.disks
     c.in-Err.ensures.stopped
 
+-- the mesh has the plan, and the sizes of the drives that are out
 pub returns-in-Ok-open_mesh-clause-opened : goal.returns-in-Ok-open_mesh-clause-opened
 returns-in-Ok-open_mesh-clause-opened g c =
     plan_opened c.args.plan c.disks.result.now c.in-Ok.lent.names.items _ _ c.in-Ok-open_mesh.mesh
@@ -36,6 +40,7 @@ returns-in-Ok-open_mesh-clause-opened g c =
     c.in-Ok.ensures.taken (ap (λ (ds : List _). map (drive_view g.H.D.Disk.view) ds) c.as_slice.ensures.value)
     c.in-Ok-open_mesh.ensures.mesh c.in-Ok-open_mesh.ensures.history c.in-Ok-open_mesh.ensures.facts
 
+-- all disks were had and given back, since there is no memory for the mesh
 pub returns-in-Err-open_mesh-clause-stopped : goal.returns-in-Err-open_mesh-clause-stopped
 returns-in-Err-open_mesh-clause-stopped g c =
     plan_lost c.args.plan c.disks.result.now c.in-Ok.lent.names.items _ _ _ _ c.disks.ensures.plan

@@ -6,6 +6,7 @@ use Rattle.geo_headline.specs.Sweep.{sweep_order}
 use Rattle.geo_run.proofs.Asked.{adds_by, adds_nothing, ran_full, ran_to_rest}
 use Rattle.geo_run.proofs.rest.in_elevator_order.Goals as goal
 
+-- no step was made since the heads were made, so they stand where they begin
 pub sweep_to_rest-requires-clause-heads : goal.sweep_to_rest-requires-clause-heads
 sweep_to_rest-requires-clause-heads g c =
     let same = c.disks.ensures.disks ∙ ap (λ (p : Plan). p.disks) c.plan-plan.ensures.plan in (

@@ -4,6 +4,7 @@ use Rattle.geo_model.specs.FixedOrder.{fixed_order}
 use Rattle.geo_run.proofs.Asked.{adds_by, ran_full, ran_to_rest}
 use Rattle.geo_run.proofs.rest.in_fixed_order.Goals as goal
 
+-- the fixed order keeps nothing of the steps, so it knows all that it needs
 pub run_to_rest-requires-clause-known : goal.run_to_rest-requires-clause-known
 run_to_rest-requires-clause-known g c = ([], (c.args.mesh.now.log, refl), tt)
 

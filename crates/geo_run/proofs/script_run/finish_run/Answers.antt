@@ -3,6 +3,7 @@ use Rattle.std.proofs.Common.{Some, refl}
 use Rattle.geo_run.proofs.Running.{ran_drives, ran_due}
 use Rattle.geo_run.proofs.script_run.finish_run.Goals as goal
 
+-- the drives that came back are what the run says of them, and what is due is that of its mesh and its answer
 pub returns : goal.returns
 returns g c = record {
   runs = λ old xs ran facts sizes.

@@ -10,6 +10,7 @@ returns-in-Ok g c =
     source_ran _ MAX_SCRIPT_BYTES _ _ c.in-Ok.text _ _ _ _ (script_limit c.args.work) c.in-Ok.ensures.whole
     c.bytes.ensures c.run_script_in_threads.ensures
 
+-- the source wasn't read to its end, so nothing was opened
 pub returns-in-Err : goal.returns-in-Err
 returns-in-Err g c =
     inr (source_unread _ MAX_SCRIPT_BYTES _ _ c.unopened.result c.in-Err.stop _ (script_limit c.args.work)

@@ -5,11 +5,13 @@ use Rattle.geo_headline.specs.Modes.{VerifyMode}
 use Rattle.geo_run.proofs.Reading.{source_found, source_unread, trace_within}
 use Rattle.geo_run.proofs.verify_run.run_verify.Goals as goal
 
+-- the source gave at most as many bytes as a trace may have
 pub found_in-requires : goal.found_in-requires
 found_in-requires g c =
     trace_within MAX_TRACE_BYTES c.bytes.result.now c.in-Ok.text refl c.bytes.ensures
     c.in-Ok.ensures.whole.few
 
+-- the text is all that the source gives, and what is found is found in it
 pub returns-in-Ok : goal.returns-in-Ok
 returns-in-Ok g c = λ shelf.
     source_found MAX_TRACE_BYTES _ _ c.in-Ok.text _ c.unopened.result c.found_in.result shelf

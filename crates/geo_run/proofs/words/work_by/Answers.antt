@@ -13,6 +13,7 @@ returns-in-sweep c = asks_word SweepMode _ (codes "sweep") refl tt (sym c.as_str
 pub returns-in-verify : goal.returns-in-verify
 returns-in-verify c = asks_word VerifyMode _ (codes "verify") refl tt (sym c.as_str.ensures.value ∙ c.in-verify.is)
 
+-- none of the three words, and no other word alone asks for one thread
 pub returns-in_default : goal.returns-in_default
 returns-in_default c =
     asks_nothing _ (λ e. c.in_default.not-step (c.as_str.ensures.value ∙ e))

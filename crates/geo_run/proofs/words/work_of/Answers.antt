@@ -4,6 +4,7 @@ use Rattle.geo_run.specs.Work.{AsksFor}
 use Rattle.geo_run.proofs.Digits.{one_word, three_words}
 use Rattle.geo_run.proofs.words.work_of.Goals as goal
 
+-- Words of this many are those that were looked at, one by one
 pub returns-in-len1 : goal.returns-in-len1
 returns-in-len1 c =
     subst (λ (ws : List (List ℕ)). AsksFor ws c.work_by.result)

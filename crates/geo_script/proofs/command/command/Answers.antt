@@ -4,6 +4,7 @@ use Rattle.geo_script.specs.Reads.{Reads}
 use Rattle.geo_script.proofs.WordsLemmas.{next_word-cons}
 use Rattle.geo_script.proofs.command.command.Goals as goal
 
+-- the words are the one that was read and those behind it, so the model's table goes by the same word
 pub returns : goal.returns
 returns c =
     let cons = next_word-cons c.args.words c.in_ok-name.name.now c.in_ok-name.words c.in_ok-name.ensures in

@@ -2,6 +2,7 @@ use Rattle.std.proofs.Common.{sym, ◌∙◌}
 use Rattle.geo_script.proofs.FormLemmas.{mark_words-next}
 use Rattle.geo_script.proofs.forms.mark.Goals as goal
 
+-- handle and class are the first two words, and the model reads the others by the same class
 pub returns : goal.returns
 returns c =
     c.mark_by.ensures

@@ -6,6 +6,7 @@ use Rattle.geo_script.proofs.FormLemmas.{plan_with_line-by}
 use Rattle.geo_script.proofs.WordsLemmas.{next_word-cons}
 use Rattle.geo_script.proofs.line.add_plan_line.Goals as goal
 
+-- nothing is against the line, so the model too goes by its first word
 pub returns : goal.returns
 returns c =
     let cons = next_word-cons c.of.result c.in_ok-word.word.now c.in_ok-word.words c.in_ok-word.ensures in

@@ -5,6 +5,7 @@ use Rattle.geo_base.specs.declared.limits.TheConstants.{MAX_COMPONENTS}
 use Rattle.geo_script.proofs.FormLemmas.{names_fault, names_on}
 use Rattle.geo_script.proofs.words.long_names.Goals as goal
 
+-- fewer than 16 names were read and a word is left, so the model refuses the same word
 pub returns-in_err-name : goal.returns-in_err-name
 returns-in_err-name c =
     let p = err_from_is_err_and c.from_residual-in_err-name.result c.from_residual-in_err-name.ensures.1 in
@@ -14,6 +15,7 @@ returns-in_err-name c =
     (names_fault c.loop-names.names.items c.loop-names.words c.args.words c.in_err-name.field-0.0 few some
     c.loop-names.invariant.some (sym c.in_err-name.ensures) c.loop-names.invariant.read)
 
+-- the name is behind the others, and the words behind it are left, with room for one less
 pub loop-names-preserved : goal.loop-names-preserved
 loop-names-preserved c =
     let few : length c.loop-names.names.items < MAX_COMPONENTS = omega (arith, c.loop-names.names.ok) in

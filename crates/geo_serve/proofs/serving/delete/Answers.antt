@@ -5,6 +5,7 @@ use Rattle.geo_serve.specs.Serve.{fits_request, held_after}
 use Rattle.geo_serve.proofs.Kept.{kept_all, kept_whole}
 use Rattle.geo_serve.proofs.serving.delete.Goals as goal
 
+-- what the disk zeroed is what is answered, and by whole sectors, so what it holds is still whole and as many
 pub returns : goal.returns
 returns g c =
     let old : DriveView = drive_view g.D.Disk.view c.args.disk.now in

@@ -6,6 +6,7 @@ use Rattle.geo_model.specs.Words.{is_read}
 use Rattle.geo_serve.proofs.Whole.{are_sectors, cut_length, sectors_in}
 use Rattle.geo_serve.proofs.serving.read.Goals as goal
 
+-- the room is cut to the bytes of the request, which are whole sectors of the disk
 pub read-requires : goal.read-requires
 read-requires g c =
     let lent = cut_length c.args.request.now.count c.args.room c.bytes_mut.ensures.value c.cut.ensures
@@ -14,6 +15,7 @@ read-requires g c =
     c.args.request.now.count (length c.bytes_mut.result.now) c.requires.can.some_size
     (omega (arith, c.requires.can.inside)) lent
 
+-- the read went over the whole room, so the answer has as many sectors as the request asked for
 pub returns-in-Ok : goal.returns-in-Ok
 returns-in-Ok g c =
     let lent = cut_length c.args.request.now.count c.args.room c.bytes_mut.ensures.value c.cut.ensures
@@ -28,6 +30,7 @@ returns-in-Ok g c =
     sectors_in sector c.args.request.now.count (length c.read.new.out) c.requires.can.some_size bytes in
     rw (c.from_block.ensures ∙ all) (search rules)
 
+-- the disk was asked for the sectors of the request, and a read that fails has done none
 pub returns-in-Err : goal.returns-in-Err
 returns-in-Err g c =
     let lent = cut_length c.args.request.now.count c.args.room c.bytes_mut.ensures.value c.cut.ensures

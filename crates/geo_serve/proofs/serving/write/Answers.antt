@@ -8,6 +8,7 @@ use Rattle.geo_serve.proofs.Kept.{kept_all, kept_whole}
 use Rattle.geo_serve.proofs.Whole.{sectors_in}
 use Rattle.geo_serve.proofs.serving.write.Goals as goal
 
+-- the bytes are the sectors of the request; what the disk wrote of them is answered, and what it holds is still whole
 pub returns : goal.returns
 returns g c =
     let whole : length c.args.request.now.bytes / (view_by g.D.Disk.view c.args.disk.now).sector

@@ -11,6 +11,7 @@ loop-count-init c = record {
   so_far = ap (λ (l : List Entry). shown c.args.seat l) (take_all _ c.args.entries.now (omega arith));
 }
 
+-- no entry behind this one is a listing of the seat, and this one is
 pub returns-in-Some-clause-number : goal.returns-in-Some-clause-number
 returns-in-Some-clause-number c =
     found_number c.args.seat c.args.entries.now c.loop-count.count c.index-entries-count.result c.in-Some.list.now
@@ -22,6 +23,7 @@ returns-in-Some-clause-listed c =
     found_listing c.args.seat c.args.entries.now c.loop-count.count c.index-entries-count.result c.in-Some.list.now
     c.loop-count-test.true c.loop-count.invariant.within c.index-entries-count.is (sym c.in-Some.ensures)
 
+-- this entry is no listing of the seat, so the last one is before it
 pub loop-count-preserved : goal.loop-count-preserved
 loop-count-preserved c = record {
   within = omega arith;

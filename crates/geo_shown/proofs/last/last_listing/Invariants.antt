@@ -1,3 +1,4 @@
+-- No entry from here on is a listing of the seat.
 use Rattle.std.proofs.Common.{◌≡◌, ◌≤◌, length, take}
 use Rattle.geo_headline.specs.Viewing.{shown}
 use Rattle.geo_shown.proofs.last.last_listing.Given as goal

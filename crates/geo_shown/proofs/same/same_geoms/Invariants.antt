@@ -1,3 +1,4 @@
+-- The geoms so far are the same.
 use Rattle.std.proofs.Common.{◌≡◌, take}
 use Rattle.geo_shown.proofs.same.same_geoms.Given as goal
 

@@ -3,6 +3,7 @@ use Rattle.geo_shown.specs.Shown.{view_lines}
 use Rattle.geo_shown.proofs.LastLemmas.{is_watched}
 use Rattle.geo_shown.proofs.watched.watched_report.Goals as goal
 
+-- what is printed is the listing that is due, whatever was seen
 pub returns : goal.returns
 returns c =
     let count = c.last_view-entries.result.0 in

@@ -5,6 +5,7 @@ use Rattle.geo_slots.specs.Index.{keyed_number}
 use Rattle.geo_slots.proofs.IndexLemmas.{find-between}
 use Rattle.geo_slots.proofs.slots.first_keyed.Goals as goal
 
+-- Each way out: the range begins with the first row that isn't below the number, and its key decides
 pub returns-in_err-first : goal.returns-in_err-first
 returns-in_err-first c =
     let first = find-between c.args.number c.args.index.now.entries

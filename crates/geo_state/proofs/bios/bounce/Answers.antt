@@ -6,6 +6,7 @@ use Rattle.geo_bio.specs.BioTable.{BioTableView}
 use Rattle.geo_state.proofs.Turns.{holds-turned, bounce-unseen}
 use Rattle.geo_state.proofs.bios.bounce.Goals as goal
 
+-- a bio that goes from Down to Up was at no disk, is at none, and is out through its consumer still
 pub returns-clause-kept : goal.returns-clause-kept
 returns-clause-kept c =
     holds-turned c.args.state.now (record c.args.state.now { traffic = c.bounce.new.self })

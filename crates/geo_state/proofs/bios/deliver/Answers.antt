@@ -7,6 +7,7 @@ returns-clause-only c =
     c.args.disk c.get.ensures.in_order.numbers c.requires.goes c.set_busy.ensures.rest c.requires.kept _
     c.set_busy.ensures.seat
 
+-- this bio alone was at the disk, so once it has answered the disk's seat is free
 pub returns-clause-kept : goal.returns-clause-kept
 returns-clause-kept c =
     holds-answered c.args.state.now c.set_busy.new.state c.deliver.new.self c.args.state.now.traffic.next c.args.bio

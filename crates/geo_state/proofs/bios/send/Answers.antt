@@ -5,6 +5,7 @@ use Rattle.geo_bio.specs.BioTable.{BioTableView, with_phase}
 use Rattle.geo_state.proofs.Turns.{holds-turned, send-unseen}
 use Rattle.geo_state.proofs.bios.send.Goals as goal
 
+-- a bio that goes from Down to Sent was at no disk, is at none, and is out through its consumer still
 pub returns-clause-kept : goal.returns-clause-kept
 returns-clause-kept c =
     holds-turned c.args.state.now (record c.args.state.now { traffic = c.send.new.self }) c.args.state.now.traffic.next

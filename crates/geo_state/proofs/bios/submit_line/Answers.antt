@@ -10,6 +10,7 @@ use Rattle.geo_state.specs.Own.{entered}
 use Rattle.geo_state.proofs.Moves.{holds-line, new-bio}
 use Rattle.geo_state.proofs.bios.submit_line.Goals as goal
 
+-- the handle that asks is the only one with the consumer, so it is its actor that has one request more out
 pub returns-clause-kept : goal.returns-clause-kept
 returns-clause-kept c =
     let s : State = c.args.state.now in

@@ -8,6 +8,7 @@ use Rattle.geo_state.specs.declared.state.State.{State}
 use Rattle.geo_state.proofs.Moves.{holds-read, new-bio}
 use Rattle.geo_state.proofs.bios.submit_read.Goals as goal
 
+-- no read of a taste was out and no handle has the consumer, so the new request is the taste's and no actor's
 pub returns-clause-kept : goal.returns-clause-kept
 returns-clause-kept c =
     let s : State = c.args.state.now in

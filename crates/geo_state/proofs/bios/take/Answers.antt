@@ -7,6 +7,7 @@ returns-clause-only c =
     c.args.disk c.get.ensures.in_order.numbers c.requires.goes c.set_busy.ensures.rest c.requires.kept _
     c.set_busy.ensures.seat
 
+-- nothing was at the disk, so this bio alone is at it now
 pub returns-clause-kept : goal.returns-clause-kept
 returns-clause-kept c =
     holds-taken c.args.state.now c.set_busy.new.state c.take.new.self c.args.state.now.traffic.next c.args.bio

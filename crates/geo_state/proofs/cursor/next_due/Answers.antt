@@ -5,6 +5,7 @@ use Rattle.geo_state.proofs.CursorLemmas.{walk_ends, walk_hits, walk_goes_on}
 use Rattle.geo_state.proofs.TrafficLemmas.{next_reached}
 use Rattle.geo_state.proofs.cursor.next_due.Goals as goal
 
+-- the bios stand in order, so the first that is met and waits is the least that does
 pub returns-then-waits : goal.returns-then-waits
 returns-then-waits c =
     ap Some c.number.ensures
@@ -13,6 +14,7 @@ returns-then-waits c =
     (sym c.waits.ensures.waits ∙ c.if-waits.true))
     ∙ c.loop-bio.invariant
 
+-- the bio is one of the table, so its number is below the next one, which is in range
 pub overflow_add-from : goal.overflow_add-from
 overflow_add-from c =
     let reached = next_reached c.args.bios.now c.loop-bio.from c.in-Some.bio c.next_from.ensures.in_order
@@ -25,6 +27,7 @@ loop-bio-smaller c =
     c.next_from.ensures.first c.in-Some.is in
     omega (arith, reached.0, reached.1, c.number-from.ensures)
 
+-- the bio that was met doesn't wait, so the search goes on behind it
 pub loop-bio-preserved : goal.loop-bio-preserved
 loop-bio-preserved c =
     ap (λ n. first_from (is_due c.args.due) c.args.bios.now.bios (n + 1)) c.number-from.ensures

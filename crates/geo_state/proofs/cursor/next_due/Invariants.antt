@@ -1,3 +1,4 @@
+-- The least bio that waits from here on is the least from the number on that the search began with.
 use Rattle.std.proofs.Common.{◌≡◌, ◌-◌}
 use Rattle.geo_state.specs.Cursors.{is_due, first_from}
 use Rattle.geo_state.proofs.cursor.next_due.Given as goal

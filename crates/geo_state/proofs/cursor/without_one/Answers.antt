@@ -4,6 +4,7 @@ use Rattle.geo_state.proofs.OrderLemmas.{table_rises, number_below, bio_in}
 use Rattle.geo_state.proofs.CursorLemmas.{count_left, left_other, left_none, left_first, is_other, is_same}
 use Rattle.geo_state.proofs.cursor.without_one.Goals as goal
 
+-- the bio waits, so it was counted
 pub overflow_sub-count : goal.overflow_sub-count
 overflow_sub-count c =
     let t = c.args.bios.now in
@@ -12,6 +13,7 @@ overflow_sub-count c =
     x.1 x.2 c.args.cursor c.requires.cursor in
     omega (arith, less)
 
+-- another bio was the first, so it is still
 pub returns-then-ne-clause-cursor : goal.returns-then-ne-clause-cursor
 returns-then-ne-clause-cursor c =
     let t = c.args.bios.now in
@@ -21,6 +23,7 @@ returns-then-ne-clause-cursor c =
     (is_other c.args.cursor.first c.number-number.result c.args.bio c.number-number.ensures
     (sym c.ne.ensures ∙ c.if-ne.true))
 
+-- none is left, so there is no first one
 pub returns-then-count-eq0-clause-cursor : goal.returns-then-count-eq0-clause-cursor
 returns-then-count-eq0-clause-cursor c =
     let t = c.args.bios.now in
@@ -36,6 +39,7 @@ overflow_add-number c =
     let below = number_below t c.get.ensures.in_order c.args.bio x.0 x.1 in
     omega (arith, below, c.get.ensures.bound, c.number-number.ensures)
 
+-- it was the first, so the next that waits is the least behind it
 pub returns-clause-cursor : goal.returns-clause-cursor
 returns-clause-cursor c =
     let t = c.args.bios.now in

@@ -5,6 +5,7 @@ use Rattle.geo_state.specs.Ready.{refreshed}
 use Rattle.geo_state.proofs.Kills.{holds-killed}
 use Rattle.geo_state.proofs.handles.kill.Goals as goal
 
+-- no other handle has the consumer, so only whether this one can be reaped has to be noted anew
 pub returns-clause-kept : goal.returns-clause-kept
 returns-clause-kept c =
     let s : State = c.args.state.now in

@@ -8,6 +8,7 @@ use Rattle.geo_state.proofs.Walks.{walk_ends, walk_hits, walk_goes_on}
 use Rattle.geo_state.proofs.TrafficLemmas.{next_reached}
 use Rattle.geo_state.proofs.oldest.first_own.Goals as goal
 
+-- the bios stand in order, so the first that is met of the actor's is the least
 pub returns-then-is_own : goal.returns-then-is_own
 returns-then-is_own c =
     let t = c.args.traffic.now in
@@ -29,6 +30,7 @@ loop-bio-smaller c =
     c.next_from.ensures.first c.in-Some.is in
     omega (arith, reached.0, reached.1, c.number-from.ensures)
 
+-- the bio that was met isn't the actor's, so the search goes on behind it
 pub loop-bio-preserved : goal.loop-bio-preserved
 loop-bio-preserved c =
     let t = c.args.traffic.now in

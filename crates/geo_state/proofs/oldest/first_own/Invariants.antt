@@ -1,3 +1,4 @@
+-- The least bio of the actor from here on is the least from the number on that the search began with.
 use Rattle.std.proofs.Common.{◌≡◌, ◌-◌}
 use Rattle.geo_state.specs.Trips.{trip_of, is_own}
 use Rattle.geo_state.specs.Oldest.{first_passing}

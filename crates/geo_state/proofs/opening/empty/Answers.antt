@@ -20,6 +20,7 @@ returns-clause-empty c = record {
   own = refl;
 }
 
+-- there is no request, so it is right that each seat is free and no actor has one out
 pub returns-clause-kept : goal.returns-clause-kept
 returns-clause-kept c =
     holds-empty _

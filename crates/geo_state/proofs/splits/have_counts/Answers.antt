@@ -6,6 +6,7 @@ use Rattle.geo_state.proofs.splits.have_counts.Goals as goal
 pub loop-target-init : goal.loop-target-init
 loop-target-init c = λ all. all
 
+-- this consumer has a count to spare, so what is wanted of the others is wanted of all
 pub loop-target-preserved : goal.loop-target-preserved
 loop-target-preserved c =
     all_step (λ (z : ℕ × ℕ). IfSome (value_at c.args.topo.now.active z.0) (λ n. n < 2 ^ 62)) c.args.targets.now

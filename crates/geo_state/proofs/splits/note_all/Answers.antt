@@ -5,6 +5,7 @@ use Rattle.geo_state.proofs.splits.note_all.Goals as goal
 pub loop-target-init : goal.loop-target-init
 loop-target-init c = record { same = refl; live = c.requires.live; few = c.requires.few }
 
+-- each consumer left stands, with room in its count for all requests that are left
 pub note_active-requires : goal.note_active-requires
 note_active-requires c = record {
   lives =

@@ -6,6 +6,7 @@ use Rattle.geo_state.proofs.Children.{split-only, split-kept}
 use Rattle.geo_state.proofs.SplitLoop.{through-live, through-few}
 use Rattle.geo_state.proofs.splits.split.Goals as goal
 
+-- each target stands, and its count and the number of pieces are below 2^62, so no count passes 2^63
 pub note_all-requires : goal.note_all-requires
 note_all-requires c =
     let s : State = c.args.state.now in
@@ -24,6 +25,7 @@ returns-clause-only c =
     c.args.targets.now.items c.get.ensures.in_order.numbers c.requires.down c.requires.same_number c.requires.through
     c.in_ok-first.ensures.split c.note_all.ensures c.items-pairs.ensures
 
+-- the bio went to no disk and its children go through consumers that no handle has, so no actor has one more out
 pub returns-clause-kept : goal.returns-clause-kept
 returns-clause-kept c =
     split-kept c.args.state.now c.start.new.self c.note_all.new.topo c.args.bio c.args.pieces.now.items

@@ -2,6 +2,7 @@ use Rattle.geo_bio.specs.Rows.{as_bio}
 use Rattle.geo_state.proofs.Backs.{back-lives, back-out, back-own, holds-back}
 use Rattle.geo_state.proofs.ups.up.Goals as goal
 
+-- for each condition: a bio that is Up is out through its consumer still, and is counted there and of its owner
 pub come_back-requires-clause-lives : goal.come_back-requires-clause-lives
 come_back-requires-clause-lives g c =
     back-lives c.args.state.now c.args.bio (as_bio c.args.bio c.in-Some.found.now)
@@ -20,6 +21,7 @@ come_back-requires-clause-own g c =
     (g.B.LogBytes.place_bytes c.args.log.now) c.in-Some.ensures.found c.get.ensures.in_order.numbers c.requires.up
     c.requires.came c.requires.kept
 
+-- the request is out no more, so its consumer, its actor or the taste have one less, and a dead handle may be ready
 pub returns-clause-kept : goal.returns-clause-kept
 returns-clause-kept g c =
     holds-back c.args.state.now c.args.bio (as_bio c.args.bio c.in-Some.found.now)

@@ -2,6 +2,7 @@ use Rattle.geo_steps.specs.declared.tried.Tried.TheVariants as tries
 use Rattle.geo_steps.proofs.Delivering.{only_delivers}
 use Rattle.geo_steps.proofs.taking.deliver.Goals as goal
 
+-- Each other answer: the bio is at its disk since the Take, so the Deliver is enabled and takes no memory
 pub unreachable-requires-in-NotEnabled : goal.unreachable-requires-in-NotEnabled
 unreachable-requires-in-NotEnabled g c =
     only_delivers c.args.yard.now c.args.pass.now c.try_step.new.pass c.args.bio c.args.got

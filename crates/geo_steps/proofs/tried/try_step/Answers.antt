@@ -2,6 +2,7 @@ use Rattle.std.proofs.Common.{rules}
 use Rattle.geo_steps.proofs.Trying.{found_tells, full_tells}
 use Rattle.geo_steps.proofs.tried.try_step.Goals as goal
 
+-- Both refusals: the state answered by the log that the pass has seen now
 pub returns-in-Err-NotEnabled-clause-did : goal.returns-in-Err-NotEnabled-clause-did
 returns-in-Err-NotEnabled-clause-did g c =
     found_tells c.args.yard.now.start c.args.pass.now c.apply.new.pass c.args.step c.in-Err-NotEnabled.found

@@ -63,6 +63,7 @@ unless-size_passed : (stripe sector : ℕ) (value : StripeRecord) → is_stripe_
     → unless (first_error (size_test stripe sector ∷ [])) value ≡ Ok value
 unless-size_passed stripe sector value one = rw one refl
 
+-- a head that is declined declines the record, for the same cause
 pub returns-in_err-name : goal.returns-in_err-name
 returns-in_err-name c =
     let same = err_from_is_err_and c.from_residual.result c.from_residual.ensures.1 in
@@ -71,6 +72,7 @@ returns-in_err-name c =
     (place_test (u16_at c.args.sector.now 40) (u16_at c.args.sector.now 42) ∷ size_tests c.args.sector.now)
     (read_record c.args.sector.now) c.in_err-name.field-0.0.cause c.in_err-name.ensures)
 
+-- the head is in order, so what the place says is the first cause
 pub returns-then-not-is_place : goal.returns-then-not-is_place
 returns-then-not-is_place c =
     sym (behind_head c.args.sector.now c.in_ok-name.ensures
@@ -80,6 +82,7 @@ returns-then-not-is_place c =
     (u16_at c.args.sector.now 42) c.is_place.result false c.u16_at-place.ensures c.u16_at-count.ensures
     c.is_place.ensures c.if-not-is_place.true))
 
+-- head and place are in order, so what the stripe size says is the first cause
 pub returns-then-not-is_stripe_size : goal.returns-then-not-is_stripe_size
 returns-then-not-is_stripe_size c =
     let none = is_stripe_size-tested (u32_at c.args.sector.now 44) c.u32_at-stripe.result
@@ -90,6 +93,7 @@ returns-then-not-is_stripe_size c =
     ∙ unless-size_declined (u32_at c.args.sector.now 44) (length c.args.sector.now)
     (read_record c.args.sector.now) none)
 
+-- head, place and stripe size pass, and each field is read where it stands
 pub returns : goal.returns
 returns c =
     let head = head_name-ok stripe_magic 1 c.args.sector.now c.in_ok-name.name c.in_ok-name.ensures in

@@ -32,12 +32,14 @@ front_stands size part head out short room begins written =
           (to_le_bytes w32 part.id ++ (to_le_bytes w16 part.place ++ to_le_bytes w16 part.count)) 36 8 long refl,
     )
 
+-- the head has 36 bytes, and zeros stand behind it
 pub put_component-requires-clause-free : goal.put_component-requires-clause-free
 put_component-requires-clause-free c =
     free-behind (length c.args.out.now) 36 (record_head stripe_magic 1 c.args.part.now.name) c.encode_head.new.sector
     c.encode_head.ensures
     (length-head stripe_magic 1 c.args.part.now.name refl c.requires.short) (omega (arith, c.requires.room))
 
+-- head and component have 44 bytes, and zeros stand behind them
 pub put_u32-requires-clause-free : goal.put_u32-requires-clause-free
 put_u32-requires-clause-free c =
     let stands = front_stands (length c.args.out.now) c.args.part.now c.encode_head.new.sector
@@ -46,6 +48,7 @@ put_u32-requires-clause-free c =
     (front c.args.part.now.name c.args.part.now.id c.args.part.now.place c.args.part.now.count)
     c.put_component.new.sector stands.0 stands.1 (omega (arith, c.requires.room))
 
+-- the stripe size stands behind head and component
 pub returns : goal.returns
 returns c =
     let stands = front_stands (length c.args.out.now) c.args.part.now c.encode_head.new.sector

@@ -42,6 +42,7 @@ decoded size bytes after x none named reads striped sized =
 abbrev fields : StripeRecord → List ℕ
 fields x = to_le_bytes w32 x.id ++ (to_le_bytes w16 x.place ++ (to_le_bytes w16 x.count ++ to_le_bytes w32 x.stripe))
 
+-- the head is in order, and each field is read back from where it was written, so place and stripe size alone decide
 pub returns : goal.returns
 returns c size x room fits =
     let zeros : List ℕ = replicate (size - length (record_head stripe_magic 1 x.name ++ fields x)) 0 in

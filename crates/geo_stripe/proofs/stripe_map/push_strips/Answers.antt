@@ -1,6 +1,7 @@
 use Rattle.geo_stripe.proofs.StripeLemmas.{strips_more}
 use Rattle.geo_stripe.proofs.stripe_map.push_strips.Goals as goal
 
+-- the part of the range in this strip is added, and those in the strips behind it are left
 pub loop-number-preserved : goal.loop-number-preserved
 loop-number-preserved c =
     strips_more c.args.span.offset c.args.span.len c.args.count c.args.stripe c.args.first c.args.end

@@ -5,6 +5,7 @@ use Rattle.geo_model.specs.Acceptance.{taste_where}
 use Rattle.geo_taste.proofs.Asking.{asks_sector}
 use Rattle.geo_taste.proofs.ask.ask_class.Goals as goal
 
+-- the class has no geom over the provider yet and looks at it, so asking it is reading that sector
 pub returns-in-Some-clause-judged : goal.returns-in-Some-clause-judged
 returns-in-Some-clause-judged g c events p s facts left =
     asks_sector c.args.topo.now events s p c.args.kind c.args.taste.now c.in-Some.sector left

@@ -19,6 +19,7 @@ facts_of-requires c =
     sector_some c.args.topo.now.topology c.in_ok-provider.ensures.sound c.provider.result
     (provider_seen c.provider.result c.in_ok-provider.provider.now) c.in_ok-provider.ensures.provider
 
+-- the provider carries no error and the taste's consumer isn't marked, so the taste goes on over it
 pub returns : goal.returns
 returns c =
     ap (λ f. Some f) (c.facts_of.ensures c.provider.result)

@@ -7,6 +7,7 @@ use Rattle.geo_taste.proofs.JoinLemmas.{member_new, member_standing}
 use Rattle.geo_taste.proofs.StandingLemmas.{standing_place, standing_stays}
 use Rattle.geo_taste.proofs.join.accept_member.Goals as goal
 
+-- the standing geom of an assembly isn't withering, and no other geom has its number
 pub join_standing-requires-clause-stays : goal.join_standing-requires-clause-stays
 join_standing-requires-clause-stays c =
     let x = found-with (geom_at c.args.topo.now.topology c.in-Some.geom) _ c.in-Some.ensures.found in
@@ -14,6 +15,7 @@ join_standing-requires-clause-stays c =
     c.in-Some.geom
     x.item x.is x.fact
 
+-- it is of the member's assembly, so it has as many places as the member's empty one
 pub join_standing-requires-clause-place : goal.join_standing-requires-clause-place
 join_standing-requires-clause-place c =
     let x = found-with (geom_at c.args.topo.now.topology c.in-Some.geom) _ c.in-Some.ensures.found in
@@ -22,6 +24,7 @@ join_standing-requires-clause-place c =
     c.in-Some.geom
     x.item x.is x.fact c.args.member.place c.requires.place)
 
+-- with a standing geom or none: where each geom is of its class, the walk finds what the model finds
 pub returns-in-Some-clause-made : goal.returns-in-Some-clause-made
 returns-in-Some-clause-made c =
     let x = found-with (geom_at c.args.topo.now.topology c.in-Some.geom) _ c.in-Some.ensures.found in

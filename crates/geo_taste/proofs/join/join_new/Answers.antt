@@ -12,6 +12,7 @@ use Rattle.geo_taste.proofs.Raising.{can_rise}
 use Rattle.geo_taste.proofs.TableLemmas.{stands_kept, unchanged}
 use Rattle.geo_taste.proofs.join.join_new.Goals as goal
 
+-- the place that the member fills comes to nothing, so the model makes nothing, and nothing was changed yet
 pub returns-in_default-clause-made : goal.returns-in_default-clause-made
 returns-in_default-clause-made c = (
   unchanged c.args.topo.now c.args.queue.now,
@@ -22,6 +23,7 @@ returns-in_default-clause-made c = (
       (sym c.in_ok-plan.ensures ∙ c.in_default.is)),
 )
 
+-- for each condition: a geom just raised stands, without a provider, and what stood before stands still
 pub take_place-requires-clause-may : goal.take_place-requires-clause-may
 take_place-requires-clause-may c =
     subst (MayOffer c.raise_empty-geom.new.topo.topology) (sym c.raise_empty-geom.ensures.number)
@@ -42,6 +44,7 @@ take_place-requires-clause-stands c =
     c.args.member.empty true c.raise_empty-geom.ensures.raised (c.args.prov ∷ []) c.raise_empty-geom.ensures.sound
     (stands_kept c.args.topo.now c.reserve.new.self c.args.prov c.reserve.ensures.same c.requires.stands)).stand.0
 
+-- a new geom brings no provider, so the name that the plan found free is free still
 pub take_place-requires-clause-offer : goal.take_place-requires-clause-offer
 take_place-requires-clause-offer c =
     offered_still c.args.topo.now.topology c.raise_empty-geom.new.topo.topology c.in-Some.plan.offer
@@ -51,6 +54,7 @@ take_place-requires-clause-offer c =
     (plan_offers c.args.topo.now.topology _ c.args.below.now.sector c.args.member.empty c.args.member.place
     (joined_name c.args.member.kind c.args.member.geom_name) c.in-Some.plan (sym c.in_ok-plan.ensures ∙ c.in-Some.is))
 
+-- the geom was raised with the next number, so its place is taken in the very geom that the model makes
 pub returns-clause-made : goal.returns-clause-made
 returns-clause-made c = λ facts.
     new_joined c.args.topo.now c.args.queue.now (provider_seen c.args.prov c.args.below.now) (member_of

@@ -12,12 +12,14 @@ use Rattle.geo_taste.proofs.StandingLemmas.{bare_of}
 use Rattle.geo_taste.proofs.TableLemmas.{is_no, is_yes}
 use Rattle.geo_taste.proofs.join.join_standing.Goals as goal
 
+-- for each decline: the place can't be taken, or comes to nothing, so the model declines too; nothing was changed yet
 pub returns-then-not-branch-clause-made : goal.returns-then-not-branch-clause-made
 returns-then-not-branch-clause-made c =
     declines_full c.args.topo.now c.args.queue.now (provider_seen c.args.prov c.args.below.now)
     (member_of c.args.member.now) (geom_seen c.args.geom c.in-Some.standing.now) c.args.geom c.in-Some.ensures.geom
     c.requires.place c.in_ok-can_join.field-0 c.in_ok-can_join.ensures c.if-not-branch.true
 
+-- in a firm mesh a geom with a free place has no provider yet, so there it never comes to this
 pub returns-then-not-is_bare-clause-made : goal.returns-then-not-is_bare-clause-made
 returns-then-not-is_bare-clause-made c =
     declines_filled c.args.topo.now c.args.queue.now (provider_seen c.args.prov c.args.below.now)
@@ -38,6 +40,7 @@ returns-in_default-2-clause-made c =
     c.requires.place c.in_ok-can_join.field-0 c.in_ok-can_join.ensures c.from.ensures c.in_ok-plan.ensures
     c.if-not-branch.false c.in_default-2.is
 
+-- for each condition: it was found true of the mesh before, and keeping room changed no part
 pub take_place-requires-clause-may : goal.take_place-requires-clause-may
 take_place-requires-clause-may c =
     room_kept (λ t. MayOffer t c.args.geom) c.args.topo.now c.reserve.new.self c.reserve.ensures.same
@@ -64,6 +67,7 @@ take_place-requires-clause-offer c =
     c.args.member.now.place (joined_name c.args.member.now.kind c.args.member.now.geom_name) c.in-Some-2.plan
     (sym c.in_ok-plan.ensures ∙ c.in-Some-2.is))
 
+-- the place is free, the geom has no provider and there is a plan, so the model takes the place by it too
 pub returns-clause-made : goal.returns-clause-made
 returns-clause-made c =
     takes_place c.args.topo.now c.args.queue.now (provider_seen c.args.prov c.args.below.now)

@@ -5,10 +5,12 @@ use Rattle.geo_taste.proofs.Resting.{weighed_tasting}
 use Rattle.geo_taste.proofs.Saying.{said_plain, taken_told}
 use Rattle.geo_taste.proofs.judge.take_result.Goals as goal
 
+-- a verdict grants nothing, so the mesh is as before
 pub returns-in-Some-clause-kept : goal.returns-in-Some-clause-kept
 returns-in-Some-clause-kept c t n =
     said_plain (Some c.in-Some.verdict) t n ∙ ap (with_said t n) (sym c.said_of.ensures.said)
 
+-- with a verdict or without: it was found by the provider's facts, as the model finds it
 pub returns-in-Some-clause-taken : goal.returns-in-Some-clause-taken
 returns-in-Some-clause-taken c granted q p kind got asked facts =
     subst (IsReadTaken granted q c.args.taste.now p kind got c.weigh_back.new.self) (sym c.said_of.ensures.said)
@@ -21,6 +23,7 @@ returns-in-None-clause-taken c granted q p kind got asked facts =
     taken_told granted q c.args.taste.now p kind c.args.facts.now facts got asked c.weigh_back.result None
     c.in-None.is (c.weigh_back.ensures.verdict granted) c.weigh_back.new.self (c.weigh_back.ensures.taste granted)
 
+-- with a verdict or without: weighing leaves the taste its consumer, which holds nothing
 pub returns-in-Some-clause-tasting : goal.returns-in-Some-clause-tasting
 returns-in-Some-clause-tasting c =
     weighed_tasting (λ n. no_counts) c.args.taste.now c.args.facts.now c.weigh_back.result c.weigh_back.new.self

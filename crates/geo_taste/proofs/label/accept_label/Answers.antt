@@ -10,6 +10,7 @@ use Rattle.geo_taste.proofs.Raising.{risen_free, risen_offered}
 use Rattle.geo_taste.proofs.TableLemmas.{is_no, label_free, label_made, label_offer, label_small, label_taken, label_untaken, stands_kept, unchanged}
 use Rattle.geo_taste.proofs.label.accept_label.Goals as goal
 
+-- for each decline: the name is taken or the size isn't one, so in a firm mesh the model makes no label either
 pub returns-in_default-clause-made : goal.returns-in_default-clause-made
 returns-in_default-clause-made c = (
   unchanged c.args.topo.now c.args.queue.now,
@@ -30,6 +31,7 @@ pub raise-id-requires-clause-stand : goal.raise-id-requires-clause-stand
 raise-id-requires-clause-stand c =
     stands_kept c.args.topo.now c.reserve.new.self c.args.prov c.reserve.ensures.same c.requires.stands
 
+-- the label's name was found free, and the new geom brings no provider
 pub make_offer-requires-clause-free : goal.make_offer-requires-clause-free
 make_offer-requires-clause-free c =
     let free = label_free c.args.topo.now c.args.queue.now (provider_seen c.args.prov c.args.below.now) (label_name
@@ -40,6 +42,7 @@ make_offer-requires-clause-free c =
     (label_untaken c.args.topo.now c.args.queue.now (provider_seen c.args.prov c.args.below.now) (label_name
     c.args.found.now.name) free.0))
 
+-- the geom got the number that was next and the consumer that was coming, so it is the model's label
 pub returns-clause-made : goal.returns-clause-made
 returns-clause-made c = λ facts.
     let free = label_free c.args.topo.now c.args.queue.now (provider_seen c.args.prov c.args.below.now) (label_name

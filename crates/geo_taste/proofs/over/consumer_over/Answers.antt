@@ -9,6 +9,7 @@ returns-in_err-id-clause-next c =
     rw c.from_residual.ensures (consumers_end (over c.args.topo.now.topology c.args.kind c.args.prov) c.args.from
     (sym c.in_err-id.ensures.first))
 
+-- the number is that of a consumer that was met on the walk, so one stands there
 pub returns-in_err-cons-clause-next : goal.returns-in_err-cons-clause-next
 returns-in_err-cons-clause-next c =
     absurd

@@ -13,18 +13,21 @@ loop-id-init c =
     (WalksMeetAll.begin walks-meet (λ (y : Consumer). y.number)
     (over c.args.topo.now.topology c.args.kind c.args.prov))
 
+-- one geom of the class is enough, and the handles that were passed over are of no class but DEV
 pub returns-then-stands_as : goal.returns-then-stands_as
 returns-then-stands_as c =
     any_first (λ (y : Consumer). stands_as c.args.topo.now.topology c.args.kind y.geom) _ _ _ _
     c.in-Some.ensures.next.left (sym c.stands_as.ensures ∙ c.if-stands_as.true) c.loop-id.invariant
     ∙ over_told c.args.topo.now.topology c.args.kind c.args.prov c.consumer_over.ensures.sound
 
+-- this geom isn't one of the class that stands, so the answer lies with the consumers that are left
 pub loop-id-preserved : goal.loop-id-preserved
 loop-id-preserved c =
     rw c.number-from.ensures
     (any_next (λ (y : Consumer). stands_as c.args.topo.now.topology c.args.kind y.geom) _ _ _ _
     c.in-Some.ensures.next.left (sym c.stands_as.ensures ∙ c.if-stands_as.false) c.loop-id.invariant)
 
+-- no consumer is left, so none of them has a geom of the class
 pub returns : goal.returns
 returns c =
     sym (ap (list_any (λ (y : Consumer). stands_as c.args.topo.now.topology c.args.kind y.geom))

@@ -1,3 +1,4 @@
+-- One of the consumers that are left has a standing geom of the class just where one of all has.
 use Rattle.std.proofs.Common.{◌≡◌, ◌-◌}
 use Rattle.std.specs.List.{list_any}
 use Rattle.geo_laws_graph.specs.LookupLaws.{left_from}

@@ -5,6 +5,7 @@ use Rattle.std.specs.Prelude.{List}
 use Rattle.geo_taste.proofs.Covering.{over_all, over_above}
 use Rattle.geo_taste.proofs.over.next_over.Goals as goal
 
+-- for DEV all consumers at the provider are looked at, for another class those that aren't handles
 pub returns-then-is_kind-clause-first : goal.returns-then-is_kind-clause-first
 returns-then-is_kind-clause-first c =
     c.attached_to.ensures.first

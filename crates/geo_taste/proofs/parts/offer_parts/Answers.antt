@@ -15,6 +15,7 @@ loop-part-init c = record {
   left = omega arith;
 }
 
+-- the other parts have other names, so they can be made still, and one place of room less is wanted
 pub loop-part-preserved : goal.loop-part-preserved
 loop-part-preserved c =
     offer_step c.args.topo.now c.loop-part.topo c.args.queue.now c.loop-part.queue c.args.geom

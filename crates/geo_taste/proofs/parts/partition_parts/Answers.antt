@@ -7,6 +7,7 @@ pub loop-part-init : goal.loop-part-init
 loop-part-init c =
     rw c.new-parts.ensures.items (named_begin (logical_name c.args.below.now) (λ s. s.count) c.args.chain.now)
 
+-- the place is one of the chain's, which has 32 links at most
 pub push_partition-requires : goal.push_partition-requires
 push_partition-requires c =
     let inside = named_place (logical_name c.args.below.now) (λ s. s.count) c.args.chain.now c.loop-part.place

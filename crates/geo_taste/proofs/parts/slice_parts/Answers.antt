@@ -7,6 +7,7 @@ pub loop-slice-init : goal.loop-slice-init
 loop-slice-init c =
     rw c.new-parts.ensures.items (named_begin (slice_name c.args.below.now) (λ s. s.count) c.args.slices.now)
 
+-- the place is one of the table's, which has four entries
 pub push_slice-requires : goal.push_slice-requires
 push_slice-requires c =
     let inside = named_place (slice_name c.args.below.now) (λ s. s.count) c.args.slices.now c.loop-slice.place

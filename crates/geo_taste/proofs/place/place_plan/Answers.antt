@@ -4,6 +4,7 @@ use Rattle.geo_taste.specs.Members.{joined_name}
 use Rattle.geo_taste.proofs.MemberLemmas.{standing_none, standing_some}
 use Rattle.geo_taste.proofs.place.place_plan.Goals as goal
 
+-- the consumer that fills the place is the one that comes next; filled so, the configuration can't stand
 pub returns-in_default : goal.returns-in_default
 returns-in_default c =
     rw (← c.coming_consumer-consumer.ensures.number)
@@ -12,6 +13,7 @@ returns-in_default c =
     (joined_name c.args.member.now.kind c.args.member.now.geom_name) c.args.sector (sym c.in_ok-filled.ensures ∙
     c.in_default.is)))
 
+-- the consumer that fills the place is the one that comes next; filled so, the configuration stands
 pub returns : goal.returns
 returns c =
     rw (

@@ -12,6 +12,7 @@ loop-prov-init c = record {
   other_room = refl;
 }
 
+-- one consumer more: the geom has no provider still, and the other providers can be stood on still
 pub loop-prov-preserved : goal.loop-prov-preserved
 loop-prov-preserved c =
     attach_step c.args.topo.now c.loop-prov.topo c.args.geom c.loop-prov.prov-index c.args.provs.now

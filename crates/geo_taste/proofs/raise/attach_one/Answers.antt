@@ -8,6 +8,7 @@ attach-requires-clause-consumer c =
     c.coming_consumer-cons.ensures.number c.coming_consumer-cons.ensures.sound c.in-Ok.ensures.added c.requires.lives
     c.requires.bare c.requires.stands).consumer
 
+-- the provider carries no error, a geom without providers closes no loop, and it gets no rank above 32
 pub unreachable-requires-in_default-attach : goal.unreachable-requires-in_default-attach
 unreachable-requires-in_default-attach c =
     let can = attach_can c.args.topo.now c.new_consumer.new.self c.args.geom c.args.prov

@@ -5,6 +5,7 @@ use Rattle.geo_taste.specs.Standing.{MayOffer}
 use Rattle.geo_taste.proofs.Raising.{can_rise, risen_is, still_may}
 use Rattle.geo_taste.proofs.raise.raise.Goals as goal
 
+-- for each condition: a geom just made stands, without a provider, and what could be stood on still can
 pub attach_all-requires-clause-lives : goal.attach_all-requires-clause-lives
 attach_all-requires-clause-lives c =
     rw c.in-Ok.ensures.number

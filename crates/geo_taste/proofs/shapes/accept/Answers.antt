@@ -10,6 +10,7 @@ use Rattle.geo_taste.specs.Members.{member_of}
 use Rattle.geo_taste.proofs.AcceptLemmas.{accepted_for, concat_inside, for_shape, has_sector, member_for, stripe_inside}
 use Rattle.geo_taste.proofs.shapes.accept.Goals as goal
 
+-- for each class: a provider of a sound graph is one sector long at least
 pub accept_label-requires-clause-sector : goal.accept_label-requires-clause-sector
 accept_label-requires-clause-sector c =
     has_sector c.args.topo.now.topology c.args.prov (provider_seen c.args.prov c.in-Some.below.now)
@@ -25,6 +26,7 @@ accept_member-requires-in-Striped-clause-sector c =
     has_sector c.args.topo.now.topology c.args.prov (provider_seen c.args.prov c.in-Some.below.now)
     c.in-Some.ensures.sound c.in-Some.ensures.provider
 
+-- for both classes: a record that was accepted names a place below its count
 pub accept_member-requires-clause-place : goal.accept_member-requires-clause-place
 accept_member-requires-clause-place c =
     concat_inside c.in_ok-member-in-Joined.member c.in-Joined.found c.in_ok-member-in-Joined.ensures.member
@@ -35,6 +37,7 @@ accept_member-requires-in-Striped-clause-place c =
     stripe_inside c.in_ok-member-in-Striped.member c.in-Striped.found c.in_ok-member-in-Striped.ensures.member
     (subst NamesAPlace c.in-Striped.is c.requires.place)
 
+-- for each shape: what its class makes of it is the model's, since in a firm mesh what is made has sizes of providers
 pub returns-in-Slices-clause-made : goal.returns-in-Slices-clause-made
 returns-in-Slices-clause-made c =
     let m = both c.args.topo.now c.args.queue.now in

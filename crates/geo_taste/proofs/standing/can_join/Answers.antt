@@ -2,6 +2,7 @@ use Rattle.std.proofs.Common.{◌∙◌}
 use Rattle.geo_taste.proofs.StandingLemmas.{can_take_is}
 use Rattle.geo_taste.proofs.standing.can_join.Goals as goal
 
+-- the place is free, and the components that were looked at are all of the configuration
 pub returns : goal.returns
 returns c =
     can_take_is c.args.topo.now.topology c.args.sector c.args.config.now c.args.place c.is_free.result

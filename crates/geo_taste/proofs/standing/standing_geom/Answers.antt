@@ -15,6 +15,7 @@ returns-then-is_at-clause-found c =
     c.args.member.now.geom_name c.args.member.now.empty c.loop-id.from c.in-Some.id c.in-Some.ensures.sound
     c.in-Some.ensures.first c.loop-id.invariant (sym c.if-is_at.true ∙ c.is_at.ensures)
 
+-- those before it aren't of the assembly, and a geom of the assembly has its class and its name
 pub returns-then-is_at-clause-first : goal.returns-then-is_at-clause-first
 returns-then-is_at-clause-first c = λ classes.
     walk_found c.args.topo.now.topology (has_name c.args.member.now.kind c.args.member.now.geom_name)
@@ -23,6 +24,7 @@ returns-then-is_at-clause-first c = λ classes.
     ∙ ap (option_map (λ (g : Geom _). g.number)) (named_found c.args.member.now.kind c.args.member.now.geom_name
     c.args.member.now.empty c.requires c.args.topo.now.topology.geoms classes)
 
+-- the geom's number is below the next one, which is in range
 pub overflow_add-from : goal.overflow_add-from
 overflow_add-from c =
     let next = next_geom_of c.args.topo.now.topology (has_name c.args.member.now.kind c.args.member.now.geom_name)
@@ -35,6 +37,7 @@ loop-id-smaller c =
     c.loop-id.from c.in-Some.id c.in-Some.ensures.sound (sym c.in-Some.ensures.first) in
     omega (arith, c.number-from.ensures, next.known, next.past)
 
+-- this geom isn't of the assembly, so the first that is lies among those that are left
 pub loop-id-preserved : goal.loop-id-preserved
 loop-id-preserved c =
     rw c.number-from.ensures
@@ -42,6 +45,7 @@ loop-id-preserved c =
     c.args.member.now.geom_name c.args.member.now.empty c.loop-id.from c.in-Some.id c.in-Some.ensures.sound
     c.in-Some.ensures.first c.loop-id.invariant (sym c.if-is_at.false ∙ c.is_at.ensures))
 
+-- none is left, and a geom of another class or name isn't of the assembly
 pub returns-clause-first : goal.returns-clause-first
 returns-clause-first c = λ classes.
     walk_end c.args.topo.now.topology c.args.member.now.geom_name c.args.member.now.empty

@@ -4,6 +4,7 @@ use Rattle.geo_taste.specs.Taster.{IsSettled, IsTasteOf}
 use Rattle.geo_taste.proofs.Taking.{came_told, known_fact, said_goes, said_idle, said_judged, said_kept, said_low, said_place, said_same, said_settled, said_tasting}
 use Rattle.geo_taste.proofs.step.judge_step.Goals as goal
 
+-- nothing was made, so the events are as before and what came of it is the model's step
 pub returns-in-Came-clause-judged : goal.returns-in-Came-clause-judged
 returns-in-Came-clause-judged g c =
     came_told c.args.topo.now c.say.new.topo c.args.taste.now c.say.new.taste c.say.result c.say.ensures.said
@@ -19,6 +20,7 @@ returns-in-Came-clause-tasting g c =
     known_fact c.in-Came.judged (MayJudge (both c.args.topo.now c.args.queue.now) c.args.taste.now)
     (IsTasteOf c.say.new.topo c.say.new.taste) c.say.ensures.tasting
 
+-- for each condition: a class accepts only a read that is back of a taste that goes on, and saying so changed nothing
 pub take_shape-requires-clause-idle : goal.take_shape-requires-clause-idle
 take_shape-requires-clause-idle g c =
     said_idle c.args.topo.now c.say.new.topo c.args.taste.now c.say.new.taste c.say.result c.say.ensures.said
@@ -39,6 +41,7 @@ take_shape-requires-clause-place g c =
     said_place c.args.topo.now c.say.new.topo c.args.taste.now c.say.new.taste c.say.result c.say.ensures.said
     c.in-Accepts.shape c.in-Accepts.is
 
+-- for each clause: saying that a class accepts changed nothing, so what was taken was taken from the start
 pub returns-in-Accepts-clause-judged : goal.returns-in-Accepts-clause-judged
 returns-in-Accepts-clause-judged g c =
     said_judged c.args.topo.now c.say.new.topo c.args.taste.now c.say.new.taste c.say.result c.say.ensures.said

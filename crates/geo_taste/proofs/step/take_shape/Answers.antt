@@ -9,11 +9,13 @@ use Rattle.geo_taste.specs.Judging.{IsTakenAs, judged_of}
 use Rattle.geo_taste.proofs.Taking.{some_stands, taken_as}
 use Rattle.geo_taste.proofs.step.take_shape.Goals as goal
 
+-- a taste goes on only over a provider without an error, and its rank is low enough for a geom above it
 pub accept-requires-clause-stands : goal.accept-requires-clause-stands
 accept-requires-clause-stands c =
     subst (λ n. CanStandOn c.args.topo.now.topology n) (sym c.tasted-prov.ensures.number)
     (some_stands c.args.topo.now.topology c.args.taste.now c.tasted-prov.ensures.sound c.requires.goes c.requires.low)
 
+-- the provider that was looked up is the tasted one, and the class was ended whether it made something or declined
 pub returns-clause-taken : goal.returns-clause-taken
 returns-clause-taken c p found =
     let m = both c.args.topo.now c.args.queue.now in

@@ -11,6 +11,7 @@ use Rattle.geo_taste.proofs.PartLoops.{mapped_none, mapped_some, named_nothing, 
 use Rattle.geo_taste.proofs.TableLemmas.{sliced_as, table_unnamed, unchanged}
 use Rattle.geo_taste.proofs.tables.accept_slices.Goals as goal
 
+-- one slice has no name, so the model makes no geom, and nothing was changed yet
 pub returns-in_default-clause-made : goal.returns-in_default-clause-made
 returns-in_default-clause-made c = (
   unchanged c.args.topo.now c.args.queue.now,
@@ -21,6 +22,7 @@ returns-in_default-clause-made c = (
       c.in_default.is c.in_ok-parts.ensures.named)),
 )
 
+-- for both conditions: the parts are the model's, all named, and their names differ since their places do
 pub accept_parts-requires-clause-names : goal.accept_parts-requires-clause-names
 accept_parts-requires-clause-names c =
     let n = named_some (new_slices c.args.name.now c.args.table.now.slices) c.in-Some.parts.items
@@ -34,6 +36,7 @@ accept_parts-requires-clause-apart c =
     subst (PairsByRecursion PartsDiffer) (sym (c.deref.ensures.value ∙ n.1)) (slices_differ c.args.name.now
     c.args.table.now.slices)
 
+-- the geom's consumer is the one that comes next and the parts are the model's, so it is the model's table
 pub returns-clause-made : goal.returns-clause-made
 returns-clause-made c =
     let n = named_some (new_slices c.args.name.now c.args.table.now.slices) c.in-Some.parts.items
@@ -45,6 +48,7 @@ returns-clause-made c =
     (c.mbr.ensures ∙ ap (λ n. Mbr (Some n) c.args.table.now.slices) c.coming_consumer.ensures.number)
     (c.deref.ensures.value ∙ n.1) c.accept_parts.ensures.made
 
+-- there are no more slices than entries of the table, and four entries
 pub returns-clause-spare : goal.returns-clause-spare
 returns-clause-spare c =
     let n = named_some (new_slices c.args.name.now c.args.table.now.slices) c.in-Some.parts.items

@@ -8,6 +8,7 @@ use Rattle.geo_taste.proofs.Leaving.{gone_is}
 use Rattle.geo_taste.proofs.Reading.{held_idle, taster_found}
 use Rattle.geo_taste.proofs.taster.abort.Goals as goal
 
+-- the taste's consumer stands and was just detached
 pub destroy_consumer-requires : goal.destroy_consumer-requires
 destroy_consumer-requires c =
     subst (λ u. IfSome (consumer_at u c.holder-consumer.result) (λ (x : Consumer). x.provider ≡ None))
@@ -17,6 +18,7 @@ destroy_consumer-requires c =
     (ap (consumer_at c.args.topo.now.topology) c.holder-consumer.ensures.number
     ∙ taster_found c.args.topo.now.topology c.holder-consumer.ensures.sound c.args.taste c.requires.tasting.tasting))
 
+-- a consumer that is detached and then destroyed is gone, just as if it were destroyed at once
 pub returns-clause-gone : goal.returns-clause-gone
 returns-clause-gone c =
     c.destroy_consumer.ensures
@@ -24,6 +26,7 @@ returns-clause-gone c =
     ∙ gone_is c.args.topo.now c.holder-consumer.result
     ∙ ap (without_consumer c.args.topo.now) c.holder-consumer.ensures.number
 
+-- the read isn't out, so the consumer holds nothing, and all counts are right without it
 pub returns-clause-settled : goal.returns-clause-settled
 returns-clause-settled c =
     subst IsSettled (sym (returns-clause-gone c))

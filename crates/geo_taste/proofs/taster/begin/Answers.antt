@@ -14,6 +14,7 @@ attach-requires-clause-consumer c =
     c.taste_geom-geom.ensures.number c.in_ok-consumer.ensures.added c.in_ok-consumer.consumer
     c.in_ok-consumer.ensures.number
 
+-- a provider to be tasted carries no error, and a consumer of TASTE closes no loop and is never too deep
 pub unreachable-requires : goal.unreachable-requires
 unreachable-requires c =
     let none = attach_goes c.args.topo.now c.new_consumer.new.self c.taste_geom-geom.ensures.sound
@@ -29,12 +30,14 @@ returns-clause-added c =
     c.taste_geom-geom.ensures.number c.in_ok-consumer.ensures.added c.in_ok-consumer.consumer
     c.in_ok-consumer.ensures.number c.args.prov c.attach.new.self c.in-Ok.ensures.attached
 
+-- the new consumer holds nothing, so all counts are right with it
 pub returns-clause-settled : goal.returns-clause-settled
 returns-clause-settled c =
     subst IsSettled (sym (returns-clause-added c))
     (taster_settled c.args.topo.now c.taste_geom-geom.ensures.sound c.requires.settled c.args.prov
     c.attach.new.self.room)
 
+-- TASTE had no consumer, so the new one is its only one
 pub returns-clause-tasting : goal.returns-clause-tasting
 returns-clause-tasting c = λ alone.
     subst (λ s. IsTasteOf c.attach.new.self s)

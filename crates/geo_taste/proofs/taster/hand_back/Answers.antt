@@ -9,6 +9,7 @@ use Rattle.geo_taste.proofs.Reading.{given_tasting, granted_reads, held_idle, he
 use Rattle.geo_taste.proofs.Resting.{back_idle}
 use Rattle.geo_taste.proofs.taster.hand_back.Goals as goal
 
+-- the taste held one read and wrote nothing, so no write count comes to zero and no note is set
 pub returns-clause-topo : goal.returns-clause-topo
 returns-clause-topo g c =
     c.release.ensures.released
@@ -17,6 +18,7 @@ returns-clause-topo g c =
     (granted_reads c.args.topo.now c.args.taste.now.consumer (held_by_taste c.args.taste.now) c.requires.tasting.holds
     (held_reads c.args.taste.now)) no_counts refl refl
 
+-- the release keeps the counts, sets no note here and detaches nothing
 pub returns-clause-settled : goal.returns-clause-settled
 returns-clause-settled g c =
     let is = returns-clause-topo g c in
@@ -28,6 +30,7 @@ returns-clause-settled g c =
           c.requires.settled.attached;
     }
 
+-- a taste whose read is back holds nothing, and nothing is what its consumer was left
 pub returns-clause-tasting : goal.returns-clause-tasting
 returns-clause-tasting g c =
     let same = c.take_back.ensures in

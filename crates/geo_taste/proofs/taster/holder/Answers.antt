@@ -4,6 +4,7 @@ use Rattle.geo_taste.proofs.Begun.{settled_placed}
 use Rattle.geo_taste.proofs.Reading.{taster_holds, taster_place}
 use Rattle.geo_taste.proofs.taster.holder.Goals as goal
 
+-- the taste's consumer is found at the tasted provider, where it holds its counts
 pub returns-clause-holds : goal.returns-clause-holds
 returns-clause-holds c =
     subst (λ n. IsHolder c.args.topo.now.topology n) (sym c.consumer-consumer.ensures)

@@ -12,6 +12,7 @@ use Rattle.geo_taste.proofs.Reading.{given_tasting, granted_reads, held_reads, g
 use Rattle.geo_taste.proofs.Resting.{ended_rest, rest_tasting}
 use Rattle.geo_taste.proofs.taster.read_sector.Goals as goal
 
+-- a read writes nothing, so no write count leaves zero and no note is set
 pub returns-in-Ok-clause-topo : goal.returns-in-Ok-clause-topo
 returns-in-Ok-clause-topo g c =
     c.in-Ok.ensures.granted
@@ -20,6 +21,7 @@ returns-in-Ok-clause-topo g c =
     (granted_reads c.args.topo.now c.args.taste.now.consumer (held_by_taste c.args.taste.now) c.requires.tasting.holds
     (held_reads c.args.taste.now)) one_read refl
 
+-- for both answers: the grant is refused just where the model refuses it, and that ends the class
 pub returns-in-Ok-clause-judged : goal.returns-in-Ok-clause-judged
 returns-in-Ok-clause-judged g c events =
     read_granted c.args.topo.now events c.args.taste.now c.args.kind c.args.sector
@@ -46,6 +48,7 @@ returns-in-Err-clause-judged g c events =
     ∙ read_made c.args.topo.now events c.grant.new.topo (ended c.args.taste.now) c.end_class.new.self Next
     (ap (λ v. v.topology) c.in-Err.ensures.same) c.end_class.ensures
 
+-- for both answers: the consumer holds what the taste does, one read while it is out and else nothing
 pub returns-in-Ok-clause-tasting : goal.returns-in-Ok-clause-tasting
 returns-in-Ok-clause-tasting g c =
     let same = c.note_read.ensures in

@@ -7,6 +7,7 @@ use Rattle.geo_threads.specs.Closing.{IsEndOf, worse}
 use Rattle.geo_threads.proofs.Homing.{ends_push}
 use Rattle.geo_threads.proofs.close.end_of.Goals as goal
 
+-- the workers so far are one more, and their end is the worse of theirs before and this one's
 pub loop-k-preserved : goal.loop-k-preserved
 loop-k-preserved g c =
     let ws = c.args.workers.now in

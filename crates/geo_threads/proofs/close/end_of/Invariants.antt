@@ -1,3 +1,4 @@
+-- The end so far is that of so many workers.
 use Rattle.std.proofs.Common.{take}
 use Rattle.geo_threads.specs.Closing.{IsEndOf}
 use Rattle.geo_threads.proofs.close.end_of.Given as goal

@@ -5,6 +5,7 @@ use Rattle.geo_threads.specs.Closing.{lists_of, passes_of}
 use Rattle.geo_threads.proofs.Homing.{lists_push, passes_push}
 use Rattle.geo_threads.proofs.close.take_back.Goals as goal
 
+-- Both have room: it was made for each worker that is left, and this one is left
 pub push-requires : goal.push-requires
 push-requires g c =
     let shorter = ap (λ l. length l) c.in-Some.ensures.steps.0 in
@@ -17,6 +18,7 @@ keep-requires g c =
     let room = c.loop-worker.invariant.6 in
     omega (arith, shorter, room)
 
+-- one worker more gave its pass and its drives, which stand behind those of the others
 pub loop-worker-preserved : goal.loop-worker-preserved
 loop-worker-preserved g c =
     let y = c.loop-worker.yielded in

@@ -1,3 +1,4 @@
+-- The workers so far gave their passes and their drives in order, and there is room for those that are left.
 use Rattle.std.proofs.Common.{◌≡◌, ◌+◌, ◌≤◌, ◌++◌, length, vec_len, vec_capacity}
 use Rattle.std.specs.Vec.Iter.{into_iter_items}
 use Rattle.geo_threads.specs.Closing.{lists_of, passes_of}

@@ -5,6 +5,7 @@ use Rattle.geo_threads.proofs.Drives.{dealt_fit}
 use Rattle.geo_threads.proofs.Viewing.{begins_view}
 use Rattle.geo_threads.proofs.crew.start_all.Goals as goal
 
+-- each disk worker has the drives of its disks, which fit, and the first worker shows what is looked at
 pub returns-in-Ok-clause-ok : goal.returns-in-Ok-clause-ok
 returns-in-Ok-clause-ok g c =
     let facts = c.args.yard.now.start.facts in

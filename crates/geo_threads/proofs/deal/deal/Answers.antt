@@ -5,6 +5,7 @@ use Rattle.geo_threads.specs.Deal.{dealt, own_disks}
 use Rattle.geo_threads.proofs.Dealing.{dealt_push}
 use Rattle.geo_threads.proofs.deal.deal.Goals as goal
 
+-- the drive went to the worker of its number, even or odd, and the next number is counted
 pub loop-drive-preserved : goal.loop-drive-preserved
 loop-drive-preserved g c =
     let y = c.loop-drive.yielded in

@@ -1,3 +1,4 @@
+-- The drives so far stand with the even or the odd worker by their numbers, and both have room for those that are left.
 use Rattle.std.proofs.Common.{◌≡◌, ◌++◌, ◌≤◌, length}
 use Rattle.std.specs.Vec.Iter.{into_iter_items}
 use Rattle.geo_threads.specs.Deal.{dealt}

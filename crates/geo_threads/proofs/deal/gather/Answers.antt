@@ -4,6 +4,7 @@ use Rattle.geo_threads.specs.Deal.{drives_in, gathered_drives}
 use Rattle.geo_threads.proofs.Dealing.{none_left, one_taken}
 use Rattle.geo_threads.proofs.deal.gather.Goals as goal
 
+-- a round moved the first drive of each list, or of one where the other had none, in their order
 pub loop-drive-preserved : goal.loop-drive-preserved
 loop-drive-preserved g c =
     let b = c.loop-drive.back.items in
@@ -55,6 +56,7 @@ loop-drive-preserved g c =
       ),
     )
 
+-- Room for each drive that is left was made, and the even list has one for each of the odd list
 pub move_first-requires : goal.move_first-requires
 move_first-requires g c some =
     let less = (one_taken c.loop-drive.even.items c.loop-drive.odd.items c.take_first.ensures.first c.in-Some.is
@@ -77,6 +79,7 @@ loop-drive-smaller g c =
     let shorter = ap (λ l. length l) c.take_first.ensures.rest in
     omega (arith, less, shorter)
 
+-- the even list is empty, and the odd one has no more, so all drives are back
 pub returns : goal.returns
 returns g c =
     let none =

@@ -1,3 +1,4 @@
+-- With those that are left, in turn, the drives that are back are all; the even list has at least as many.
 use Rattle.std.proofs.Common.{◌≡◌, ◌+◌, ◌++◌, ◌≤◌, length, vec_len, vec_capacity}
 use Rattle.geo_threads.specs.Deal.{gathered_drives}
 use Rattle.geo_threads.proofs.deal.gather.Given as goal

@@ -6,6 +6,7 @@ use Rattle.geo_threads.specs.Started.{AreStarted, IsFirst, other_workers}
 use Rattle.geo_threads.proofs.Starting.{others_started, started_append}
 use Rattle.geo_threads.proofs.start.start.Goals as goal
 
+-- a pass was made for each client and for five more, and the first is one itself
 pub returns-clause-first : goal.returns-clause-first
 returns-clause-first g c =
     let made = c.start_clients.ensures.first.made in
@@ -20,6 +21,7 @@ returns-clause-count g c =
     let clients = c.start_clients.ensures.count in
     omega (arith, long, both, clients)
 
+-- the clients were started with the first numbers, and the five others with those behind
 pub returns-clause-started : goal.returns-clause-started
 returns-clause-started g c drives evens odds fit_even fit_odd =
     let y = c.args.yard.now in
@@ -36,6 +38,7 @@ returns-clause-started g c drives evens odds fit_even fit_odd =
     (started_append y lanes seen actors drives 1 ws more (c.start_clients.ensures.started drives)
     (subst (λ n. AreStarted y lanes seen actors drives (1 + n) more) (sym c.start_clients.ensures.count) behind))
 
+-- nobody who had begun was moved: clients came behind, and the others behind those
 pub returns-clause-begins : goal.returns-clause-begins
 returns-clause-begins g c =
     prefix_trans c.args.workers.now.items c.start_clients.new.workers.items c.start_others.new.workers.items

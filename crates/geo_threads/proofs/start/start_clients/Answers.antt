@@ -7,6 +7,7 @@ use Rattle.geo_threads.specs.Started.{HasBegun, IsFirst, beginning}
 use Rattle.geo_threads.proofs.Starting.{begun_push}
 use Rattle.geo_threads.proofs.start.start_clients.Goals as goal
 
+-- those that have begun are the clients of the first actors, so the next actor's is to begin
 pub loop-actor-init : goal.loop-actor-init
 loop-actor-init g c = (
   c.requires.begun,
@@ -16,6 +17,7 @@ loop-actor-init g c = (
   refl,
 )
 
+-- one pass of the lane was split off for each client so far, and there are few actors
 pub putter-puts-requires : goal.putter-puts-requires
 putter-puts-requires g c =
     let down = c.loop-actor.invariant.0.down_is in
@@ -26,6 +28,7 @@ putter-puts-requires g c =
       room = omega (arith, split, c.loop-actor.invariant.2, c.loop-actor-test.true, c.requires.few);
     }
 
+-- passes made so far are those of the yard, one for each client and the first
 pub next_pass-pass-requires-clause-first : goal.next_pass-pass-requires-clause-first
 next_pass-pass-requires-clause-first g c =
     let is = c.loop-actor.invariant.0.first_is in
@@ -39,6 +42,7 @@ next_pass-pass-requires-clause-room g c =
     let few = c.requires.few in
     omega (arith, made, long, lt, few)
 
+-- there is room for a worker for each actor, and this actor is one more
 pub hire-requires : goal.hire-requires
 hire-requires g c =
     let inv = c.loop-actor.invariant in
@@ -49,6 +53,7 @@ hire-requires g c =
     let fits = c.requires.room in
     omega (arith, long, len, room, lt, fits)
 
+-- the client of the next actor begins with the next pass, behind the others
 pub loop-actor-preserved : goal.loop-actor-preserved
 loop-actor-preserved g c =
     let y = c.args.yard.now in

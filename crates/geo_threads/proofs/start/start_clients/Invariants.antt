@@ -1,3 +1,4 @@
+-- So many actors have their clients, in order, behind those that had begun before, in the room that was there.
 use Rattle.std.proofs.Common.{◌≡◌, length, vec_len, vec_capacity}
 use mathlib.Core.List.{IsPrefix}
 use Rattle.geo_serve.specs.Drives.{drive_view}

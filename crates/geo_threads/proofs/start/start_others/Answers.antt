@@ -4,6 +4,7 @@ use Rattle.geo_threads.specs.Started.{IsFirst}
 use Rattle.geo_threads.proofs.Starting.{after, after_four, after_more, begin_alike, next_after, push_on}
 use Rattle.geo_threads.proofs.start.start_others.Goals as goal
 
+-- five workers more, each behind those before, with the pass that comes next
 pub returns-clause-items : goal.returns-clause-items
 returns-clause-items g c =
     let first = c.args.first.now in
@@ -34,6 +35,7 @@ returns-clause-items g c =
     (c.disk-2.ensures.pass ∙ c.next_pass-4.ensures.pass ∙ next_after first 4 c.next_pass-3.new.first made.2)
     c.disk-2.ensures.role)
 
+-- five passes more were made of the first, which is the same else
 pub returns-clause-first : goal.returns-clause-first
 returns-clause-first g c =
     let first = c.args.first.now in

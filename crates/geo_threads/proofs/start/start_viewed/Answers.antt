@@ -7,11 +7,13 @@ use Rattle.geo_threads.specs.Started.{HasBegun}
 use Rattle.geo_threads.proofs.Starting.{begun_push, can_show, next_listing, none_begun}
 use Rattle.geo_threads.proofs.start.start_viewed.Goals as goal
 
+-- the next pass has seen what the first has, so the list is the mesh as it has seen it
 pub view_create-requires : goal.view_create-requires
 view_create-requires g c =
     c.requires.list ∙ sym (ap (λ (p : MeshPass). listing_seen p) c.next_pass-pass.ensures.pass
     ∙ next_listing c.args.first.now c.args.first.now.made)
 
+-- nobody had begun, so this is the client of the first actor, and it can show what its pass has seen
 pub returns-clause-begun : goal.returns-clause-begun
 returns-clause-begun g c actors lt =
     let y = c.args.yard.now in

@@ -8,6 +8,7 @@ use Rattle.geo_threads.proofs.threads.run_all.Goals as goal
 pub run_jobs-requires-clause-ready : goal.run_jobs-requires-clause-ready
 run_jobs-requires-clause-ready g c i d lt = search (rules, ready_each)
 
+-- the slice of all workers was written back whole, so each ran
 pub returns : goal.returns
 returns g c =
     let new = c.run_jobs.new.workers in

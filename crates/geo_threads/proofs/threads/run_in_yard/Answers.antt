@@ -8,6 +8,7 @@ use Rattle.geo_threads.proofs.Running.{crew_ended, few_drives, first_listing, is
 use Rattle.geo_threads.proofs.Viewing.{as_many, ends_alike, looks_meet, nobody_looks, ran_view}
 use Rattle.geo_threads.proofs.threads.run_in_yard.Goals as goal
 
+-- a plan has few actors, and a mesh few disks, each with one drive
 pub start_all-requires-clause-few : goal.start_all-requires-clause-few
 start_all-requires-clause-few g c =
     let few = c.requires.history.plan.few_actors in
@@ -36,6 +37,7 @@ run_watched-crew-requires-clause-ready g c _ _ =
     ready_all c.args.yard c.args.room.lanes (drive_view g.D.Disk.view) c.args.actors c.args.given.drives.items 1
     c.in-Ok.crew.workers.items c.in-Ok.ensures.ok.started
 
+-- a worker that ran shows the same view as before, and that is the one which is looked at
 pub look_last-seen-requires : goal.look_last-seen-requires
 look_last-seen-requires g c =
     let crew = c.in-Ok.crew in
@@ -46,6 +48,7 @@ look_last-seen-requires g c =
     (ran_view c.args.yard c.args.room.lanes (drive_view g.D.Disk.view) crew.workers.items after.workers.items ran.ran)
     c.take_publisher-publisher.ensures.view
 
+-- all passes that were made are the workers', who ended, and the first
 pub close_all-requires-clause-whole : goal.close_all-requires-clause-whole
 close_all-requires-clause-whole g c =
     let all = crew_ended c.run_watched-crew.result c.requires.actors c.in-Ok.ensures.ok
@@ -53,6 +56,7 @@ close_all-requires-clause-whole g c =
     subst (λ ps. IsWhole c.args.yard (c.start_all.new.first ∷ ps)) (sym c.take_publisher-publisher.ensures.passes)
     all.whole
 
+-- two of the workers are disk workers, and their drives are all, for which there is room
 pub close_all-requires-clause-two : goal.close_all-requires-clause-two
 close_all-requires-clause-two g c =
     let back = c.requires.room.back in
@@ -62,6 +66,7 @@ close_all-requires-clause-two g c =
     subst (λ l. AreTwo (vec_capacity c.args.room.comes.back) l) (sym c.take_publisher-publisher.ensures.lists)
     (all.two (vec_capacity c.args.room.comes.back) (omega (arith, back, len)))
 
+-- room was made for as many workers as there are, and taking away the publisher leaves them
 pub close_all-requires-clause-room : goal.close_all-requires-clause-room
 close_all-requires-clause-room g c =
     let room = c.requires.room.comes in
@@ -82,6 +87,7 @@ close_all-requires-clause-room g c =
       no_drive = room.no_drive;
     }
 
+-- each worker ended as its job does, so the log of all tells why the run ended and what the drives did
 pub returns-in-Ok-clause-ok : goal.returns-in-Ok-clause-ok
 returns-in-Ok-clause-ok g c =
     let y = c.args.yard in
@@ -98,6 +104,7 @@ returns-in-Ok-clause-ok g c =
     (end.drives ∙ ap (λ l. gathered_of l) taken.lists)
     (ends_alike after home taken.answers c.close_all.result.ended end.ended)
 
+-- nothing was to be shown, so nobody looked before or after
 pub returns-in-Ok-clause-unseen : goal.returns-in-Ok-clause-unseen
 returns-in-Ok-clause-unseen g c none =
     c.close_all.ensures.seen ∙ c.look_last-seen.ensures (nobody_looks c.in-Ok.crew.watcher

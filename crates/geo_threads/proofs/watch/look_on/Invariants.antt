@@ -1,3 +1,4 @@
+-- A look leaves the watcher with the view that it looks at.
 use Rattle.std.proofs.Common.{◌≡◌}
 use Rattle.geo_threads.proofs.watch.look_on.Given as goal
 

@@ -3,6 +3,7 @@ use Rattle.geo_script.proofs.WordsLemmas.{split_at, split_none, behind}
 use Rattle.geo_headline.specs.Traces.{parts_of}
 use Rattle.geo_verify.proofs.cut.ended_line.Goals as goal
 
+-- the text is parted at its first line feed
 pub returns-in-Some-clause-parts : goal.returns-in-Some-clause-parts
 returns-in-Some-clause-parts c =
     split_at 10 c.args.text.now c.in-Some.at (sym c.find_byte.ensures.place ∙ c.in-Some.is)

@@ -1,3 +1,4 @@
+-- The lines so far were counted, and no more than bytes were passed.
 use Rattle.std.proofs.Common.{length, ◌+◌, ◌≡◌, ◌≤◌}
 use Rattle.geo_model.specs.Script.{lines_of}
 use Rattle.geo_verify.proofs.cut.line_count.Given as goal

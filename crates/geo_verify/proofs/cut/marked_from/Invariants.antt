@@ -1,3 +1,4 @@
+-- No line so far has the mark, so all so far is of the script.
 use Rattle.std.proofs.Common.{length, ◌-◌, ◌≡◌, ◌≤◌, ◌++◌, take, drop}
 use Rattle.geo_headline.specs.Traces.{script_part, marked_part, front_from, back_from}
 use Rattle.geo_verify.proofs.cut.marked_from.Given as goal

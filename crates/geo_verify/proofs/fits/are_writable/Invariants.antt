@@ -1,3 +1,4 @@
+-- Each entry so far can be written, if it delivers not too many bytes.
 use Rattle.std.proofs.Common.{take}
 use Rattle.std.specs.List.{AllByRecursion}
 use Rattle.geo_verify.proofs.WrittenOut.{FitsLine}

@@ -5,6 +5,7 @@ use Rattle.geo_script.proofs.WordsLemmas.{next_word-cons}
 use Rattle.geo_headline.specs.Traces.{seat_and_step}
 use Rattle.geo_verify.proofs.line.step_of_line.Goals as goal
 
+-- the line's words begin with the one that was read, and that decides
 pub returns : goal.returns
 returns c =
     let cons =

@@ -1,3 +1,4 @@
+-- The steps of the lines so far were made, and the log has no more entries than these lines have bytes.
 use Rattle.std.proofs.Common.{length, ◌+◌, ◌≤◌}
 use Rattle.geo_core.specs.Mesh.{IsHistory}
 use Rattle.geo_verify.proofs.Makings.{Going}

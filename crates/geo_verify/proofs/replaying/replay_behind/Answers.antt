@@ -8,6 +8,7 @@ use Rattle.geo_verify.specs.Replays.{trace_from}
 use Rattle.geo_verify.proofs.TracesRead.{fault_first, behind_is, as_read, sizes_fit}
 use Rattle.geo_verify.proofs.replaying.replay_behind.Goals as goal
 
+-- the sizes that were read are one for each disk of the plan, in its sectors
 pub replay_steps-requires : goal.replay_steps-requires
 replay_steps-requires c =
     let read = rw c.disks-2.ensures.disks at c.in_ok-steps.ensures.read in
@@ -18,6 +19,7 @@ replay_steps-requires c =
       few = omega (arith, c.requires, c.in_ok-steps.ensures.behind);
     }
 
+-- a fault among the sizes is the first of the trace
 pub returns-in_err-steps : goal.returns-in_err-steps
 returns-in_err-steps c =
     let p = err_from_is_err_and c.from_residual-in_err-steps.result c.from_residual-in_err-steps.ensures.1 in
@@ -25,6 +27,7 @@ returns-in_err-steps c =
     (fault_first (sizes_from c.args.place c.args.plan.disks) _ c.in_err-steps.field-0.0
     (rw c.disks-2.ensures.disks at c.in_err-steps.ensures.read))
 
+-- what is read behind the sizes is what is read from their end on
 pub returns : goal.returns
 returns c =
     as_read (read_behind c.args.place.line c.args.plan (parts_of c.args.place.text.now))

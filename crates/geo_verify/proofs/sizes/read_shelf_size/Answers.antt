@@ -5,6 +5,7 @@ use Rattle.geo_laws_traces.proofs.Lines.{some_part}
 use Rattle.geo_verify.proofs.SizesRead.{shelf_fault}
 use Rattle.geo_verify.proofs.sizes.read_shelf_size.Goals as goal
 
+-- Both ways: a disk of the shelf takes a line, which is of the form or is the first fault
 pub returns-in-Ok-clause-read : goal.returns-in-Ok-clause-read
 returns-in-Ok-clause-read c =
     λ ds. ap (read_sizes c.args.place.line (c.args.disk.now ∷ ds)) c.in-Some.ensures.parts

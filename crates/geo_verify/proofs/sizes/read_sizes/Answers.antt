@@ -5,6 +5,7 @@ use Rattle.geo_verify.specs.Forms.{IsFormFault, sizes_from}
 use Rattle.geo_verify.proofs.SizesRead.{fault_behind, from_here}
 use Rattle.geo_verify.proofs.sizes.read_sizes.Goals as goal
 
+-- the lines before were of the form, so the fault of this disk's line is the first
 pub returns-in_err-sectors-clause-read : goal.returns-in_err-sectors-clause-read
 returns-in_err-sectors-clause-read c =
     let p = err_from_is_err_and c.from_residual.result c.from_residual.ensures.1 in

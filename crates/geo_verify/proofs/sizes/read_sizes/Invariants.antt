@@ -1,3 +1,4 @@
+-- The sizes of the disks so far were read, and those of the others are read from here on.
 use Rattle.std.proofs.Common.{length, ◌+◌, ◌≡◌, ◌≤◌, drop}
 use Rattle.geo_headline.specs.Traces.{then_read}
 use Rattle.geo_verify.specs.Forms.{IsBehind, sizes_from}

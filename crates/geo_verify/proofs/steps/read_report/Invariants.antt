@@ -1,3 +1,4 @@
+-- The lines so far are of steps, so how the rest is read tells how all is.
 use Rattle.std.proofs.Common.{length, ◌+◌, ◌≤◌}
 use Rattle.geo_headline.specs.Traces.{read_steps, parts_of}
 use Rattle.geo_verify.specs.Forms.{steps_from}

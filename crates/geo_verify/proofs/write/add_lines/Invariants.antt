@@ -1,3 +1,4 @@
+-- The lines of the entries so far were added.
 use Rattle.std.proofs.Common.{◌≡◌, ◌++◌, take, flat_map}
 use Rattle.geo_headline.specs.Traces.{step_line}
 use Rattle.geo_verify.proofs.write.add_lines.Given as goal

@@ -3,6 +3,7 @@ use Rattle.std.proofs.lemmas.List.{append_assoc}
 use Rattle.geo_verify.proofs.WrittenOut.{ended_else}
 use Rattle.geo_verify.proofs.write.add_script.Goals as goal
 
+-- the last line isn't ended, so a line feed is added
 pub returns-else-is_ended : goal.returns-else-is_ended
 returns-else-is_ended c =
     let P : List ℕ → Type 0 = λ xs. OnOk c.add-else-is_ended.result (c.add-else-is_ended.new.self ≡ xs) in

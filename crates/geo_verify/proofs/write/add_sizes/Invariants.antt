@@ -1,3 +1,4 @@
+-- With the lines of the disks that are left, those of all are added.
 use Rattle.std.proofs.Common.{◌≡◌, ◌++◌, drop, zip, flat_map}
 use Rattle.geo_headline.specs.Traces.{size_line}
 use Rattle.geo_verify.proofs.write.add_sizes.Given as goal

@@ -9,6 +9,7 @@ use Rattle.geo_verify.specs.Written.{trace_of, written_of}
 use Rattle.geo_verify.proofs.WrittenOut.{is_trace_text}
 use Rattle.geo_verify.proofs.write.trace_text.Goals as goal
 
+-- all was added to an empty text
 pub returns-clause-text : goal.returns-clause-text
 returns-clause-text c =
     c.into_block.ensures ∙ c.in_ok-add_trace.ensures
@@ -16,6 +17,7 @@ returns-clause-text c =
     c.args.log.now.items c.args.report.now) c.in_ok-text.ensures
     ∙ is_trace_text c.args.script.now c.args.plan.now c.args.facts.now.items c.args.log.now.items c.args.report.now
 
+-- a legal log delivers no more bytes than a request asks for, so each of its lines is read as it is written
 pub returns-clause-trace : goal.returns-clause-trace
 returns-clause-trace c =
     let t = trace_of c.args.plan.now c.args.facts.now.items c.args.log.now.items c.args.report.now in

@@ -7,14 +7,17 @@ use Rattle.geo_view.proofs.Publishing.{takes_back_as}
 use Rattle.geo_view.proofs.Watching.{comes_as}
 use Rattle.geo_view.proofs.publisher.view_create.Goals as goal
 
+-- the first slot has a list of the pass that the view is about
 pub new-requires : goal.new-requires
 new-requires g c = let l = c.in_ok-slots.ensures in
     rw (l.are) (opens _ l.list l.second l.third (l.at ∙ sym c.of-about.ensures))
 
+-- the publisher is alone as yet, so the watcher may come
 pub split_seat-other-requires : goal.split_seat-other-requires
 split_seat-other-requires g c =
     (search rules, search rules, meets _ _ _ (ap (λ m. m.0.role) c.in-Ok.ensures.ok.4))
 
+-- the publisher holds no slot yet, so it takes its own
 pub load-requires : goal.load-requires
 load-requires g c = let s = c.split_seat-other.ensures in (
   search rules,
@@ -22,10 +25,12 @@ load-requires g c = let s = c.split_seat-other.ensures in (
   takes_back_as _ _ _ _ 1 (ap (λ m. m.1) s.2 ∙ ap (λ m. m.1) c.in-Ok.ensures.ok.4) (ap (λ m. m.0.role) s.2),
 )
 
+-- the watcher has come and holds no slot yet, so it fetches its first list
 pub swap-found-requires : goal.swap-found-requires
 swap-found-requires g c = let s = c.split_seat-other.ensures in
     (search rules, search rules, comes_as _ _ _ _ 2 4 (ap (λ m. m.1) s.4) (ap (λ m. m.0.role) s.4) refl)
 
+-- the slot that the watcher fetched has a list of the pass that the view is about
 pub invariant_of-watcher : goal.invariant_of-watcher
 invariant_of-watcher g c = let s = c.split_seat-other.ensures in
     let of = ap (λ m. m.0.of) s.4 ∙ ap (λ m. m.0.of) c.in-Ok.ensures.ok.4 in
@@ -47,6 +52,7 @@ invariant_of-watcher g c = let s = c.split_seat-other.ensures in
       ),
     )
 
+-- the watcher that comes is told of what was shown first, and what it fetches begins with all that it was told of
 pub returns-clause-watcher : goal.returns-clause-watcher
 returns-clause-watcher g c = let s = c.split_seat-other.ensures in let ok = c.in-Ok.ensures.ok.4 in
     let of = ap (λ m. m.0.of) s.4 ∙ ap (λ m. m.0.of) ok in

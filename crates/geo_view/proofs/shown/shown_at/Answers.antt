@@ -3,6 +3,7 @@ use Rattle.geo_steps.specs.Passes.{MeshPass}
 use Rattle.geo_steps.specs.Passes.{IsGoodPass}
 use Rattle.geo_view.proofs.shown.shown_at.Goals as goal
 
+-- the pass was good when it was kept
 pub invariant_of-result : goal.invariant_of-result
 invariant_of-result c = record {
   is_listing = search rules;

@@ -8,6 +8,7 @@ use Rattle.geo_view.proofs.watcher.newest.Goals as goal
 pub load-found-requires : goal.load-found-requires
 load-found-requires c = (search rules, search rules, peeps _ _ _ _ _ _ c.requires.looks.1.role)
 
+-- nothing newer waits, so the front slot stays
 pub returns-then-not-newer_waits-clause-looks : goal.returns-then-not-newer_waits-clause-looks
 returns-then-not-newer_waits-clause-looks c = let l = c.requires.looks.1 in
     let t = ((c.load-found.ensures.2 c.args.front l.role).1 (search rules)).0 in (
@@ -23,6 +24,7 @@ returns-then-not-newer_waits-clause-looks c = let l = c.requires.looks.1 in
       },
     )
 
+-- something newer waits, and the watcher gives its front slot for it
 pub swap-found-requires : goal.swap-found-requires
 swap-found-requires c = let l = c.requires.looks.1 in
     let e = (c.load-found.ensures.2 c.args.front l.role).0 (search rules) in (
@@ -37,6 +39,7 @@ returns-clause-own c = let l = c.requires.looks.1 in
     let got = (c.swap-found.ensures.2 c.args.front).1 (ap (λ m. m.0.role) e) (Some l.list, ap (λ m. m.1) e ∙ l.slot) in
     (search rules, ap (λ m. m.0.of) got.3 ∙ ap (λ m. m.0.of) e)
 
+-- the slot that was fetched is the watcher's front now, with what was shown last
 pub returns-clause-looks : goal.returns-clause-looks
 returns-clause-looks c = let l = c.requires.looks.1 in
     let e = (c.load-found.ensures.2 c.args.front l.role).0 (search rules) in
@@ -54,6 +57,7 @@ returns-clause-looks c = let l = c.requires.looks.1 in
       },
     )
 
+-- what waits was shown after all that the watcher saw and was told of
 pub returns-clause-later : goal.returns-clause-later
 returns-clause-later c = let l = c.requires.looks.1 in
     let e = (c.load-found.ensures.2 c.args.front l.role).0 (search rules) in

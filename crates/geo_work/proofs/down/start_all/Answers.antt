@@ -5,6 +5,7 @@ use Rattle.geo_work.specs.Hints.{start_hints}
 use Rattle.geo_work.proofs.Starting.{starts_length, starts_more, starts_none}
 use Rattle.geo_work.proofs.down.start_all.Goals as goal
 
+-- at most as many tickets were put as children were passed, and these fit 32 bits
 pub start_one-requires : goal.start_one-requires
 start_one-requires g c =
     let front = start_hints c.args.first c.loop-k.k in

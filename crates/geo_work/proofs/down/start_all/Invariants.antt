@@ -1,3 +1,4 @@
+-- A ticket was put for each child so far whose number a ticket can have.
 use Rattle.geo_disk_job.specs.Putting.{PutsAll}
 use Rattle.geo_work.specs.Hints.{start_hints}
 use Rattle.geo_work.proofs.down.start_all.Given as goal

@@ -9,6 +9,7 @@ use Rattle.geo_work.proofs.run.run_jobs.Goals as goal
 pub for_each_mut-requires-send-T : goal.for_each_mut-requires-send-T
 for_each_mut-requires-send-T g c κs within = search (sendable, worker_send)
 
+-- each worker was handed to one call, and holds what that call made of it
 pub returns : goal.returns
 returns g c =
     let R = WorkerRan c.args.yard.now c.args.lanes.now (drive_view g.D.Disk.view) in

@@ -3,6 +3,7 @@ use Rattle.geo_base.specs.Name.{name_of}
 use Rattle.geo_base.proofs.NameLemmas.{joined_cells}
 use Rattle.geo_base.proofs.name.Name.with_tail.Goals as goal
 
+-- the cells have the name and the tail behind it, so they are judged as the bytes joined
 pub returns : goal.returns
 returns c =
     let Answers : List ℕ → Type 0 =

@@ -9,12 +9,14 @@ use Rattle.geo_bio.proofs.OrderLemmas.{in_order}
 use Rattle.geo_bio.proofs.TableLemmas.{bio_among-rows}
 use Rattle.geo_bio.proofs.table.BioTable.get.Goals as goal
 
+-- the rows are the bios that show, each under its number
 pub returns-clause-found : goal.returns-clause-found
 returns-clause-found c =
     let found = c.get.ensures.value ∙ ap (value_at c.self.inside.bios.rows) c.number.ensures in
     ap (option_map (as_bio c.args.bio)) found ∙ sym (bio_among-rows c.self.inside.bios.rows c.args.bio)
     ∙ ap (λ v. bio_among v.bios c.args.bio) c.self.view_is
 
+-- a bio that waits knows its children in the rows, which are those that show
 pub returns-clause-family : goal.returns-clause-family
 returns-clause-family c =
     let found = c.get.ensures.value ∙ ap (value_at c.self.inside.bios.rows) c.number.ensures in
@@ -23,6 +25,7 @@ returns-clause-family c =
     subst (λ (v : BioTableView). IfSome (option_copied c.get.result) (λ x. is_waiting x.phase ≡ true
     → KnowsChildren c.args.bio (children_among v.bios c.args.bio) x)) c.self.view_is told
 
+-- the parent of a child is in the rows and waits, so it shows so too
 pub returns-clause-parent : goal.returns-clause-parent
 returns-clause-parent c =
     let found = c.get.ensures.value ∙ ap (value_at c.self.inside.bios.rows) c.number.ensures in

@@ -5,6 +5,7 @@ use Rattle.geo_bio.proofs.OrderLemmas.{in_order}
 use Rattle.geo_bio.proofs.ValueLemmas.{find-from_items}
 use Rattle.geo_bio.proofs.table.BioTable.next_from.Goals as goal
 
+-- Each way out: the rows show in their order, so the first row is the first bio
 pub returns-in-Some-clause-first : goal.returns-in-Some-clause-first
 returns-in-Some-clause-first c =
     let first = find-from_items seen_row (λ x. x.number) (λ row. refl) c.args.number c.self.inside.bios.rows in

@@ -5,11 +5,13 @@ use Rattle.geo_bio.proofs.ChangeLemmas.{never_none}
 use Rattle.geo_bio.proofs.SplitLemmas.{room_left, children_counted, started}
 use Rattle.geo_bio.proofs.table.BioTable.start.Goals as goal
 
+-- the bio is down, so it is there
 pub unreachable-requires : goal.unreachable-requires
 unreachable-requires c =
     absurd (never_none is_down c.self.inside.bios c.self.view_is c.number-number.ensures c.requires.down
     c.get.ensures.value (ap option_copied c.in-None.is))
 
+-- there is a child for each piece, of which there are some and fewer than 2^32, and room was made for them
 pub split_bio-requires : goal.split_bio-requires
 split_bio-requires c =
     let count = children_counted c.args.bio c.in-Some.parent.now c.in_ok-children-in-Some.ensures
@@ -21,6 +23,7 @@ split_bio-requires c =
       room = omega (arith, c.in_ok-reserve.ensures.room, c.len.ensures);
     }
 
+-- the bio that was down had no children; the new ones follow each other, are its own, and it waits for them
 pub invariant_of-self-2 : goal.invariant_of-self-2
 invariant_of-self-2 c =
     (started c.self.inside.bios c.reserve.new.self c.split_bio.new.bios c.self.view_is c.self.invariant

@@ -2,6 +2,7 @@ use Rattle.std.proofs.Common.{refl}
 use Rattle.geo_bio.proofs.TableLemmas.{table_pushed}
 use Rattle.geo_bio.proofs.table.BioTable.submit.Goals as goal
 
+-- the new bio is a root, so it counts in nobody's children, and it is down, so it has none
 pub invariant_of-self-2 : goal.invariant_of-self-2
 invariant_of-self-2 c =
     rw (c.insert.ensures.inserted, c.reserve.ensures.values_stay)

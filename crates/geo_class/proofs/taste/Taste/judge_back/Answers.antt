@@ -7,6 +7,7 @@ use Rattle.geo_class.specs.Taste.{after_verdict, ended}
 use Rattle.geo_class.proofs.TasteLemmas.{taken-verdict, after-moved}
 use Rattle.geo_class.proofs.taste.Taste.judge_back.Goals as goal
 
+-- the sector was taken out, but the chain that it is judged by is as before
 pub returns-in-Some-clause-verdict : goal.returns-in-Some-clause-verdict
 returns-in-Some-clause-verdict c granted =
     ap (λ v. Some v)
@@ -15,6 +16,7 @@ returns-in-Some-clause-verdict c granted =
     ∙ ap (option_map (λ (x : Kind × List ℕ). verdict_on granted c.args.self.now x.0 x.1 c.args.facts.now))
     c.in-Some.ensures.sector
 
+-- so the verdict is the one on the old taste, and what follows it doesn't read the sector that is gone
 pub returns-in-Some-clause-taste : goal.returns-in-Some-clause-taste
 returns-in-Some-clause-taste c granted =
     c.judge_sector.ensures.taste granted

@@ -3,6 +3,7 @@ use Rattle.geo_class.specs.Taste.{after_verdict}
 use Rattle.geo_class.proofs.TasteLemmas.{one_sector, all_but_chains}
 use Rattle.geo_class.proofs.taste.Taste.judge_sector.Goals as goal
 
+-- a class other than EBR has no chain, and wants no other sector, so it is done with
 pub returns-in_default : goal.returns-in_default
 returns-in_default c = record {
   verdict = λ granted. c.judge.ensures

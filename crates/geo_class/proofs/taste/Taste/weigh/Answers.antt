@@ -3,6 +3,7 @@ use Rattle.geo_model.specs.World.{Taste}
 use Rattle.geo_class.specs.Taste.{chain_with, verdict_with}
 use Rattle.geo_class.proofs.taste.Taste.weigh.Goals as goal
 
+-- Here and below: the chain within is the one that shows, and nothing else of the taste is touched
 pub returns-clause-verdict : goal.returns-clause-verdict
 returns-clause-verdict c =
     c.weigh.ensures.verdict

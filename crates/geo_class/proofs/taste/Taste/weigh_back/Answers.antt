@@ -4,6 +4,7 @@ use Rattle.geo_class.specs.Taste.{chain_with, settled}
 use Rattle.geo_class.proofs.TasteLemmas.{taken-weighed, weighed-verdict, weighed-taste}
 use Rattle.geo_class.proofs.taste.Taste.weigh_back.Goals as goal
 
+-- the sector was taken out, but the chain that it is judged by is as before
 pub returns-clause-verdict : goal.returns-clause-verdict
 returns-clause-verdict c granted =
     ap (λ v. Some v)
@@ -12,6 +13,7 @@ returns-clause-verdict c granted =
     ∙ weighed-verdict granted c.args.self.now c.in-Some.kind c.in-Some.block c.args.facts.now
     (sym c.in-Some.ensures.sector)
 
+-- the sector that was taken out is put back where it is accepted, and else isn't read any more
 pub returns-clause-taste : goal.returns-clause-taste
 returns-clause-taste c granted =
     c.settle.ensures

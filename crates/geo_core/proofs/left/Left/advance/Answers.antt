@@ -9,6 +9,7 @@ pub unreachable-requires : goal.unreachable-requires
 unreachable-requires c =
     has_place c.args.plan.now c.args.self.now c.args.actor c.requires.some (sym c.place_of.ensures ∙ c.in_default.is)
 
+-- its next command stands at the place, so behind it is within the commands or their end
 pub next_place-requires : goal.next_place-requires
 next_place-requires c =
     rw c.commands.ensures.commands
@@ -22,6 +23,7 @@ index_mut-requires c =
     let same = ap length c.self.view_is in
     omega (arith, within, same, c.self.inside.places.ok.0)
 
+-- each other actor's place stays, and this one's is that of its first command behind the last
 pub returns-clause-next : goal.returns-clause-next
 returns-clause-next c =
     let is : IsNext c.args.plan.now.commands c.args.actor c.next_place.result =
@@ -31,6 +33,7 @@ returns-clause-next c =
     (sym c.self.view_is)
     (next-set c.args.plan.now c.args.self.now c.args.actor c.next_place.result c.requires.next is)
 
+-- what stands from the new place on for the actor is what stood behind its next command
 pub returns-clause-gone : goal.returns-clause-gone
 returns-clause-gone c =
     let skips : commands_from c.args.plan.now.commands c.args.actor c.next_place.result

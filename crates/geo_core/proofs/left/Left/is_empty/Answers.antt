@@ -4,6 +4,7 @@ use Rattle.geo_model.specs.declared.command.LineCommand.{LineCommand}
 use Rattle.geo_core.proofs.Lefts.{all_done}
 use Rattle.geo_core.proofs.left.Left.is_empty.Goals as goal
 
+-- an actor's commands are all done where its place is the end
 pub returns : goal.returns
 returns c =
     let places : c.deref.result.now ≡ c.args.self.now = c.deref.ensures.value ∙ c.self.view_is in

@@ -5,6 +5,7 @@ use Rattle.geo_core.specs.Running.{IsMesh, seen}
 use Rattle.geo_core.proofs.Meshes.{mesh_actors}
 use Rattle.geo_core.proofs.mesh.Mesh.actors.Goals as goal
 
+-- each actor of the plan has a list of commands in the world, and no step takes one away
 pub returns : goal.returns
 returns c =
     subst (λ (v : MeshView). length c.actors.result.now ≡ length (world_of v).actors)

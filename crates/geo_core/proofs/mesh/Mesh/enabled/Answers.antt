@@ -11,6 +11,7 @@ pub found_against-requires-clause-firm : goal.found_against-requires-clause-firm
 found_against-requires-clause-firm c =
     mesh_is_firm c.deref-running.result.now (subst IsMesh (sym c.deref-running.ensures) c.self.invariant)
 
+-- a step is enabled in the world of the log where nothing is against it in that of the state
 pub returns : goal.returns
 returns c =
     subst (λ (v : MeshView). c.is_none.result ≡ is_enabled (world_of v) c.args.seat c.args.step.now)

@@ -1,6 +1,7 @@
 use Rattle.geo_disk.proofs.NameLemmas.{among-from_Contains}
 use Rattle.geo_disk.proofs.lending.Lending.count_failed_give.Goals as goal
 
+-- the name is lent, and each name that is lent has counts
 pub set_count-requires : goal.set_count-requires
 set_count-requires c =
     c.self.invariant c.args.name.now

@@ -5,6 +5,7 @@ use Rattle.geo_disk.specs.Names.{is_among}
 use Rattle.geo_disk.proofs.NameLemmas.{among-push}
 use Rattle.geo_disk.proofs.lending.Lending.lend.Goals as goal
 
+-- a name that was lent keeps its counts, and the last one was given some before it was lent
 pub invariant_of-self-2 : goal.invariant_of-self-2
 invariant_of-self-2 c name among =
     let one : (is_among name c.self.inside.lent.items || bytes_eq name c.args.name.now) ≡ true =

@@ -3,6 +3,7 @@ use Rattle.geo_disk.specs.declared.lending.Count.{Count}
 use Rattle.geo_disk.proofs.NameLemmas.{IsPlace, named_at, no_place_found, place_found}
 use Rattle.geo_disk.proofs.lending.Lending.tally_of.Goals as goal
 
+-- Either way: what counts is the first place of the name, and without a place each count is 0
 pub returns-in-Some : goal.returns-in-Some
 returns-in-Some c =
     let place : IsPlace (λ (x : Count). x.name) c.args.name.now c.self.inside.counts.items c.in-Some.at =

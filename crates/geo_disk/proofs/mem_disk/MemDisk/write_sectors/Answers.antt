@@ -22,6 +22,7 @@ sectors_are c =
     ∙ ap (with_sectors (sectors_of size c.self.inside.bytes) c.args.first)
     (cut_into-take c.args.count size c.args.bytes.now)
 
+-- the part that is written is whole sectors, and these lie on the disk
 pub byte_place-from-requires-clause-sectors : goal.byte_place-from-requires-clause-sectors
 byte_place-from-requires-clause-sectors c =
     let size : ℕ = c.self.inside.sector in
@@ -36,6 +37,7 @@ byte_place-from-requires-clause-sectors c =
       ) (rw (← c.self.view_is) at c.requires.inside);
     })
 
+-- whole sectors are written over whole sectors, so the disk's sectors are the old with these among them
 pub returns-clause-written : goal.returns-clause-written
 returns-clause-written c =
     rw (← c.self.view_is)
@@ -51,6 +53,7 @@ returns-clause-written c =
     })
     (sectors_are c))
 
+-- as many sectors come as were written over
 pub returns-clause-length : goal.returns-clause-length
 returns-clause-length c =
     let size : ℕ = c.self.inside.sector in

@@ -24,6 +24,7 @@ sectors_are c =
     (rw (← c.byte_place-from.ensures.place, ← c.bytes_mut.ensures.value) c.zero_over.ensures)
     ∙ ap (with_sectors (sectors_of size c.self.inside.bytes) c.args.first) (cut_into-zeros c.args.count size)
 
+-- the sectors that are zeroed lie on the disk, whose bytes have a length that fits
 pub overflow_mul-size : goal.overflow_mul-size
 overflow_mul-size c =
     let size : ℕ = c.self.inside.sector in
@@ -37,6 +38,7 @@ overflow_mul-size c =
       c.len-all.type_inv,
     )
 
+-- the part that is zeroed is whole sectors, and these lie on the disk
 pub byte_place-from-requires-clause-sectors : goal.byte_place-from-requires-clause-sectors
 byte_place-from-requires-clause-sectors c = record {
   some_size = c.self.invariant.some_size;
@@ -44,6 +46,7 @@ byte_place-from-requires-clause-sectors c = record {
   inside = rw (mul-div_left c.args.count c.self.invariant.some_size, c.len-all.ensures) (asked c);
 }
 
+-- whole sectors are zeroed, so the disk's sectors are the old with zero ones among them
 pub returns-clause-zeroed : goal.returns-clause-zeroed
 returns-clause-zeroed c =
     rw (← c.self.view_is)
@@ -59,6 +62,7 @@ returns-clause-zeroed c =
     })
     (sectors_are c))
 
+-- as many sectors come as were written over
 pub returns-clause-length : goal.returns-clause-length
 returns-clause-length c =
     let size : ℕ = c.self.inside.sector in

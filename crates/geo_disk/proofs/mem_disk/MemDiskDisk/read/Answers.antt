@@ -17,6 +17,7 @@ asked c =
 pub byte_place-from-requires-clause-sectors : goal.byte_place-from-requires-clause-sectors
 byte_place-from-requires-clause-sectors c = rw c.len.ensures (asked c)
 
+-- whole sectors are asked for, and their bytes are those between the places of the first and of the end
 pub returns-clause-read : goal.returns-clause-read
 returns-clause-read c =
     let size = ap (λ (m : Memory). m.sector) c.self.view_is in

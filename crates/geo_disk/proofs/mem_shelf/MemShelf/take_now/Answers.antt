@@ -7,6 +7,7 @@ use Rattle.geo_disk.proofs.ImageLemmas.{after_take, image_none, image_there, siz
 use Rattle.geo_disk.proofs.NameLemmas.{IsPlace, has_name, named-set_same, named-set_other, named_at, no_place_found, place_found}
 use Rattle.geo_disk.proofs.mem_shelf.MemShelf.take_now.Goals as goal
 
+-- the name has no place, so it has no image, and nothing changes
 pub returns-in_default-clause-found : goal.returns-in_default-clause-found
 returns-in_default-clause-found c = (
   rw (← c.self.view_is)
@@ -16,6 +17,7 @@ returns-in_default-clause-found c = (
   (λ name. refl),
 )
 
+-- the name has an image, but it isn't one of a disk of such sectors, and nothing changes
 pub returns-then-not-is_disk_size-clause-found : goal.returns-then-not-is_disk_size-clause-found
 returns-then-not-is_disk_size-clause-found c =
     let items : List Slot = c.self.inside.slots.items in
@@ -65,12 +67,14 @@ slots_are c =
     (has_name (λ (x : Slot). x.name) c.args.name.now c.self.inside.slots.items c.in-Some.at
     (emptied_slot []) (place c))
 
+-- the name that is lent now keeps its place, which is empty, and the others keep theirs
 pub invariant_of-self-2 : goal.invariant_of-self-2
 invariant_of-self-2 c =
     rw (c.in-Ok.ensures.ok, slots_are c)
     (slots_after_take c.self.inside.slots.items c.self.inside.lending.lent c.args.name.now c.in-Some.at (place c)
     c.self.invariant)
 
+-- the image of the name is the disk, it has the size of one, and now the name has none
 pub returns-clause-found : goal.returns-clause-found
 returns-clause-found c =
     rw (← c.self.view_is, c.lend_out.ensures.disk, slots_are c, c.in-Ok.ensures.ok)
@@ -80,11 +84,13 @@ returns-clause-found c =
     (named_at (λ (x : Slot). x.name) c.args.name.now c.self.inside.slots.items c.in-Some.at (emptied_slot [])
     (place c)) (fits c))
 
+-- the disk has the bytes of its place, whose size was tested
 pub returns-clause-size : goal.returns-clause-size
 returns-clause-size c =
     rw c.lend_out.ensures.disk (size_of_disk c.args.sector (slot_at c.self.inside.slots.items c.in-Some.at).bytes
     (some_bytes c.args.sector c.requires) (fits c))
 
+-- the disk is what the first place of the name had, with the counts and the calls that it came back with
 pub returns-clause-disk : goal.returns-clause-disk
 returns-clause-disk c =
     rw (
@@ -98,6 +104,7 @@ returns-clause-disk c =
     ∙ ap (λ asked. disk_of_slot c.args.sector (faults_of c.self.inside.lending c.args.name.now) asked
     (slot_at c.self.inside.slots.items c.in-Some.at)) c.asked_of-asked.ensures)
 
+-- Here and below: the first place of the name was emptied, and no place changed its name
 pub returns-clause-emptied : goal.returns-clause-emptied
 returns-clause-emptied c =
     rw (slots_are c)

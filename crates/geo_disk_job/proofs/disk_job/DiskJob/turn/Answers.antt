@@ -12,11 +12,13 @@ returns-in_default-clause-job g c =
     kept_job (opened_by c.args.yard.now.start) (drive_view g.D.Disk.view) c.args.lanes.now c.args.pass.now.own
     c.args.self.now c.take.new.pass c.in_default.ensures.same c.requires.job
 
+-- Each early way out: no ticket, one of another kind or disk, or no room; so nothing was added, asked or put
 pub returns-in_default-clause-did : goal.returns-in_default-clause-did
 returns-in_default-clause-did g c =
     found_empty (opened_by c.args.yard.now.start) (drive_view g.D.Disk.view) c.args.self.now c.args.pass.now
     c.take.new.pass c.in_default.ensures.same c.in_default.ensures.empty
 
+-- From here on: taking a ticket out of its own lane leaves the worker what it was else
 pub returns-in_default-asked_in-clause-job : goal.returns-in_default-asked_in-clause-job
 returns-in_default-asked_in-clause-job g c =
     took_job (opened_by c.args.yard.now.start) (drive_view g.D.Disk.view) c.args.lanes.now c.args.pass.now.own
@@ -58,6 +60,7 @@ pub serve-requires-clause-room : goal.serve-requires-clause-room
 serve-requires-clause-room g c =
     let long : length c.in-Ok.room ≡ 32768 = c.in-Ok.ensures in omega (arith, long)
 
+-- the ticket was for a disk of the worker, so the Take was tried
 pub returns-clause-did : goal.returns-clause-did
 returns-clause-did g c =
     let has : LacksDisk c.args.self.now.drives.items c.in-Some-asked_in.asked.0 → ⊥ = search rules in
@@ -66,11 +69,13 @@ returns-clause-did g c =
     c.in-Some-asked_in.asked.1 c.serve.result c.in-Some.ensures.taken (sym c.in-Some-asked_in.is ∙ c.asked_in.ensures)
     (own_disk c.args.self.now.drives.items c.in-Some-asked_in.asked.0 has) c.serve.ensures.did
 
+-- the turn put one ticket and added two entries, or none, so its passes are within their bounds still
 pub returns-clause-job : goal.returns-clause-job
 returns-clause-job g c =
     job_stays (opened_by c.args.yard.now.start) (drive_view g.D.Disk.view) c.args.lanes.now c.args.pass.now
     c.serve.new.pass c.args.self.now c.serve.new.self c.serve.result c.requires.job (returns-clause-did g c)
 
+-- a drive that served has the number and the size that it had
 pub returns-clause-drives : goal.returns-clause-drives
 returns-clause-drives g c =
     drives_stay (opened_by c.args.yard.now.start) c.args.yard.now.start.facts (drive_view g.D.Disk.view)

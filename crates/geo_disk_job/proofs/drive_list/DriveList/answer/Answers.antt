@@ -6,6 +6,7 @@ use Rattle.geo_disk_job.specs.DriveList.{DriveListView}
 use Rattle.geo_disk_job.proofs.Places.{drive_at, drive_serves}
 use Rattle.geo_disk_job.proofs.drive_list.DriveList.answer.Goals as goal
 
+-- the drive at the place is of the request's disk, which the room and the drive fit
 pub serve-requires : goal.serve-requires
 serve-requires g c =
     let serves = drive_serves (drive_view g.D.Disk.view) c.args.request.now c.args.room
@@ -14,6 +15,7 @@ serve-requires g c =
     (ap (λ (v : DriveListView _). v.items) c.self.view_is) c.requires.can in
     record { room = serves.1; can = serves.0 }
 
+-- just the drive at the place served, and the bytes stay what they are wherever they are kept
 pub returns : goal.returns
 returns g c =
     let seen = drive_view g.D.Disk.view in

@@ -13,6 +13,7 @@ invariant_of-result c =
     let fits = c.ranges.disks.fits in
     omega (arith, count, fits)
 
+-- before the first entry no head has moved and nothing waits
 pub returns-clause-begin : goal.returns-clause-begin
 returns-clause-begin c = λ m history is.
     subst (λ (ds : List DiskHead). AreHeads (opened m) [] (record { disks = ds; noted = 0 }))

@@ -6,6 +6,7 @@ use Rattle.geo_elev.specs.Heads.{AreHeads}
 use Rattle.geo_elev.proofs.Histories.{noted_then, written_whole}
 use Rattle.geo_elev.proofs.elevator.Heads.note.Goals as goal
 
+-- the heads were those of the part of the log that was noted, and were brought to its end
 pub returns-in-Ok-clause-noted : goal.returns-in-Ok-clause-noted
 returns-in-Ok-clause-noted c =
     let same : c.deref_mut.result.now ≡ c.self.inside.disks.items = c.deref_mut.ensures.value in

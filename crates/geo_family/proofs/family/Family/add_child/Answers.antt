@@ -4,12 +4,14 @@ use Rattle.geo_family.proofs.ViewLemmas.{children_rise}
 use Rattle.geo_family.proofs.FamilyLemmas.{family-push_links}
 use Rattle.geo_family.proofs.family.Family.add_child.Goals as goal
 
+-- the new child has no parent, so it is nobody's neighbour and no parent's end
 pub invariant_of-self : goal.invariant_of-self
 invariant_of-self c =
     rw c.insert.ensures.inserted
     (family-push_links c.self.inside.links.rows c.self.inside.ends.rows c.self.invariant
     c.self.inside.links.next (record { parent = None; before = None; after = None }) refl refl refl)
 
+-- the children that show have the numbers of the links, which rise
 pub returns-clause-rising : goal.returns-clause-rising
 returns-clause-rising c =
     subst (λ v. IsRising 1 v.children v.next_child) c.self.view_is

@@ -2,6 +2,7 @@ use Rattle.std.proofs.Common.{refl, None}
 use Rattle.geo_family.proofs.FamilyLemmas.{family-push_ends}
 use Rattle.geo_family.proofs.family.Family.add_parent.Goals as goal
 
+-- the new parent has neither a first nor a last child, as a number that isn't a parent
 pub invariant_of-self : goal.invariant_of-self
 invariant_of-self c =
     rw c.insert.ensures.inserted

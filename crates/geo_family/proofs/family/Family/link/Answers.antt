@@ -10,6 +10,7 @@ last_below-before-requires-clause-apart c =
     (free_child c.args.child c.self.inside.links.rows (ap (λ v. value_at v.children c.args.child) c.self.view_is
     ∙ c.requires.free)).0
 
+-- it comes between its greatest sibling below and the one behind that; both, or the parent's ends, now name it
 pub invariant_of-self : goal.invariant_of-self
 invariant_of-self c =
     let free = free_child c.args.child c.self.inside.links.rows
@@ -22,6 +23,7 @@ invariant_of-self c =
     stands free.0 free.1 c.last_below-before.result c.last_below-before.ensures c.behind-after.result
     c.behind-after.ensures)
 
+-- neighbours and ends don't show, so what shows is the child's new parent alone
 pub returns : goal.returns
 returns c =
     rw (

@@ -4,6 +4,7 @@ use Rattle.geo_family.proofs.FamilyLemmas.{family-without_link}
 use Rattle.geo_family.proofs.ViewLemmas.{value_at-with_none, children-without, without-with_value}
 use Rattle.geo_family.proofs.family.Family.remove_child.Goals as goal
 
+-- it was unlinked, so it has no parent, and neither a sibling nor an end names it
 pub invariant_of-self : goal.invariant_of-self
 invariant_of-self c =
     let children = ap (λ v. v.children) (c.self.view_is ∙ c.unlink.ensures) in
@@ -11,6 +12,7 @@ invariant_of-self c =
     (family-without_link c.self.inside.links.rows c.self.inside.ends.rows c.self.invariant c.args.child
     (value_at-with_none c.args.child c.args.self.now.children c.self.inside.links.rows children))
 
+-- that the child was unlinked first doesn't show once it is gone
 pub returns : goal.returns
 returns c =
     let view = c.self.view_is ∙ c.unlink.ensures in

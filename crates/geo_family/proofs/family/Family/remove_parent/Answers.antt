@@ -4,6 +4,7 @@ use Rattle.geo_family.proofs.FamilyLemmas.{family-without_ends}
 use Rattle.geo_family.proofs.ViewLemmas.{childless, numbers-without}
 use Rattle.geo_family.proofs.family.Family.remove_parent.Goals as goal
 
+-- the parent has no child, so the ends that go with it name none
 pub invariant_of-self : goal.invariant_of-self
 invariant_of-self c =
     rw c.remove.ensures.removed

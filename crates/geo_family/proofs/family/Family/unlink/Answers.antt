@@ -3,6 +3,7 @@ use Rattle.geo_family.proofs.ViewLemmas.{children-relinked, children-kept, numbe
 use Rattle.geo_family.proofs.FamilyLemmas.{family-unlink, parent_there}
 use Rattle.geo_family.proofs.family.Family.unlink.Goals as goal
 
+-- the child has no parent, or isn't there at all, so it is off its parent already
 pub returns-in_default : goal.returns-in_default
 returns-in_default c =
     rw (
@@ -11,6 +12,7 @@ returns-in_default c =
           c.parent_at.ensures.rising (sym c.parent_at.ensures.parent ∙ c.in_default.is),
     ) refl
 
+-- the siblings on both sides become neighbours, and where there is none on a side that end moves
 pub invariant_of-self : goal.invariant_of-self
 invariant_of-self c =
     let under = sym c.parent_at.ensures.parent ∙ c.in-Some.is in
@@ -22,6 +24,7 @@ invariant_of-self c =
     stands under c.before_at-before.result c.after_at-after.result c.before_at-before.ensures
     c.after_at-after.ensures)
 
+-- neighbours and ends don't show, so what shows is that the child has no parent
 pub returns : goal.returns
 returns c =
     rw (

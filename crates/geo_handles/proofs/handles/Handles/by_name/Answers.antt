@@ -5,6 +5,7 @@ use Rattle.geo_handles.specs.Keys.{key_named, number_of_key}
 use Rattle.geo_handles.proofs.InsideLemmas.{found-number, found-handle, named-all, named-there}
 use Rattle.geo_handles.proofs.handles.Handles.by_name.Goals as goal
 
+-- the map finds just the number whose handle has the actor and the name, so no other passes
 pub returns-clause-number : goal.returns-clause-number
 returns-clause-number c =
     rw (← c.self.view_is)
@@ -15,6 +16,7 @@ returns-clause-number c =
     (named-all c.self.inside.inside c.self.invariant c.args.actor c.args.name.now)
     (named-there c.self.inside.inside c.self.invariant c.args.actor c.args.name.now))
 
+-- the number that is found has a handle, which is the one of the actor and the name
 pub returns-clause-handle : goal.returns-clause-handle
 returns-clause-handle c =
     rw (← c.self.view_is, c.number_named.ensures)

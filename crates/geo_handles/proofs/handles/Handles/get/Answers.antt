@@ -5,6 +5,7 @@ use Rattle.geo_handles.specs.Handles.{handle_seen}
 use Rattle.geo_handles.specs.Inside.{handle_row}
 use Rattle.geo_handles.proofs.handles.Handles.get.Goals as goal
 
+-- numbers differ, so the handle of the number is that of the row
 pub returns : goal.returns
 returns c =
     rw (← c.self.view_is)

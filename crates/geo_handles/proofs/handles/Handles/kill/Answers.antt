@@ -3,6 +3,7 @@ use Rattle.geo_handles.specs.Inside.{dead_one}
 use Rattle.geo_handles.proofs.InsideLemmas.{changes-held, held-none, held-change, inside-marked}
 use Rattle.geo_handles.proofs.handles.Handles.kill.Goals as goal
 
+-- a handle that dies keeps its name and its consumer, by which it is found
 pub invariant_of-self : goal.invariant_of-self
 invariant_of-self c =
     let held = changes-held c.self.inside.inside c.self.invariant c.args.consumer c.in-Some.id c.mark_dead.new.table
@@ -10,6 +11,7 @@ invariant_of-self c =
     inside-marked c.self.inside.inside _ c.self.invariant c.in-Some.id held.value (dead_one held.value) held.there
     held.table refl refl refl refl refl refl
 
+-- the consumer has one handle alone, the one that is found, so this is all that dies
 pub returns-in-Some : goal.returns-in-Some
 returns-in-Some c =
     let held = changes-held c.self.inside.inside c.self.invariant c.args.consumer c.in-Some.id c.mark_dead.new.table
@@ -21,6 +23,7 @@ returns-in-Some c =
           held.value (dead_one held.value) held.has held.there refl,
     ) refl
 
+-- no handle has the consumer, so none dies
 pub returns-in_default : goal.returns-in_default
 returns-in_default c =
     rw (

@@ -6,12 +6,14 @@ use Rattle.geo_handles.proofs.RowLemmas.{rows-few}
 use Rattle.geo_handles.proofs.InsideLemmas.{named-free, held-free, inside-opened}
 use Rattle.geo_handles.proofs.handles.Handles.open.Goals as goal
 
+-- there are fewer handles than numbers that were given out
 pub overflow_add-self : goal.overflow_add-self
 overflow_add-self c =
     let few = rows-few 1 c.self.inside.inside.table.next c.self.inside.inside.table.rows c.self.invariant.rising in
     let next = ap (λ v. v.next) c.insert-number.ensures.inserted in
     omega (arith, few, c.self.invariant.live, next, c.insert-number.ensures.bound)
 
+-- neither the name nor the consumer was found before, so both maps lead to the new number and the old stay
 pub invariant_of-self : goal.invariant_of-self
 invariant_of-self c =
     let room : 1 ≤ handle_room c.self.inside.inside = rw (← c.self.view_is) at c.requires.room in

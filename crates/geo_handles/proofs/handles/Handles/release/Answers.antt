@@ -3,6 +3,7 @@ use Rattle.geo_handles.specs.Inside.{reaped_one}
 use Rattle.geo_handles.proofs.InsideLemmas.{changes-held, held-by, held-none, held-change, inside-reaped}
 use Rattle.geo_handles.proofs.handles.Handles.release.Goals as goal
 
+-- the map forgets the consumer as its handle does, and both keep all others
 pub invariant_of-self : goal.invariant_of-self
 invariant_of-self c =
     let held = changes-held c.self.inside.inside c.self.invariant c.args.consumer c.in-Some.id
@@ -13,6 +14,7 @@ invariant_of-self c =
     (c.forget_consumer.ensures.finds q))
     refl refl refl refl
 
+-- the consumer has one handle alone, the one that is found, so no other is changed
 pub returns-in-Some-clause-released : goal.returns-in-Some-clause-released
 returns-in-Some-clause-released c =
     let held = changes-held c.self.inside.inside c.self.invariant c.args.consumer c.in-Some.id
@@ -24,6 +26,7 @@ returns-in-Some-clause-released c =
           c.in-Some.id held.value (reaped_one held.value) held.has held.there refl,
     ) refl
 
+-- no handle has the consumer, so none is changed
 pub returns-in_default-clause-released : goal.returns-in_default-clause-released
 returns-in_default-clause-released c =
     rw (

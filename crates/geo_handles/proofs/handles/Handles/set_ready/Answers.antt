@@ -5,12 +5,14 @@ use Rattle.geo_handles.proofs.NumberLemmas.{ready-set, relinked}
 use Rattle.geo_handles.proofs.InsideLemmas.{inside-noted, noted-there}
 use Rattle.geo_handles.proofs.handles.Handles.set_ready.Goals as goal
 
+-- the number was unlinked just before, so it has no parent
 pub link-requires-clause-free : goal.link-requires-clause-free
 link-requires-clause-free c =
     rw (c.unlink.ensures, c.number-number.ensures)
     (value_at-set c.args.id None c.self.inside.inside.ready.children
     (noted-there c.self.inside.inside c.self.invariant c.args.id (rw (← c.self.view_is) at c.requires)))
 
+-- each handle has its number among the notes still, whether that is linked or not
 pub invariant_of-self : goal.invariant_of-self
 invariant_of-self c =
     inside-noted c.self.inside.inside _ c.self.invariant refl refl refl refl c.args.id (Some 1)
@@ -24,6 +26,7 @@ invariant_of-self-else-ready c =
     (noted-there c.self.inside.inside c.self.invariant c.args.id (rw (← c.self.view_is) at c.requires))
     (rw (c.unlink.ensures, c.number-number.ensures) refl)
 
+-- Either way: a number is noted just where it is linked, and what was done last counts
 pub returns-then-ready : goal.returns-then-ready
 returns-then-ready c =
     rw (

@@ -3,6 +3,7 @@ use Rattle.geo_io.specs.MemSource.{Feed, after_read}
 use Rattle.geo_io.proofs.SourceLemmas.{fed, given, moved, tail_range}
 use Rattle.geo_io.proofs.mem_source.MemSourceSource.read.Goals as goal
 
+-- what was copied is the front of what was left, so it goes from the bytes left to those given
 pub returns-clause-bytes : goal.returns-clause-bytes
 returns-clause-bytes c =
     let within_room : c.min-count.result ≤ length c.args.out.now = omega (arith, c.min.ensures, c.min-count.ensures) in
@@ -22,6 +23,7 @@ returns-clause-bytes c =
           (omega (arith, c.min.ensures, c.min-count.ensures)) size c.copy_from_slice.ensures.after;
     }
 
+-- the place moves behind what was copied, and the call was counted
 pub returns-clause-fed : goal.returns-clause-fed
 returns-clause-fed c =
     fed c.self.inside.at c.min-count.result c.self.inside.calls c.saturating_add-self-inside.result

@@ -12,6 +12,7 @@ absorb-requires-clause-rule c = merges _ _ _ _ c.pass.invariant.1.live c.ended.i
 pub learn_as-requires-clause-rule : goal.learn_as-requires-clause-rule
 learn_as-requires-clause-rule c = learns _ _ (ap (λ v. v.live) c.absorb.ensures.rule ∙ c.pass.invariant.1.live)
 
+-- the pass 0 knows what the ended pass put, and that all it took of that sender is of these
 pub invariant_of-pass : goal.invariant_of-pass
 invariant_of-pass c = let l = c.learn_as.ensures in (
   l.queue.0.2 ∙ (c.absorb.ensures.queue.2 ∙ c.pass.invariant.0),
@@ -19,6 +20,7 @@ invariant_of-pass c = let l = c.learn_as.ensures in (
       (queue_view c.learn_as.new.pass) (l.queue.1 ∙ c.absorb.ensures.rule) (told_of _ _ l.queue.1 l.rule),
 )
 
+-- tickets of one sender are taken in the order in which it put them
 pub returns-clause-begins : goal.returns-clause-begins
 returns-clause-begins c = let l = c.learn_as.ensures in
     let begun = join_begins _ _ _ (queue_view c.pass.inside.pass) c.pass.invariant.1 (queue_view c.ended.inside.pass)

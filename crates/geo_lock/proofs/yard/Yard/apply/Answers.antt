@@ -8,10 +8,12 @@ use Rattle.geo_lock.proofs.Prefixes.{prefix_trans}
 use Rattle.geo_lock.proofs.Sounds.{claims_are, start_is, turned_sound, grown, makes, unmade, refused, sure, own_after}
 use Rattle.geo_lock.proofs.yard.Yard.apply.Goals as goal
 
+-- a pass that isn't in a turn holds no state, and has its claim
 pub enter-word-requires-clause-rests : goal.enter-word-requires-clause-rests
 enter-word-requires-clause-rests g c = let e = c.pass.invariant.1.me_is in
     (ap (λ m. m.1) e, (_, ap (λ m. get_elem? m.0.claims 0) e))
 
+-- the step added its entry with the number of the pass, or nothing
 pub leave-requires-clause-grows : goal.leave-requires-clause-grows
 leave-requires-clause-grows g c = let e = c.enter-word.ensures.turn in let m = c.apply_as-result.ensures in (
   _,
@@ -23,6 +25,7 @@ leave-requires-clause-grows g c = let e = c.enter-word.ensures.turn in let m = c
       (λ o. g.met.L.Logged.seat_is c.pass.inside.number c.args.step o) c.apply_as-result.result m.ok m.err),
 )
 
+-- the pass has seen the log that it left, in which its own entries are those with its number
 pub invariant_of-pass : goal.invariant_of-pass
 invariant_of-pass g c = let e = c.enter-word.ensures.turn in let m = c.apply_as-result.ensures in let f =
     c.enter-word.ensures.found in
@@ -36,6 +39,7 @@ invariant_of-pass g c = let e = c.enter-word.ensures.turn in let m = c.apply_as-
     (c.leave.ensures.turn
     ∙ ap (λ z. (out_of_turn g.L.Logged.seat_of z.0 (g.L.Logged.log c.apply_as-result.new.self), [])) e)
 
+-- what the pass had seen is the front of the log that it found, and that of the log that it left
 pub returns-clause-longer : goal.returns-clause-longer
 returns-clause-longer g c = let m = c.apply_as-result.ensures in let f = c.enter-word.ensures.found in
     rw (← c.pass.view_is, ap (λ z. z.0.seen) c.leave.ensures.turn)
@@ -44,6 +48,7 @@ returns-clause-longer g c = let m = c.apply_as-result.ensures in let f = c.enter
     (λ o. g.L.Logged.entry c.pass.inside.number c.args.step o) c.enter-word.result.1 c.apply_as-result.new.self
     (λ o. g.met.L.Logged.seat_is c.pass.inside.number c.args.step o) c.apply_as-result.result m.ok m.err).longer)
 
+-- the log that it found holds the same own entries as before, and the new one is behind them
 pub returns-clause-made : goal.returns-clause-made
 returns-clause-made g c = let m = c.apply_as-result.ensures in let f = c.enter-word.ensures.found in let n =
     ap (λ p. p.number) c.pass.view_is in
@@ -64,6 +69,7 @@ returns-clause-made g c = let m = c.apply_as-result.ensures in let f = c.enter-w
     ≡ g.L.Logged.log c.enter-word.result.1 ++ g.L.Logged.entry k c.args.step o ∷ [])) n m.ok)
     (λ w. m.answer w ∙ (λ i. g.L.Logged.answer (same i) (g.L.Logged.log c.enter-word.result.1) (n i) c.args.step))
 
+-- a refused step adds nothing, so the entries with the number of the pass are those before
 pub returns-clause-unmade : goal.returns-clause-unmade
 returns-clause-unmade g c = let f = c.enter-word.ensures.found in let n = ap (λ p. p.number) c.pass.view_is in
     let claims = claims_are g.L.Logged.lawful g.L.Logged.seat_of _ _ _ _ c.pass.invariant.1 in
@@ -75,6 +81,7 @@ returns-clause-unmade g c = let f = c.enter-word.ensures.found in let n = ap (λ
     c.leave.ensures.turn (ap (λ z. first_number z.0.claims) c.enter-word.ensures.turn ∙ (ap first_number claims ∙ n)))
     c.apply_as-result.result c.apply_as-result.ensures.err
 
+-- Both for a refusal: it adds nothing, so the state was asked with the log that the pass has seen now
 pub returns-clause-refused : goal.returns-clause-refused
 returns-clause-refused g c = let m = c.apply_as-result.ensures in let n = ap (λ p. p.number) c.pass.view_is in
     let same = c.enter-word.ensures.found.start_is c.args.self.now.start (ap (λ p. p.start) c.pass.view_is

@@ -4,6 +4,7 @@ use Rattle.geo_lock.specs.Pass.{claim_of}
 use Rattle.geo_lock.proofs.Closing.{split_first, close_all, close_result}
 use Rattle.geo_lock.proofs.yard.Yard.close_all.Goals as goal
 
+-- What joining asks: all passes are of the yard, and the first has number 0 and holds no state
 pub join_all-requires-clause-own : goal.join_all-requires-clause-own
 join_all-requires-clause-own g c = let is =
     split_first _ _ _ c.requires.some_pass c.remove.ensures.value c.remove.ensures.by_index.2 in
@@ -32,6 +33,7 @@ close_with-closed-requires g c = let is =
     ∙ (c.into_seat-seat.ensures.yard
     ∙ ((c.requires.of_yard 0 _ (ap (λ z. slice_get z 0) is)).0.yard ∙ sym (ap (λ z. z.yard) c.self.view_is)))
 
+-- all passes were joined and none has the turn, so the state is in its slot
 pub unreachable-requires : goal.unreachable-requires
 unreachable-requires g c = let is =
     split_first _ _ _ c.requires.some_pass c.remove.ensures.value c.remove.ensures.by_index.2 in
@@ -41,6 +43,7 @@ unreachable-requires g c = let is =
     c.take-left.ensures.value in
     c.in_default.not-Some t.0 t.1
 
+-- the joined claims say of each pass what its own entries are, and all entries are of these
 pub returns : goal.returns
 returns g c = let is = split_first _ _ _ c.requires.some_pass c.remove.ensures.value c.remove.ensures.by_index.2 in
     close_result g.L.Logged.start g.L.Logged.log g.L.Logged.lawful g.L.Logged.seat_of c.args.self

@@ -5,12 +5,14 @@ use Rattle.geo_mesh.proofs.RowLemmas.{rows_with-with_value}
 use Rattle.geo_mesh.proofs.MarkLemmas.{number_there, under-set, value_at-set, with_value-twice}
 use Rattle.geo_mesh.proofs.marks.Marks.set.Goals as goal
 
+-- the number was unlinked just before, so it has no parent
 pub link-requires-clause-free : goal.link-requires-clause-free
 link-requires-clause-free c =
     rw c.unlink.ensures
     (value_at-set c.args.number None c.self.inside.family.children
     (number_there c.args.number c.self.inside.family.children (rw (← c.self.view_is) at c.requires)))
 
+-- the number is linked to 1, the one parent that a number may have
 pub invariant_of-self : goal.invariant_of-self
 invariant_of-self c =
     rw (c.link.ensures, c.unlink.ensures, with_value-twice c.args.number None (Some 1) c.self.inside.family.children)
@@ -19,6 +21,7 @@ invariant_of-self c =
       under = under-set c.args.number (Some 1) c.self.inside.family.children refl c.self.invariant.under;
     })
 
+-- the number is unlinked: without a parent it has none but 1
 pub invariant_of-self-else-marked : goal.invariant_of-self-else-marked
 invariant_of-self-else-marked c =
     rw c.unlink.ensures
@@ -28,6 +31,7 @@ invariant_of-self-else-marked c =
           under-set c.args.number None c.self.inside.family.children tt c.self.invariant.under;
     })
 
+-- Either way: a number is marked just where it has a parent, and what was done last counts
 pub returns-then-marked : goal.returns-then-marked
 returns-then-marked c =
     rw (

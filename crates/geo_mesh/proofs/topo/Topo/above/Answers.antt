@@ -4,6 +4,7 @@ use Rattle.geo_mesh.proofs.GraphLemmas.{sound-graph}
 use Rattle.geo_mesh.proofs.IndexLemmas.{above_first}
 use Rattle.geo_mesh.proofs.topo.Topo.above.Goals as goal
 
+-- DEV's consumers stand under no provider in this part of the index, so its first child is the first above
 pub returns-clause-first : goal.returns-clause-first
 returns-clause-first g c =
     rw (

@@ -3,6 +3,7 @@ use Rattle.geo_mesh.proofs.SeenLemmas.{shows-consumer}
 use Rattle.geo_mesh.proofs.GraphLemmas.{sound-graph}
 use Rattle.geo_mesh.proofs.topo.Topo.consumer.Goals as goal
 
+-- Here and below: the graph, the counts and the requests show of a consumer what its cell has
 pub returns-clause-consumer : goal.returns-clause-consumer
 returns-clause-consumer g c =
     let shows = shows-consumer c.self.inside.tables c.args.self.now c.self.view_is c.number.result c.args.id

@@ -4,6 +4,7 @@ use Rattle.geo_mesh.proofs.GraphLemmas.{sound-graph}
 use Rattle.geo_mesh.proofs.IndexLemmas.{owned_first}
 use Rattle.geo_mesh.proofs.topo.Topo.consumer_of.Goals as goal
 
+-- the consumers of a geom are its children in the index, in the order of the graph
 pub returns-clause-first : goal.returns-clause-first
 returns-clause-first g c =
     rw (

@@ -4,6 +4,7 @@ use Rattle.geo_mesh.proofs.ViewLemmas.{without_consumer-view}
 use Rattle.geo_mesh.proofs.WholeParts.{whole-without_consumer}
 use Rattle.geo_mesh.proofs.topo.Topo.destroy_consumer.Goals as goal
 
+-- it was attached to nothing, so no rank stood on it; but what of its geom can go may be another now
 pub look_again-requires : goal.look_again-requires
 look_again-requires g c =
     rw (
@@ -17,6 +18,7 @@ look_again-requires g c =
     c.in-Some.ensures.rising (sym c.in-Some.ensures.value)
     (rw (← c.self.view_is, ← c.number.ensures) at c.requires))
 
+-- no consumer had the number, so taking it away takes nothing
 pub invariant_of-self-in_default : goal.invariant_of-self-in_default
 invariant_of-self-in_default g c =
     rw (
@@ -25,6 +27,7 @@ invariant_of-self-in_default g c =
     )
     c.self.invariant
 
+-- the row is taken away wherever it shows, and looking again changes a mark alone, which doesn't show
 pub returns-in-Some : goal.returns-in-Some
 returns-in-Some g c =
     c.look_again.ensures.same

@@ -7,6 +7,7 @@ use Rattle.geo_mesh.proofs.ViewLemmas.{without_geom-view}
 use Rattle.geo_mesh.proofs.WholeParts.{whole-without_geom}
 use Rattle.geo_mesh.proofs.topo.Topo.destroy_geom.Goals as goal
 
+-- Here and below: the index is that of the graph, where the geom has neither provider nor consumer
 pub remove_geom-requires-clause-no_provider : goal.remove_geom-requires-clause-no_provider
 remove_geom-requires-clause-no_provider g c =
     offered_none (graph c.self.inside.tables) c.self.inside.tables.edges.index c.self.invariant.tables.indexed
@@ -19,6 +20,7 @@ remove_geom-requires-clause-no_consumer g c =
     c.number-in-Some.result
     (rw (← c.self.view_is, ← c.number-in-Some.ensures) at c.requires.no_consumer)
 
+-- no part names the geom and it isn't DEV or TASTE, so without it all that is left stands as it stood
 pub invariant_of-self : goal.invariant_of-self
 invariant_of-self g c =
     rw (
@@ -37,6 +39,7 @@ invariant_of-self g c =
     (subst (λ k. c.remove-in-Some-2.new.self ≡ record c.self.inside.tables.notes.named { rows = without c.self.inside.tables.notes.named.rows k; room = c.remove-in-Some-2.new.self.room }) (c.number-in-Some-3.ensures ∙ sym c.number.ensures) c.remove-in-Some-2.ensures.removed)
     c.remove-in-Some-2.ensures.room)
 
+-- no geom had the number, so taking it away takes nothing
 pub invariant_of-self-in_default : goal.invariant_of-self-in_default
 invariant_of-self-in_default g c =
     rw (
@@ -45,6 +48,7 @@ invariant_of-self-in_default g c =
     )
     c.self.invariant
 
+-- Whether there was a geom or not, its row and its scratch are gone; the count of geoms shows in the room alone
 pub returns-in-Some-clause-removed : goal.returns-in-Some-clause-removed
 returns-in-Some-clause-removed g c =
     rw (← c.self.view_is, ← c.number.ensures, c.remove.ensures.removed)

@@ -7,6 +7,7 @@ use Rattle.geo_mesh.proofs.ViewLemmas.{without_provider-view}
 use Rattle.geo_mesh.proofs.WholeParts.{whole-without_provider}
 use Rattle.geo_mesh.proofs.topo.Topo.destroy_provider.Goals as goal
 
+-- Here and below: no consumer is attached to it, so the index has none under it, of DEV or of others
 pub remove_provider-requires-clause-none : goal.remove_provider-requires-clause-none
 remove_provider-requires-clause-none g c =
     attached_none (graph c.self.inside.tables) c.self.inside.tables.edges.index c.self.invariant.tables.indexed
@@ -17,6 +18,7 @@ remove_provider-requires-clause-none_above g c =
     above_none (graph c.self.inside.tables) c.self.inside.tables.edges.index c.self.invariant.tables.indexed
     c.number-in-Some-2.result (rw (← c.self.view_is, ← c.number-in-Some-2.ensures) at c.requires)
 
+-- no consumer is attached to it, so no rank stood on it, and it is its geom's mark alone that may be wrong
 pub look_again-requires : goal.look_again-requires
 look_again-requires g c =
     rw (
@@ -39,6 +41,7 @@ look_again-requires g c =
     (c.remove-in-Some.ensures.room _ c.self.invariant.tables.names_room)
     (rw (← c.self.view_is, ← c.number.ensures) at c.requires))
 
+-- no provider had the number, so taking it away takes nothing
 pub invariant_of-self-in_default : goal.invariant_of-self-in_default
 invariant_of-self-in_default g c =
     rw (
@@ -47,6 +50,7 @@ invariant_of-self-in_default g c =
     )
     c.self.invariant
 
+-- the row is taken away wherever it shows, and looking again changes a mark alone, which doesn't show
 pub returns-in-Some : goal.returns-in-Some
 returns-in-Some g c =
     c.look_again.ensures.same

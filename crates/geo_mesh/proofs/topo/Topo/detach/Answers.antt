@@ -16,11 +16,13 @@ use Rattle.geo_mesh.proofs.topo.Topo.detach.Goals as goal
 pub consumer_mut-cell-requires : goal.consumer_mut-cell-requires
 consumer_mut-cell-requires g c = rw (← c.self.view_is) at c.requires.lives
 
+-- the consumer is attached, so its cell names a provider
 pub unreachable-requires : goal.unreachable-requires
 unreachable-requires g c =
     bound-at c.self.inside.tables.geoms c.self.inside.tables.edges c.args.cons c.consumer_mut-cell.result.now
     (rw (← c.self.view_is) at c.requires.attached) (sym c.consumer_mut-cell.ensures.cell) c.in_default.is
 
+-- no rank is above 2^32 - 1, since there are fewer geoms
 pub overflow_add-stored : goal.overflow_add-stored
 overflow_add-stored g c =
     let few : stored c.self.inside.tables.geoms c.owner-under.result ≤ 4294967295 =
@@ -29,11 +31,13 @@ overflow_add-stored g c =
     let fits : c.stored.result ≤ 4294967295 = omega (arith, c.stored.ensures) in
     search rules
 
+-- it stands one above another in rank, so it isn't DEV or TASTE, in whose cells 1 stands
 pub lower-requires-clause-later : goal.lower-requires-clause-later
 lower-requires-clause-later g c =
     above-later c.self.inside.tables.geoms c.self.inside.tables.edges c.self.inside.tables.live c.self.invariant.ranks
     c.owner-under.result c.number-upper.result c.stored.ensures c.stored-2.ensures c.if-stored.true
 
+-- with an edge less there is still no loop, and the index is that of the graph without the edge
 pub lower-requires-clause-walkable : goal.lower-requires-clause-walkable
 lower-requires-clause-walkable g c =
     let later = subst (λ x. is_dev_or_taste x ≡ false) c.number-upper.ensures (lower-requires-clause-later g c) in
@@ -53,6 +57,7 @@ lower-requires-clause-walkable g c =
     (detached_index c.self.inside.tables.edges.index c.args.cons)
     (kin-of c.self.inside.tables.geoms _ orderly indexed))
 
+-- the consumer's geom stands, whatever the consumer is attached to
 pub lower-requires-clause-lives : goal.lower-requires-clause-lives
 lower-requires-clause-lives g c =
     rw c.number-upper.ensures
@@ -60,6 +65,7 @@ lower-requires-clause-lives g c =
     c.self.invariant.ranks c.args.cons c.in-Some.prov c.consumer_mut-cell.result.now
     c.consumer_mut-cell.ensures.rising (sym c.consumer_mut-cell.ensures.cell))
 
+-- with an edge less no rank has become too small
 pub lower-requires-clause-enough : goal.lower-requires-clause-enough
 lower-requires-clause-enough g c =
     let later = subst (λ x. is_dev_or_taste x ≡ false) c.number-upper.ensures (lower-requires-clause-later g c) in
@@ -67,6 +73,7 @@ lower-requires-clause-enough g c =
     c.self.invariant.ranks c.args.cons c.in-Some.prov c.consumer_mut-cell.result.now
     c.consumer_mut-cell.ensures.rising (sym c.consumer_mut-cell.ensures.cell) c.in-Some.is later
 
+-- the upper geom is lowered where its rank may stand on the edge; else another geom below holds it up
 pub look_again-requires : goal.look_again-requires
 look_again-requires g c =
     elim c.if-stored.branch [
@@ -101,6 +108,7 @@ look_again-requires g c =
           ) e))))
     ]
 
+-- lowered ranks and the mark don't show, so either way the mesh is that in which the consumer's cell names no provider
 pub returns : goal.returns
 returns g c =
     c.look_again.ensures.same

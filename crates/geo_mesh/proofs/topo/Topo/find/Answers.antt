@@ -2,6 +2,7 @@ use Rattle.std.proofs.Common.{refl, rules}
 use Rattle.geo_mesh.proofs.ViewLemmas.{find-names}
 use Rattle.geo_mesh.proofs.topo.Topo.find.Goals as goal
 
+-- the names keep the one provider of the name without an error, which is what the model finds
 pub returns-in-Some : goal.returns-in-Some
 returns-in-Some g c =
     rw (
@@ -12,6 +13,7 @@ returns-in-Some g c =
       ← c.in-Some.ensures,
     ) refl
 
+-- no provider of the name is without an error, so the model takes the youngest of the name, as the names do
 pub returns-in-None : goal.returns-in-None
 returns-in-None g c =
     rw (

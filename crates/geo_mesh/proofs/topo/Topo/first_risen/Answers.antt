@@ -6,6 +6,7 @@ use Rattle.geo_mesh.proofs.GraphLemmas.{sound-graph}
 use Rattle.geo_mesh.proofs.MarkLemmas.{first-of_all}
 use Rattle.geo_mesh.proofs.topo.Topo.first_risen.Goals as goal
 
+-- the marks are the notes, so from 0 on the least number with a mark is the first with a note
 pub returns-clause-first : goal.returns-clause-first
 returns-clause-first g c =
     let first = ap (λ rows. first_marked rows 0) c.self.invariant.tables.notes.risen

@@ -3,6 +3,7 @@ use Rattle.geo_mesh.proofs.ViewLemmas.{geom_at-view}
 use Rattle.geo_mesh.proofs.GraphLemmas.{sound-graph}
 use Rattle.geo_mesh.proofs.topo.Topo.geom.Goals as goal
 
+-- the graph has a geom under a number just where a cell stands there, and shows what the cell has
 pub returns-clause-geom : goal.returns-clause-geom
 returns-clause-geom g c =
     rw (

@@ -2,6 +2,7 @@ use Rattle.std.proofs.Common.{rules}
 use Rattle.geo_mesh.proofs.ViewLemmas.{is_errored-rows}
 use Rattle.geo_mesh.proofs.topo.Topo.is_errored.Goals as goal
 
+-- numbers rise, so one provider at most has the number, and its cell says whether it carries an error
 pub returns : goal.returns
 returns g c =
     rw (

@@ -4,6 +4,7 @@ use Rattle.geo_mesh.specs.Cells.{provider_row}
 use Rattle.geo_mesh.proofs.ViewLemmas.{name_taken}
 use Rattle.geo_mesh.proofs.topo.Topo.is_name_taken.Goals as goal
 
+-- the names keep a provider without an error for each name that one has, and for no other
 pub returns : goal.returns
 returns g c =
     rw (← c.self.view_is)

@@ -2,6 +2,7 @@ use Rattle.std.proofs.Common.{◌≤◌, ap, refl, arith, rules}
 use Rattle.geo_mesh.proofs.FirstGraph.{orderly-first, first_ranks}
 use Rattle.geo_mesh.proofs.topo.Topo.new.Goals as goal
 
+-- DEV and TASTE alone, with rank 1 and nothing below: all is empty but for their two rows, names and marks
 pub invariant_of-result : goal.invariant_of-result
 invariant_of-result g c =
     let few : c.reserve.new.self.spare ≤ 2 = rw c.new-geoms.ensures at c.reserve.ensures.no_more in

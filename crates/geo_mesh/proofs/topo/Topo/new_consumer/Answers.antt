@@ -7,6 +7,7 @@ use Rattle.geo_mesh.proofs.ViewLemmas.{with_consumer-view, roomier-view, roomier
 use Rattle.geo_mesh.proofs.WholeParts.{whole-new_consumer}
 use Rattle.geo_mesh.proofs.topo.Topo.new_consumer.Goals as goal
 
+-- Each way out: room was asked for consumers alone, so that of geoms and providers is as it was
 pub returns-in_err-reserve-clause-other_room : goal.returns-in_err-reserve-clause-other_room
 returns-in_err-reserve-clause-other_room g c =
     room-consumers c.self.inside.tables c.reserve.new.self c.self.view_is c.reserve.ensures.same _
@@ -19,6 +20,7 @@ returns-clause-other_room g c =
     (room-consumers c.self.inside.tables c.reserve.new.self c.self.view_is c.reserve.ensures.same _
     c.reserve.ensures.geoms_most c.reserve.ensures.providers_most)
 
+-- with more room the graph is the same, so the geom stands, and the index has it as a parent
 pub add_consumer-requires-clause-geom : goal.add_consumer-requires-clause-geom
 add_consumer-requires-clause-geom g c =
     let graph_is = roomier-graph c.self.inside.tables c.reserve.new.self c.self.view_is c.reserve.ensures.same in
@@ -27,6 +29,7 @@ add_consumer-requires-clause-geom g c =
     c.reserve.ensures.whole.tables.indexed c.args.geom
     (subst (λ g. IsSome (geom_at g c.args.geom)) (sym graph_is) c.requires))
 
+-- a consumer that is attached to nothing raises no rank; it may give its geom something that can go
 pub look_again-requires : goal.look_again-requires
 look_again-requires g c =
     let graph_is = roomier-graph c.self.inside.tables c.reserve.new.self c.self.view_is c.reserve.ensures.same in
@@ -35,6 +38,7 @@ look_again-requires g c =
     (subst (λ g. IsSome (geom_at g c.args.geom)) (sym graph_is) c.requires)
     (rw c.insert-number.ensures.inserted at c.insert-number.ensures.bound))
 
+-- the mesh with more room is the old one but for the room, and the new row is its last
 pub returns-clause-added : goal.returns-clause-added
 returns-clause-added g c =
     subst (λ v. IsButForRoom v (with_consumer c.args.self.now c.args.geom)) (sym c.look_again.ensures.same)

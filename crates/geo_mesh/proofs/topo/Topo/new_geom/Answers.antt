@@ -4,6 +4,7 @@ use Rattle.geo_mesh.proofs.ViewLemmas.{room-geoms}
 use Rattle.geo_mesh.proofs.WholeParts.{whole-new_geom}
 use Rattle.geo_mesh.proofs.topo.Topo.new_geom.Goals as goal
 
+-- Each way out: room was asked for geoms alone, so that of providers and consumers is as it was
 pub returns-in_err-reserve-clause-other_room : goal.returns-in_err-reserve-clause-other_room
 returns-in_err-reserve-clause-other_room g c =
     room-geoms c.self.inside.tables c.reserve.new.self c.self.view_is c.reserve.ensures.same _
@@ -14,6 +15,7 @@ returns-clause-other_room g c =
     room-geoms c.self.inside.tables c.reserve.new.self c.self.view_is c.reserve.ensures.same _
     c.reserve.ensures.providers_most c.reserve.ensures.consumers_most
 
+-- nothing is below the new geom, so its rank is 1, and nothing is above it; there is place for one more
 pub invariant_of-self-2 : goal.invariant_of-self-2
 invariant_of-self-2 g c =
     rw (c.insert-number.ensures.inserted, c.add_geom.ensures, c.add.ensures, c.new_cell.ensures)

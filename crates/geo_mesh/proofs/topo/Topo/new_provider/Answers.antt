@@ -29,6 +29,7 @@ made_provider geom name size sector = record {
   scratch = no_scratch;
 }
 
+-- Each way out: room was asked for providers alone, so that of geoms and consumers is as it was
 pub returns-in_err-reserve-clause-other_room : goal.returns-in_err-reserve-clause-other_room
 returns-in_err-reserve-clause-other_room g c =
     room-providers c.self.inside.tables c.reserve.new.self c.self.view_is c.reserve.ensures.same _
@@ -39,6 +40,7 @@ returns-clause-other_room g c =
     room-providers c.self.inside.tables c.reserve.new.self c.self.view_is c.reserve.ensures.same _
     c.reserve.ensures.geoms_most c.reserve.ensures.consumers_most
 
+-- with more room the graph is the same, so the geom stands, and the index has it as a parent
 pub add_provider-requires-clause-geom : goal.add_provider-requires-clause-geom
 add_provider-requires-clause-geom g c =
     let graph_is = roomier-graph c.self.inside.tables c.reserve.new.self c.self.view_is c.reserve.ensures.same in
@@ -47,6 +49,7 @@ add_provider-requires-clause-geom g c =
     c.reserve.ensures.whole.tables.indexed c.args.geom
     (subst (λ g. IsSome (geom_at g c.args.geom)) (sym graph_is) c.requires.lives))
 
+-- the name is free, so names still differ; the geom doesn't wither, so it needs no mark though the provider can go
 pub invariant_of-self-2 : goal.invariant_of-self-2
 invariant_of-self-2 g c =
     let graph_is = roomier-graph c.self.inside.tables c.reserve.new.self c.self.view_is c.reserve.ensures.same in
@@ -71,6 +74,7 @@ invariant_of-self-2 g c =
     rising
     (sym (is_withering-rows c.args.geom 1 c.reserve.new.self.geoms.next c.reserve.new.self.geoms.rows rising) ∙ stays))
 
+-- the mesh with more room is the old one but for the room, and the new row is its last
 pub returns-clause-added : goal.returns-clause-added
 returns-clause-added g c =
     rw (← c.self.view_is, c.insert-number.ensures.inserted)

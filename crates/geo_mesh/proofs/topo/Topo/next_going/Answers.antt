@@ -7,6 +7,7 @@ use Rattle.geo_mesh.proofs.GraphLemmas.{sound-graph}
 use Rattle.geo_mesh.proofs.GoingRows.{first-going, free-rows}
 use Rattle.geo_mesh.proofs.topo.Topo.next_going.Goals as goal
 
+-- the marks are those of the withering geoms of which something can go, in the order of the geoms
 pub returns-clause-first : goal.returns-clause-first
 returns-clause-first g c =
     let kin = kin-of c.self.inside.tables.geoms c.self.inside.tables.edges c.self.invariant.graph

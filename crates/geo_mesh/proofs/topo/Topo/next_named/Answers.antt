@@ -6,6 +6,7 @@ use Rattle.geo_mesh.proofs.topo.Topo.next_named.Goals as goal
 pub first_of-requires : goal.first_of-requires
 first_of-requires g c = c.self.invariant.tables.notes.named
 
+-- the first row of the class and the name, seen as a geom of the graph
 pub returns-clause-first : goal.returns-clause-first
 returns-clause-first g c =
     rw (

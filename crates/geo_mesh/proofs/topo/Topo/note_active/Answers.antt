@@ -8,6 +8,7 @@ use Rattle.geo_mesh.proofs.topo.Topo.note_active.Goals as goal
 pub consumer_mut-cell-requires : goal.consumer_mut-cell-requires
 consumer_mut-cell-requires g c = rw (← c.self.view_is) at c.requires.lives
 
+-- a request more changes neither graph nor rank, but the consumer may not be free to go any longer
 pub look_again-requires : goal.look_again-requires
 look_again-requires g c =
     rw c.number-geom.ensures
@@ -15,6 +16,7 @@ look_again-requires g c =
     c.consumer_mut-cell.ensures.rising c.consumer_mut-cell.ensures.cell
     (record { geom = refl; provider = refl }))
 
+-- looking again changes a mark alone, which doesn't show; the cell's count does
 pub returns : goal.returns
 returns g c =
     c.look_again.ensures.same
@@ -22,6 +24,7 @@ returns g c =
     (note_active-view c.self.inside.tables c.args.cons c.consumer_mut-cell.result.now c.consumer_mut-cell.ensures.rising
     c.consumer_mut-cell.ensures.cell))
 
+-- the count in the cell is the one that shows, which the caller keeps small
 pub overflow_add-cell : goal.overflow_add-cell
 overflow_add-cell g c =
     let few : c.consumer_mut-cell.result.now.consumer.active < 2 ^ 63 =

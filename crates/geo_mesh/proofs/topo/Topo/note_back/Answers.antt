@@ -8,6 +8,7 @@ use Rattle.geo_mesh.proofs.topo.Topo.note_back.Goals as goal
 pub consumer_mut-cell-requires : goal.consumer_mut-cell-requires
 consumer_mut-cell-requires g c = rw (← c.self.view_is) at c.requires.lives
 
+-- a request less changes neither graph nor rank, but the consumer may be free to go now
 pub look_again-requires : goal.look_again-requires
 look_again-requires g c =
     rw c.number-geom.ensures
@@ -15,6 +16,7 @@ look_again-requires g c =
     c.consumer_mut-cell.ensures.rising c.consumer_mut-cell.ensures.cell
     (record { geom = refl; provider = refl }))
 
+-- looking again changes a mark alone, which doesn't show; the cell's count does
 pub returns : goal.returns
 returns g c =
     c.look_again.ensures.same
@@ -22,6 +24,7 @@ returns g c =
     (note_back-view c.self.inside.tables c.args.cons c.consumer_mut-cell.result.now c.consumer_mut-cell.ensures.rising
     c.consumer_mut-cell.ensures.cell))
 
+-- the count in the cell is the one that shows, of which the caller says that it isn't 0
 pub overflow_sub-cell : goal.overflow_sub-cell
 overflow_sub-cell g c =
     rw (

@@ -12,12 +12,14 @@ returns g c =
     (note_started-view c.self.inside.tables c.args.geom c.geom_mut.result.now c.geom_mut.ensures.rising
     c.geom_mut.ensures.cell)
 
+-- names, ranks and marks don't read how many requests a geom started
 pub invariant_of-self : goal.invariant_of-self
 invariant_of-self g c =
     whole-geom_cell c.self.inside.tables c.self.invariant c.args.geom c.geom_mut.result.now _
     c.geom_mut.ensures.rising c.geom_mut.ensures.cell
     (record { kind = refl; name = refl; rank = refl }) refl
 
+-- the count in the cell is the one that the graph shows, which the caller keeps small
 pub overflow_add-geom_mut : goal.overflow_add-geom_mut
 overflow_add-geom_mut g c =
     let few : c.geom_mut.result.now.geom.started < 2 ^ 63 =

@@ -3,6 +3,7 @@ use Rattle.geo_mesh.proofs.SeenLemmas.{shows-provider}
 use Rattle.geo_mesh.proofs.GraphLemmas.{sound-graph}
 use Rattle.geo_mesh.proofs.topo.Topo.provider.Goals as goal
 
+-- Here and below: the graph, the counts and the notes show of a provider what its cell has
 pub returns-clause-provider : goal.returns-clause-provider
 returns-clause-provider g c =
     let shows = shows-provider c.self.inside.tables c.args.self.now c.self.view_is c.number.result c.args.id

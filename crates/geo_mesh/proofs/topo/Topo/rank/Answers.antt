@@ -16,6 +16,7 @@ pub rank_from-rank-requires-clause-few : goal.rank_from-rank-requires-clause-few
 rank_from-rank-requires-clause-few g c =
     mesh-few c.self.inside.tables.geoms c.self.inside.tables.edges c.self.inside.tables.live c.self.invariant.ranks
 
+-- a rank is at most one more than the number of geoms, of which there are fewer than 2^32
 pub overflow_cast-result : goal.overflow_cast-result
 overflow_cast-result g c =
     let most : rank_from (stored c.self.inside.tables.geoms) c.self.inside.tables.edges c.number-in-Some.result
@@ -33,6 +34,7 @@ overflow_cast-result g c =
     ) in
     search rules
 
+-- each rank in a cell is one more than the highest below, as in the model; DEV's and TASTE's are found so
 pub returns-in-Some-clause-rank : goal.returns-in-Some-clause-rank
 returns-in-Some-clause-rank g c =
     let here : rank (graph c.self.inside.tables) c.number-in-Some.result ≡ c.rank_from-rank.result =
@@ -49,6 +51,7 @@ returns-in-Some-clause-rank g c =
       ← c.in-Some.ensures.value,
     ) (ap (λ (n : ℕ). Some n) (sym (rw (← same) at here)))
 
+-- no cell stands under the number, so the graph has no geom there either
 pub returns-in-None-clause-rank : goal.returns-in-None-clause-rank
 returns-in-None-clause-rank g c =
     rw (

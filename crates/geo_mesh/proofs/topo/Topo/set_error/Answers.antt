@@ -16,6 +16,7 @@ returns g c =
     (set_error-view c.self.inside.tables c.args.prov c.provider_mut.result.now c.provider_mut.ensures.rising
     c.provider_mut.ensures.cell)
 
+-- the names gave the provider up before it carries the error; the cell that was read is the one that is changed
 pub invariant_of-self : goal.invariant_of-self
 invariant_of-self g c =
     let cell : c.provider.result.now ≡ c.provider_mut.result.now =

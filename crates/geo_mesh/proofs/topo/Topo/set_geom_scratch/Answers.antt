@@ -12,6 +12,7 @@ returns g c =
     (set_geom_scratch-view c.self.inside.tables c.args.geom c.args.scratch c.geom_mut.result.now
     c.geom_mut.ensures.rising c.geom_mut.ensures.cell)
 
+-- the scratch is read by nothing that a mesh keeps
 pub invariant_of-self : goal.invariant_of-self
 invariant_of-self g c =
     whole-geom_cell c.self.inside.tables c.self.invariant c.args.geom c.geom_mut.result.now _

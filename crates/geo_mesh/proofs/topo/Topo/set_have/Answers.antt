@@ -12,6 +12,7 @@ returns g c =
     (set_have-view c.self.inside.tables c.args.prov c.args.have c.provider_mut.result.now
     c.provider_mut.ensures.rising c.provider_mut.ensures.cell)
 
+-- a provider's counts are read by nothing that a mesh keeps
 pub invariant_of-self : goal.invariant_of-self
 invariant_of-self g c =
     whole-provider_cell c.self.inside.tables c.self.invariant c.args.prov c.provider_mut.result.now _

@@ -9,6 +9,7 @@ use Rattle.geo_mesh.proofs.topo.Topo.set_noted.Goals as goal
 pub provider_mut-cell-requires : goal.provider_mut-cell-requires
 provider_mut-cell-requires g c = rw (← c.self.view_is) at c.requires
 
+-- Here and below: the marks have the providers' numbers, and this provider lives
 pub set-requires : goal.set-requires
 set-requires g c =
     rw (
@@ -33,6 +34,7 @@ returns g c =
     (set_noted-view c.self.inside.tables c.args.prov c.args.risen c.args.fallen c.provider_mut-cell.result.now
     c.provider_mut-cell.ensures.rising c.provider_mut-cell.ensures.cell)
 
+-- the marks of this provider are set to what its cell says, and what else is read of the cell stays
 pub invariant_of-self : goal.invariant_of-self
 invariant_of-self g c =
     rw (c.set.ensures, c.set-2.ensures, c.number.ensures, c.number-2.ensures)

@@ -16,6 +16,7 @@ returns g c =
     (set_size-view c.self.inside.tables c.args.prov c.args.size c.provider_mut.result.now
     c.provider_mut.ensures.rising c.provider_mut.ensures.cell)
 
+-- the new size is one that a provider of this sector size may have; nothing else that is kept reads it
 pub invariant_of-self : goal.invariant_of-self
 invariant_of-self g c =
     let found : provider_at (graph c.self.inside.tables) c.args.prov

@@ -12,6 +12,7 @@ returns g c =
     (set_spoiled-view c.self.inside.tables c.args.cons c.args.marked c.consumer_mut.result.now
     c.consumer_mut.ensures.rising c.consumer_mut.ensures.cell)
 
+-- whether a consumer is spoiled is read by nothing that a mesh keeps
 pub invariant_of-self : goal.invariant_of-self
 invariant_of-self g c =
     whole-consumer_cell c.self.inside.tables c.self.invariant c.args.cons c.consumer_mut.result.now _

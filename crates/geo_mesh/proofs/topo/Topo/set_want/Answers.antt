@@ -6,6 +6,7 @@ use Rattle.geo_mesh.proofs.topo.Topo.set_want.Goals as goal
 pub consumer_mut-cell-requires : goal.consumer_mut-cell-requires
 consumer_mut-cell-requires g c = rw (← c.self.view_is) at c.requires
 
+-- counts change neither graph nor rank, but whether the consumer is free to go
 pub look_again-requires : goal.look_again-requires
 look_again-requires g c =
     rw c.number-geom.ensures
@@ -13,6 +14,7 @@ look_again-requires g c =
     c.consumer_mut-cell.ensures.rising c.consumer_mut-cell.ensures.cell
     (record { geom = refl; provider = refl }))
 
+-- looking again changes a mark alone, which doesn't show; the cell's counts do
 pub returns : goal.returns
 returns g c =
     c.look_again.ensures.same

@@ -6,6 +6,7 @@ use Rattle.geo_mesh.proofs.topo.Topo.set_withering.Goals as goal
 pub geom_mut-requires : goal.geom_mut-requires
 geom_mut-requires g c = rw (← c.self.view_is) at c.requires
 
+-- that the geom withers concerns its own mark alone, which it may now need
 pub look_again-requires : goal.look_again-requires
 look_again-requires g c =
     rw c.number.ensures
@@ -14,6 +15,7 @@ look_again-requires g c =
     c.geom_mut.ensures.rising c.geom_mut.ensures.cell
     (record { kind = refl; name = refl; rank = refl }) refl)
 
+-- looking again changes a mark alone, which doesn't show; that the geom withers does
 pub returns : goal.returns
 returns g c =
     c.look_again.ensures.same

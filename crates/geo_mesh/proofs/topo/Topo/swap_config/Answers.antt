@@ -6,6 +6,7 @@ use Rattle.geo_mesh.proofs.topo.Topo.swap_config.Goals as goal
 pub geom_mut-cell-requires : goal.geom_mut-cell-requires
 geom_mut-cell-requires g c = rw (← c.self.view_is) at c.requires
 
+-- what stood in the cell is the configuration that the graph shows
 pub returns-clause-old : goal.returns-clause-old
 returns-clause-old g c =
     rw (
@@ -21,6 +22,7 @@ returns-clause-swapped g c =
     (swap_config-view c.self.inside.tables c.args.geom c.args.config c.geom_mut-cell.result.now
     c.geom_mut-cell.ensures.rising c.geom_mut-cell.ensures.cell)
 
+-- the configuration is read by nothing that a mesh keeps
 pub invariant_of-self : goal.invariant_of-self
 invariant_of-self g c =
     rw c.replace.ensures.after

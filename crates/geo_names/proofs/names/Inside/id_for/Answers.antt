@@ -4,6 +4,7 @@ use Rattle.geo_names.specs.Inside.{id_of}
 use Rattle.geo_names.proofs.Texts.{inside-opened, rows-opened}
 use Rattle.geo_names.proofs.names.Inside.id_for.Goals as goal
 
+-- the name had no id, and the new one is the next, so ids and names are still each other's
 pub returns-clause-inside : goal.returns-clause-inside
 returns-clause-inside c =
     let updates =
@@ -15,6 +16,7 @@ returns-clause-inside c =
     (ap (λ v. v.children) c.add_parent.ensures.added)
     (λ q. rw (← c.insert-id.ensures.number) (updates.0 (record { 0 = q })))
 
+-- no number stands under an id that was just given, so each one keeps its name
 pub returns-clause-rows : goal.returns-clause-rows
 returns-clause-rows c =
     rows-opened c.args.self.now (record {

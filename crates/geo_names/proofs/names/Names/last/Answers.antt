@@ -2,6 +2,7 @@ use Rattle.std.proofs.Common.{sym, ◌∙◌}
 use Rattle.geo_names.proofs.Texts.{last-found, last-missing}
 use Rattle.geo_names.proofs.names.Names.last.Goals as goal
 
+-- the numbers of a name are the children of its id; without an id there are none
 pub returns-in-Some : goal.returns-in-Some
 returns-in-Some c =
     rw (← c.self.view_is)

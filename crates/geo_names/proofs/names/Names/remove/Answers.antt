@@ -2,6 +2,7 @@ use Rattle.std.proofs.Common.{refl}
 use Rattle.geo_names.proofs.Texts.{under-without, rows-without}
 use Rattle.geo_names.proofs.names.Names.remove.Goals as goal
 
+-- ids and names are as before, and the numbers that are left stand where they stood
 pub close-requires : goal.close-requires
 close-requires c =
     rw c.remove_child.ensures (record {
@@ -13,6 +14,7 @@ close-requires c =
           c.self.invariant.under;
     })
 
+-- the number goes with its row; closing the name changes no row
 pub returns-clause-removed : goal.returns-clause-removed
 returns-clause-removed c =
     rw (

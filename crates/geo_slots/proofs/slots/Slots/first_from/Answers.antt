@@ -2,6 +2,7 @@ use Rattle.std.proofs.Common.{◌<◌, ◌^◌, arith, subst}
 use Rattle.geo_slots.proofs.IndexLemmas.{first_of_keys, rising_rows}
 use Rattle.geo_slots.proofs.slots.Slots.first_from.Goals as goal
 
+-- rows without a key come behind all others, so the first row from the number on tells
 pub returns-clause-first : goal.returns-clause-first
 returns-clause-first g c =
     rw (← c.self.view_is, ← first_of_keys _ _ _ _ c.args.number c.self.invariant) c.first_keyed.ensures

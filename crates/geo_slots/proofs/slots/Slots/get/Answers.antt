@@ -2,6 +2,7 @@ use Rattle.std.proofs.Common.{◌<◌, ◌^◌, refl, arith, subst}
 use Rattle.geo_slots.proofs.IndexLemmas.{value_of_key, rising_rows}
 use Rattle.geo_slots.proofs.slots.Slots.get.Goals as goal
 
+-- Each way out: a number has a value just where it has a key, and then it is the one under the key
 pub returns-in-Some-clause-value : goal.returns-in-Some-clause-value
 returns-in-Some-clause-value g c =
     rw (← c.self.view_is, ← value_of_key _ _ _ _ c.args.number c.self.invariant, ← c.key_of.ensures, c.in-Some.is)

@@ -7,6 +7,7 @@ use Rattle.geo_slots.specs.Index.{key_at}
 use Rattle.geo_slots.proofs.IndexLemmas.{shows, rows_with_value, index_with_value, value_held, HasRoomFor-with_value}
 use Rattle.geo_slots.proofs.slots.Slots.get_mut.Goals as goal
 
+-- whatever is written, the key still has a value and is still the number's alone
 pub invariant_of-self-lent : goal.invariant_of-self-lent
 invariant_of-self-lent g c =
     let found : key_at c.args.number c.self.inside.index.entries ≡ Some c.in-Some.key = sym c.key_of.ensures
@@ -20,6 +21,7 @@ invariant_of-self-lent g c =
       c.self.invariant,
     )
 
+-- the last value written stands under the number's key, so it shows under the number, and the rest stays
 pub returns-in-Some : goal.returns-in-Some
 returns-in-Some g c =
     let found : key_at c.args.number c.self.inside.index.entries ≡ Some c.in-Some.key = sym c.key_of.ensures
@@ -44,6 +46,7 @@ returns-in-Some g c =
       },
     )
 
+-- a number without a key has no value, so nothing is lent and nothing changes
 pub returns-in-None : goal.returns-in-None
 returns-in-None g c =
     let seen = shows _ _ _ _ c.args.number c.args.self.now None c.self.invariant c.self.view_is

@@ -7,6 +7,7 @@ use Rattle.geo_slots.proofs.IndexLemmas.{value_of_key, rows_without, index_witho
 use Rattle.geo_slots.proofs.RowLemmas.{without_absent}
 use Rattle.geo_slots.proofs.slots.Slots.remove.Goals as goal
 
+-- no other number has the key, so the others keep their values, and the slab has no less room
 pub invariant_of-self : goal.invariant_of-self
 invariant_of-self g c =
     let found : key_at c.args.number c.self.inside.index.entries ≡ Some c.in-Some.key = sym c.key_of.ensures
@@ -25,6 +26,7 @@ returns-in-Some-clause-value g c =
     let value = value_of_key _ _ _ _ c.args.number c.self.invariant in
     rw (← c.self.view_is, ← value, ← c.key_of.ensures, c.in-Some.is) c.try_remove.ensures.value
 
+-- the number's row goes from the index, and the keys of the others still have their values
 pub returns-in-Some-clause-removed : goal.returns-in-Some-clause-removed
 returns-in-Some-clause-removed g c =
     let found : key_at c.args.number c.self.inside.index.entries ≡ Some c.in-Some.key = sym c.key_of.ensures
@@ -41,6 +43,7 @@ pub returns-in-None-clause-value : goal.returns-in-None-clause-value
 returns-in-None-clause-value g c =
     rw (← c.self.view_is, ← value_of_key _ _ _ _ c.args.number c.self.invariant, ← c.key_of.ensures, c.in-None.is) refl
 
+-- a number without a key has no value, so the table is without it already
 pub returns-in-None-clause-removed : goal.returns-in-None-clause-removed
 returns-in-None-clause-removed g c =
     let absent = sym (value_of_key _ _ _ _ c.args.number c.self.invariant)

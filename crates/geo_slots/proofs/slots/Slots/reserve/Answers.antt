@@ -2,9 +2,11 @@ use Rattle.std.proofs.Common.{arith, ◌∙◌, ap}
 use Rattle.geo_slots.proofs.IndexLemmas.{rows_with_room, index_with_room, rows_reserved, index_reserved}
 use Rattle.geo_slots.proofs.slots.Slots.reserve.Goals as goal
 
+-- the slab keeps its values, and has no less room
 pub invariant_of-self : goal.invariant_of-self
 invariant_of-self g c = index_reserved _ _ c.reserve.ensures.rest_kept _ _ _ c.reserve.ensures.capacity c.self.invariant
 
+-- the slab has room for all that were asked for, and keeps its values; the index is as it was
 pub loop-self-init : goal.loop-self-init
 loop-self-init g c =
     record {
@@ -18,6 +20,7 @@ loop-self-init g c =
       within = omega arith;
     }
 
+-- the index has one row more, without a key and behind the others, so it shows no more than before
 pub loop-self-preserved : goal.loop-self-preserved
 loop-self-preserved g c =
     let i = c.loop-self.invariant in

@@ -3,6 +3,7 @@ use Rattle.slab.specs.Slab.{HasRoomFor}
 use Rattle.geo_slots.specs.Index.{rows_of, IsIndex}
 use Rattle.geo_slots.proofs.slots.Slots.reserve.Given as goal
 
+-- the slab has room for all; the index grew by rows without a key alone, and has no more than were asked for
 abbrev pub invariant-loop-self : goal.invariant-loop-self
 invariant-loop-self g l = record {
   sound : IsIndex l.self-inside.index.entries l.self-inside.values l.self-inside.next l.self-inside.spare;

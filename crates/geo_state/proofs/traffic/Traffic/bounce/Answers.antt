@@ -10,6 +10,7 @@ use Rattle.geo_state.proofs.CursorLemmas.{room_for_one}
 use Rattle.geo_state.proofs.CountLemmas.{from_down_up}
 use Rattle.geo_state.proofs.traffic.Traffic.bounce.Goals as goal
 
+-- this bio isn't Up yet, so those Up with it are no more than all, and these fewer than the numbers
 pub with_one-self-inside-requires : goal.with_one-self-inside-requires
 with_one-self-inside-requires c =
     let old = c.self.inside.bios in
@@ -21,6 +22,7 @@ with_one-self-inside-requires c =
     let few = fewer_than_next old order in
     omega (arith, room, few, c.without_one-self-inside.ensures.bound, c.self.invariant.ups.count)
 
+-- from Down to Up: one less Down and one more Up, and the other counts stay
 pub invariant_of-self : goal.invariant_of-self
 invariant_of-self c =
     let now = c.self.inside in

@@ -8,6 +8,7 @@ use Rattle.geo_state.proofs.CountLemmas.{busy_is, from_busy_up, some_busy}
 use Rattle.geo_state.proofs.TrafficLemmas.{bio_seen}
 use Rattle.geo_state.proofs.traffic.Traffic.deliver.Goals as goal
 
+-- the bio is Busy, so it was counted
 pub overflow_sub-self : goal.overflow_sub-self
 overflow_sub-self c =
     let now = c.self.inside in
@@ -15,6 +16,7 @@ overflow_sub-self c =
     some_busy now.bios.bios c.args.bio x.0 (table_rises now.bios c.get.ensures.in_order) x.1 now.down now.sent now.up
     now.busy now.live c.self.invariant (delivered c.args.place c.args.errno) refl x.2 refl
 
+-- this bio isn't Up yet, so those Up with it are no more than all, and these fewer than the numbers
 pub with_one-self-inside-requires : goal.with_one-self-inside-requires
 with_one-self-inside-requires c =
     let old = c.self.inside.bios in
@@ -24,6 +26,7 @@ with_one-self-inside-requires c =
     let few = fewer_than_next old order in
     omega (arith, room, few, c.get.ensures.bound, c.self.invariant.ups.count)
 
+-- from Busy to Up: one less Busy and one more Up, and the other counts stay
 pub invariant_of-self : goal.invariant_of-self
 invariant_of-self c =
     let now = c.self.inside in

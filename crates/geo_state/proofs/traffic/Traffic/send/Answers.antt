@@ -9,6 +9,7 @@ use Rattle.geo_state.proofs.CursorLemmas.{room_for_one}
 use Rattle.geo_state.proofs.CountLemmas.{from_down_sent}
 use Rattle.geo_state.proofs.traffic.Traffic.send.Goals as goal
 
+-- this bio isn't Sent yet, so those Sent with it are no more than all, and these fewer than the numbers
 pub with_one-self-inside-requires : goal.with_one-self-inside-requires
 with_one-self-inside-requires c =
     let old = c.self.inside.bios in
@@ -20,6 +21,7 @@ with_one-self-inside-requires c =
     let few = fewer_than_next old order in
     omega (arith, room, few, c.without_one-self-inside.ensures.bound, c.self.invariant.takes.count)
 
+-- from Down to Sent: one less Down and one more Sent, and the other counts stay
 pub invariant_of-self : goal.invariant_of-self
 invariant_of-self c =
     let now = c.self.inside in

@@ -4,6 +4,7 @@ use Rattle.geo_state.proofs.OrderLemmas.{fewer_than_next}
 use Rattle.geo_state.proofs.TrafficLemmas.{split_all, split_counted, split_fewer}
 use Rattle.geo_state.proofs.traffic.Traffic.start.Goals as goal
 
+-- those Down, with the children, are no more than all bios, which are fewer than the numbers
 pub with_last-self-inside-requires : goal.with_last-self-inside-requires
 with_last-self-inside-requires c =
     let few = fewer_than_next c.start.new.self c.get.ensures.in_order in

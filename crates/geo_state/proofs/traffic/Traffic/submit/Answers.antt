@@ -8,6 +8,7 @@ use Rattle.geo_state.proofs.CountLemmas.{down_come}
 use Rattle.geo_state.proofs.TrafficLemmas.{fewer_with_one}
 use Rattle.geo_state.proofs.traffic.Traffic.submit.Goals as goal
 
+-- those Down were no more than all bios, which are fewer than the numbers also with the new one
 pub with_last-self-inside-requires : goal.with_last-self-inside-requires
 with_last-self-inside-requires c =
     let old = c.self.inside.bios in
@@ -21,6 +22,7 @@ overflow_add-self c =
     let few = fewer_with_one old.bios _ c.submit.new.self c.get.ensures.in_order c.in_ok-bio.ensures.submitted in
     omega (arith, few, c.get.ensures.bound, c.self.invariant.all)
 
+-- the new bio is Down, and has the greatest number
 pub invariant_of-self-2 : goal.invariant_of-self-2
 invariant_of-self-2 c =
     let now = c.self.inside in

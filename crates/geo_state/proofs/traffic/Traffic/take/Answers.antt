@@ -8,6 +8,7 @@ use Rattle.geo_state.proofs.CursorLemmas.{room_for_one}
 use Rattle.geo_state.proofs.CountLemmas.{from_sent_busy}
 use Rattle.geo_state.proofs.traffic.Traffic.take.Goals as goal
 
+-- this bio isn't Busy yet, so those Busy with it are no more than all, and these fewer than the numbers
 pub overflow_add-self : goal.overflow_add-self
 overflow_add-self c =
     let old = c.self.inside.bios in
@@ -19,6 +20,7 @@ overflow_add-self c =
     let few = fewer_than_next old order in
     omega (arith, room, few, c.without_one-self-inside.ensures.bound, c.self.invariant.taken)
 
+-- from Sent to Busy: one less Sent and one more Busy, and the other counts stay
 pub invariant_of-self : goal.invariant_of-self
 invariant_of-self c =
     let now = c.self.inside in

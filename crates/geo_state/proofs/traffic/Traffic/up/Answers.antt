@@ -7,6 +7,7 @@ use Rattle.geo_state.proofs.CursorLemmas.{count_left}
 use Rattle.geo_state.proofs.TrafficLemmas.{bio_seen, up_counted, up_fewer}
 use Rattle.geo_state.proofs.traffic.Traffic.up.Goals as goal
 
+-- the bio itself leaves those that are Up, so there is room in the count for its parent
 pub up_after-self-inside-requires : goal.up_after-self-inside-requires
 up_after-self-inside-requires g c =
     let now = c.self.inside in
@@ -26,6 +27,7 @@ up_after-self-inside-requires g c =
       c.self.invariant.ups.count,
     )
 
+-- a root that is gone, or the children of a family that is complete, were counted
 pub overflow_sub-self : goal.overflow_sub-self
 overflow_sub-self g c =
     subst (λ k. k ≤ c.self.inside.live) (sym c.gone_by.ensures)
@@ -34,6 +36,7 @@ overflow_sub-self g c =
     c.family_size-family.result c.family_size-family.ensures.parent c.family_size-family.ensures.size
     c.in_ok-risen.risen c.in_ok-risen.ensures.told)
 
+-- a root or all children are gone, or the child is done; a parent that is complete is one more Up
 pub invariant_of-self-2 : goal.invariant_of-self-2
 invariant_of-self-2 g c =
     rw (c.up_after-self-inside.ensures, c.gone_by.ensures)

@@ -7,6 +7,7 @@ use Rattle.geo_view.specs.Views.{AreOnePass}
 use Rattle.geo_view.proofs.Publishing.{shows_as}
 use Rattle.geo_view.proofs.publisher.Publisher.publish.Goals as goal
 
+-- the back slot has the list, which the same pass shows, and has seen no less than was shown before
 pub swap-found-requires : goal.swap-found-requires
 swap-found-requires g c = let i = c.self.invariant.3.1 in let e = c.exchange.ensures.3 in
     let x = c.shown_at-shown.result in let at = c.shown_at-shown.ensures.1 in let of = c.requires.pass.of in (

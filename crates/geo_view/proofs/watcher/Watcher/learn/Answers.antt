@@ -5,6 +5,7 @@ use Rattle.geo_view.proofs.watcher.Watcher.learn.Goals as goal
 pub join_seat-requires : goal.join_seat-requires
 join_seat-requires c = (search rules, search rules, search rules, search rules, learns _ _ _ _ _)
 
+-- a note changes only what the watcher was told of
 pub invariant_of-self : goal.invariant_of-self
 invariant_of-self c = let i = c.self.invariant.3.1 in let j = c.join_seat.ensures.2 in (
   search rules,

@@ -7,12 +7,14 @@ use Rattle.geo_view.proofs.Listed.{listed}
 use Rattle.geo_view.proofs.Moves.{carried_same}
 use Rattle.geo_view.proofs.watcher.Watcher.look.Goals as goal
 
+-- the watcher has its front slot alone, so it finds its list there
 pub exchange-requires : goal.exchange-requires
 exchange-requires c = let l = c.newest-self-inside.ensures.looks.1 in (
   search rules,
   (Some l.list, l.slot ∙ ap (λ z. (c.newest-self-inside.result, Some l.list) ∷ z) (sym (ap rest l.slot))),
 )
 
+-- the list that was taken out is back in the front slot
 pub invariant_of-self : goal.invariant_of-self
 invariant_of-self c = let o = c.newest-self-inside.ensures.looks.0 in let l = c.newest-self-inside.ensures.looks.1 in
     let out = c.exchange.ensures in let back = c.exchange-2.ensures.3 in
@@ -37,6 +39,7 @@ invariant_of-self c = let o = c.newest-self-inside.ensures.looks.0 in let l = c.
       ),
     )
 
+-- the list tells by which pass, at which moment, it was shown
 pub returns-clause-moment : goal.returns-clause-moment
 returns-clause-moment c =
     let o = c.newest-self-inside.ensures.looks.0 in let l = c.newest-self-inside.ensures.looks.1 in
@@ -54,6 +57,7 @@ returns-clause-moment c =
       },
     )
 
+-- the list in the slot is the mesh after what the pass had seen, and this is its copy
 pub returns-clause-list : goal.returns-clause-list
 returns-clause-list c =
     let l = c.newest-self-inside.ensures.looks.1 in

@@ -20,6 +20,7 @@ loop-init g c =
       row = rest_none (opened_by c.args.yard.now.start) seen a a (job_none seen a);
     }
 
+-- a turn that worked ends the row of idle turns
 pub loop-preserved-in-Worked : goal.loop-preserved-in-Worked
 loop-preserved-in-Worked g c =
     let y = c.args.yard.now in
@@ -36,6 +37,7 @@ loop-preserved-in-Worked g c =
       row = rest_none (opened_by y.start) seen c.args.self.now c.turn.new.self ran;
     }
 
+-- an idle turn makes the row longer by one, and it isn't at its limit yet
 pub loop-preserved : goal.loop-preserved
 loop-preserved g c =
     let y = c.args.yard.now in
@@ -51,6 +53,7 @@ loop-preserved g c =
           c.loop.invariant.row c.in-Idle.ensures.did;
     }
 
+-- the job did what its turns did, and this is one more
 pub returns-then-idle-eq-IDLE_LIMIT-clause-ran : goal.returns-then-idle-eq-IDLE_LIMIT-clause-ran
 returns-then-idle-eq-IDLE_LIMIT-clause-ran g c =
     let y = c.args.yard.now in
@@ -58,11 +61,13 @@ returns-then-idle-eq-IDLE_LIMIT-clause-ran g c =
     turns.Idle c.requires.job.pass c.turn.ensures.good c.loop.invariant.drives c.loop.invariant.ran
     c.in-Idle.ensures.did
 
+-- it ended idle, which is no answer of a turn that worked
 pub returns-then-idle-eq-IDLE_LIMIT-clause-ended : goal.returns-then-idle-eq-IDLE_LIMIT-clause-ended
 returns-then-idle-eq-IDLE_LIMIT-clause-ended g c =
     job_ends (opened_by c.args.yard.now.start) (drive_view g.D.Disk.view) c.args.self.now c.loop.self c.turn.new.self
     turns.Idle c.loop.invariant.ran c.in-Idle.ensures.did (λ same. let bad : ⊥ = cc in bad)
 
+-- the row of idle turns is 100,000 long with this one
 pub returns-then-idle-eq-IDLE_LIMIT-clause-rested : goal.returns-then-idle-eq-IDLE_LIMIT-clause-rested
 returns-then-idle-eq-IDLE_LIMIT-clause-rested g c =
     let opened = opened_by c.args.yard.now.start in
@@ -71,6 +76,7 @@ returns-then-idle-eq-IDLE_LIMIT-clause-rested g c =
     (rest_more opened seen c.loop.idle c.args.self.now c.loop.self c.turn.new.self c.loop.invariant.row
     c.in-Idle.ensures.did)
 
+-- the turn neither worked nor was idle, so its answer is the end
 pub returns-in_default : goal.returns-in_default
 returns-in_default g c =
     let y = c.args.yard.now in

@@ -1,3 +1,4 @@
+-- The job did what its turns so far did, and the last ones, fewer than 100,000, were idle.
 use Rattle.std.proofs.Common.{◌<◌}
 use Rattle.geo_serve.specs.Drives.{drive_view}
 use Rattle.geo_disk_job.specs.Passes.{opened_by}

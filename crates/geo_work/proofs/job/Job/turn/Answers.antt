@@ -4,6 +4,7 @@ use Rattle.geo_work.specs.declared.job.Role.TheVariants as roles
 use Rattle.geo_work.proofs.Running.{did_role}
 use Rattle.geo_work.proofs.job.Job.turn.Goals as goal
 
+-- Each role: its turn is the turn of the job
 pub returns-in-Client-clause-did : goal.returns-in-Client-clause-did
 returns-in-Client-clause-did g c =
     let opened = opened_by c.args.yard.now.start in
