@@ -101,7 +101,7 @@ impl<D: Disk> DriveList<D> {
     }
 }
 
-// The place of the first drive of a disk.
+// The place of a drive of a disk.
 fn place_of<D>(drives: &[(u32, Drive<D>)], disk: u32) -> Option<usize>
     ensures some { IfSome result (λ k. (d : DriveValue D) × (slice_get drives.now k ≡ Some (disk, d))) }
     ensures none { IfNone result (LacksDisk drives.now disk) }

@@ -37,7 +37,7 @@ fn provider_of(event: Event) -> ProvId
 }
 
 impl EventQueue {
-    /// No event, and no room. It takes no memory yet.
+    /// No event. It takes no memory yet.
     pub fn new(alloc: Global) -> EventQueue
         ensures { result.events ≡ [] }
     {

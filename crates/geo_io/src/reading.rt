@@ -95,7 +95,7 @@ fn read_through<S: Source>(
 }
 
 /// All the bytes that are left, if they are at most `limit`. It reads at most `limit + 2` times, and takes at most
-/// `limit + 1` bytes: `TooLong` exactly where it took so many.
+/// `limit + 1` bytes; so many after `TooLong`.
 pub fn read_all<S: Source>(alloc: Global, source: &mut S, limit: u32) -> Result<Block, ReadRefusal>
     ensures all { IfOk result (λ block. Gives (S.view source.old) block (S.view source.new)) }
     ensures end { OnOk result (IsAtEnd (S.view source.new)) }

@@ -45,7 +45,7 @@ pub fn is_tasted<C>(topo: &Topo<C>, prov: ProvId) -> bool
 }
 
 /// A taste of a provider that is to be tasted begins, by a new consumer of TASTE that is attached to it (g_attach(9)).
-/// No class is asked yet. After `NoMemory` nothing changed.
+/// No class is asked yet. After `NoMemory` nothing changed. The taste is that of the mesh where TASTE had no consumer.
 pub fn begin(topo: &mut Topo<Config>, prov: ProvId) -> Result<Taste, NoMemory>
     requires settled { IsSettled topo.old }
     requires tasted { is_not_tasted (granted_by topo.old) topo.old.topology prov ≡ false }

@@ -36,7 +36,10 @@ invariant_of-self g c =
     (rw (← c.number.ensures) at c.requires.not_dev) (rw (← c.number.ensures) at c.requires.not_taste)
     (rw (← c.self.view_is, ← c.number.ensures) at c.requires.no_provider)
     (rw (← c.self.view_is, ← c.number.ensures) at c.requires.no_consumer)
-    (subst (λ k. c.remove-in-Some-2.new.self ≡ record c.self.inside.tables.notes.named { rows = without c.self.inside.tables.notes.named.rows k; room = c.remove-in-Some-2.new.self.room }) (c.number-in-Some-3.ensures ∙ sym c.number.ensures) c.remove-in-Some-2.ensures.removed)
+    (subst (λ k. c.remove-in-Some-2.new.self ≡ record c.self.inside.tables.notes.named {
+      rows = without c.self.inside.tables.notes.named.rows k;
+      room = c.remove-in-Some-2.new.self.room;
+    }) (c.number-in-Some-3.ensures ∙ sym c.number.ensures) c.remove-in-Some-2.ensures.removed)
     c.remove-in-Some-2.ensures.room)
 
 -- no geom had the number, so taking it away takes nothing
