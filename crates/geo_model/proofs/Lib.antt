@@ -1,3 +1,9 @@
+pub mod Options
+pub mod MemberLists
+pub mod AllLists
+pub mod FilterLists
+pub mod FindLists
+pub mod Tests
 pub mod LogLemmas
 pub mod BioLemmas
 pub mod RefusalLemmas
@@ -16,9 +22,3 @@ pub mod SectorLemmas
 pub mod FirmLemmas
 pub mod CommandWalk
 pub mod StepWalk
-pub use Rattle.geo_base.proofs.AllLists
-pub use Rattle.geo_base.proofs.FilterLists
-pub use Rattle.geo_base.proofs.FindLists
-pub use Rattle.geo_base.proofs.MemberLists
-pub use Rattle.geo_base.proofs.Options
-pub use Rattle.geo_base.proofs.Tests
