@@ -13,7 +13,7 @@ use Rattle.geo_model.specs.Step.{deliver_found, deliver_of, is_enabled, step, un
 use Rattle.geo_laws_graph.proofs.Members.{find-Contains}
 use Rattle.geo_laws_disks.specs.TakenLaws.{DeliversStayEnabled}
 use Rattle.geo_laws_disks.proofs.Held.{can_be_delivered}
-use Rattle.geo_laws_disks.proofs.Turns.{own_phase}
+use Rattle.geo_laws_requests.proofs.Named.{own_phase}
 use Rattle.geo_laws_disks.proofs.Still.{stands_still}
 use Rattle.geo_laws_disks.proofs.TakenStands.{sector_stays}
 

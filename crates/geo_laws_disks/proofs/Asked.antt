@@ -22,7 +22,7 @@ use Rattle.geo_model.specs.Step.{step}
 use Rattle.geo_laws_graph.proofs.Members.{Contains-filter, find-Contains}
 use Rattle.geo_laws_graph.proofs.Numbered.{number_found}
 use Rattle.geo_laws_requests.proofs.AtDisk.{AtDisk, at_disk, sector_bytes}
-use Rattle.geo_laws_requests.proofs.Takes.{TakesIt, takes_it}
+use Rattle.geo_laws_requests.proofs.Named.{TakesIt, takes_it}
 use Rattle.geo_laws_disks.specs.DiskLaws.{AsksInside, LiesInside}
 
 -- a FLUSH has no range

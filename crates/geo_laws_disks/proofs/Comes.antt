@@ -9,26 +9,25 @@ use Rattle.geo_model.specs.declared.class.Judged.{Judged}
 use Rattle.geo_model.specs.declared.class.Judged.TheVariants as judgeds
 use Rattle.geo_model.specs.declared.step.Outcome.{Outcome}
 use Rattle.geo_model.specs.declared.step.Step.{Step}
-use Rattle.geo_model.specs.declared.step.Step.TheVariants as steps
-use Rattle.geo_model.specs.World.{World, granted_in}
+use Rattle.geo_model.specs.World.{World, granted_in, is_down, is_sent}
 use Rattle.geo_model.specs.Events.{is_not_tasted, dying_consumers}
 use Rattle.geo_model.specs.WorldEvents.{do_event, kill_handle}
 use Rattle.geo_model.specs.Tasting.{Judging, judged_world}
 use Rattle.geo_model.specs.Freeing.{reap_handle}
 use Rattle.geo_model.specs.Commands.{do_command}
+use Rattle.geo_model.specs.Bios.{result_of_device, up_with}
 use Rattle.geo_model.specs.Step.{Answer, with_commands, step}
 use Rattle.geo_model.specs.Fitting.{Firm}
-use Rattle.geo_laws_requests.proofs.Arrivals.{names_none}
 use Rattle.geo_model.proofs.StepWalk.{step_by}
+use Rattle.geo_model.proofs.BioLemmas.{quiet_phase}
+use Rattle.geo_model.specs.declared.step.Phase.TheVariants as phases
+use Rattle.geo_laws_requests.proofs.Legal.{found_there, can_take}
+use Rattle.geo_laws_requests.proofs.Starts.{in_phase, keeps_phase, keeps_up}
+use Rattle.geo_laws_requests.proofs.Named.{own_phase}
 use Rattle.geo_laws_disks.proofs.Commanded.{Made, StayOrCome, Stays, command_made, same_world}
-use Rattle.geo_laws_disks.proofs.Origins.{HasOrigins, Origin, all_stay}
-use Rattle.geo_laws_disks.proofs.Turns.{delivers_origins, starts_origins, takes_origins}
-use Rattle.geo_laws_disks.proofs.Rises.{ups_origins}
-
--- what is known of an answer
-abbrev Known : World → Answer → Type 0
-Known w (Ok made) = Made w made
-Known w (Err found) = ⊤
+use Rattle.geo_laws_disks.proofs.Origins.{HasOrigins, Origin, all_stay, not_busy}
+use Rattle.geo_laws_disks.proofs.Turns.{alone, started_origins, free_of_others}
+use Rattle.geo_laws_disks.proofs.Rises.{owner_origins}
 
 -- the bios of a world whose commands are others
 apart : (w v : World) (actor : ℕ) (rest : List LineCommand) → StayOrCome (with_commands w actor rest) v
@@ -82,24 +81,6 @@ reaped : (w : World) (c : Option ℕ) → Stays w (reap_handle w c)
 reaped w None = same_world w
 reaped w (Some c) = record { bios = refl; next = refl; disks = refl }
 
--- each of them
-others_known : (w : World) (seat : ℕ) (s : Step) → names_none s ≡ true → Known w (step w seat s)
-others_known w seat =
-    step_by w seat (λ s a. names_none s ≡ true → Known w a) (record {
-      refuses = λ s f other. tt;
-      goes = λ actor c rest is other. gone w actor c rest;
-      runs = λ e rest is other.
-          let stay = event_stays (record w { events = rest }) e in
-          inl (record { bios = stay.bios; next = stay.next; disks = stay.disks });
-      judges = λ s x j is other. judged w x j;
-      reaps = λ h c is other. inl (reaped w c);
-      washes = λ work is other. inl (record { bios = refl; next = refl; disks = refl });
-      starts = λ b x way is other. absurd (let no : ⊥ = cc in no);
-      takes = λ disk b x is other. absurd (let no : ⊥ = cc in no);
-      delivers = λ b got x is other. absurd (let no : ⊥ = cc in no);
-      rises = λ b x o is other. absurd (let no : ⊥ = cc in no);
-    })
-
 -- Each step
 
 -- bios that stay, and one that comes, have their origins
@@ -118,17 +99,41 @@ come_origins w v seat (inr come) = record {
       (inr (record { number = omega (arith, come.1.number); bare = come.1.bare }), tt)));
 }
 
--- so of a step that names no bio
-others_origins : (w v : World) (seat : ℕ) (s : Step) (o : Outcome) → names_none s ≡ true → step w seat s ≡ Ok (v, o)
-    → HasOrigins w v seat
-others_origins w v seat s o other made =
-    come_origins w v seat (subst (Known w) made (others_known w seat s other))
+-- what is known of an answer
+abbrev Known : World → ℕ → Answer → Type 0
+Known w seat (Ok made) = HasOrigins w made.0 seat
+Known w seat (Err found) = ⊤
+
+-- each step
+all_origins : (w : World) (seat : ℕ) → Firm w → (s : Step) → Known w seat (step w seat s)
+all_origins w seat firm =
+    let are = firm.bios.numbers in
+    step_by w seat (λ s a. Known w seat a) (record {
+      refuses = λ s f. tt;
+      goes = λ actor c rest is.
+          come_origins w (do_command (with_commands w actor rest) c.line actor c.command).0 seat (gone w actor c rest);
+      runs = λ e rest is.
+          let stay = event_stays (record w { events = rest }) e in
+          come_origins w (do_event (record w { events = rest }) e) seat
+          (inl (record { bios = stay.bios; next = stay.next; disks = stay.disks }));
+      judges = λ s x j is. come_origins w (judged_world w x j).0 seat (judged w x j);
+      reaps = λ h c is. come_origins w (reap_handle w c) seat (inl (reaped w c));
+      washes = λ work is. record { next = omega arith; disks = refl; each = all_stay w seat };
+      starts = λ b x way is.
+          started_origins w seat are x (found_there w b x is.found)
+          (not_busy seat x.phase (quiet_phase is_down (λ s. refl) x.phase is.down)) way is.goes;
+      takes = λ disk b x is.
+          alone w seat are x (found_there w b x is.found)
+          (not_busy seat x.phase (quiet_phase is_sent (λ s. refl) x.phase (can_take w disk x is.free).sent)) w.topology
+          (in_phase (phases.Busy seat)) (keeps_phase (phases.Busy seat));
+      delivers = λ b got x is.
+          alone w seat are x (found_there w b x is.found)
+          (free_of_others seat x.phase (own_phase w seat x got x.phase is.fits)) w.topology
+          (up_with (result_of_device got)) (keeps_up (result_of_device got));
+      rises = λ b x o is. owner_origins w seat firm x (found_there w b x is.found) is.up o is.owner;
+    })
 
 -- where each bio comes from, whatever the step
 pub steps_origins : (w v : World) (seat : ℕ) (s : Step) (o : Outcome) → Firm w → step w seat s ≡ Ok (v, o)
     → HasOrigins w v seat
-steps_origins w v seat (steps.Start b) o firm e = starts_origins w v seat b o firm.bios.numbers e
-steps_origins w v seat (steps.Take disk b) o firm e = takes_origins w v seat disk b o firm.bios.numbers e
-steps_origins w v seat (steps.Deliver b got) o firm e = delivers_origins w v seat b got o firm.bios.numbers e
-steps_origins w v seat (steps.Up b) o firm e = ups_origins w v seat b o firm e
-steps_origins w v seat s o firm e = others_origins w v seat s o refl e
+steps_origins w v seat s o firm made = subst (Known w seat) made (all_origins w seat firm s)

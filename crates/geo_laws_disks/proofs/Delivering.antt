@@ -40,14 +40,7 @@ step_delivers log size disk held (steps.Deliver b got) = by (request_of log b)
         ≡ option_map_or (λ d. after_delivery size held d) (delivery_of disk got o) held
     by None = refl
     by (Some q) = at q (q.disk == disk) refl
-step_delivers log size disk held (steps.Go actor) = refl
-step_delivers log size disk held steps.Event = refl
-step_delivers log size disk held steps.Judge = refl
-step_delivers log size disk held steps.Reap = refl
-step_delivers log size disk held steps.Wash = refl
-step_delivers log size disk held (steps.Start b) = refl
-step_delivers log size disk held (steps.Take other b) = refl
-step_delivers log size disk held (steps.Up b) = refl
+step_delivers log size disk held s = refl
 
 -- after some entries of a log
 held_after : (log : List Entry) (size disk : ℕ) (held : List (List ℕ)) (es : List Entry)
@@ -112,14 +105,7 @@ calls_step log disk (steps.Deliver b got) = by (request_of log b)
         → call_for disk got o ≡ map call_delivered (option_to_list (delivery_of disk got o))
     by None = refl
     by (Some q) = at q (q.disk == disk) refl
-calls_step log disk (steps.Go actor) = refl
-calls_step log disk steps.Event = refl
-calls_step log disk steps.Judge = refl
-calls_step log disk steps.Reap = refl
-calls_step log disk steps.Wash = refl
-calls_step log disk (steps.Start b) = refl
-calls_step log disk (steps.Take other b) = refl
-calls_step log disk (steps.Up b) = refl
+calls_step log disk s = refl
 
 -- entries answer the calls that they deliver
 calls_in : (log : List Entry) (disk : ℕ) (es : List Entry)
@@ -171,14 +157,7 @@ fails_step asked disk (steps.Deliver b got) =
         ≡ option_map_or (λ (d : Delivery). is_failed d.got) (delivery_of disk got o) false
     by None = none (is_failed got)
     by (Some q) = at q (q.disk == disk) refl
-fails_step asked disk (steps.Go actor) = refl
-fails_step asked disk steps.Event = refl
-fails_step asked disk steps.Judge = refl
-fails_step asked disk steps.Reap = refl
-fails_step asked disk steps.Wash = refl
-fails_step asked disk (steps.Start b) = refl
-fails_step asked disk (steps.Take other b) = refl
-fails_step asked disk (steps.Up b) = refl
+fails_step asked disk s = refl
 
 -- the calls of a log are those that it delivers
 pub calls_by : (log : List Entry) (disk : ℕ) → calls_logged log disk ≡ map call_delivered (deliveries log disk)

@@ -26,7 +26,7 @@ use Rattle.geo_laws_graph.proofs.Numbered.{filter-pushed, filter-pushed_hit, num
 use Rattle.geo_laws_requests.proofs.Legal.{opened_firm}
 use Rattle.geo_laws_requests.proofs.Legal.{steps_stay_firm}
 use Rattle.geo_laws_requests.proofs.Starts.{in_phase}
-use Rattle.geo_laws_requests.proofs.Takes.{TakesIt, takes_it}
+use Rattle.geo_laws_requests.proofs.Named.{TakesIt, takes_it}
 use Rattle.geo_laws_requests.proofs.Along.{entry_made}
 use Rattle.geo_laws_disks.proofs.Origins.{HasOrigins, Origin}
 use Rattle.geo_laws_disks.proofs.Comes.{steps_origins}

@@ -24,14 +24,7 @@ step_same : (xs ys : List Entry) (size disk : ℕ) (held : List (List ℕ)) (s :
     → after_step (xs ++ ys) size disk held s ≡ after_step xs size disk held s
 step_same xs ys size disk held (steps.Deliver b got) taken =
     ap (λ o. after_answer size disk got held o) (request_same xs ys b taken)
-step_same xs ys size disk held (steps.Go actor) taken = refl
-step_same xs ys size disk held steps.Event taken = refl
-step_same xs ys size disk held steps.Judge taken = refl
-step_same xs ys size disk held steps.Reap taken = refl
-step_same xs ys size disk held steps.Wash taken = refl
-step_same xs ys size disk held (steps.Start b) taken = refl
-step_same xs ys size disk held (steps.Take other b) taken = refl
-step_same xs ys size disk held (steps.Up b) taken = refl
+step_same xs ys size disk held s taken = refl
 
 -- so is what entries make
 entries_same : (xs ys : List Entry) (size disk : ℕ) (es : List Entry) → AreTaken xs es → (held : List (List ℕ))
@@ -57,39 +50,18 @@ contents_more size disk held xs e taken =
 quiet_step : (log : List Entry) (size disk : ℕ) (held : List (List ℕ)) (s : Step) → delivered_in s ≡ None
     → after_step log size disk held s ≡ held
 quiet_step log size disk held (steps.Deliver b got) none = absurd (let bad : ⊥ = cc in bad)
-quiet_step log size disk held (steps.Go actor) none = refl
-quiet_step log size disk held steps.Event none = refl
-quiet_step log size disk held steps.Judge none = refl
-quiet_step log size disk held steps.Reap none = refl
-quiet_step log size disk held steps.Wash none = refl
-quiet_step log size disk held (steps.Start b) none = refl
-quiet_step log size disk held (steps.Take other b) none = refl
-quiet_step log size disk held (steps.Up b) none = refl
+quiet_step log size disk held s none = refl
 
 -- nor is it a failure
 quiet_answer : (s : Step) → delivered_in s ≡ None → is_failed_answer s ≡ false
 quiet_answer (steps.Deliver b got) none = absurd (let bad : ⊥ = cc in bad)
-quiet_answer (steps.Go actor) none = refl
-quiet_answer steps.Event none = refl
-quiet_answer steps.Judge none = refl
-quiet_answer steps.Reap none = refl
-quiet_answer steps.Wash none = refl
-quiet_answer (steps.Start b) none = refl
-quiet_answer (steps.Take other b) none = refl
-quiet_answer (steps.Up b) none = refl
+quiet_answer s none = refl
 
 -- nor does it tell bytes
 quiet_reads : (size disk : ℕ) (held : List (List ℕ)) (earlier : List Entry) (s : Step) → delivered_in s ≡ None
     → ReadsWhatIsHeld size held earlier disk s
 quiet_reads size disk held earlier (steps.Deliver b got) none = absurd (let bad : ⊥ = cc in bad)
-quiet_reads size disk held earlier (steps.Go actor) none = tt
-quiet_reads size disk held earlier steps.Event none = tt
-quiet_reads size disk held earlier steps.Judge none = tt
-quiet_reads size disk held earlier steps.Reap none = tt
-quiet_reads size disk held earlier steps.Wash none = tt
-quiet_reads size disk held earlier (steps.Start b) none = tt
-quiet_reads size disk held earlier (steps.Take other b) none = tt
-quiet_reads size disk held earlier (steps.Up b) none = tt
+quiet_reads size disk held earlier s none = tt
 
 -- whether an entry delivers a failure of a disk
 abbrev pub fails_in : List Entry → ℕ → Entry → Bool
@@ -124,14 +96,7 @@ failures_more disk xs e taken =
 -- the call that a step delivers the answer of is the same by a longer log
 call_same : (xs ys : List Entry) (disk : ℕ) (s : Step) → IsTaken xs s → call_in (xs ++ ys) disk s ≡ call_in xs disk s
 call_same xs ys disk (steps.Deliver b got) taken = ap (λ o. call_for disk got o) (request_same xs ys b taken)
-call_same xs ys disk (steps.Go actor) taken = refl
-call_same xs ys disk steps.Event taken = refl
-call_same xs ys disk steps.Judge taken = refl
-call_same xs ys disk steps.Reap taken = refl
-call_same xs ys disk steps.Wash taken = refl
-call_same xs ys disk (steps.Start b) taken = refl
-call_same xs ys disk (steps.Take other b) taken = refl
-call_same xs ys disk (steps.Up b) taken = refl
+call_same xs ys disk s taken = refl
 
 -- so are those of entries
 calls_same : (xs ys : List Entry) (disk : ℕ) (es : List Entry) → AreTaken xs es
@@ -152,14 +117,7 @@ calls_more disk xs e taken =
 -- a step that delivers nothing answers no call
 quiet_call : (log : List Entry) (disk : ℕ) (s : Step) → delivered_in s ≡ None → call_in log disk s ≡ []
 quiet_call log disk (steps.Deliver b got) none = absurd (let bad : ⊥ = cc in bad)
-quiet_call log disk (steps.Go actor) none = refl
-quiet_call log disk steps.Event none = refl
-quiet_call log disk steps.Judge none = refl
-quiet_call log disk steps.Reap none = refl
-quiet_call log disk steps.Wash none = refl
-quiet_call log disk (steps.Start b) none = refl
-quiet_call log disk (steps.Take other b) none = refl
-quiet_call log disk (steps.Up b) none = refl
+quiet_call log disk s none = refl
 
 -- An entry that delivers nothing
 

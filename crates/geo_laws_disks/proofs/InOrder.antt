@@ -33,14 +33,7 @@ Agrees asked table _ = ⊤
 delivers_same : (asked table : ℕ → Option Request) (disk : ℕ) (s : Step) → Agrees asked table s
     → delivery_in asked disk s ≡ delivery_in table disk s
 delivers_same asked table disk (steps.Deliver b got) same = ap (λ o. delivery_of disk got o) same
-delivers_same asked table disk (steps.Go actor) same = refl
-delivers_same asked table disk steps.Event same = refl
-delivers_same asked table disk steps.Judge same = refl
-delivers_same asked table disk steps.Reap same = refl
-delivers_same asked table disk steps.Wash same = refl
-delivers_same asked table disk (steps.Start b) same = refl
-delivers_same asked table disk (steps.Take other b) same = refl
-delivers_same asked table disk (steps.Up b) same = refl
+delivers_same asked table disk s same = refl
 
 -- and so do entries
 deliver_same : (asked table : ℕ → Option Request) (disk : ℕ) (es : List Entry)
@@ -86,14 +79,7 @@ in_order_agrees table es order =
         ap (λ (l : List Entry). request_of l b) split.1
         ∙ request_same earlier (e ∷ split.0) b (subst (λ (o : Option Request). IsSome o) (sym its.before) refl)
         ∙ its.before ∙ sym its.known
-    at earlier e split (steps.Go actor) is = tt
-    at earlier e split steps.Event is = tt
-    at earlier e split steps.Judge is = tt
-    at earlier e split steps.Reap is = tt
-    at earlier e split steps.Wash is = tt
-    at earlier e split (steps.Start b) is = tt
-    at earlier e split (steps.Take other b) is = tt
-    at earlier e split (steps.Up b) is = tt
+    at earlier e split s is = tt
 
 -- and they deliver what the table says
 pub deliveries_in_order : (table : ℕ → Option Request) (disk : ℕ) (es : List Entry) → InOrder table es
@@ -164,14 +150,7 @@ module _ (table : ℕ → Option Request) (size disk : ℕ) (held : List (List �
           subst (λ (x : Delivery). TellsWhatIsHeld x.request x.got now) one
           (at g reads (eqb-true it.request.disk disk own))
       by g reads false own is = absurd (let bad : None ≡ Some d = rw own at is in (let wrong : ⊥ = cc in wrong))
-  reads_tell front now (steps.Go actor) asked same reads d is = absurd (let bad : ⊥ = cc in bad)
-  reads_tell front now steps.Event asked same reads d is = absurd (let bad : ⊥ = cc in bad)
-  reads_tell front now steps.Judge asked same reads d is = absurd (let bad : ⊥ = cc in bad)
-  reads_tell front now steps.Reap asked same reads d is = absurd (let bad : ⊥ = cc in bad)
-  reads_tell front now steps.Wash asked same reads d is = absurd (let bad : ⊥ = cc in bad)
-  reads_tell front now (steps.Start b) asked same reads d is = absurd (let bad : ⊥ = cc in bad)
-  reads_tell front now (steps.Take other b) asked same reads d is = absurd (let bad : ⊥ = cc in bad)
-  reads_tell front now (steps.Up b) asked same reads d is = absurd (let bad : ⊥ = cc in bad)
+  reads_tell front now s asked same reads d is = absurd (let bad : ⊥ = cc in bad)
 
   tells_read : (front : List Entry) (now : List (List ℕ)) (s : Step)
       → ((b : ℕ) (got : DeviceResult) → s ≡ steps.Deliver b got → IsAsked table front b)
@@ -187,14 +166,7 @@ module _ (table : ℕ → Option Request) (size disk : ℕ) (held : List (List �
       ∙ ap (λ h. bytes_at h it.request) (sym same))
   tells_read front now (steps.Deliver b devices.Done) asked same tells = tt
   tells_read front now (steps.Deliver b (devices.Failed done)) asked same tells = tt
-  tells_read front now (steps.Go actor) asked same tells = tt
-  tells_read front now steps.Event asked same tells = tt
-  tells_read front now steps.Judge asked same tells = tt
-  tells_read front now steps.Reap asked same tells = tt
-  tells_read front now steps.Wash asked same tells = tt
-  tells_read front now (steps.Start b) asked same tells = tt
-  tells_read front now (steps.Take other b) asked same tells = tt
-  tells_read front now (steps.Up b) asked same tells = tt
+  tells_read front now s asked same tells = tt
 
   -- the entry behind a front has its request in the front
   asked_next : (front : List Entry) (e : Entry) (es : List Entry) → InOrder table (front ++ e ∷ es)

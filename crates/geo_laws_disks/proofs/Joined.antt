@@ -37,14 +37,7 @@ answered_taken plan facts is fit log legal b some =
 -- a Deliver has an answer
 deliver_answers : (s : Step) (b : ℕ) → is_deliver_of b s ≡ true → IsSome (device_answer_in s)
 deliver_answers (steps.Deliver n got) b e = refl
-deliver_answers (steps.Go actor) b e = absurd (let bad : ⊥ = cc in bad)
-deliver_answers steps.Event b e = absurd (let bad : ⊥ = cc in bad)
-deliver_answers steps.Judge b e = absurd (let bad : ⊥ = cc in bad)
-deliver_answers steps.Reap b e = absurd (let bad : ⊥ = cc in bad)
-deliver_answers steps.Wash b e = absurd (let bad : ⊥ = cc in bad)
-deliver_answers (steps.Start n) b e = absurd (let bad : ⊥ = cc in bad)
-deliver_answers (steps.Take disk n) b e = absurd (let bad : ⊥ = cc in bad)
-deliver_answers (steps.Up n) b e = absurd (let bad : ⊥ = cc in bad)
+deliver_answers s b e = absurd (let bad : ⊥ = cc in bad)
 
 -- where a Deliver stands in a log its bio has an answer
 answer_there : (b : ℕ) (got : DeviceResult) (front : List Entry) (e : Entry) (back : List Entry)
@@ -65,14 +58,7 @@ same_step : (xs ys : List Entry) (size disk : ℕ) (held : List (List ℕ)) (s :
     → after_step ys size disk held s ≡ after_step xs size disk held s
 same_step xs ys size disk held (steps.Deliver b got) same =
     ap (λ o. after_answer size disk got held o) (same b got refl)
-same_step xs ys size disk held (steps.Go actor) same = refl
-same_step xs ys size disk held steps.Event same = refl
-same_step xs ys size disk held steps.Judge same = refl
-same_step xs ys size disk held steps.Reap same = refl
-same_step xs ys size disk held steps.Wash same = refl
-same_step xs ys size disk held (steps.Start n) same = refl
-same_step xs ys size disk held (steps.Take other n) same = refl
-same_step xs ys size disk held (steps.Up n) same = refl
+same_step xs ys size disk held s same = refl
 
 module _ (xs ys : List Entry) (size disk : ℕ)
     (taken : (b : ℕ) → IsSome (device_answer_of xs b) → IsSome (request_of xs b)) where

@@ -1,52 +1,21 @@
 -- Where bios come from after an Up.
-use Rattle.std.specs.Prelude.{◌≡◌, ℕ, ◌==◌, Bool, true, false, not, filter, Option, Some, None, Ok, Err, IsSomeAnd, IsTrue, All, Contains, if◌then◌else◌}
+use Rattle.std.specs.Prelude.{◌≡◌, ℕ, ◌==◌, Bool, true, false, not, filter, Option, Some, None, IsSomeAnd, IsTrue, All, Contains, if◌then◌else◌}
 use Rattle.std.specs.Option.{option_map_or}
-use Rattle.std.proofs.Common.{refl, sym, ◌∙◌, ap, subst, arith}
+use Rattle.std.proofs.Common.{refl, sym, ◌∙◌, subst, arith}
 use Rattle.std.proofs.lemmas.List.Elements.{All-contains, All-filter}
 use Rattle.geo_model.proofs.BioLemmas.{quiet_phase}
 use Rattle.geo_model.specs.declared.step.BioResult.{BioResult}
-use Rattle.geo_model.specs.declared.step.Found.TheVariants as found
-use Rattle.geo_model.specs.declared.step.Outcome.{Outcome}
 use Rattle.geo_model.specs.declared.step.Owner.{Owner}
 use Rattle.geo_model.specs.declared.step.Owner.TheVariants as owners
 use Rattle.geo_model.specs.declared.step.Phase.TheVariants as phases
-use Rattle.geo_model.specs.declared.step.Step.TheVariants as steps
 use Rattle.geo_model.specs.World.{World, Bio, bio_at, change_bio, change_number, is_child_of, is_up, is_waiting}
-use Rattle.geo_model.specs.Bios.{child_results, complete_parent, is_complete, joined_result, up, up_to, up_with}
-use Rattle.geo_model.specs.Step.{step, up_of}
+use Rattle.geo_model.specs.Bios.{child_results, complete_parent, is_complete, joined_result, up_to, up_with}
 use Rattle.geo_model.specs.SoundBios.{IsFamilyInOrder}
 use Rattle.geo_model.specs.Fitting.{Firm}
 use Rattle.geo_laws_graph.proofs.Members.{find-Contains}
 use Rattle.geo_laws_graph.proofs.Numbered.{number_found}
-use Rattle.geo_laws_requests.proofs.Arrivals.{okay}
 use Rattle.geo_laws_requests.proofs.Starts.{in_phase, keeps_phase, keeps_up}
 use Rattle.geo_laws_disks.proofs.Origins.{HasOrigins, IsFree, Origin, all_stay, changed_origins, free_at, not_busy}
-
--- the bio that an Up names, where it is enabled
-pub record RisesIt (w v : World) (b : ℕ) (o : Outcome) : Type 0 where
-  pub bio : Bio
-  pub found : bio_at w b ≡ Some bio
-  pub up : is_up bio.phase ≡ true
-  pub made : (v, o) ≡ up_to w bio bio.owner
-
--- an enabled Up names a bio that is Up
-pub rises_it : (w v : World) (seat b : ℕ) (o : Outcome) → step w seat (steps.Up b) ≡ Ok (v, o) → RisesIt w v b o
-unfolding step up
-rises_it w v seat b o e = by (bio_at w b) refl e
-  where
-    at : (x : Bio) → bio_at w b ≡ Some x → (d : Bool) → is_up x.phase ≡ d
-        → (if d then okay (up w x) else Err (found.InPhase x.phase)) ≡ Ok (v, o) → RisesIt w v b o
-    at x is true up e = record {
-      bio = x;
-      found = is;
-      up = up;
-      made = let it : up_to w x x.owner ≡ (v, o) = cc in sym it;
-    }
-    at x is false up e = absurd (let bad : ⊥ = cc in bad)
-
-    by : (z : Option Bio) → bio_at w b ≡ z → up_of w z ≡ Ok (v, o) → RisesIt w v b o
-    by None is e = absurd (let bad : ⊥ = cc in bad)
-    by (Some x) is e = at x is (is_up x.phase) refl e
 
 -- the world after the Up of a child, by whether it is the last
 abbrev pub gathered_or : World → ℕ → Bool → World
@@ -114,63 +83,37 @@ module _ (w : World) (seat : ℕ) (firm : Firm w) (x : Bio) (found : bio_at w x.
       by None = refl
       by (Some y) = refl
 
--- each Up
-pub ups_origins : (w v : World) (seat b : ℕ) (o : Outcome) → Firm w → step w seat (steps.Up b) ≡ Ok (v, o)
-    → HasOrigins w v seat
-ups_origins w v seat b o firm made = by x.owner refl it.made
-  where
-    it : RisesIt w v b o
-    it = rises_it w v seat b o made
+-- an Up
 
-    x : Bio
-    x = it.bio
+module _ (w : World) (seat : ℕ) (firm : Firm w) (x : Bio) (found : bio_at w x.number ≡ Some x)
+    (up : is_up x.phase ≡ true) where
+  free : IsFree seat x.phase
+  free = not_busy seat x.phase (quiet_phase is_up (λ s. refl) x.phase up)
 
-    at_it : bio_at w x.number ≡ Some x
-    at_it = ap (λ n. bio_at w n) (number_found (λ (y : Bio). y.number) w.bios b x it.found) ∙ it.found
+  -- a root goes
+  goes : (v : World) → v.bios ≡ filter (λ (y : Bio). not (y.number == x.number)) w.bios → v.next_bio ≡ w.next_bio
+      → v.disks ≡ w.disks → HasOrigins w v seat
+  goes v bios next disks = record {
+    next = omega (arith, next);
+    disks = disks;
+    each = subst (λ ys. All (Origin w seat) ys) (sym bios)
+        (All-filter (λ (y : Bio). not (y.number == x.number)) (Origin w seat) w.bios (all_stay w seat));
+  }
 
-    free : IsFree seat x.phase
-    free = not_busy seat x.phase (quiet_phase is_up (λ s. refl) x.phase it.up)
+  family : IsFamilyInOrder w.topology w.bios x
+  family =
+      All-contains (IsFamilyInOrder w.topology w.bios) w.bios x firm.bios.families
+      (find-Contains (λ (y : Bio). y.number == x.number) w.bios x found)
 
-    -- a root goes
-    goes : v.bios ≡ filter (λ (y : Bio). not (y.number == x.number)) w.bios → v.next_bio ≡ w.next_bio
-        → v.disks ≡ w.disks → HasOrigins w v seat
-    goes bios next disks = record {
-      next = omega (arith, next);
-      disks = disks;
-      each = subst (λ ys. All (Origin w seat) ys) (sym bios)
-          (All-filter (λ (y : Bio). not (y.number == x.number)) (Origin w seat) w.bios (all_stay w seat));
-    }
-
-    family : IsFamilyInOrder w.topology w.bios x
-    family =
-        All-contains (IsFamilyInOrder w.topology w.bios) w.bios x firm.bios.families
-        (find-Contains (λ (y : Bio). y.number == x.number) w.bios x at_it)
-
-    -- a child
-    gathers : (parent index : ℕ) → x.owner ≡ owners.Child parent index → (v, o) ≡ up_to w x (owners.Child parent index)
-        → HasOrigins w v seat
-    gathers parent index of is =
-        let waits : IsSomeAnd (bio_at w parent) (λ y. IsTrue (is_waiting y.phase)) = rw of at family.parent in
-        let last : Bool = is_complete (done w seat firm x at_it free parent waits) parent in
-        let now : v ≡ gathered_or (done w seat firm x at_it free parent waits) parent last =
-        ap (λ (m : World × Outcome). m.0) is in
-        record {
-          next =
-              let same : v.next_bio ≡ w.next_bio =
-              ap (λ (z : World). z.next_bio) now ∙ gathered_next w seat firm x at_it free parent waits last in
-              omega (arith, same);
-          disks = ap (λ (z : World). z.disks) now ∙ gathered_disks w seat firm x at_it free parent waits last;
-          each = subst (λ (z : World). All (Origin w seat) z.bios) (sym now)
-              (gathered_origins w seat firm x at_it free parent waits last);
-        }
-
-    by : (owner : Owner) → x.owner ≡ owner → (v, o) ≡ up_to w x x.owner → HasOrigins w v seat
-    by (owners.Line handle line) of is =
-        let here : (v, o) ≡ up_to w x (owners.Line handle line) = is ∙ ap (λ k. up_to w x k) of in
-        goes (ap (λ (m : World × Outcome). m.0.bios) here) (ap (λ (m : World × Outcome). m.0.next_bio) here)
-        (ap (λ (m : World × Outcome). m.0.disks) here)
-    by owners.Taste of is =
-        let here : (v, o) ≡ up_to w x owners.Taste = is ∙ ap (λ k. up_to w x k) of in
-        goes (ap (λ (m : World × Outcome). m.0.bios) here) (ap (λ (m : World × Outcome). m.0.next_bio) here)
-        (ap (λ (m : World × Outcome). m.0.disks) here)
-    by (owners.Child parent index) of is = gathers parent index of (is ∙ ap (λ k. up_to w x k) of)
+  -- by the owner
+  pub owner_origins : (o : Owner) → x.owner ≡ o → HasOrigins w (up_to w x o).0 seat
+  owner_origins (owners.Line handle line) of = goes (up_to w x (owners.Line handle line)).0 refl refl refl
+  owner_origins owners.Taste of = goes (up_to w x owners.Taste).0 refl refl refl
+  owner_origins (owners.Child parent index) of =
+      let waits : IsSomeAnd (bio_at w parent) (λ y. IsTrue (is_waiting y.phase)) = rw of at family.parent in
+      let last : Bool = is_complete (done w seat firm x found free parent waits) parent in
+      record {
+        next = let same = gathered_next w seat firm x found free parent waits last in omega (arith, same);
+        disks = gathered_disks w seat firm x found free parent waits last;
+        each = gathered_origins w seat firm x found free parent waits last;
+      }

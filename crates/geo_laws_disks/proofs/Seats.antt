@@ -48,14 +48,7 @@ module _ (plan : Plan) (facts : List (ℕ × ℕ)) (is : IsPlan plan) (fit : Fac
 -- a Take of a bio, by the test
 take_is : (b : ℕ) (s : Step) → is_take_of b s ≡ true → (disk : ℕ) × (s ≡ steps.Take disk b)
 take_is b (steps.Take disk n) e = (disk, ap (λ k. steps.Take disk k) (eqb-true n b e))
-take_is b (steps.Go actor) e = absurd (let bad : ⊥ = cc in bad)
-take_is b steps.Event e = absurd (let bad : ⊥ = cc in bad)
-take_is b steps.Judge e = absurd (let bad : ⊥ = cc in bad)
-take_is b steps.Reap e = absurd (let bad : ⊥ = cc in bad)
-take_is b steps.Wash e = absurd (let bad : ⊥ = cc in bad)
-take_is b (steps.Start n) e = absurd (let bad : ⊥ = cc in bad)
-take_is b (steps.Deliver n got) e = absurd (let bad : ⊥ = cc in bad)
-take_is b (steps.Up n) e = absurd (let bad : ⊥ = cc in bad)
+take_is b s e = absurd (let bad : ⊥ = cc in bad)
 
 -- an entry of a list splits it
 split_at : (es : List Entry) (e : Entry) → Contains es e → (earlier : List Entry) × IsSplitBy es earlier e
@@ -138,14 +131,7 @@ module _ (plan : Plan) (facts : List (ℕ × ℕ)) (is : IsPlan plan) (fit : Fac
             ∙ ap (λ d. seat_of_disk d) (sym asks.disk_is ∙ same) in
             (let bad : true ≡ false = sym (eq-eqb e.seat (seat_of_disk disk) own) ∙ other in
             (let wrong : ⊥ = cc in wrong))
-    other_delivers e here (steps.Go actor) step other = refl
-    other_delivers e here steps.Event step other = refl
-    other_delivers e here steps.Judge step other = refl
-    other_delivers e here steps.Reap step other = refl
-    other_delivers e here steps.Wash step other = refl
-    other_delivers e here (steps.Start b) step other = refl
-    other_delivers e here (steps.Take d b) step other = refl
-    other_delivers e here (steps.Up b) step other = refl
+    other_delivers e here s step other = refl
 
     -- so the seat's entries deliver all
     pub mine_deliver : deliveries_by (request_of log) disk mine ≡ deliveries log disk

@@ -25,11 +25,10 @@ use Rattle.geo_model.specs.Fitting.{Firm}
 use Rattle.geo_laws_graph.proofs.Members.{Contains-filter, find-Contains}
 use Rattle.geo_laws_graph.proofs.Numbered.{number_found}
 use Rattle.geo_laws_requests.specs.Arrivals.{StayOrArrive}
-use Rattle.geo_laws_requests.proofs.Arrivals.{bios_stay_or_arrive}
-use Rattle.geo_laws_requests.proofs.Starts.{StartsIt, in_phase, starts_it}
-use Rattle.geo_laws_requests.proofs.Takes.{TakesIt, takes_it}
-use Rattle.geo_laws_disks.proofs.Rises.{RisesIt, gathered_or, rises_it}
-use Rattle.geo_laws_disks.proofs.Turns.{DeliversIt, delivers_it}
+use Rattle.geo_laws_requests.proofs.Arrivals.{made_known}
+use Rattle.geo_laws_requests.proofs.Starts.{in_phase}
+use Rattle.geo_laws_requests.proofs.Named.{StartsIt, starts_it, TakesIt, takes_it, DeliversIt, delivers_it, RisesIt, rises_it}
+use Rattle.geo_laws_disks.proofs.Rises.{gathered_or}
 use Rattle.geo_laws_disks.proofs.Beside.{IsFound, each_passes, found_beside, found_kept}
 
 module _ (w : World) (seat other b : ℕ) (x : Bio) (apart : other ≢ seat) (found : bio_at w b ≡ Some x)
@@ -221,12 +220,8 @@ module _ (w : World) (seat other b : ℕ) (x : Bio) (apart : other ≢ seat) (fo
 
   -- whatever another seat does, the bio is found as it was
   pub stands_still : (v : World) (s : Step) (o : Outcome) → Firm w → step w other s ≡ Ok (v, o) → bio_at v b ≡ Some x
-  stands_still v (steps.Go actor) o firm made = arrives v o (bios_stay_or_arrive.go w v other actor o made)
-  stands_still v steps.Event o firm made = arrives v o (bios_stay_or_arrive.event w v other o made)
-  stands_still v steps.Judge o firm made = arrives v o (bios_stay_or_arrive.judge w v other o made)
-  stands_still v steps.Reap o firm made = arrives v o (bios_stay_or_arrive.reap w v other o made)
-  stands_still v steps.Wash o firm made = arrives v o (bios_stay_or_arrive.wash w v other o made)
   stands_still v (steps.Start c) o firm made = started v c o made
   stands_still v (steps.Take disk c) o firm made = taken v disk c o made
   stands_still v (steps.Deliver c got) o firm made = delivered v c got o made
   stands_still v (steps.Up c) o firm made = risen v c o firm made
+  stands_still v s o firm made = arrives v o (made_known w v other s o refl made)

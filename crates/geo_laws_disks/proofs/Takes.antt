@@ -27,7 +27,7 @@ use Rattle.geo_laws_graph.proofs.Members.{Contains-filter, find-Contains}
 use Rattle.geo_laws_graph.proofs.Numbered.{number_found}
 use Rattle.geo_laws_requests.proofs.AtDisk.{AtDisk, at_disk, sector_bytes}
 use Rattle.geo_laws_requests.proofs.Starts.{in_phase}
-use Rattle.geo_laws_requests.proofs.Takes.{TakesIt, takes_it}
+use Rattle.geo_laws_requests.proofs.Named.{TakesIt, takes_it}
 use Rattle.geo_serve.specs.Serve.{fits_request}
 use Rattle.geo_laws_disks.specs.DriveLaws.{IsReadOf, TakesAreServable}
 

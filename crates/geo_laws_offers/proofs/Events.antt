@@ -1,18 +1,13 @@
 -- An event destroys nothing, and what it offers for taste lives.
-use Rattle.std.specs.Prelude.{◌≡◌, ℕ, ◌≤◌, Bool, true, false, List, [], ◌∷◌, length, filter, Some, Err, is_some, count_by, if◌then◌else◌}
+use Rattle.std.specs.Prelude.{◌≡◌, ℕ, ◌≤◌, Bool, true, false, List, ◌∷◌, length, filter, Some, count_by, if◌then◌else◌}
 use Rattle.std.proofs.Common.{refl, sym, subst, arith}
 use Rattle.std.proofs.lemmas.List.Sums.{length-filter}
 use Rattle.geo_model.specs.declared.step.Event.{Event}
 use Rattle.geo_model.specs.declared.step.Event.TheVariants as events
-use Rattle.geo_model.specs.declared.step.Found.TheVariants as refusals
-use Rattle.geo_model.specs.declared.step.Step.TheVariants as steps
 use Rattle.geo_model.specs.Topology.{add_consumer}
 use Rattle.geo_model.specs.World.{World, Config, granted_in}
 use Rattle.geo_model.specs.Events.{QueuedTopology, is_not_tasted, spoil, orphan}
 use Rattle.geo_model.specs.WorldEvents.{queued_of, begin_taste, do_event}
-use Rattle.geo_model.specs.Step.{event_of, event, step}
-use Rattle.geo_model.specs.Log.{world_after}
-use Rattle.geo_model.specs.Laws.{world_by}
 use Rattle.geo_model.specs.Steady.{is_offer_of}
 use Rattle.geo_laws_offers.specs.OfferingLaws.{OnlyAdds, Adds}
 use Rattle.geo_laws_offers.proofs.Quiet.{consumer-stays, quiet-change, quiet-adds, spoil-quiet, orphan-quiet}
@@ -59,20 +54,9 @@ head-adds q r e adds = record {
 }
 
 -- the head of the queue
-queue-adds : (w : World) (es : List Event) → w.events ≡ es → Adds w (world_after w (event_of w es))
-queue-adds w [] is = nothing-adds w
-queue-adds w (e ∷ rest) is =
+pub head-does : (w : World) (e : Event) (rest : List Event) → w.events ≡ e ∷ rest
+    → Adds w (do_event (record w { events = rest }) e)
+head-does w e rest is =
     let v : World = record w { events = rest } in
     subst (λ es. OnlyAdds (record (queued_of w) { events = es }) (queued_of (do_event v e))) (sym is)
     (head-adds (queued_of v) (queued_of (do_event v e)) e (done-adds v e))
-
--- while no taste is under way
-event-by : (w : World) (b : Bool)
-    → Adds w (world_after w (if b then Err refusals.TasteUnderWay else event_of w w.events))
-event-by w true = nothing-adds w
-event-by w false = queue-adds w w.events refl
-
--- an event
-pub events-add : (w : World) (seat : ℕ) → Adds w (world_by w seat steps.Event)
-unfolding step event
-events-add w seat = event-by w (is_some w.taste)

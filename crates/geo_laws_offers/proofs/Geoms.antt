@@ -1,11 +1,9 @@
 -- The commands of geoms destroy nothing, and what they offer for taste lives.
-use Rattle.std.specs.Prelude.{◌≡◌, ℕ, ◌+◌, true, false, List, [], ◌∷◌, Option, Some, None, IfSome, option_and_then, slice_get}
+use Rattle.std.specs.Prelude.{◌≡◌, ℕ, ◌+◌, true, false, Some}
 use Rattle.std.proofs.Common.{refl}
 use Rattle.geo_base.specs.declared.kind.Kind.TheVariants as kinds
 use Rattle.geo_model.specs.declared.command.Command.{Command}
-use Rattle.geo_model.specs.declared.command.LineCommand.{LineCommand}
 use Rattle.geo_model.specs.declared.step.Event.TheVariants as events
-use Rattle.geo_model.specs.declared.step.Step.TheVariants as steps
 use Rattle.geo_model.specs.Topology.{Topology, Provider, add_geom, add_consumer, set_config}
 use Rattle.geo_model.specs.Demand.{risen}
 use Rattle.geo_model.specs.World.{World, Config, Disk, HeaderDisk, granted_in}
@@ -18,18 +16,12 @@ use Rattle.geo_model.specs.Append.{Growing, with_component, appended}
 use Rattle.geo_model.specs.Commands.{do_command}
 use Rattle.geo_model.specs.Graph.{IsInOrder}
 use Rattle.geo_model.specs.CommandEffects.{is_of_geoms, Making, with_making}
-use Rattle.geo_model.specs.Step.{waits_for, with_commands, go_of, go, step}
-use Rattle.geo_model.specs.Log.{world_after}
-use Rattle.geo_model.specs.History.{first_command, next_command}
-use Rattle.geo_model.specs.Laws.{world_by}
-use Rattle.geo_model.specs.Fitting.{Firm}
 use Rattle.geo_model.proofs.CommandWalk.{geoms_by}
 use Rattle.geo_laws_graph.proofs.Found.{added-geom}
-use Rattle.geo_laws_graph.proofs.Living.{sound-order}
 use Rattle.geo_laws_offers.specs.OfferingLaws.{Adds}
 use Rattle.geo_laws_offers.proofs.Quiet.{stays-trans, size-stays, config-stays, geom-stays, consumer-stays, quiet-trans, quiet-change, quiet-post, wither-quiet, risen-quiet, quiet-adds, adds-after}
 use Rattle.geo_laws_offers.proofs.Offers.{new-upright, consumers-come, offered-adds}
-use Rattle.geo_laws_offers.proofs.Bios.{nothing-adds, unless-adds}
+use Rattle.geo_laws_offers.proofs.Bios.{nothing-adds}
 
 -- a geom withers
 wither-adds : (w : World) (g : ℕ) → Adds w (with_queued w (wither (queued_of w) g))
@@ -91,7 +83,7 @@ module _ (w : World) (order : IsInOrder w.topology) where
       (record { geoms = λ g gone. gone; providers = λ p gone. gone; consumers = λ c gone. gone }))
 
   -- each command of geoms
-  command-adds : (line actor : ℕ) (c : Command) → is_of_geoms c ≡ true → Adds w (do_command w line actor c).0
+  pub command-adds : (line actor : ℕ) (c : Command) → is_of_geoms c ≡ true → Adds w (do_command w line actor c).0
   command-adds line actor =
       geoms_by w line actor (λ c made. Adds w made.0)
       (record { refuses = λ c e. nothing-adds w; numbers = λ c e. number-adds })
@@ -101,20 +93,3 @@ module _ (w : World) (order : IsInOrder w.topology) where
         withers = λ c g is. wither-adds w g.number;
         grows = λ name prov x q is. appended-adds x q;
       })
-
--- by the commands that are left
-left-adds : (w : World) (order : IsInOrder w.topology) (actor : ℕ) (o : Option (List LineCommand))
-    → IfSome (option_and_then first_command o) (λ c. is_of_geoms c.command ≡ true)
-    → Adds w (world_after w (go_of w actor o))
-left-adds w order actor None of = nothing-adds w
-left-adds w order actor (Some []) of = nothing-adds w
-left-adds w order actor (Some (c ∷ rest)) of =
-    unless-adds w (waits_for w actor c.command) (do_command (with_commands w actor rest) c.line actor c.command)
-    (command-adds (with_commands w actor rest) order c.line actor c.command of)
-
--- a Go of a command of geoms
-pub geoms-add : (w : World) (seat actor : ℕ) → IfSome (next_command w actor) (λ c. is_of_geoms c.command ≡ true)
-    → Firm w → Adds w (world_by w seat (steps.Go actor))
-unfolding step go
-geoms-add w seat actor of firm =
-    left-adds w (sound-order w firm.graph.numbers) actor (slice_get w.actors actor) of

@@ -1,5 +1,5 @@
 -- A step of a taste destroys nothing, unless the taste ends by it, and what it offers lives.
-use Rattle.std.specs.Prelude.{◌≡◌, ◌⊎◌, ℕ, ◌+◌, Bool, true, false, List, [], ◌∷◌, Option, Some, None, Ok, Err, IfSome, is_some, if◌then◌else◌}
+use Rattle.std.specs.Prelude.{◌≡◌, ◌⊎◌, ℕ, ◌+◌, Bool, true, false, List, [], ◌∷◌, Option, Some, None, IfSome, is_some, if◌then◌else◌}
 use Rattle.std.specs.Option.{option_map_or}
 use Rattle.std.proofs.Common.{inl, inr, refl, sym, ◌∙◌, ap, subst}
 use Rattle.geo_base.specs.declared.kind.Kind.{Kind}
@@ -12,8 +12,6 @@ use Rattle.geo_model.specs.declared.class.Verdict.{Verdict}
 use Rattle.geo_model.specs.declared.class.Verdict.TheVariants.{Decline, More, Accept}
 use Rattle.geo_model.specs.declared.step.BioResult.{BioResult}
 use Rattle.geo_model.specs.declared.step.BioResult.TheVariants as results
-use Rattle.geo_model.specs.declared.step.Found.TheVariants as refusals
-use Rattle.geo_model.specs.declared.step.Step.TheVariants as steps
 use Rattle.geo_model.specs.Topology.{Provider, provider_at, remove_consumer}
 use Rattle.geo_model.specs.Demand.{one_read}
 use Rattle.geo_model.specs.Opens.{grant_refusal, with_grant}
@@ -22,16 +20,11 @@ use Rattle.geo_model.specs.Events.{QueuedTopology}
 use Rattle.geo_model.specs.WorldEvents.{queued_of}
 use Rattle.geo_model.specs.Acceptance.{taste_where, accept}
 use Rattle.geo_model.specs.Chain.{no_links}
-use Rattle.geo_model.specs.Tasting.{Judging, facts_of, is_attached_class, is_ended, end_class, end_taste, read_sector, follow, with_read, verdict_on, take_result, next_class, go_on, taste_step, abort_taste, judged_world, judge_step}
+use Rattle.geo_model.specs.Tasting.{Judging, facts_of, is_attached_class, is_ended, end_class, end_taste, read_sector, follow, with_read, verdict_on, take_result, next_class, go_on, taste_step, abort_taste, judged_world}
 use Rattle.geo_model.specs.Graph.{IsInOrder}
-use Rattle.geo_model.specs.Step.{taste_bio, judge_of, judge_next, step}
-use Rattle.geo_model.specs.Log.{world_after}
-use Rattle.geo_model.specs.Laws.{world_by}
-use Rattle.geo_model.specs.Fitting.{Firm}
-use Rattle.geo_laws_graph.proofs.Living.{sound-order}
+use Rattle.geo_model.specs.StepEffects.{IsJudged}
 use Rattle.geo_laws_offers.specs.OfferingLaws.{OnlyAdds, Adds, EndsTaste}
 use Rattle.geo_laws_offers.proofs.Quiet.{quiet-same, quiet-adds}
-use Rattle.geo_laws_offers.proofs.Bios.{nothing-adds}
 use Rattle.geo_laws_offers.proofs.Accepts.{accept-adds}
 
 -- what a step of a taste came to: the graph and the queue only gained, and the taste has its consumer
@@ -153,37 +146,15 @@ judged-goes w s x goes Made = inl goes.adds
 judged-goes w s x goes Ended =
     inr (ap (λ c. record w { topology = remove_consumer w.topology c; taste = None }) goes.consumer)
 
+-- so it ends, or not
+as-end : (w after : World) (s : Taste) → w.taste ≡ Some s → is_read_out s.asked ≡ false
+    → Adds w after ⊎ (after ≡ abort_taste w s) → Adds w after ⊎ EndsTaste w after
+as-end w after s is idle (inl adds) = inl adds
+as-end w after s is idle (inr ends) = inr (record { taste = s; is = is; idle = idle; ends = ends })
+
 -- a step of a taste in the whole state
-step-goes : (w : World) (s : Taste) → IsInOrder w.topology
-    → Adds w (judge_step w s).0 ⊎ ((judge_step w s).0 ≡ abort_taste w s)
-unfolding judge_step
-step-goes w s order =
-    let x : Judging = taste_step (granted_in w) (queued_of w) s in
-    judged-goes w s x (taste-goes (granted_in w) (queued_of w) order s) x.judged
-
-module _ (w : World) (order : IsInOrder w.topology) where
-  -- it ends, or not
-  as-end : (s : Taste) → w.taste ≡ Some s → is_read_out s.asked ≡ false
-      → Adds w (judge_step w s).0 ⊎ ((judge_step w s).0 ≡ abort_taste w s)
-      → Adds w (judge_step w s).0 ⊎ EndsTaste w (judge_step w s).0
-  as-end s is idle (inl adds) = inl adds
-  as-end s is idle (inr ends) = inr (record { taste = s; is = is; idle = idle; ends = ends })
-
-  -- while no read is out
-  judge-by : (s : Taste) → w.taste ≡ Some s → (b : Bool) → is_read_out s.asked ≡ b
-      → Adds w (world_after w (if b then Err (refusals.ReadOut (taste_bio w)) else Ok (judge_step w s)))
-      ⊎ EndsTaste w (world_after w (if b then Err (refusals.ReadOut (taste_bio w)) else Ok (judge_step w s)))
-  judge-by s is true out = inl (nothing-adds w)
-  judge-by s is false idle = as-end s is idle (step-goes w s order)
-
-  -- by the taste
-  judges-goes : (o : Option Taste) → w.taste ≡ o
-      → Adds w (world_after w (judge_of w o)) ⊎ EndsTaste w (world_after w (judge_of w o))
-  judges-goes None is = inl (nothing-adds w)
-  judges-goes (Some s) is = judge-by s is (is_read_out s.asked) refl
-
--- a Judge
-pub judges-add : (w : World) (seat : ℕ) → Firm w
-    → Adds w (world_by w seat steps.Judge) ⊎ EndsTaste w (world_by w seat steps.Judge)
-unfolding step judge_next
-judges-add w seat firm = judges-goes w (sound-order w firm.graph.numbers) w.taste refl
+pub judges-go : (w : World) (s : Taste) (x : Judging) (j : Judged) → IsJudged w s x j → IsInOrder w.topology
+    → Adds w (judged_world w x j).0 ⊎ EndsTaste w (judged_world w x j).0
+judges-go w s x j is order =
+    as-end w (judged_world w x j).0 s is.taste is.back
+    (judged-goes w s x (subst (GoesOn (queued_of w) s) is.step (taste-goes (granted_in w) (queued_of w) order s)) j)

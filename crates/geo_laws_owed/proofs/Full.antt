@@ -18,19 +18,12 @@ use Rattle.geo_laws_owed.proofs.Room.{never_shorter}
 
 -- a step begins to owe at most one place
 pub begins_one : (w : World) (s : Step) (outcome : Outcome) → begins_to_owe w s outcome ≤ 1
-begins_one w (steps.Take disk b) outcome = omega arith
 begins_one w (steps.Go actor) outcome = by (is_answered_ok is_open (next_command w actor) outcome)
   where
     by : (c : Bool) → (if c then 1 else 0) ≤ 1
     by true = omega arith
     by false = omega arith
-begins_one w steps.Event outcome = omega arith
-begins_one w steps.Judge outcome = omega arith
-begins_one w steps.Reap outcome = omega arith
-begins_one w steps.Wash outcome = omega arith
-begins_one w (steps.Start b) outcome = omega arith
-begins_one w (steps.Deliver b got) outcome = omega arith
-begins_one w (steps.Up b) outcome = omega arith
+begins_one w s outcome = omega arith
 
 -- where a step has no place, the log with what is owed is at its limit but for one place
 pub full_logs_are_long : FullLogsAreLong

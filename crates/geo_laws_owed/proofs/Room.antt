@@ -57,19 +57,12 @@ logs_stay_lawful opened log e lawful made room =
 
 -- a step pays at most one place
 pays_one : (w : World) (s : Step) (outcome : Outcome) → pays w s outcome ≤ 1
-pays_one w (steps.Deliver b got) outcome = omega arith
 pays_one w (steps.Go actor) outcome = by (is_answered_ok is_close (next_command w actor) outcome) where
   -- by whether it closes a handle
   by : (b : Bool) → (if b then 1 else 0) ≤ 1
   by true = omega arith
   by false = omega arith
-pays_one w steps.Event outcome = omega arith
-pays_one w steps.Judge outcome = omega arith
-pays_one w steps.Reap outcome = omega arith
-pays_one w steps.Wash outcome = omega arith
-pays_one w (steps.Start b) outcome = omega arith
-pays_one w (steps.Take disk b) outcome = omega arith
-pays_one w (steps.Up b) outcome = omega arith
+pays_one w s outcome = omega arith
 
 -- so with its entry the log and what is owed are no shorter than before
 no_shorter : (w : World) (seat : ℕ) (s : Step) → Firm w → (a : Answer) → step w seat s ≡ a

@@ -23,10 +23,6 @@ use Rattle.geo_model.proofs.StepWalk.{step_by}
 use Rattle.geo_laws_requests.specs.Arrivals.{BiosStay, StayOrArrive, BiosStayOrArrive}
 use Rattle.geo_laws_requests.proofs.CommandArrivals.{Made, command_made, same_bios}
 
--- an answer that is ok
-abbrev pub okay : World × Outcome → Answer
-okay made = Ok made
-
 -- whether the step names no bio
 abbrev pub names_none : Step → Bool
 names_none (steps.Start b) = false
@@ -125,7 +121,7 @@ others_known w seat =
     })
 
 -- so what is made
-made_known : (w v : World) (seat : ℕ) (s : Step) (o : Outcome) → names_none s ≡ true → step w seat s ≡ Ok (v, o)
+pub made_known : (w v : World) (seat : ℕ) (s : Step) (o : Outcome) → names_none s ≡ true → step w seat s ≡ Ok (v, o)
     → StayOrArrive w v o
 made_known w v seat s o other made = subst (Known w) made (others_known w seat s other)
 

@@ -36,7 +36,7 @@ use Rattle.geo_laws_requests.proofs.Looks.{entries_of_both}
 use Rattle.geo_laws_requests.proofs.Entries.{entries_are_moments}
 use Rattle.geo_laws_requests.specs.Ledger.{AcceptsAreAccounted, IsAccounted, IsCompleted, IsLogged, IsOnItsWay, Ledger, SoFar}
 use Rattle.geo_laws_requests.proofs.Accounted.{count_past}
-use Rattle.geo_laws_requests.proofs.Takes.{takes_it}
+use Rattle.geo_laws_requests.proofs.Named.{takes_it}
 use Rattle.geo_laws_requests.proofs.Replies.{reply_is}
 use Rattle.geo_laws_requests.specs.RequestLaws.{BiosAreTakenOnce, LegalLogsCompleteRequests}
 use Rattle.geo_laws_requests.proofs.Along.{entry_made, ledger_after, ledger_along}
@@ -235,14 +235,7 @@ taken_after h w e ledger made b few = by e.step refl
             → count_by (λ (x : Entry). is_take_of b x.step) (entries_of (h ++ m ∷ [])) ≤ 1
         at true same = taken disk (is ∙ ap (λ k. steps.Take disk k) (eqb-true n b same))
         at false other = past (rw is other)
-    by (steps.Go actor) is = past (rw is refl)
-    by steps.Event is = past (rw is refl)
-    by steps.Judge is = past (rw is refl)
-    by steps.Reap is = past (rw is refl)
-    by steps.Wash is = past (rw is refl)
-    by (steps.Start n) is = past (rw is refl)
-    by (steps.Deliver n got) is = past (rw is refl)
-    by (steps.Up n) is = past (rw is refl)
+    by s is = past (rw is refl)
 
 -- along a legal log
 taken_along : (h : List Moment) (w : World) (log : List Entry) → Ledger h w → Firm w → Legal w log → (b : ℕ)

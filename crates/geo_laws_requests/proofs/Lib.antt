@@ -3,6 +3,7 @@ pub mod Finished
 pub mod Entries
 pub mod CommandArrivals
 pub mod Arrivals
+pub mod Named
 pub mod Covered
 pub mod Logged
 pub mod Accounted

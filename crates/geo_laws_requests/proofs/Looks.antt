@@ -1,19 +1,12 @@
 -- Look-ups in a history that goes on.
 use Rattle.std.specs.Prelude.{◌≡◌, ℕ, Bool, List, ◌++◌, find, Option, Some, None, option_and_then}
-use Rattle.std.specs.Option.{option_or}
 use Rattle.std.proofs.Common.{refl, ◌∙◌, ap}
 use Rattle.std.proofs.lemmas.List.{map-append}
-use Rattle.std.proofs.lemmas.List.Folds.{find-append}
 use Rattle.geo_base.proofs.FindLists.{found-before}
 use Rattle.geo_model.specs.declared.step.DeviceResult.{DeviceResult}
 use Rattle.geo_model.specs.declared.step.Request.{Request}
 use Rattle.geo_model.specs.Log.{Moment}
 use Rattle.geo_model.specs.Results.{start_moment, request_of, request_in, device_answer_of, device_answer_in, entries_of, is_start_of, is_take_of, is_deliver_of}
-
--- where nothing is found in front, the rest decides
-pub find_behind : {X : Type 0} (test : X → Bool) (xs ys : List X)
-    → find test xs ≡ None → find test (xs ++ ys) ≡ find test ys
-find_behind test xs ys none = find-append test xs ys ∙ ap (λ o. option_or o (find test ys)) none
 
 -- an entry for each moment
 pub entries_of_both : (h k : List Moment) → entries_of (h ++ k) ≡ entries_of h ++ entries_of k

@@ -1,15 +1,13 @@
 -- A Start keeps the ledger: the bio goes back with an error, is sent to its disk, or is split.
-use Rattle.std.specs.Prelude.{◌≡◌, ◌≢◌, ℕ, suc, ◌+◌, ◌≤◌, ◌==◌, Bool, true, false, List, [], ◌∷◌, ◌++◌, length, map, filter, Option, Some, None, Ok, Err, IsTrue, IsSomeAnd, All, option_map, if◌then◌else◌, ⊤}
+use Rattle.std.specs.Prelude.{◌≡◌, ◌≢◌, ℕ, suc, ◌+◌, ◌≤◌, ◌==◌, Bool, true, false, List, [], ◌∷◌, ◌++◌, length, map, filter, Option, Some, None, Ok, IsTrue, IsSomeAnd, All, option_map, if◌then◌else◌, ⊤}
 use Rattle.std.specs.List.{AllByRecursion, enumerate_from, range_with_len}
 use Rattle.std.proofs.Common.{refl, sym, ◌∙◌, ap, subst, arith, append-nil}
 use Rattle.std.proofs.lemmas.Bool.{eq-eqb, ne_eqb}
 use Rattle.std.proofs.lemmas.List.Elements.{All-append, All-from_recursion, recursion_from_All, filter-append}
-use Rattle.geo_model.proofs.BioLemmas.{phase_down}
 use Rattle.geo_base.specs.declared.errno.Errno.{Errno}
 use Rattle.geo_base.specs.declared.errno.Errno.TheVariants.{ENXIO, EIO}
 use Rattle.geo_model.specs.declared.step.BioResult.{BioResult}
 use Rattle.geo_model.specs.declared.step.BioResult.TheVariants as results
-use Rattle.geo_model.specs.declared.step.Found.TheVariants as found
 use Rattle.geo_model.specs.declared.step.Outcome.{Outcome}
 use Rattle.geo_model.specs.declared.step.Outcome.TheVariants as outcomes
 use Rattle.geo_model.specs.declared.step.Owner.{Owner}
@@ -20,13 +18,12 @@ use Rattle.geo_model.specs.declared.step.Step.TheVariants as steps
 use Rattle.geo_model.specs.Topology.{Topology, Geom, Provider, is_errored, provider_with_geom, note_started}
 use Rattle.geo_model.specs.World.{World, Config, Nothing, Disk, Mbr, Ebr, Label, Concat, Stripe, Nop, Bio, bio_at, change_number, children_of, is_child_of, is_down, is_waiting}
 use Rattle.geo_model.specs.SoundBios.{IsFamilyInOrder, HasItsParent}
-use Rattle.geo_model.specs.Bios.{Way, Bounces, Fails, Sends, Splits, Passes, PieceTarget, piece_child, is_hit, start, start_by, way_at, way_of, up_with}
-use Rattle.geo_model.specs.Step.{start_of, step}
+use Rattle.geo_model.specs.Bios.{Way, Bounces, Fails, Sends, Splits, Passes, PieceTarget, piece_child, is_hit, start_by, way_at, way_of, up_with}
+use Rattle.geo_model.specs.Step.{step}
 use Rattle.geo_model.specs.Log.{Moment}
 use Rattle.geo_model.specs.Results.{bounce_errno, is_deliver_of, is_take_of, start_moment}
 use Rattle.geo_model.specs.Graph.{AreNumbers}
 use Rattle.geo_model.specs.History.{is_reply_to}
-use Rattle.geo_model.proofs.WayLemmas.{starts_in_parts}
 use Rattle.geo_laws_graph.proofs.Living.{all_members}
 use Rattle.geo_laws_graph.proofs.Numbered.{number_found}
 use Rattle.geo_laws_graph.proofs.Lists.{filter-changed}
@@ -36,7 +33,7 @@ use Rattle.geo_laws_requests.specs.Covering.{SameMaps}
 use Rattle.geo_laws_requests.specs.Ledger.{Ledger, IsLogged, SoFar}
 use Rattle.geo_laws_requests.proofs.Logged.{never_so}
 use Rattle.geo_laws_requests.proofs.Quiet.{moment_of, taken_quietly}
-use Rattle.geo_laws_requests.proofs.Arrivals.{okay}
+use Rattle.geo_laws_requests.proofs.Named.{StartsIt, starts_it}
 use Rattle.geo_laws_requests.proofs.Turning.{KeepsRequest, IsNewChild, turned_keeps}
 use Rattle.geo_laws_requests.proofs.Answered.{started_now, result_at}
 
@@ -300,32 +297,6 @@ module _ (h : List Moment) (w v : World) (seat b : ℕ) (x : Bio) (o : Outcome) 
       }
 
 -- Each way
-
--- the bio that a Start names, where it is enabled
-pub record StartsIt (w v : World) (b : ℕ) (o : Outcome) : Type 0 where
-  pub bio : Bio
-  pub found : bio_at w b ≡ Some bio
-  pub down : bio.phase ≡ phases.Down
-  pub made : (v, o) ≡ start_by w bio (way_of w.topology bio)
-
--- an enabled Start names a bio that is Down
-pub starts_it : (w v : World) (seat b : ℕ) (o : Outcome) → step w seat (steps.Start b) ≡ Ok (v, o) → StartsIt w v b o
-unfolding step
-starts_it w v seat b o e = by (bio_at w b) refl e
-  where
-    at : (x : Bio) → bio_at w b ≡ Some x → (d : Bool) → is_down x.phase ≡ d
-        → (if d then okay (start w x) else Err (found.InPhase x.phase)) ≡ Ok (v, o) → StartsIt w v b o
-    at x is true down e = record {
-      bio = x;
-      found = is;
-      down = phase_down x.phase down;
-      made = (let it : start w x ≡ (v, o) = cc in sym it) ∙ starts_in_parts w x;
-    }
-    at x is false down e = absurd (let bad : ⊥ = cc in bad)
-
-    by : (z : Option Bio) → bio_at w b ≡ z → start_of w z ≡ Ok (v, o) → StartsIt w v b o
-    by None is e = absurd (let bad : ⊥ = cc in bad)
-    by (Some x) is e = at x is (is_down x.phase) refl e
 
 -- each Start keeps the ledger
 pub starts_keep : (h : List Moment) (w v : World) (seat b : ℕ) (o : Outcome) → Ledger h w

@@ -1,7 +1,7 @@
 -- Each step keeps the ledger, and so does each legal log.
 use Rattle.std.proofs.Common.{refl}
 use Rattle.geo_model.specs.declared.step.Step.TheVariants as steps
-use Rattle.geo_laws_requests.proofs.Arrivals.{bios_stay_or_arrive}
+use Rattle.geo_laws_requests.proofs.Arrivals.{made_known}
 use Rattle.geo_laws_requests.specs.Ledger.{StepsKeepLedger}
 use Rattle.geo_laws_requests.proofs.Quiet.{quiet_keeps}
 use Rattle.geo_laws_requests.proofs.Starts.{starts_keep}
@@ -10,21 +10,6 @@ use Rattle.geo_laws_requests.proofs.Ups.{ups_keep}
 
 -- each step keeps the ledger, where the maps stay
 pub steps_keep_ledger : StepsKeepLedger
-steps_keep_ledger h w v seat (steps.Go actor) o ledger firm maps made =
-    quiet_keeps h w v seat (steps.Go actor) o ledger firm.bios.numbers (λ b. refl) made maps
-    (bios_stay_or_arrive.go w v seat actor o made)
-steps_keep_ledger h w v seat steps.Event o ledger firm maps made =
-    quiet_keeps h w v seat steps.Event o ledger firm.bios.numbers (λ b. refl) made maps
-    (bios_stay_or_arrive.event w v seat o made)
-steps_keep_ledger h w v seat steps.Judge o ledger firm maps made =
-    quiet_keeps h w v seat steps.Judge o ledger firm.bios.numbers (λ b. refl) made maps
-    (bios_stay_or_arrive.judge w v seat o made)
-steps_keep_ledger h w v seat steps.Reap o ledger firm maps made =
-    quiet_keeps h w v seat steps.Reap o ledger firm.bios.numbers (λ b. refl) made maps
-    (bios_stay_or_arrive.reap w v seat o made)
-steps_keep_ledger h w v seat steps.Wash o ledger firm maps made =
-    quiet_keeps h w v seat steps.Wash o ledger firm.bios.numbers (λ b. refl) made maps
-    (bios_stay_or_arrive.wash w v seat o made)
 steps_keep_ledger h w v seat (steps.Start b) o ledger firm maps made =
     starts_keep h w v seat b o ledger firm.bios.numbers firm.bios.families maps made
 steps_keep_ledger h w v seat (steps.Take disk b) o ledger firm maps made =
@@ -33,3 +18,5 @@ steps_keep_ledger h w v seat (steps.Deliver b got) o ledger firm maps made =
     delivers_keep h w v seat b got o ledger firm.bios.numbers maps made
 steps_keep_ledger h w v seat (steps.Up b) o ledger firm maps made =
     ups_keep h w v seat b o ledger firm maps made
+steps_keep_ledger h w v seat s o ledger firm maps made =
+    quiet_keeps h w v seat s o ledger firm.bios.numbers (λ b. refl) made maps (made_known w v seat s o refl made)

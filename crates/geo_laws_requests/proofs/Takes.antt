@@ -6,24 +6,21 @@ use Rattle.std.proofs.lemmas.List.Elements.{All-append, All-contains, All-from_r
 use Rattle.geo_model.proofs.BioLemmas.{phase_sent}
 use Rattle.geo_base.specs.Sectors.{IsSectorSize}
 use Rattle.geo_model.specs.declared.step.DeviceResult.{DeviceResult}
-use Rattle.geo_model.specs.declared.step.Found.{Found}
 use Rattle.geo_model.specs.declared.step.Outcome.{Outcome}
 use Rattle.geo_model.specs.declared.step.Outcome.TheVariants as outcomes
-use Rattle.geo_model.specs.declared.step.Phase.{Phase}
 use Rattle.geo_model.specs.declared.step.Phase.TheVariants as phases
 use Rattle.geo_model.specs.declared.step.Request.{Request}
 use Rattle.geo_model.specs.declared.step.Step.TheVariants as steps
-use Rattle.geo_model.specs.World.{World, Bio, bio_at, change_number, is_busy, granted_in}
+use Rattle.geo_model.specs.World.{World, Bio, bio_at, change_number, granted_in}
 use Rattle.geo_model.specs.SoundBios.{IsBioInOrder}
 use Rattle.geo_model.specs.Bios.{take_bio, deliver, request_of_bio, result_of_device, up_with}
-use Rattle.geo_model.specs.Step.{take_of, deliver_of, take_found, deliver_found, unless_found, step}
+use Rattle.geo_model.specs.Step.{step}
 use Rattle.geo_model.specs.Log.{Moment}
 use Rattle.geo_model.specs.Results.{Leaf, device_answer_of, entries_of, is_deliver_of, leaves, request_in, request_of, start_moment}
 use Rattle.geo_model.specs.Graph.{AreNumbers}
 use Rattle.geo_model.specs.History.{is_reply_to}
 use Rattle.geo_laws_graph.proofs.Members.{find-Contains}
 use Rattle.geo_laws_graph.proofs.Numbered.{number_found}
-use Rattle.geo_laws_bios.proofs.Phases.{CanTake, can_take, can_deliver}
 use Rattle.geo_laws_requests.specs.Histories.{AnsweredAreTaken}
 use Rattle.geo_laws_requests.proofs.Looks.{request_stays, start_stays}
 use Rattle.geo_laws_steps.specs.WayLaws.{SameMap}
@@ -35,43 +32,8 @@ use Rattle.geo_laws_requests.proofs.Quiet.{moment_of, taken_quietly, answer_befo
 use Rattle.geo_laws_requests.proofs.Turning.{IsNewChild, turned_keeps}
 use Rattle.geo_laws_requests.proofs.Answered.{asked_now, answered_now, leaves_at, result_at}
 use Rattle.geo_laws_requests.proofs.AtDisk.{take_covers}
+use Rattle.geo_laws_requests.proofs.Named.{TakesIt, takes_it, DeliversIt, delivers_it}
 use Rattle.geo_laws_requests.proofs.Starts.{keeps_up, keeps_phase, in_phase}
-
--- a bio that is to be taken, with what was made
-pub record TakesIt (w v : World) (seat disk b : ℕ) (o : Outcome) : Type 0 where
-  pub bio : Bio
-  pub found : bio_at w b ≡ Some bio
-  pub can : CanTake w disk bio
-  pub made : (v, o) ≡ take_bio w seat disk bio
-
--- an enabled Take names a bio that can be taken
-pub takes_it : (w v : World) (seat disk b : ℕ) (o : Outcome) → step w seat (steps.Take disk b) ≡ Ok (v, o)
-    → TakesIt w v seat disk b o
-unfolding step
-takes_it w v seat disk b o e = by (bio_at w b) refl e
-  where
-    at : (x : Bio) → bio_at w b ≡ Some x → (f : Option Found) → take_found w disk x ≡ f
-        → unless_found f (take_bio w seat disk x) ≡ Ok (v, o) → TakesIt w v seat disk b o
-    at x is None none e = record {
-      bio = x;
-      found = is;
-      can = can_take w disk x none;
-      made = let it : take_bio w seat disk x ≡ (v, o) = cc in sym it;
-    }
-    at x is (Some f) none e = absurd (let bad : ⊥ = cc in bad)
-
-    by : (z : Option Bio) → bio_at w b ≡ z → take_of w seat disk z ≡ Ok (v, o) → TakesIt w v seat disk b o
-    by None is e = absurd (let bad : ⊥ = cc in bad)
-    by (Some x) is e = at x is (take_found w disk x) refl e
-
--- a phase that is Busy, with its seat
-phase_busy : (p : Phase) → is_busy p ≡ true → (seat : ℕ) × (p ≡ phases.Busy seat)
-phase_busy phases.Down e = absurd (let bad : ⊥ = cc in bad)
-phase_busy phases.Sent e = absurd (let bad : ⊥ = cc in bad)
-phase_busy (phases.Busy seat) e = (seat, refl)
-phase_busy phases.Waiting e = absurd (let bad : ⊥ = cc in bad)
-phase_busy phases.Up e = absurd (let bad : ⊥ = cc in bad)
-phase_busy phases.Done e = absurd (let bad : ⊥ = cc in bad)
 
 -- with a step that isn't the Up of a bio no reply to it is told
 unreplied : (h : List Moment) (m : Moment) (n : ℕ) → is_reply_to n m.entry ≡ false
@@ -148,37 +110,6 @@ takes_keep h w v seat disk b o ledger are order sizes maps made =
           };
         }
 
--- a bio that is to be delivered, with what was made
-record DeliversIt (w v : World) (b : ℕ) (got : DeviceResult) (o : Outcome) : Type 0 where
-  bio : Bio
-  found : bio_at w b ≡ Some bio
-  holder : ℕ
-  busy : bio.phase ≡ phases.Busy holder
-  made : (v, o) ≡ deliver w bio got
-
--- an enabled Deliver names a bio that is Busy
-delivers_it : (w v : World) (seat b : ℕ) (got : DeviceResult) (o : Outcome)
-    → step w seat (steps.Deliver b got) ≡ Ok (v, o) → DeliversIt w v b got o
-unfolding step
-delivers_it w v seat b got o e = by (bio_at w b) refl e
-  where
-    at : (x : Bio) → bio_at w b ≡ Some x → (f : Option Found) → deliver_found w seat x got x.phase ≡ f
-        → unless_found f (deliver w x got) ≡ Ok (v, o) → DeliversIt w v b got o
-    at x is None none e =
-        let busy = phase_busy x.phase (can_deliver w seat x got x.phase none).0 in
-        record {
-          bio = x;
-          found = is;
-          holder = busy.0;
-          busy = busy.1;
-          made = let it : deliver w x got ≡ (v, o) = cc in sym it;
-        }
-    at x is (Some f) none e = absurd (let bad : ⊥ = cc in bad)
-
-    by : (z : Option Bio) → bio_at w b ≡ z → deliver_of w seat got z ≡ Ok (v, o) → DeliversIt w v b got o
-    by None is e = absurd (let bad : ⊥ = cc in bad)
-    by (Some x) is e = at x is (deliver_found w seat x got x.phase) refl e
-
 -- each Deliver keeps the ledger
 pub delivers_keep : (h : List Moment) (w v : World) (seat b : ℕ) (got : DeviceResult) (o : Outcome) → Ledger h w
     → AreNumbers (map (λ (y : Bio). y.number) w.bios) w.next_bio → SameMaps w v
@@ -204,7 +135,7 @@ delivers_keep h w v seat b got o ledger are maps made =
     this : Moment
     this = moment_of w seat (steps.Deliver b got) o
 
-    it : DeliversIt w v b got o
+    it : DeliversIt w v seat b got o
     it = delivers_it w v seat b got o made
 
     x : Bio
@@ -220,7 +151,7 @@ delivers_keep h w v seat b got o ledger are maps made =
     here = find-Contains (λ (y : Bio). y.number == x.number) w.bios x found
 
     was : WasAsked h w x
-    was = subst (SoFar h w x) it.busy (All-contains (IsLogged h w) w.bios x ledger.live here).so_far
+    was = subst (SoFar h w x) it.own (All-contains (IsLogged h w) w.bios x ledger.live here).so_far
 
     answer : device_answer_of (entries_of (h ++ this ∷ [])) x.number ≡ Some got
     answer = answered_now h this x.number was.undelivered (rw same (eq-eqb b b refl))

@@ -1,11 +1,10 @@
 -- Each Up keeps the ledger.
-use Rattle.std.specs.Prelude.{◌≡◌, ℕ, ◌==◌, Bool, true, false, List, [], ◌∷◌, ◌++◌, Option, Some, None, Ok, Err, IsSomeAnd, Contains, IsTrue, unwrap_or, if◌then◌else◌}
+use Rattle.std.specs.Prelude.{◌≡◌, ℕ, ◌==◌, Bool, true, false, List, [], ◌∷◌, ◌++◌, Option, Some, None, Ok, IsSomeAnd, Contains, IsTrue, unwrap_or, if◌then◌else◌}
 use Rattle.std.specs.Option.{option_map_or}
 use Rattle.std.proofs.Common.{refl, sym, ◌∙◌, ap, subst}
 use Rattle.std.proofs.lemmas.Bool.{or_left}
 use Rattle.std.proofs.lemmas.List.Elements.{All-contains}
 use Rattle.geo_model.specs.declared.step.BioResult.TheVariants as results
-use Rattle.geo_model.specs.declared.step.Found.TheVariants as found
 use Rattle.geo_model.specs.declared.step.Outcome.{Outcome}
 use Rattle.geo_model.specs.declared.step.Outcome.TheVariants as outcomes
 use Rattle.geo_model.specs.declared.step.Owner.{Owner}
@@ -13,8 +12,8 @@ use Rattle.geo_model.specs.declared.step.Owner.TheVariants as owners
 use Rattle.geo_model.specs.declared.step.Phase.TheVariants as phases
 use Rattle.geo_model.specs.declared.step.Step.TheVariants as steps
 use Rattle.geo_model.specs.World.{World, Bio, bio_at, is_done, is_up, is_waiting}
-use Rattle.geo_model.specs.Bios.{complete_parent, is_complete, reply_of_result, up, up_to}
-use Rattle.geo_model.specs.Step.{step, up_of}
+use Rattle.geo_model.specs.Bios.{complete_parent, is_complete, reply_of_result, up_to}
+use Rattle.geo_model.specs.Step.{step}
 use Rattle.geo_model.specs.Log.{Moment}
 use Rattle.geo_model.specs.SoundBios.{IsFamilyInOrder}
 use Rattle.geo_model.specs.Fitting.{Firm}
@@ -22,7 +21,7 @@ use Rattle.geo_laws_graph.proofs.Members.{find-Contains}
 use Rattle.geo_laws_graph.proofs.Numbered.{number_found}
 use Rattle.geo_laws_bios.specs.BioSteps.{turn}
 use Rattle.geo_laws_bios.proofs.Ascending.{found_then}
-use Rattle.geo_laws_requests.proofs.Arrivals.{okay}
+use Rattle.geo_laws_requests.proofs.Named.{RisesIt, rises_it}
 use Rattle.geo_laws_requests.specs.Covering.{SameMaps}
 use Rattle.geo_laws_requests.specs.Ledger.{IsLogged, Ledger}
 use Rattle.geo_laws_requests.proofs.Gathered.{IsBack}
@@ -30,32 +29,6 @@ use Rattle.geo_laws_requests.proofs.Gathers.{child_ends, last_child_ends, result
 use Rattle.geo_laws_requests.proofs.Quiet.{moment_of}
 use Rattle.geo_laws_requests.proofs.Replies.{completed_now}
 use Rattle.geo_laws_requests.proofs.Roots.{leaves_keep}
-
--- the bio that an Up names, where it is enabled
-record RisesIt (w v : World) (b : ℕ) (o : Outcome) : Type 0 where
-  bio : Bio
-  found : bio_at w b ≡ Some bio
-  up : is_up bio.phase ≡ true
-  made : (v, o) ≡ up_to w bio bio.owner
-
--- an enabled Up names a bio that is Up
-rises_it : (w v : World) (seat b : ℕ) (o : Outcome) → step w seat (steps.Up b) ≡ Ok (v, o) → RisesIt w v b o
-unfolding step up
-rises_it w v seat b o e = by (bio_at w b) refl e
-  where
-    at : (x : Bio) → bio_at w b ≡ Some x → (d : Bool) → is_up x.phase ≡ d
-        → (if d then okay (up w x) else Err (found.InPhase x.phase)) ≡ Ok (v, o) → RisesIt w v b o
-    at x is true up e = record {
-      bio = x;
-      found = is;
-      up = up;
-      made = let it : up_to w x x.owner ≡ (v, o) = cc in sym it;
-    }
-    at x is false up e = absurd (let bad : ⊥ = cc in bad)
-
-    by : (z : Option Bio) → bio_at w b ≡ z → up_of w z ≡ Ok (v, o) → RisesIt w v b o
-    by None is e = absurd (let bad : ⊥ = cc in bad)
-    by (Some x) is e = at x is (is_up x.phase) refl e
 
 -- each Up keeps the ledger
 pub ups_keep : (h : List Moment) (w v : World) (seat b : ℕ) (o : Outcome) → Ledger h w → Firm w → SameMaps w v

@@ -54,12 +54,6 @@ elsewhere v w n none geoms ranks q =
 abbrev pub Cheaper : World → World → Type 0
 Cheaper v w = (q d : ℕ) → taste_weight (rank_of_provider v q + d) ≤ taste_weight (rank_of_provider w q + d)
 
--- so where the ranks stay
-pub same_cheaper : (v w : World) → ((q : ℕ) → rank_of_provider v q ≡ rank_of_provider w q) → Cheaper v w
-same_cheaper v w same q d =
-    let e : taste_weight (rank_of_provider v q + d) ≡ taste_weight (rank_of_provider w q + d) =
-    ap (λ (r : ℕ). taste_weight (r + d)) (same q) in omega (arith, e)
-
 -- then each offer costs no more
 offer_most : (v w : World) → Cheaper v w → (q : ℕ) → taste_weight (rank_of_provider v q) ≤ taste_weight
     (rank_of_provider w q)

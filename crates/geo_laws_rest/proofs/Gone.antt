@@ -1,5 +1,5 @@
 -- A Go lowers the measure, since a command less is left; and so does a Reap, since a handle less is open.
-use Rattle.std.specs.Prelude.{◌≡◌, ℕ, ◌+◌, ◌≤◌, Bool, true, false, not, List, [], ◌∷◌, length, find, map, sum_by, slice_get, Option, Some, None, Ok, Err, Contains, is_ok, is_some, cond, if◌then◌else◌}
+use Rattle.std.specs.Prelude.{◌≡◌, ℕ, ◌+◌, ◌≤◌, Bool, true, false, not, List, [], ◌∷◌, length, map, sum_by, slice_get, Option, Some, None, Contains, is_some, cond, if◌then◌else◌}
 use Rattle.std.specs.Option.{option_map_or}
 use Rattle.std.proofs.Common.{refl, ap, arith}
 use Rattle.std.proofs.lemmas.Bool.{eq-eqb, and_parts}
@@ -7,22 +7,18 @@ use Rattle.std.proofs.lemmas.List.Sums.{sum_by-set}
 use Rattle.std.proofs.lemmas.Option.{slice_get_within, get_or_from_slice_get}
 use Rattle.geo_model.specs.declared.command.Command.{Command}
 use Rattle.geo_model.specs.declared.command.LineCommand.{LineCommand}
-use Rattle.geo_model.specs.declared.step.Found.{Found}
-use Rattle.geo_model.specs.declared.step.Found.TheVariants as refusals
 use Rattle.geo_model.specs.declared.step.Outcome.{Outcome}
-use Rattle.geo_model.specs.declared.step.Outcome.TheVariants as outcomes
 use Rattle.geo_model.specs.Words.{names_number}
 use Rattle.geo_model.specs.World.{World, Handle, is_active}
 use Rattle.geo_model.specs.Commands.{do_command}
-use Rattle.geo_model.specs.Freeing.{is_to_reap, reap_work, reap, reap_handle}
-use Rattle.geo_model.specs.Step.{step, waits_for, with_commands, go_of, go, unless_found, reap_next}
-use Rattle.geo_model.specs.Log.{world_after}
+use Rattle.geo_model.specs.Freeing.{is_to_reap, reap_handle}
+use Rattle.geo_model.specs.Step.{with_commands}
 use Rattle.geo_model.specs.Order.{IsLess, measure}
+use Rattle.geo_model.specs.StepEffects.{IsReaped}
 use Rattle.geo_model.proofs.CommandWalk.{any_graph_by}
 use Rattle.geo_laws_graph.proofs.Members.{find-Contains}
 use Rattle.geo_laws_graph.proofs.Finding.{found_fact}
 use Rattle.geo_laws_counts.proofs.Levels.{of_each}
-use Rattle.geo_laws_rest.specs.MeasureLaws.{GoesLower, ReapsLower}
 use Rattle.geo_laws_rest.proofs.Falls.{commands_of, handles_of, commands_less, handles_less}
 use Rattle.geo_laws_rest.proofs.Sums.{sum_mapped-falls}
 
@@ -55,32 +51,16 @@ taken w actor c rest found =
     let long = ap (λ (cs : List LineCommand). length cs) was in
     omega (arith, set, long)
 
--- whatever a Go waits for
-go_waits : (w : World) (actor : ℕ) (c : LineCommand) (rest : List LineCommand) (o : Option Found)
+-- a Go
+pub gone_lower : (w : World) (actor : ℕ) (c : LineCommand) (rest : List LineCommand)
     → slice_get w.actors actor ≡ Some (c ∷ rest)
-    → is_ok (unless_found o (do_command (with_commands w actor rest) c.line actor c.command)) ≡ true
-    → IsLess (measure (world_after w (unless_found o
-    (do_command (with_commands w actor rest) c.line actor c.command)))) (measure w)
-go_waits w actor c rest (Some f) found enabled = absurd cc
-go_waits w actor c rest None found enabled =
+    → IsLess (measure (do_command (with_commands w actor rest) c.line actor c.command).0) (measure w)
+gone_lower w actor c rest found =
     let v : World = (do_command (with_commands w actor rest) c.line actor c.command).0 in
     let same : commands_of v ≡ commands_of (with_commands w actor rest) =
     ap (λ (xs : List (List LineCommand)). sum_by (λ (cs : List LineCommand). length cs) xs)
     (keeps (with_commands w actor rest) c.line actor c.command) in
     commands_less v w (omega (arith, same, taken w actor c rest found))
-
--- by the commands that are left
-go_left : (w : World) (actor : ℕ) (o : Option (List LineCommand)) → slice_get w.actors actor ≡ o
-    → is_ok (go_of w actor o) ≡ true → IsLess (measure (world_after w (go_of w actor o))) (measure w)
-go_left w actor None found enabled = absurd cc
-go_left w actor (Some []) found enabled = absurd cc
-go_left w actor (Some (c ∷ rest)) found enabled = go_waits w actor c rest
-    (waits_for w actor c.command) found enabled
-
--- a Go lowers the measure
-pub goes_lower : GoesLower
-unfolding step go
-goes_lower w seat actor enabled = go_left w actor (slice_get w.actors actor) refl enabled
 
 -- Reap
 
@@ -120,20 +100,10 @@ reap_by w h (Some c) own here passes =
     let fewer : handles_of (reap_handle w (Some c)) + 1 ≤ handles_of w = reaped_falls c w.handles h here own in
     handles_less (reap_handle w (Some c)) w (omega arith) (omega (arith, fewer))
 
--- by what can be reaped
-reap_found : (w : World) (o : Option Handle) → find (is_to_reap w) w.handles ≡ o
-    → is_ok {T = World × Outcome} {E = Found}
-    (option_map_or (λ h. Ok (reap w h, outcomes.Ran)) o (Err refusals.NothingToReap)) ≡ true
-    → IsLess (measure (world_after w
-    (option_map_or (λ h. Ok (reap w h, outcomes.Ran)) o (Err refusals.NothingToReap)))) (measure w)
-unfolding reap
-reap_found w None found enabled = absurd cc
-reap_found w (Some h) found enabled =
-    reap_by w h h.consumer refl (find-Contains (is_to_reap w) w.handles h found)
+-- what can be reaped
+pub reaped_lower : (w : World) (h : Handle) (c : Option ℕ) → IsReaped w h c
+    → IsLess (measure (reap_handle w c)) (measure w)
+reaped_lower w h c is =
+    reap_by w h c is.names (find-Contains (is_to_reap w) w.handles h is.work)
     (found_fact (λ (x : Handle). Unit {0}) (is_to_reap w) w.handles h
-    (of_each (λ (x : Handle). Unit {0}) (λ x. tt) w.handles) found).1
-
--- a Reap lowers the measure
-pub reaps_lower : ReapsLower
-unfolding step reap_next
-reaps_lower w seat enabled = reap_found w (reap_work w) refl enabled
+    (of_each (λ (x : Handle). Unit {0}) (λ x. tt) w.handles) is.work).1

@@ -1,5 +1,5 @@
 -- An Event lowers the measure.
-use Rattle.std.specs.Prelude.{◌≡◌, ℕ, suc, ◌+◌, ◌-◌, ◌*◌, ◌<◌, ◌≤◌, ◌==◌, nat_le, Bool, true, false, not, ◌||◌, List, [], ◌∷◌, ◌++◌, length, fold, sum_by, count_by, Option, Some, None, Err, Contains, IsSome, IsSomeAnd, is_ok, is_some, cond, if◌then◌else◌}
+use Rattle.std.specs.Prelude.{◌≡◌, ℕ, suc, ◌+◌, ◌-◌, ◌*◌, ◌<◌, ◌≤◌, ◌==◌, nat_le, Bool, true, false, not, ◌||◌, List, [], ◌∷◌, ◌++◌, length, fold, sum_by, count_by, Option, Some, None, Contains, IsSome, IsSomeAnd, is_some, cond, if◌then◌else◌}
 use Rattle.std.specs.Option.{option_map_or}
 use Rattle.std.proofs.Common.{inl, inr, refl, sym, ◌∙◌, ap, subst, arith}
 use Rattle.std.proofs.lemmas.Bool.{cases_lt, le-leb, or_parts}
@@ -8,19 +8,14 @@ use Rattle.std.proofs.lemmas.List.Sums.{sum_by-cons, sum_by_push}
 use Rattle.geo_base.specs.declared.limits.TheConstants.{UNTASTED_RANK}
 use Rattle.geo_model.specs.declared.step.Event.{Event}
 use Rattle.geo_model.specs.declared.step.Event.TheVariants as events
-use Rattle.geo_model.specs.declared.step.Found.{Found}
-use Rattle.geo_model.specs.declared.step.Found.TheVariants as refusals
-use Rattle.geo_model.specs.declared.step.Outcome.{Outcome}
 use Rattle.geo_model.specs.declared.command.LineCommand.{LineCommand}
 use Rattle.geo_model.specs.Words.{names_number}
 use Rattle.geo_model.specs.Topology.{Geom, geom_at, provider_at, geom_of_provider, attached_to, is_errored}
 use Rattle.geo_model.specs.Rank.{rank}
 use Rattle.geo_model.specs.Demand.{have}
-use Rattle.geo_model.specs.World.{World, Config, Handle, Taste, granted_in}
+use Rattle.geo_model.specs.World.{World, Config, Handle, granted_in}
 use Rattle.geo_model.specs.Events.{QueuedTopology, provider_of_event, post, is_not_tasted, spoil, orphan, outgrow_consumer, dying_consumers}
 use Rattle.geo_model.specs.WorldEvents.{queued_of, with_queued, begin_taste, kill_handle, do_event}
-use Rattle.geo_model.specs.Step.{step, event_of, event}
-use Rattle.geo_model.specs.Log.{world_after}
 use Rattle.geo_model.specs.Order.{taste_weight, taste_weight_below, rank_of_provider, event_weight, taste_left, is_loss, IsLess, measure}
 use Rattle.geo_model.specs.Fitting.{Firm}
 use Rattle.geo_laws_graph.proofs.Members.{has, Contains-here}
@@ -29,7 +24,6 @@ use Rattle.geo_laws_graph.proofs.Opens.{open-rises}
 use Rattle.geo_laws_rest.proofs.Falls.{commands_of, handles_of, tasting_of, losses_of, tasting_less, losses_less}
 use Rattle.geo_laws_rest.proofs.Sums.{sum_mapped}
 use Rattle.geo_laws_rest.proofs.Costs.{rank_same, weights_same, weight_some}
-use Rattle.geo_laws_rest.specs.LossLaws.{EventsLower}
 use Rattle.geo_laws_rest.proofs.Losing.{losses_in, InOrder, OnlyLoses, spoil_loses, orphan_loses_all, outgrow_loses}
 use Rattle.geo_laws_rest.proofs.Elsewhere.{elsewhere}
 
@@ -210,7 +204,7 @@ module _ (w : World) (firm : Firm w) (none : w.taste ≡ None) (e : Event) (rest
       tasting_less v w (omega arith) (omega arith) (omega (arith, had, nothing, more, costs, equal, was))
 
   -- each event
-  done_lower : (x : Event) → e ≡ x → IsLess (measure (do_event left x)) (measure w)
+  pub done_lower : (x : Event) → e ≡ x → IsLess (measure (do_event left x)) (measure w)
   unfolding do_event
   done_lower (events.NewProvider p) is =
       offer_lower p is (is_not_tasted (granted_in left) w.topology p) refl
@@ -229,24 +223,3 @@ module _ (w : World) (firm : Firm w) (none : w.taste ≡ None) (e : Event) (rest
       fold (outgrow_consumer (granted_in left)) (queued_of left) (attached_to w.topology p) in
       grown_by p is r (outgrow_loses (granted_in left) (queued_of left) (attached_to w.topology p) order)
       (is_errored r.topology p || option_map_or (λ g. g.withering) (geom_of_provider r.topology p) true)
-
--- by the queue
-queue_lower : (w : World) → Firm w → w.taste ≡ None → (es : List Event) → w.events ≡ es
-    → is_ok (event_of w es) ≡ true → IsLess (measure (world_after w (event_of w es))) (measure w)
-queue_lower w firm none [] queue enabled = absurd cc
-queue_lower w firm none (e ∷ rest) queue enabled = done_lower w firm none e rest queue e refl
-
--- by whether a taste is under way
-event_lower : (w : World) → Firm w → (o : Option Taste) → w.taste ≡ o
-    → is_ok {T = World × Outcome} {E = Found}
-    (if is_some o then Err refusals.TasteUnderWay else event_of w w.events)
-    ≡ true
-    → IsLess (measure (world_after w
-    (if is_some o then Err refusals.TasteUnderWay else event_of w w.events))) (measure w)
-event_lower w firm None none enabled = queue_lower w firm none w.events refl enabled
-event_lower w firm (Some s) none enabled = absurd cc
-
--- an Event lowers the measure
-pub events_lower : EventsLower
-unfolding step event
-events_lower w seat firm enabled = event_lower w firm w.taste refl enabled

@@ -1,5 +1,5 @@
 -- A Judge that makes nothing lowers the measure.
-use Rattle.std.specs.Prelude.{◌≡◌, ◌≢◌, ℕ, ◌+◌, ◌*◌, ◌<◌, ◌≤◌, ◌==◌, Bool, true, false, List, [], ◌∷◌, length, sum_by, Option, Some, None, Ok, Err, Contains, IsSome, MatchOption, is_ok, is_some, IfSome, if◌then◌else◌, option_and_then}
+use Rattle.std.specs.Prelude.{◌≡◌, ◌≢◌, ℕ, ◌+◌, ◌*◌, ◌<◌, ◌≤◌, ◌==◌, Bool, true, false, List, [], ◌∷◌, length, sum_by, Option, Some, None, Contains, IsSome, MatchOption, is_some, IfSome, if◌then◌else◌, option_and_then}
 use Rattle.std.specs.Option.{option_map_or}
 use Rattle.std.proofs.Common.{refl, sym, ◌∙◌, ap, subst, arith}
 use Rattle.std.proofs.lemmas.Bool.{eqb-true}
@@ -16,9 +16,6 @@ use Rattle.geo_model.specs.declared.class.Verdict.{Verdict}
 use Rattle.geo_model.specs.declared.class.Verdict.TheVariants.{Decline, More, Accept}
 use Rattle.geo_model.specs.declared.step.BioResult.{BioResult}
 use Rattle.geo_model.specs.declared.step.BioResult.TheVariants as results
-use Rattle.geo_model.specs.declared.step.Found.{Found}
-use Rattle.geo_model.specs.declared.step.Found.TheVariants as refusals
-use Rattle.geo_model.specs.declared.step.Outcome.{Outcome}
 use Rattle.geo_model.specs.Topology.{Provider, Consumer, provider_at, consumer_at, consumers_of, remove_consumer}
 use Rattle.geo_model.specs.Rank.{rank, reaches}
 use Rattle.geo_model.specs.Demand.{one_read}
@@ -28,9 +25,7 @@ use Rattle.geo_model.specs.World.{World, Config, Taste, Asked, NoClass, NextSect
 use Rattle.geo_model.specs.Events.{QueuedTopology}
 use Rattle.geo_model.specs.WorldEvents.{queued_of, with_queued}
 use Rattle.geo_model.specs.Acceptance.{accept, taste_where}
-use Rattle.geo_model.specs.Tasting.{Judging, facts_of, is_attached_class, is_ended, end_class, end_taste, read_sector, follow, with_read, verdict_on, take_result, ask_class, next_class, go_on, taste_step, abort_taste, submit_read, judged_world, judge_step}
-use Rattle.geo_model.specs.Step.{step, judge_of, judge_next, taste_bio}
-use Rattle.geo_model.specs.Log.{world_after}
+use Rattle.geo_model.specs.Tasting.{Judging, facts_of, is_attached_class, is_ended, end_class, end_taste, read_sector, follow, with_read, verdict_on, take_result, ask_class, next_class, go_on, taste_step, abort_taste, submit_read, judged_world}
 use Rattle.geo_model.specs.Order.{judges_of_class, judges_left, makes_left, can_make, taste_weight, rank_of_provider, taste_left, IsLess, measure}
 use Rattle.geo_model.specs.Sound.{IsTasting, IsTasteInOrder, AreReadsInOrder}
 use Rattle.geo_model.specs.Fitting.{Firm}
@@ -42,7 +37,6 @@ use Rattle.geo_laws_graph.specs.Attach.{IsAttached}
 use Rattle.geo_laws_graph.proofs.RankChanges.{removal-lowers}
 use Rattle.geo_laws_rest.proofs.Falls.{tasting_less}
 use Rattle.geo_laws_rest.proofs.Costs.{weights_same, left_same}
-use Rattle.geo_laws_rest.specs.LossLaws.{IdleJudgesLower}
 use Rattle.geo_laws_rest.proofs.Elsewhere.{elsewhere}
 
 -- a taste of the same provider that needs fewer Judge steps and can make no more costs less
@@ -352,25 +346,6 @@ module _ (w : World) (firm : Firm w) (s : Taste) (is : w.taste ≡ Some s) where
   step_lower true idle = λ made. abort_lower
   step_lower false idle = provider_lower (provider_at w.topology s.provider) idle
 
-  -- a step of the taste, by whether its read is out
-  judge_lower : (b : Bool) → is_read_out s.asked ≡ b → (taste_step g q s).judged ≢ Made
-      → is_ok {T = World × Outcome} {E = Found}
-      (if b then Err (refusals.ReadOut (taste_bio w)) else Ok (judge_step w s)) ≡ true
-      → IsLess (measure (world_after w (if b then Err (refusals.ReadOut (taste_bio w)) else Ok
-      (judge_step w s)))) (measure w)
-  unfolding judge_step
-  judge_lower true idle made enabled = absurd cc
-  judge_lower false idle made enabled = step_lower (is_ended w.topology s) idle made
-
--- by the taste
-taste_lower : (w : World) → Firm w → (o : Option Taste) → w.taste ≡ o
-    → IfSome o (λ s. (taste_step (granted_in w) (queued_of w) s).judged ≢ Made)
-    → is_ok (judge_of w o) ≡ true → IsLess (measure (world_after w (judge_of w o))) (measure w)
-taste_lower w firm None is made enabled = absurd cc
-taste_lower w firm (Some s) is made enabled =
-    judge_lower w firm s is (is_read_out s.asked) refl made enabled
-
--- a Judge that makes nothing lowers the measure
-pub idle_judges_lower : IdleJudgesLower
-unfolding step judge_next
-idle_judges_lower w seat firm made enabled = taste_lower w firm w.taste refl made enabled
+  -- a step of the taste that makes nothing
+  pub idle_lower : is_read_out s.asked ≡ false → Lower (taste_step g q s)
+  idle_lower idle = step_lower (is_ended w.topology s) idle

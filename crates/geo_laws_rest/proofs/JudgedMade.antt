@@ -1,5 +1,5 @@
 -- A Judge by which a class makes a geom lowers the measure: what the taste could make costs more than what it made.
-use Rattle.std.specs.Prelude.{◌≡◌, ◌≢◌, ◌⊎◌, ℕ, ◌+◌, ◌*◌, ◌≤◌, ◌==◌, Bool, true, false, List, [], ◌∷◌, length, find, sum_by, Option, Some, None, Ok, Err, All, IsSome, IfSome, IsTrue, is_ok, is_some, if◌then◌else◌}
+use Rattle.std.specs.Prelude.{◌≡◌, ◌≢◌, ◌⊎◌, ℕ, ◌+◌, ◌*◌, ◌≤◌, ◌==◌, Bool, true, false, List, [], ◌∷◌, length, find, sum_by, Option, Some, None, All, IsSome, is_some, if◌then◌else◌}
 use Rattle.std.specs.Option.{option_map_or}
 use Rattle.std.proofs.Common.{inl, inr, refl, sym, ◌∙◌, ap, subst, arith}
 use Rattle.std.proofs.lemmas.List.Elements.{recursion_from_All}
@@ -17,32 +17,25 @@ use Rattle.geo_model.specs.declared.class.Verdict.TheVariants.{Decline, More, Ac
 use Rattle.geo_model.specs.declared.step.BioResult.{BioResult}
 use Rattle.geo_model.specs.declared.step.BioResult.TheVariants as results
 use Rattle.geo_model.specs.declared.step.Event.{Event}
-use Rattle.geo_model.specs.declared.step.Found.{Found}
-use Rattle.geo_model.specs.declared.step.Found.TheVariants as refusals
-use Rattle.geo_model.specs.declared.step.Outcome.{Outcome}
-use Rattle.geo_model.specs.declared.step.Step.TheVariants as steps
 use Rattle.geo_model.specs.Topology.{Provider, provider_at}
 use Rattle.geo_model.specs.Rank.{rank}
 use Rattle.geo_model.specs.Demand.{one_read}
 use Rattle.geo_model.specs.Opens.{grant_refusal, with_grant}
 use Rattle.geo_model.specs.Chain.{no_links}
-use Rattle.geo_model.specs.World.{World, Config, Taste, Asked, NoClass, NextSector, ReadOut, ReadBack, granted_in, is_read_out}
+use Rattle.geo_model.specs.World.{World, Config, Taste, Asked, NoClass, NextSector, ReadOut, ReadBack, granted_in}
 use Rattle.geo_model.specs.Events.{QueuedTopology, provider_of_event}
 use Rattle.geo_model.specs.WorldEvents.{queued_of, with_queued}
 use Rattle.geo_model.specs.Acceptance.{accept, taste_where}
-use Rattle.geo_model.specs.Tasting.{Judging, facts_of, is_attached_class, is_ended, end_class, end_taste, read_sector, follow, with_read, verdict_on, take_result, next_class, go_on, taste_step, judged_world, judge_step}
-use Rattle.geo_model.specs.Step.{step, is_enabled, judge_of, judge_next, taste_bio}
-use Rattle.geo_model.specs.Log.{world_after}
+use Rattle.geo_model.specs.Tasting.{Judging, facts_of, is_attached_class, is_ended, end_class, end_taste, read_sector, follow, with_read, verdict_on, take_result, next_class, go_on, taste_step, judged_world}
 use Rattle.geo_model.specs.Order.{judges_of_class, judges_left, makes_left, can_make, taste_weight, rank_of_provider, event_weight, taste_left, IsLess, measure}
 use Rattle.geo_model.specs.Fitting.{Firm}
-use Rattle.geo_model.specs.Laws.{world_by}
 use Rattle.geo_laws_rest.proofs.Falls.{tasting_less}
 use Rattle.geo_laws_rest.proofs.Costs.{weights_same, rank_weight}
-use Rattle.geo_laws_rest.proofs.Judged.{idle_judges_lower}
+use Rattle.geo_laws_rest.proofs.Judged.{idle_lower}
 use Rattle.geo_laws_making.proofs.Offered.{offered}
 use Rattle.geo_laws_making.specs.AcceptLaws.{IsAccepted}
 use Rattle.geo_laws_making.proofs.Accepted.{has_geom}
-use Rattle.geo_laws_rest.specs.CostLaws.{JudgesLower}
+use Rattle.geo_model.specs.StepEffects.{IsJudged}
 use Rattle.geo_laws_rest.proofs.Offers.{at_rank, IsLiving, living_weights, Offering, offers_cost}
 use Rattle.geo_laws_rest.proofs.Accepting.{Makes}
 use Rattle.geo_laws_rest.proofs.Verdicts.{accepted-makes}
@@ -307,45 +300,17 @@ is_made Next = inr (λ e. let no : ⊥ = cc in no)
 is_made Made = inl refl
 is_made Ended = inr (λ e. let no : ⊥ = cc in no)
 
--- a Judge that makes something, by whether the taste's read is out
-judge_lower : (w : World) → Firm w → (s : Taste) → w.taste ≡ Some s
-    → (taste_step (granted_in w) (queued_of w) s).judged ≡ Made → (b : Bool)
-    → is_ok {T = World × Outcome} {E = Found}
-    (if b then Err (refusals.ReadOut (taste_bio w)) else Ok (judge_step w s)) ≡ true
-    → IsLess (measure (world_after w (if b then Err (refusals.ReadOut (taste_bio w)) else Ok
-    (judge_step w s)))) (measure w)
-unfolding judge_step
-judge_lower w firm s is made true enabled = absurd (let no : ⊥ = cc in no)
-judge_lower w firm s is made false enabled =
-    let x : Judging = taste_step (granted_in w) (queued_of w) s in
-    subst (λ (j : Judged). IsLess (measure (judged_world w x j).0) (measure w)) (sym made)
-    (going_lower w firm s is (is_ended w.topology s) refl made)
-
--- so by the taste
-made_lower : (w : World) → Firm w → (o : Option Taste) → w.taste ≡ o
-    → IfSome o (λ s. (taste_step (granted_in w) (queued_of w) s).judged ≡ Made) → is_ok (judge_of w o) ≡ true
-    → IsLess (measure (world_after w (judge_of w o))) (measure w)
-made_lower w firm None is made enabled = absurd (let no : ⊥ = cc in no)
-made_lower w firm (Some s) is made enabled = judge_lower w firm s is made (is_read_out s.asked) enabled
-
--- of the step
-made_by : (w : World) (seat : ℕ) → Firm w → IfSome w.taste
-    (λ s. (taste_step (granted_in w) (queued_of w) s).judged ≡ Made)
-    → IsTrue (is_enabled w seat steps.Judge) → IsLess (measure (world_by w seat steps.Judge)) (measure w)
-unfolding step judge_next
-made_by w seat firm made enabled = made_lower w firm w.taste refl made enabled
-
--- each Judge makes something or not
-either_way : (w : World) (o : Option Taste) →
-    IfSome o (λ s. (taste_step (granted_in w) (queued_of w) s).judged ≡ Made)
-    ⊎ IfSome o (λ s. (taste_step (granted_in w) (queued_of w) s).judged ≢ Made)
-either_way w None = inl tt
-either_way w (Some s) = is_made (taste_step (granted_in w) (queued_of w) s).judged
-
 -- so each lowers the measure
-pub judges_lower : JudgesLower
-judges_lower w seat firm enabled =
-    elim (either_way w w.taste) [
-      | inl made ↦ made_by w seat firm made enabled
-      | inr not_made ↦ idle_judges_lower w seat firm not_made enabled
-    ]
+pub judged_lower : (w : World) → Firm w → (s : Taste) (x : Judging) (j : Judged) → IsJudged w s x j
+    → IsLess (measure (judged_world w x j).0) (measure w)
+judged_lower w firm s x j is =
+    let y : Judging = taste_step (granted_in w) (queued_of w) s in
+    let lower : IsLess (measure (judged_world w y y.judged).0) (measure w) = elim (is_made y.judged) [
+      | inl made ↦ (
+          subst (λ (k : Judged). IsLess (measure (judged_world w y k).0) (measure w)) (sym made)
+          (going_lower w firm s is.taste (is_ended w.topology s) refl made)
+          )
+      | inr not_made ↦ idle_lower w firm s is.taste is.back not_made
+    ] in
+    subst (λ (k : Judged). IsLess (measure (judged_world w x k).0) (measure w)) is.judged
+    (subst (λ (z : Judging). IsLess (measure (judged_world w z z.judged).0) (measure w)) is.step lower)

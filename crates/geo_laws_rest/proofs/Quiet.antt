@@ -20,7 +20,7 @@ use Rattle.geo_model.specs.declared.step.Phase.TheVariants as phases
 use Rattle.geo_model.specs.declared.step.Step.{Step}
 use Rattle.geo_model.specs.declared.step.Step.TheVariants as steps
 use Rattle.geo_model.specs.Topology.{Topology, note_started}
-use Rattle.geo_model.specs.World.{World, Config, Bio, Taste, bio_at, granted_in, is_busy, is_child_of, change_number}
+use Rattle.geo_model.specs.World.{World, Config, Bio, bio_at, granted_in, is_busy, is_child_of, change_number}
 use Rattle.geo_model.specs.Bios.{PieceTarget, Way, Bounces, Fails, Sends, Splits, Passes, piece_child, up_with, up_to, complete_parent, is_complete, joined_result, child_results, start_by, take_bio, deliver, result_of_device}
 use Rattle.geo_model.specs.Events.{is_not_tasted, dying_consumers}
 use Rattle.geo_model.specs.WorldEvents.{begin_taste, kill_handle, do_event}

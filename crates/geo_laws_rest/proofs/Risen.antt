@@ -1,5 +1,5 @@
 -- An Up lowers the measure: a root goes, or a child is done, the last one with its parent up.
-use Rattle.std.specs.Prelude.{◌≡◌, ℕ, ◌+◌, ◌≤◌, ◌==◌, Bool, true, false, not, List, [], ◌∷◌, map, filter, sum_by, Option, Some, None, Contains, IsSomeAnd, is_ok, IsTrue, unwrap_or, if◌then◌else◌, option_map}
+use Rattle.std.specs.Prelude.{◌≡◌, ℕ, ◌+◌, ◌≤◌, ◌==◌, Bool, true, false, not, List, [], ◌∷◌, map, filter, sum_by, Option, Some, None, Contains, IsSomeAnd, IsTrue, unwrap_or, if◌then◌else◌, option_map}
 use Rattle.std.specs.List.{AllByRecursion}
 use Rattle.std.specs.Option.{option_map_or}
 use Rattle.std.proofs.Common.{refl, sym, ◌∙◌, ap, subst, arith}
@@ -11,27 +11,21 @@ use Rattle.geo_model.specs.declared.step.Owner.{Owner}
 use Rattle.geo_model.specs.declared.step.Owner.TheVariants as owners
 use Rattle.geo_model.specs.declared.step.Phase.{Phase}
 use Rattle.geo_model.specs.declared.step.Phase.TheVariants as phases
-use Rattle.geo_model.specs.declared.step.Step.TheVariants as steps
 use Rattle.geo_model.specs.World.{World, Bio, Taste, Asked, NoClass, NextSector, ReadOut, ReadBack, bio_at, change_bio, change_number, is_up, is_waiting, is_child_of}
 use Rattle.geo_model.specs.Bios.{up, up_to, up_taste, up_child, up_with, complete_parent, is_complete, joined_result, child_results, taste_with}
-use Rattle.geo_model.specs.Step.{step, is_enabled, up_of}
-use Rattle.geo_model.specs.Log.{world_after}
 use Rattle.geo_model.specs.Order.{steps_left, taste_left}
 use Rattle.geo_model.specs.Graph.{AreNumbers}
 use Rattle.geo_model.specs.SoundBios.{IsFamilyInOrder, HasItsParent}
-use Rattle.geo_model.specs.Laws.{world_by}
 use Rattle.geo_model.specs.Fitting.{Firm}
 use Rattle.geo_laws_graph.proofs.Lists.{changed, find-changed, map-changed}
 use Rattle.geo_laws_graph.proofs.Members.{find-Contains}
 use Rattle.geo_laws_graph.proofs.Numbered.{unique, number_found}
 use Rattle.geo_laws_bios.proofs.Turning.{found_there}
-use Rattle.geo_laws_bios.proofs.Rising.{ups_stay_firm}
 use Rattle.geo_laws_counts.proofs.Levels.{of_each}
-use Rattle.geo_laws_rest.specs.MeasureLaws.{UpsLower}
 use Rattle.geo_laws_rest.proofs.Falls.{bio_steps_of}
 use Rattle.geo_laws_rest.proofs.Sums.{sum_mapped, sum_kept, sum_left_out}
 use Rattle.geo_laws_rest.proofs.Walks.{keeps_itself}
-use Rattle.geo_laws_rest.proofs.Turned.{steps_of, BiosFall, falls_less, now_most, changed_falls, with_steps, steps_fall}
+use Rattle.geo_laws_rest.proofs.Turned.{steps_of, BiosFall, now_most, changed_falls, with_steps, steps_fall}
 
 -- a bio that is Up needs one step
 up_steps : (w : World) (x : Bio) (phase : Phase) → is_up phase ≡ true → steps_left w x phase ≡ 1
@@ -223,36 +217,10 @@ module _ (w : World) (firm : Firm w) (x : Bio) (found : bio_at w x.number ≡ So
       (child_by (is_complete gathered parent) (bio_at gathered parent) refl))
 
 -- by the owner
-up_owner : (w : World) (x : Bio) (o : Owner) → bio_at w x.number ≡ Some x → is_up x.phase ≡ true → x.owner ≡ o
+pub up_owner : (w : World) (x : Bio) (o : Owner) → bio_at w x.number ≡ Some x → is_up x.phase ≡ true → x.owner ≡ o
     → Firm w → Firm (up_to w x o).0 → BiosFall (up_to w x o).0 w
 up_owner w x (owners.Line handle line) found up own firm after =
     steps_fall w (filter (λ (y : Bio). not (y.number == x.number)) w.bios) after (gone_falls w x found up)
 up_owner w x owners.Taste found up own firm after = taste_falls w x found up after
 up_owner w x (owners.Child parent index) found up own firm after =
     child_falls w firm x found up parent index own after
-
--- by whether the bio is Up
-up_phase : (w : World) (b : ℕ) (x : Bio) (is : Bool) → bio_at w b ≡ Some x → is_up x.phase ≡ is → Firm w
-    → Firm (world_after w (up_of w (Some x))) → is_ok (up_of w (Some x)) ≡ true
-    → BiosFall (world_after w (up_of w (Some x))) w
-unfolding up
-up_phase w b x true found e firm after enabled =
-    let risen : Firm (up_to w x x.owner).0 = rw e at after in
-    rw e (up_owner w x x.owner (found_there w b x found) e refl firm risen)
-up_phase w b x false found e firm after enabled = absurd (let bad : false ≡ true = rw e at enabled in cc)
-
--- by the bio
-up_at : (w : World) (b : ℕ) (o : Option Bio) → bio_at w b ≡ o → Firm w → Firm (world_after w (up_of w o))
-    → is_ok (up_of w o) ≡ true → BiosFall (world_after w (up_of w o)) w
-up_at w b None found firm after enabled = absurd cc
-up_at w b (Some x) found firm after enabled = up_phase w b x (is_up x.phase) found refl firm after enabled
-
--- an Up
-ups_fall : (w : World) (seat b : ℕ) → Firm w → IsTrue (is_enabled w seat (steps.Up b))
-    → BiosFall (world_by w seat (steps.Up b)) w
-unfolding step
-ups_fall w seat b firm enabled = up_at w b (bio_at w b) refl firm (ups_stay_firm w b firm) enabled
-
--- it lowers the measure
-pub ups_lower : UpsLower
-ups_lower w seat b firm enabled = falls_less (world_by w seat (steps.Up b)) w (ups_fall w seat b firm enabled)

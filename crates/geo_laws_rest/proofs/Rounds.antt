@@ -52,14 +52,7 @@ module _ (w : World) (firm : Firm w) (idle : AreIdle w.bios) where
         firm = steps_stay_firm u 0 (steps.Deliver b leads.0) (steps_stay_firm w 0 (steps.Take disk b) firm);
         idle = take_idle w idle b leads.0 disk leads.1;
       })
-  round_by (steps.Go actor) v lowers leads = one_step (steps.Go actor) v refl lowers leads
-  round_by steps.Event v lowers leads = one_step steps.Event v refl lowers leads
-  round_by steps.Judge v lowers leads = one_step steps.Judge v refl lowers leads
-  round_by steps.Reap v lowers leads = one_step steps.Reap v refl lowers leads
-  round_by steps.Wash v lowers leads = one_step steps.Wash v refl lowers leads
-  round_by (steps.Start b) v lowers leads = one_step (steps.Start b) v refl lowers leads
-  round_by (steps.Deliver b got) v lowers leads = one_step (steps.Deliver b got) v refl lowers leads
-  round_by (steps.Up b) v lowers leads = one_step (steps.Up b) v refl lowers leads
+  round_by s v lowers leads = one_step s v refl lowers leads
 
   -- a round
   round_leaves : (v : World) → IsRound w v → Round w v
@@ -106,14 +99,7 @@ leads_on w (steps.Take disk b) added (got, taken, given, is) legal =
           (step (world_by w 0 (steps.Take disk b)) 0 (steps.Deliver b got)) given both.1.0,
       ap (replay w) is,
     )
-leads_on w (steps.Go actor) added adds legal = ap (replay w) adds.1
-leads_on w steps.Event added adds legal = ap (replay w) adds.1
-leads_on w steps.Judge added adds legal = ap (replay w) adds.1
-leads_on w steps.Reap added adds legal = ap (replay w) adds.1
-leads_on w steps.Wash added adds legal = ap (replay w) adds.1
-leads_on w (steps.Start b) added adds legal = ap (replay w) adds.1
-leads_on w (steps.Deliver b got) added adds legal = ap (replay w) adds.1
-leads_on w (steps.Up b) added adds legal = ap (replay w) adds.1
+leads_on w s added adds legal = ap (replay w) adds.1
 
 module _ (order : StepOrder) (goes_on : OrderGoesOn order) (ends : OrderEnds order) (plan : Plan)
     (facts : List (ℕ × ℕ)) (is_plan : IsPlan plan) (fit : FactsFit plan facts) where

@@ -1,5 +1,5 @@
 -- A Start lowers the measure: the bio is bounced, sent or split.
-use Rattle.std.specs.Prelude.{◌≡◌, ℕ, zero, suc, ◌+◌, ◌≤◌, ◌==◌, Bool, true, false, ◌||◌, if◌then◌else◌, option_map, List, [], ◌∷◌, length, map, find, sum_by, Option, Some, None, Contains, IsSome, IsSomeAnd, is_ok, IsTrue, option_and_then, unwrap_or}
+use Rattle.std.specs.Prelude.{◌≡◌, ℕ, zero, suc, ◌+◌, ◌≤◌, ◌==◌, Bool, true, ◌||◌, if◌then◌else◌, option_map, List, [], ◌∷◌, length, map, find, sum_by, Option, Some, None, Contains, IsSome, IsSomeAnd, IsTrue, option_and_then, unwrap_or}
 use Rattle.std.specs.List.{AllByRecursion, enumerate_from}
 use Rattle.std.proofs.Common.{inl, inr, refl, sym, ◌∙◌, ap, subst, arith}
 use Rattle.std.proofs.lemmas.Bool.{eq-eqb}
@@ -8,40 +8,32 @@ use Rattle.std.proofs.lemmas.List.Sums.{sum_by-append, sum_by-cons}
 use Rattle.geo_base.specs.declared.errno.Errno.{Errno}
 use Rattle.geo_base.specs.declared.errno.Errno.TheVariants.{EIO}
 use Rattle.geo_model.specs.declared.step.BioResult.TheVariants as results
-use Rattle.geo_model.specs.declared.step.Outcome.{Outcome}
 use Rattle.geo_model.specs.declared.step.Phase.{Phase}
 use Rattle.geo_model.specs.declared.step.Phase.TheVariants as phases
-use Rattle.geo_model.specs.declared.step.Step.TheVariants as steps
 use Rattle.geo_model.specs.Topology.{Topology, Geom, Provider, Consumer, geom_at, provider_at, consumer_at, provider_of_consumer, provider_with_geom, note_started}
 use Rattle.geo_model.specs.Rank.{rank}
 use Rattle.geo_model.specs.World.{World, Bio, Config, Nothing, Disk, Mbr, Ebr, Label, Concat, Stripe, Nop, bio_at, change_number, is_down, is_sent, is_busy, granted_in}
 use Rattle.geo_model.specs.Place.{components, disk_of}
-use Rattle.geo_model.specs.Bios.{Way, Bounces, Fails, Sends, Splits, Passes, PieceTarget, way_of, piece_targets, piece_child, piece_children, start, start_by, split_bio, up_with, disk_of_bio}
-use Rattle.geo_model.specs.Step.{step, is_enabled, start_of}
-use Rattle.geo_model.specs.Log.{world_after}
+use Rattle.geo_model.specs.Bios.{Way, Bounces, Fails, Sends, Splits, Passes, PieceTarget, way_of, piece_targets, piece_child, piece_children, start_by, split_bio, up_with, disk_of_bio}
 use Rattle.geo_model.specs.Order.{down_steps_within, steps_left}
 use Rattle.geo_model.specs.SoundBios.{IsBioInOrder, HasCountFor}
-use Rattle.geo_model.specs.Laws.{world_by}
 use Rattle.geo_model.specs.Fitting.{Firm}
 use Rattle.geo_model.proofs.DemandLemmas.{all_weaker, rank_within-le}
-use Rattle.geo_model.proofs.WayLemmas.{starts_in_parts}
 use Rattle.geo_laws_graph.proofs.Lists.{changed, changed-keeps, find-changed, length-changed}
 use Rattle.geo_laws_graph.proofs.Members.{find-Contains, Contains-map}
 use Rattle.geo_laws_graph.proofs.Numbered.{number_found}
 use Rattle.geo_laws_graph.specs.Edges.{Below}
 use Rattle.geo_laws_graph.proofs.Climbing.{rank-falls}
 use Rattle.geo_laws_bios.proofs.Restarted.{noted_stays_firm}
-use Rattle.geo_laws_bios.proofs.Turning.{found_there}
-use Rattle.geo_laws_bios.proofs.Starting.{SplitsAt, splits_at, starts_stay_firm, counted_elsewhere, splits_by}
+use Rattle.geo_laws_bios.proofs.Starting.{SplitsAt, splits_at, counted_elsewhere, splits_by}
 use Rattle.geo_laws_life.proofs.Found.{one-found}
 use Rattle.geo_laws_maps.specs.Ways.{GoesDown, LeadsInto, IsOpen}
 use Rattle.geo_laws_maps.proofs.Opened.{live-open, open-down}
-use Rattle.geo_laws_rest.specs.MeasureLaws.{StartsLower}
 use Rattle.geo_laws_rest.proofs.Falls.{tasting_of, bio_steps_of}
 use Rattle.geo_laws_rest.proofs.Targets.{IsThrough, all_through, IsDisk, StepsBelow, disk_or_below}
 use Rattle.geo_laws_rest.proofs.Walks.{Keeps, StandsAs, keeps_itself, with_geom, down_most, two_steps}
 use Rattle.geo_laws_rest.proofs.Costs.{tasting_same, started_ranks}
-use Rattle.geo_laws_rest.proofs.Turned.{steps_of, BiosFall, falls_less, now_most, changed_falls, with_steps, steps_fall}
+use Rattle.geo_laws_rest.proofs.Turned.{steps_of, BiosFall, now_most, changed_falls, with_steps, steps_fall}
 
 -- a bio that is Down needs its steps on the way down
 down_phase : (w : World) (x : Bio) (phase : Phase) → is_down phase ≡ true
@@ -348,7 +340,7 @@ send_falls w firm x found down after =
     )))
 
 -- by the way
-start_way : (w : World) (x : Bio) (way : Way) → bio_at w x.number ≡ Some x → is_down x.phase ≡ true
+pub start_way : (w : World) (x : Bio) (way : Way) → bio_at w x.number ≡ Some x → is_down x.phase ≡ true
     → way_of w.topology x ≡ way → Firm w → Firm (start_by w x way).0 → BiosFall (start_by w x way).0 w
 start_way w x (Bounces e) found down is firm after = bounce_falls w firm x e found down after
 start_way w x (Fails n) found down is firm after =
@@ -362,33 +354,3 @@ start_way w x (Passes n targets) found down is firm after =
     counted_falls (start_by w x (Passes n targets)).0 w n firm
     (split_falls (counted w n) (noted_stays_firm w n firm) x found down targets
     (counted_elsewhere w.topology x targets n (s.provider.geom == n) s refl) after)
-
--- by whether the bio is Down
-start_down : (w : World) (b : ℕ) (x : Bio) (down : Bool) → bio_at w b ≡ Some x → is_down x.phase ≡ down → Firm w
-    → Firm (world_after w (start_of w (Some x))) → is_ok (start_of w (Some x)) ≡ true
-    → BiosFall (world_after w (start_of w (Some x))) w
-start_down w b x true found e firm after enabled =
-    let started : Firm (start w x).0 = rw e at after in
-    rw e
-    (subst (λ (made : World × Outcome). BiosFall made.0 w) (sym (starts_in_parts w x))
-    (start_way w x (way_of w.topology x) (found_there w b x found) e refl firm
-    (subst (λ (made : World × Outcome). Firm made.0) (starts_in_parts w x) started)))
-start_down w b x false found e firm after enabled = absurd (let bad : false ≡ true = rw e at enabled in cc)
-
--- by the bio
-start_at_bio : (w : World) (b : ℕ) (o : Option Bio) → bio_at w b ≡ o → Firm w → Firm (world_after w (start_of w o))
-    → is_ok (start_of w o) ≡ true → BiosFall (world_after w (start_of w o)) w
-start_at_bio w b None found firm after enabled = absurd cc
-start_at_bio w b (Some x) found firm after enabled = start_down w b x
-    (is_down x.phase) found refl firm after enabled
-
--- a Start
-starts_fall : (w : World) (seat b : ℕ) → Firm w → IsTrue (is_enabled w seat (steps.Start b))
-    → BiosFall (world_by w seat (steps.Start b)) w
-unfolding step
-starts_fall w seat b firm enabled = start_at_bio w b (bio_at w b) refl firm (starts_stay_firm w b firm) enabled
-
--- it lowers the measure
-pub starts_lower : StartsLower
-starts_lower w seat b firm enabled =
-    falls_less (world_by w seat (steps.Start b)) w (starts_fall w seat b firm enabled)

@@ -1,25 +1,20 @@
 -- A step of bios lets the steps fall that bios still need.
-use Rattle.std.specs.Prelude.{◌≡◌, ℕ, ◌+◌, ◌<◌, ◌≤◌, ◌==◌, Bool, true, false, List, [], ◌∷◌, length, sum_by, Option, Some, None, is_ok, IsTrue, if◌then◌else◌}
+use Rattle.std.specs.Prelude.{◌≡◌, ℕ, ◌+◌, ◌<◌, ◌≤◌, ◌==◌, Bool, true, false, List, [], ◌∷◌, length, sum_by, Some, if◌then◌else◌}
 use Rattle.std.specs.List.{AllByRecursion}
 use Rattle.std.proofs.Common.{refl, sym, subst, arith}
 use Rattle.std.proofs.lemmas.Bool.{eq-eqb}
 use Rattle.geo_model.specs.declared.step.DeviceResult.{DeviceResult}
-use Rattle.geo_model.specs.declared.step.Found.{Found}
 use Rattle.geo_model.specs.declared.step.Phase.{Phase}
 use Rattle.geo_model.specs.declared.step.Phase.TheVariants as phases
-use Rattle.geo_model.specs.declared.step.Step.TheVariants as steps
-use Rattle.geo_model.specs.World.{World, Bio, bio_at, change_number, is_busy, is_sent}
-use Rattle.geo_model.specs.Bios.{deliver, take_bio, result_of_device, up_with}
-use Rattle.geo_model.specs.Step.{step, is_enabled, unless_found, deliver_found, deliver_of, take_found, take_of}
-use Rattle.geo_model.specs.Log.{world_after}
+use Rattle.geo_model.specs.World.{World, Bio, bio_at, change_bio, change_number, is_busy, is_sent}
+use Rattle.geo_model.specs.Bios.{result_of_device, up_with}
 use Rattle.geo_model.specs.Order.{steps_left, IsLess, measure}
-use Rattle.geo_model.specs.Laws.{world_by}
 use Rattle.geo_model.specs.Fitting.{Firm}
+use Rattle.geo_model.specs.StepEffects.{IsTaken, IsDelivered}
 use Rattle.geo_laws_graph.proofs.Members.{find-Contains, All-from_contained}
 use Rattle.geo_laws_graph.proofs.Numbered.{unique}
 use Rattle.geo_laws_bios.proofs.Phases.{can_take, can_deliver}
-use Rattle.geo_laws_bios.proofs.Turning.{found_there, takes_stay_firm, delivers_stay_firm}
-use Rattle.geo_laws_rest.specs.MeasureLaws.{TakesLower, DeliversLower}
+use Rattle.geo_laws_bios.proofs.Turning.{found_there}
 use Rattle.geo_laws_rest.proofs.Falls.{commands_of, handles_of, tasting_of, losses_of, bio_steps_of, bios_less}
 use Rattle.geo_laws_rest.proofs.Sums.{sum_most, sum_mapped-falls}
 use Rattle.geo_laws_rest.proofs.Walks.{Keeps, keeps_itself, steps_most}
@@ -124,78 +119,23 @@ sent_steps w x phases.Waiting is = absurd cc
 sent_steps w x phases.Up is = absurd cc
 sent_steps w x phases.Done is = absurd cc
 
--- a Deliver against which there is nothing
-deliver_by : (w : World) (seat : ℕ) (x : Bio) (got : DeviceResult) → Firm w → bio_at w x.number ≡ Some x
-    → (o : Option Found) → deliver_found w seat x got x.phase ≡ o
-    → Firm (world_after w (unless_found o (deliver w x got)))
-    → is_ok (unless_found o (deliver w x got)) ≡ true
-    → BiosFall (world_after w (unless_found o (deliver w x got))) w
-unfolding deliver
-deliver_by w seat x got firm found (Some against) e after enabled = absurd cc
-deliver_by w seat x got firm found None e after enabled =
-    let can = can_deliver w seat x got x.phase e in
-    let was = busy_steps w x x.phase can.0 in
-    steps_fall w (change_number x.number (up_with (result_of_device got)) w.bios) after
-    (changed_falls w firm x found (up_with (result_of_device got)) 1 (omega (arith, was)))
-
--- by the bio that is found
-deliver_at : (w : World) (seat b : ℕ) (got : DeviceResult) → Firm w → (o : Option Bio) → bio_at w b ≡ o
-    → Firm (world_after w (deliver_of w seat got o)) → is_ok (deliver_of w seat got o) ≡ true
-    → BiosFall (world_after w (deliver_of w seat got o)) w
-deliver_at w seat b got firm None found after enabled = absurd cc
-deliver_at w seat b got firm (Some x) found after enabled =
-    deliver_by w seat x got firm (found_there w b x found) (deliver_found w seat x got x.phase) refl after enabled
-
--- a Deliver
-delivers_fall : (w : World) (seat b : ℕ) (got : DeviceResult) → Firm w
-    → IsTrue (is_enabled w seat (steps.Deliver b got)) → BiosFall (world_by w seat (steps.Deliver b got)) w
-unfolding step
-delivers_fall w seat b got firm enabled =
-    deliver_at w seat b got firm (bio_at w b) refl (delivers_stay_firm w seat b got firm) enabled
-
--- it lowers the measure
-pub delivers_lower : DeliversLower
-delivers_lower w seat b got firm enabled =
-    falls_less (world_by w seat (steps.Deliver b got)) w (delivers_fall w seat b got firm enabled)
-
--- a Take against which there is nothing
-take_by : (w : World) (seat disk : ℕ) (x : Bio) → Firm w → bio_at w x.number ≡ Some x
-    → (o : Option Found) → take_found w disk x ≡ o
-    → Firm (world_after w (unless_found o (take_bio w seat disk x)))
-    → is_ok (unless_found o (take_bio w seat disk x)) ≡ true
-    → BiosFall (world_after w (unless_found o (take_bio w seat disk x))) w
-unfolding take_bio
-take_by w seat disk x firm found (Some against) e after enabled = absurd cc
-take_by w seat disk x firm found None e after enabled =
-    let can = can_take w disk x e in
+-- a bio that is taken
+pub taken_falls : (w : World) → Firm w → (seat disk b : ℕ) (x : Bio) → IsTaken w disk b x
+    → Firm (change_bio w x.number (λ y. record y { phase = phases.Busy seat }))
+    → BiosFall (change_bio w x.number (λ y. record y { phase = phases.Busy seat })) w
+taken_falls w firm seat disk b x is after =
+    let can = can_take w disk x is.free in
     let was = sent_steps w x x.phase can.sent in
     steps_fall w (change_number x.number (λ y. record y { phase = phases.Busy seat }) w.bios) after
-    (changed_falls w firm x found (λ y. record y { phase = phases.Busy seat }) 1 (omega (arith, was)))
+    (changed_falls w firm x (found_there w b x is.found) (λ y. record y { phase = phases.Busy seat }) 1
+    (omega (arith, was)))
 
--- by the bio that is found
-take_at : (w : World) (seat disk b : ℕ) → Firm w → (o : Option Bio) → bio_at w b ≡ o
-    → Firm (world_after w (take_of w seat disk o)) → is_ok (take_of w seat disk o) ≡ true
-    → BiosFall (world_after w (take_of w seat disk o)) w
-take_at w seat disk b firm None found after enabled = absurd cc
-take_at w seat disk b firm (Some x) found after enabled =
-    take_by w seat disk x firm (found_there w b x found) (take_found w disk x) refl after enabled
-
--- a Take
-takes_fall : (w : World) (seat disk b : ℕ) → Firm w → IsTrue (is_enabled w seat (steps.Take disk b))
-    → BiosFall (world_by w seat (steps.Take disk b)) w
-unfolding step
-takes_fall w seat disk b firm enabled =
-    take_at w seat disk b firm (bio_at w b) refl (takes_stay_firm w seat disk b firm) enabled
-
--- a Take leaves a firm mesh
-take_firm : (w : World) (seat disk b : ℕ) → Firm w → Firm (world_by w seat (steps.Take disk b))
-unfolding step
-take_firm w seat disk b firm = takes_stay_firm w seat disk b firm
-
--- it lowers the measure, together with a Deliver that fits
-pub takes_lower : TakesLower
-takes_lower w seat disk b firm enabled got fits =
-    let v : World = world_by w seat (steps.Take disk b) in
-    falls_less (world_by v seat (steps.Deliver b got)) w
-    (falls_twice (world_by v seat (steps.Deliver b got)) v w
-    (delivers_fall v seat b got (take_firm w seat disk b firm) fits) (takes_fall w seat disk b firm enabled))
+-- a bio that is delivered
+pub delivered_falls : (w : World) → Firm w → (seat b : ℕ) (got : DeviceResult) (x : Bio) → IsDelivered w seat b got x
+    → Firm (change_bio w x.number (up_with (result_of_device got)))
+    → BiosFall (change_bio w x.number (up_with (result_of_device got))) w
+delivered_falls w firm seat b got x is after =
+    let can = can_deliver w seat x got x.phase is.fits in
+    let was = busy_steps w x x.phase can.0 in
+    steps_fall w (change_number x.number (up_with (result_of_device got)) w.bios) after
+    (changed_falls w firm x (found_there w b x is.found) (up_with (result_of_device got)) 1 (omega (arith, was)))

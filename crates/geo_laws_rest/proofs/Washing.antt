@@ -1,5 +1,5 @@
 -- A Wash that isn't early lowers the measure.
-use Rattle.std.specs.Prelude.{◌≡◌, ℕ, ◌+◌, ◌≤◌, ◌==◌, Bool, true, false, not, ◌&&◌, ◌||◌, List, [], ◌∷◌, length, filter, find, sum_by, Option, Some, None, Ok, Err, Contains, is_ok, is_some, cond, if◌then◌else◌, option_map, option_and_then, ◌-◌}
+use Rattle.std.specs.Prelude.{◌≡◌, ℕ, ◌+◌, ◌≤◌, ◌==◌, Bool, true, false, not, ◌&&◌, ◌||◌, List, [], ◌∷◌, length, filter, find, sum_by, Option, Some, None, Contains, is_some, cond, if◌then◌else◌, option_map, option_and_then, ◌-◌}
 use Rattle.std.specs.List.{AllByRecursion, list_any}
 use Rattle.std.specs.Option.{option_map_or, option_or}
 use Rattle.std.proofs.Common.{inl, inr, refl, sym, ◌∙◌, ap, subst, arith}
@@ -9,23 +9,18 @@ use Rattle.geo_base.proofs.Options.{none_of}
 use Rattle.geo_base.proofs.FilterLists.{length-kept}
 use Rattle.geo_base.specs.declared.limits.TheConstants.{UNTASTED_RANK}
 use Rattle.geo_model.specs.declared.step.Event.{Event}
-use Rattle.geo_model.specs.declared.step.Found.{Found}
-use Rattle.geo_model.specs.declared.step.Found.TheVariants as refusals
-use Rattle.geo_model.specs.declared.step.Outcome.{Outcome}
-use Rattle.geo_model.specs.declared.step.Outcome.TheVariants as outcomes
+use Rattle.geo_model.specs.declared.step.Step.TheVariants as steps
 use Rattle.geo_model.specs.declared.step.WashWork.{WashWork}
 use Rattle.geo_model.specs.declared.step.WashWork.TheVariants as washes
 use Rattle.geo_model.specs.Words.{first_some}
 use Rattle.geo_model.specs.Topology.{Topology, Geom, Provider, Consumer, geom_at, provider_at, consumer_at, geom_of_provider, attached_to, providers_of, consumers_of, remove_provider, remove_consumer, remove_geom}
 use Rattle.geo_model.specs.World.{World, Config, granted_in, is_active}
 use Rattle.geo_model.specs.Events.{provider_of_event, without_events_of}
-use Rattle.geo_model.specs.WorldEvents.{with_queued}
+use Rattle.geo_model.specs.WorldEvents.{queued_of, with_queued}
 use Rattle.geo_model.specs.Rank.{rank}
-use Rattle.geo_model.specs.Freeing.{is_idle, wash_work_of, first_wash, wash_work, wash}
-use Rattle.geo_model.specs.Step.{step, wash_next}
-use Rattle.geo_model.specs.Log.{world_after}
+use Rattle.geo_model.specs.Freeing.{is_idle, wash_work_of, first_wash, wash_work, wash, washed}
 use Rattle.geo_model.specs.Order.{taste_weight, taste_weight_below, rank_of_provider, event_weight, taste_left, is_loss, IsLess, measure}
-use Rattle.geo_model.specs.Laws.{is_offer, is_of_consumer}
+use Rattle.geo_model.specs.Laws.{is_offer, is_of_consumer, is_early_wash}
 use Rattle.geo_model.specs.Fitting.{Firm}
 use Rattle.geo_laws_counts.proofs.Levels.{of_each}
 use Rattle.geo_laws_graph.proofs.Found.{removed-provider, removed-geom}
@@ -41,7 +36,6 @@ use Rattle.geo_laws_rest.proofs.Sums.{sum_kept}
 use Rattle.geo_laws_rest.proofs.Costs.{weight_some, weights_same, left_same}
 use Rattle.geo_laws_rest.proofs.Walks.{Keeps}
 use Rattle.geo_laws_rest.proofs.Turned.{now_most}
-use Rattle.geo_laws_rest.specs.LossLaws.{WashesLower}
 use Rattle.geo_laws_rest.proofs.Elsewhere.{rank_by, elsewhere, Cheaper, event_most, left_most, no_offers, left_out_length}
 
 -- What stands of what is washed
@@ -302,19 +296,12 @@ module _ (w : World) (firm : Firm w) where
   work_lower (washes.Consumer c) found stands can after late = consumer_lower c can after late
   work_lower (washes.Geom g) found stands can after late = geom_lower g can after
 
-  -- by what is found
-  found_lower : (o : Option WashWork) → wash_work w ≡ o
-      → is_ok {T = World × Outcome} {E = Found}
-      (option_map_or (λ work. Ok (wash w work, outcomes.Ran)) o (Err refusals.NothingToWash)) ≡ true
-      → (is_of_consumer o && (is_some w.taste || list_any is_offer w.events)) ≡ false
-      → IsLess (measure (world_after w
-      (option_map_or (λ work. Ok (wash w work, outcomes.Ran)) o (Err refusals.NothingToWash)))) (measure w)
-  found_lower None found enabled late = absurd cc
-  found_lower (Some work) found enabled late =
+  -- what can be washed
+  pub found_lower : (work : WashWork) → wash_work w ≡ Some work → is_early_wash w steps.Wash ≡ false
+      → IsLess (measure (with_queued w (washed (queued_of w) work))) (measure w)
+  unfolding wash
+  found_lower work found late =
       let can : CanWash w work = found-can w firm work found in
-      work_lower work found (work_stands w work found) can (washed-firm w work can firm) late
-
--- a Wash lowers the measure, unless it is early
-pub washes_lower : WashesLower
-unfolding step wash_next
-washes_lower w seat firm enabled late = found_lower w firm (wash_work w) refl enabled late
+      work_lower work found (work_stands w work found) can (washed-firm w work can firm)
+      (subst (λ (o : Option WashWork). (is_of_consumer o && (is_some w.taste || list_any is_offer w.events)) ≡ false)
+      found late)

@@ -14,10 +14,7 @@ use Rattle.geo_laws_life.proofs.Washed.{wash_step_keeps}
 use Rattle.geo_laws_handles.specs.CommandLaws.{is_of_handles}
 use Rattle.geo_laws_handles.proofs.Idle.{handles_free_idle}
 use Rattle.geo_laws_offers.specs.OfferingLaws.{StaysThere, Adds, EndsTaste}
-use Rattle.geo_laws_offers.proofs.Bios.{bios-add}
-use Rattle.geo_laws_offers.proofs.Events.{events-add}
-use Rattle.geo_laws_offers.proofs.Geoms.{geoms-add}
-use Rattle.geo_laws_offers.proofs.Judges.{judges-add}
+use Rattle.geo_laws_offers.proofs.Steps.{step-does}
 use Rattle.geo_laws_offers.proofs.Frees.{stays-frees}
 use Rattle.geo_laws_steps.specs.FreeingLaws.{StepsFreeOnlyIdle}
 use Rattle.geo_laws_steps.proofs.Ends.{ends-frees}
@@ -42,7 +39,7 @@ module _ (w : World) (firm : Firm w) (e : Entry) where
     command-frees : (c : LineCommand) → next_command w actor ≡ Some c → (b : Bool) → is_of_geoms c.command ≡ b
         → FreesOnlyIdle w e
     command-frees c next true of =
-        adds-free (steps.Go actor) is (geoms-add w e.seat actor
+        adds-free (steps.Go actor) is (step-does w e.seat (steps.Go actor)
         (subst (λ o. IfSome o (λ x. is_of_geoms x.command ≡ true)) (sym next) of) firm)
     command-frees c next false other =
         handles_free_idle.done w e actor is
@@ -58,15 +55,10 @@ module _ (w : World) (firm : Firm w) (e : Entry) where
   -- by the step
   step-frees : (s : Step) → e.step ≡ s → FreesOnlyIdle w e
   step-frees (steps.Go actor) is = go-frees actor is (next_command w actor) refl
-  step-frees steps.Event is = adds-free steps.Event is (events-add w e.seat)
-  step-frees steps.Judge is = judge-frees is (judges-add w e.seat firm)
+  step-frees steps.Judge is = judge-frees is (step-does w e.seat steps.Judge firm)
   step-frees steps.Reap is = handles_free_idle.reaped w e is firm
   step-frees steps.Wash is = wash_step_keeps.idle w e is firm
-  step-frees (steps.Start b) is = adds-free (steps.Start b) is (bios-add w e.seat (steps.Start b) refl)
-  step-frees (steps.Take disk b) is = adds-free (steps.Take disk b) is (bios-add w e.seat (steps.Take disk b) refl)
-  step-frees (steps.Deliver b got) is =
-      adds-free (steps.Deliver b got) is (bios-add w e.seat (steps.Deliver b got) refl)
-  step-frees (steps.Up b) is = adds-free (steps.Up b) is (bios-add w e.seat (steps.Up b) refl)
+  step-frees s is = adds-free s is (step-does w e.seat s)
 
 -- each step
 pub steps_free_only_idle : StepsFreeOnlyIdle

@@ -1,5 +1,5 @@
 -- A step of a taste: each part of the graph is new or stood before, and each bio stays.
-use Rattle.std.specs.Prelude.{◌≡◌, ℕ, ◌+◌, Bool, true, false, List, [], ◌∷◌, Option, Some, None, Ok, Err, IfSome, is_some, if◌then◌else◌}
+use Rattle.std.specs.Prelude.{◌≡◌, ℕ, ◌+◌, Bool, true, false, List, [], ◌∷◌, Option, Some, None, IfSome, is_some, if◌then◌else◌}
 use Rattle.std.specs.Option.{option_map_or}
 use Rattle.std.proofs.Common.{refl, sym, subst}
 use Rattle.std.proofs.lemmas.List.Elements.{Contains-append_left}
@@ -12,20 +12,15 @@ use Rattle.geo_model.specs.declared.class.Verdict.{Verdict}
 use Rattle.geo_model.specs.declared.class.Verdict.TheVariants.{Decline, More, Accept}
 use Rattle.geo_model.specs.declared.step.BioResult.{BioResult}
 use Rattle.geo_model.specs.declared.step.BioResult.TheVariants as results
-use Rattle.geo_model.specs.declared.step.Found.TheVariants as refusals
-use Rattle.geo_model.specs.declared.step.Step.TheVariants as steps
 use Rattle.geo_model.specs.Topology.{Provider, provider_at}
 use Rattle.geo_model.specs.Demand.{one_read}
 use Rattle.geo_model.specs.Opens.{grant_refusal, with_grant}
-use Rattle.geo_model.specs.World.{World, Config, Taste, Asked, NoClass, NextSector, ReadOut, ReadBack, granted_in, is_read_out}
+use Rattle.geo_model.specs.World.{World, Config, Taste, Asked, NoClass, NextSector, ReadOut, ReadBack, granted_in}
 use Rattle.geo_model.specs.Events.{QueuedTopology}
 use Rattle.geo_model.specs.WorldEvents.{queued_of}
 use Rattle.geo_model.specs.Acceptance.{taste_where, accept}
 use Rattle.geo_model.specs.Chain.{no_links}
-use Rattle.geo_model.specs.Tasting.{Judging, facts_of, is_attached_class, is_ended, end_class, end_taste, read_sector, follow, with_read, verdict_on, take_result, next_class, go_on, taste_step, judged_world, judge_step}
-use Rattle.geo_model.specs.Step.{taste_bio, judge_of, judge_next, step}
-use Rattle.geo_model.specs.Log.{world_after}
-use Rattle.geo_model.specs.Laws.{world_by}
+use Rattle.geo_model.specs.Tasting.{Judging, facts_of, is_attached_class, is_ended, end_class, end_taste, read_sector, follow, with_read, verdict_on, take_result, next_class, go_on, taste_step, judged_world}
 use Rattle.geo_model.specs.Fitting.{Firm}
 use Rattle.geo_laws_steps.specs.Heirs.{IsBare, Follows}
 use Rattle.geo_laws_steps.proofs.Heirs.{inherits-same, heir-no_consumer}
@@ -141,23 +136,6 @@ module _ (w : World) (firm : Firm w) where
   }
 
   -- a step of a taste in the whole state
-  step-goes : (s : Taste) → Follows w (judge_step w s).0
-  unfolding judge_step
-  step-goes s =
-      let x : Judging = taste_step granted q s in judged-goes x (taste-goes s) x.judged
-
-  -- while no read is out
-  judge-by : (s : Taste) (b : Bool)
-      → Follows w (world_after w (if b then Err (refusals.ReadOut (taste_bio w)) else Ok (judge_step w s)))
-  judge-by s true = follows-same w
-  judge-by s false = step-goes s
-
-  -- by the taste
-  judges-go : (o : Option Taste) → Follows w (world_after w (judge_of w o))
-  judges-go None = follows-same w
-  judges-go (Some s) = judge-by s (is_read_out s.asked)
-
--- a Judge
-pub judges-follow : (w : World) (seat : ℕ) → Firm w → Follows w (world_by w seat steps.Judge)
-unfolding step judge_next
-judges-follow w seat firm = judges-go w firm w.taste
+  pub judges-follow : (s : Taste) (x : Judging) → taste_step granted q s ≡ x → (j : Judged)
+      → Follows w (judged_world w x j).0
+  judges-follow s x is = judged-goes x (subst GoesOn is (taste-goes s))

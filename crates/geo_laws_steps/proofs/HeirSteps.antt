@@ -1,22 +1,15 @@
 -- Events, reaps and washes: each part of the graph is new or stood before, and each bio stays.
-use Rattle.std.specs.Prelude.{◌≡◌, ℕ, Bool, true, false, List, [], ◌∷◌, fold, Option, Some, None, Ok, Err, Contains, is_some, if◌then◌else◌}
-use Rattle.std.specs.Option.{option_map_or}
+use Rattle.std.specs.Prelude.{◌≡◌, ℕ, Bool, true, false, List, [], ◌∷◌, fold, Option, Some, None, Contains, if◌then◌else◌}
 use Rattle.std.proofs.Common.{refl, sym, subst}
 use Rattle.geo_model.specs.declared.step.Event.{Event}
 use Rattle.geo_model.specs.declared.step.Event.TheVariants as events
-use Rattle.geo_model.specs.declared.step.Found.TheVariants as refusals
-use Rattle.geo_model.specs.declared.step.Outcome.TheVariants as outcomes
-use Rattle.geo_model.specs.declared.step.Step.TheVariants as steps
 use Rattle.geo_model.specs.declared.step.WashWork.{WashWork}
 use Rattle.geo_model.specs.declared.step.WashWork.TheVariants as washes
 use Rattle.geo_model.specs.Demand.{fallen}
-use Rattle.geo_model.specs.World.{World, Config, Bio, Handle, granted_in}
+use Rattle.geo_model.specs.World.{World, Config, Bio, granted_in}
 use Rattle.geo_model.specs.Events.{QueuedTopology, is_not_tasted, spoil, resize, dying_consumers}
 use Rattle.geo_model.specs.WorldEvents.{queued_of, with_queued, after_close, begin_taste, kill_handle, do_event}
-use Rattle.geo_model.specs.Freeing.{reap_work, reap_consumer, reap_handle, reap, wash_work, wash}
-use Rattle.geo_model.specs.Step.{event_of, event, reap_next, wash_next, step}
-use Rattle.geo_model.specs.Log.{world_after}
-use Rattle.geo_model.specs.Laws.{world_by}
+use Rattle.geo_model.specs.Freeing.{reap_consumer, reap_handle, washed}
 use Rattle.geo_laws_steps.specs.Heirs.{IsBare, Follows}
 use Rattle.geo_laws_steps.proofs.Heirs.{inherits-same, heir-consumer, heir-no_geom, heir-no_provider, heir-no_consumer}
 use Rattle.geo_laws_steps.proofs.HeirQueues.{Comes, comes-spoil, comes-orphan, comes-resize, comes-fallen}
@@ -69,8 +62,7 @@ module _ (w : World) where
       (inherits-same (IsBare w.topology) w.topology))
 
   -- what a wash removes
-  wash-follows : (work : WashWork) → Follows w (wash w work)
-  unfolding wash
+  pub wash-follows : (work : WashWork) → Follows w (with_queued w (washed (queued_of w) work))
   wash-follows (washes.Provider p) = record {
     heir = heir-no_provider (IsBare w.topology) w.topology w.topology
         (inherits-same (IsBare w.topology) w.topology) p;
@@ -86,15 +78,8 @@ module _ (w : World) where
     bios = λ x here. here;
   }
 
-  -- by what is found
-  washed-follows : (o : Option WashWork)
-      → Follows w (world_after w
-      (option_map_or (λ work. Ok (wash w work, outcomes.Ran)) o (Err refusals.NothingToWash)))
-  washed-follows None = follows-same w
-  washed-follows (Some work) = wash-follows work
-
   -- a consumer is reaped
-  consumer-follows : (o : Option ℕ) → Follows w (reap_handle w o)
+  pub consumer-follows : (o : Option ℕ) → Follows w (reap_handle w o)
   consumer-follows None = follows-same w
   consumer-follows (Some c) =
       follows-close (reap_consumer w c) (record {
@@ -103,40 +88,7 @@ module _ (w : World) where
         bios = λ x here. here;
       })
 
-  -- a handle is
-  reap-follows : (h : Handle) → Follows w (reap w h)
-  unfolding reap
-  reap-follows h = consumer-follows h.consumer
-
-  -- by what is found
-  reaped-follows : (o : Option Handle)
-      → Follows w (world_after w (option_map_or (λ h. Ok (reap w h, outcomes.Ran)) o (Err refusals.NothingToReap)))
-  reaped-follows None = follows-same w
-  reaped-follows (Some h) = reap-follows h
-
 -- the head of the queue is done
-head-follows : (w : World) (es : List Event) → Follows w (world_after w (event_of w es))
-head-follows w [] = follows-same w
-head-follows w (e ∷ rest) =
+pub head-follows : (w : World) (e : Event) (rest : List Event) → Follows w (do_event (record w { events = rest }) e)
+head-follows w e rest =
     let done = done-follows (record w { events = rest }) e in record { heir = done.heir; bios = done.bios }
-
--- unless a taste is under way
-event-by : (w : World) (b : Bool)
-    → Follows w (world_after w (if b then Err refusals.TasteUnderWay else event_of w w.events))
-event-by w true = follows-same w
-event-by w false = head-follows w w.events
-
--- an Event
-pub events-follow : (w : World) (seat : ℕ) → Follows w (world_by w seat steps.Event)
-unfolding step event
-events-follow w seat = event-by w (is_some w.taste)
-
--- a Reap
-pub reaps-follow : (w : World) (seat : ℕ) → Follows w (world_by w seat steps.Reap)
-unfolding step reap_next
-reaps-follow w seat = reaped-follows w (reap_work w)
-
--- a Wash
-pub washes-follow : (w : World) (seat : ℕ) → Follows w (world_by w seat steps.Wash)
-unfolding step wash_next
-washes-follow w seat = washed-follows w (wash_work w)

@@ -129,12 +129,6 @@ module _ (T : ℕ → Type 0) (t u : Topology Config) (heir : Inherits T t u) wh
       (λ y. refl)
       (λ y here e. inr (λ x is. record { number = is.number; kind = is.kind; config = is.config }))
 
-  -- a started request
-  pub heir-started : (g : ℕ) → Inherits T t (note_started u g)
-  heir-started g =
-      heir-geoms (λ (x : Geom Config). x.number == g) (λ (x : Geom Config). record x { started = x.started + 1 })
-      (λ y. refl) (λ y here e. inr (λ x is. record { number = is.number; kind = is.kind; config = is.config }))
-
   -- an error
   pub heir-error : (p : ℕ) → Inherits T t (set_error u p)
   heir-error p =

@@ -15,7 +15,6 @@ pub mod HeirAccepts
 pub mod HeirJudges
 pub mod HeirSteps
 pub mod HeirCommands
-pub mod Commanded
 pub mod Kept
 pub mod Followed
 pub mod HeirBios

@@ -12,11 +12,8 @@ use Rattle.geo_model.specs.Fitting.{Firm}
 use Rattle.geo_laws_handles.specs.CommandLaws.{is_of_handles}
 use Rattle.geo_laws_handles.proofs.Offered.{handles_offer_living}
 use Rattle.geo_laws_offers.specs.OfferingLaws.{Adds, EndsTaste}
-use Rattle.geo_laws_offers.proofs.Bios.{bios-add}
-use Rattle.geo_laws_offers.proofs.Events.{events-add}
-use Rattle.geo_laws_offers.proofs.Geoms.{geoms-add}
-use Rattle.geo_laws_offers.proofs.Judges.{judges-add}
-use Rattle.geo_laws_offers.proofs.Washes.{washes-offer, ends-offer}
+use Rattle.geo_laws_offers.proofs.Steps.{step-does}
+use Rattle.geo_laws_offers.proofs.Washes.{ends-offer}
 use Rattle.geo_laws_steps.specs.FreeingLaws.{StepsOfferOnlyLiving}
 use Rattle.geo_laws_steps.proofs.OfHandles.{of-handles}
 
@@ -29,7 +26,8 @@ judge-offers w after (inr ended) = ends-offer w after ended
 command-offers : (w : World) (seat actor : ℕ) → Firm w → (c : LineCommand) → next_command w actor ≡ Some c
     → (b : Bool) → is_of_geoms c.command ≡ b → OffersOnlyLiving w (world_by w seat (steps.Go actor))
 command-offers w seat actor firm c next true of =
-    (geoms-add w seat actor (subst (λ o. IfSome o (λ x. is_of_geoms x.command ≡ true)) (sym next) of) firm).offers
+    (step-does w seat (steps.Go actor) (subst (λ o. IfSome o (λ x. is_of_geoms x.command ≡ true)) (sym next) of)
+    firm).offers
 command-offers w seat actor firm c next false other =
     handles_offer_living.done w seat actor
     (subst (λ o. IfSome o (λ x. is_of_handles x.command ≡ true)) (sym next) (of-handles c.command other))
@@ -45,12 +43,8 @@ go-offers w seat actor firm (Some c) next = command-offers w seat actor firm c n
 -- each step
 pub steps_offer_only_living : StepsOfferOnlyLiving
 steps_offer_only_living w seat (steps.Go actor) firm = go-offers w seat actor firm (next_command w actor) refl
-steps_offer_only_living w seat steps.Event firm = (events-add w seat).offers
 steps_offer_only_living w seat steps.Judge firm =
-    judge-offers w (world_by w seat steps.Judge) (judges-add w seat firm)
+    judge-offers w (world_by w seat steps.Judge) (step-does w seat steps.Judge firm)
 steps_offer_only_living w seat steps.Reap firm = handles_offer_living.reaped w seat
-steps_offer_only_living w seat steps.Wash firm = washes-offer w seat
-steps_offer_only_living w seat (steps.Start b) firm = (bios-add w seat (steps.Start b) refl).offers
-steps_offer_only_living w seat (steps.Take disk b) firm = (bios-add w seat (steps.Take disk b) refl).offers
-steps_offer_only_living w seat (steps.Deliver b got) firm = (bios-add w seat (steps.Deliver b got) refl).offers
-steps_offer_only_living w seat (steps.Up b) firm = (bios-add w seat (steps.Up b) refl).offers
+steps_offer_only_living w seat steps.Wash firm = step-does w seat steps.Wash
+steps_offer_only_living w seat s firm = (step-does w seat s).offers

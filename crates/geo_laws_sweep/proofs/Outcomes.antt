@@ -10,7 +10,7 @@ use Rattle.geo_model.specs.declared.step.Owner.{Owner}
 use Rattle.geo_model.specs.declared.step.Owner.TheVariants as owners
 use Rattle.geo_model.specs.declared.step.Step.{Step}
 use Rattle.geo_model.specs.declared.step.Step.TheVariants as steps
-use Rattle.geo_model.specs.World.{World, Bio, Taste}
+use Rattle.geo_model.specs.World.{World, Bio}
 use Rattle.geo_model.specs.Bios.{up_to}
 use Rattle.geo_model.specs.Tasting.{Judging, judged_world}
 use Rattle.geo_model.specs.Commands.{do_command}

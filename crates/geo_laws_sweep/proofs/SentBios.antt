@@ -1,6 +1,6 @@
 -- The bios that are Sent, along a step: a Start that queues brings one, a Take takes one, and each other step leaves
 -- them.
-use Rattle.std.specs.Prelude.{◌≡◌, ℕ, ◌+◌, ◌≤◌, ◌==◌, Bool, true, false, not, List, [], ◌∷◌, ◌++◌, filter, map, find, Option, Some, None, Ok, Err, Contains, IsSomeAnd, IsTrue, if◌then◌else◌}
+use Rattle.std.specs.Prelude.{◌≡◌, ℕ, ◌+◌, ◌≤◌, ◌==◌, Bool, true, false, not, List, [], ◌∷◌, ◌++◌, filter, map, find, Option, Some, None, Ok, Contains, IsSomeAnd, IsTrue, if◌then◌else◌}
 use Rattle.std.specs.List.{AllByRecursion}
 use Rattle.std.specs.Option.{option_map_or}
 use Rattle.std.proofs.Common.{inl, inr, refl, sym, ◌∙◌, ap, subst, arith}
@@ -9,8 +9,6 @@ use Rattle.std.proofs.lemmas.List.Elements.{All-contains}
 use Rattle.geo_base.proofs.AllLists.{all_weaker}
 use Rattle.geo_model.specs.declared.step.BioResult.{BioResult}
 use Rattle.geo_model.specs.declared.step.DeviceResult.{DeviceResult}
-use Rattle.geo_model.specs.declared.step.Found.{Found}
-use Rattle.geo_model.specs.declared.step.Found.TheVariants as refusals
 use Rattle.geo_model.specs.declared.step.Outcome.{Outcome}
 use Rattle.geo_model.specs.declared.step.Owner.{Owner}
 use Rattle.geo_model.specs.declared.step.Owner.TheVariants as owners
@@ -20,20 +18,20 @@ use Rattle.geo_model.specs.declared.step.Step.{Step}
 use Rattle.geo_model.specs.declared.step.Step.TheVariants as steps
 use Rattle.geo_model.specs.Topology.{Topology}
 use Rattle.geo_model.specs.Graph.{AreNumbers}
-use Rattle.geo_model.specs.World.{World, Config, Bio, bio_at, change_number, children_of, is_sent, is_busy, is_up, is_done, is_waiting, is_child_of}
-use Rattle.geo_model.specs.Bios.{PieceTarget, piece_child, up_with, up, up_to, deliver, result_of_device, complete_parent, is_complete, joined_result, child_results}
-use Rattle.geo_model.specs.Step.{Answer, unless_found, deliver_found, deliver_of, up_of, step}
+use Rattle.geo_model.specs.World.{World, Config, Bio, bio_at, change_number, children_of, is_sent, is_up, is_done, is_waiting, is_child_of}
+use Rattle.geo_model.specs.Bios.{PieceTarget, piece_child, up_with, up_to, deliver, result_of_device, complete_parent, is_complete, joined_result, child_results}
+use Rattle.geo_model.specs.Step.{step}
 use Rattle.geo_model.specs.SoundBios.{IsFamilyInOrder}
 use Rattle.geo_model.specs.Fitting.{Firm}
-use Rattle.geo_model.specs.Log.{world_after}
 use Rattle.geo_laws_graph.proofs.Lists.{Rise, all-changed, none_outside, unhit}
 use Rattle.geo_laws_graph.proofs.Members.{All-from_contained, Contains-cases, Contains-filter, filter-Contains, find-Contains, nothing_in}
 use Rattle.geo_laws_graph.proofs.Numbered.{filter-pushed, number_found, unique}
 use Rattle.geo_laws_life.proofs.Found.{found-with}
 use Rattle.geo_laws_counts.proofs.LimitFacts.{all_true}
-use Rattle.geo_laws_bios.proofs.Phases.{can_deliver}
+use Rattle.geo_laws_bios.proofs.Turning.{found_there}
 use Rattle.geo_laws_requests.specs.Arrivals.{StayOrArrive}
-use Rattle.geo_laws_requests.proofs.Arrivals.{bios_stay_or_arrive}
+use Rattle.geo_laws_requests.proofs.Arrivals.{made_known}
+use Rattle.geo_laws_requests.proofs.Named.{DeliversIt, delivers_it, RisesIt, rises_it}
 use Rattle.geo_laws_sweep.proofs.Outcomes.{starts_or_takes}
 
 -- the bios that are Sent
@@ -120,30 +118,10 @@ not_sent test out phases.Done e = refl
 
 -- Steps that send and take none
 
--- where a step was made, the same are Sent
-abbrev Same : World → Answer → Type 0
-Same w a = sent_in (world_after w a).bios ≡ sent_in w.bios
-
 module _ (w : World) (firm : Firm w) where
   -- one that is found and isn't Sent
   alone : (n : ℕ) (x : Bio) → bio_at w n ≡ Some x → is_sent x.phase ≡ false → NotSentAt n w.bios
   alone n x found quiet = found_not_sent w.next_bio n w.bios x firm.bios.numbers found quiet
-
-  -- a Deliver, by what is against it
-  deliver_by : (seat b : ℕ) (x : Bio) → bio_at w x.number ≡ Some x → (got : DeviceResult) (o : Option Found)
-      → deliver_found w seat x got x.phase ≡ o → Same w (unless_found o (deliver w x got))
-  unfolding deliver
-  deliver_by seat b x found got (Some f) against = refl
-  deliver_by seat b x found got None against =
-      changed_same x.number (up_with (result_of_device got)) (λ y. refl) w.bios
-      (alone x.number x found (not_sent is_busy refl x.phase (can_deliver w seat x got x.phase against).0))
-
-  -- by the bio
-  deliver_at : (seat b : ℕ) (got : DeviceResult) (o : Option Bio) → bio_at w b ≡ o → Same w (deliver_of w seat got o)
-  deliver_at seat b got None found = refl
-  deliver_at seat b got (Some x) found =
-      let same : x.number ≡ b = number_found (λ (y : Bio). y.number) w.bios b x found in
-      deliver_by seat b x (ap (bio_at w) same ∙ found) got (deliver_found w seat x got x.phase) refl
 
   module _ (x : Bio) (found : bio_at w x.number ≡ Some x) (rising : is_up x.phase ≡ true) where
     -- it isn't Sent
@@ -223,19 +201,20 @@ module _ (w : World) (firm : Firm w) where
     owner_same (owners.Child parent index) own =
         up_child_by parent index own (is_complete gathered parent) refl (bio_at gathered parent) refl
 
-  -- an Up
-  up_by : (x : Bio) → bio_at w x.number ≡ Some x → (b : Bool) → is_up x.phase ≡ b
-      → Same w (if b then Ok (up w x) else Err (refusals.InPhase x.phase))
-  unfolding up
-  up_by x found true e = owner_same x found e x.owner refl
-  up_by x found false e = refl
+  -- a Deliver
+  deliver_same : (v : World) (seat b : ℕ) (got : DeviceResult) (o : Outcome) → DeliversIt w v seat b got o
+      → sent_in v.bios ≡ sent_in w.bios
+  unfolding deliver
+  deliver_same v seat b got o it =
+      ap (λ (m : World × Outcome). sent_in m.0.bios) it.made
+      ∙ changed_same it.bio.number (up_with (result_of_device got)) (λ y. refl) w.bios
+      (alone it.bio.number it.bio (found_there w b it.bio it.found) (ap is_sent it.own))
 
-  -- by the bio
-  up_at : (b : ℕ) (o : Option Bio) → bio_at w b ≡ o → Same w (up_of w o)
-  up_at b None found = refl
-  up_at b (Some x) found =
-      let same : x.number ≡ b = number_found (λ (y : Bio). y.number) w.bios b x found in
-      up_by x (ap (bio_at w) same ∙ found) (is_up x.phase) refl
+  -- an Up
+  up_same : (v : World) (b : ℕ) (o : Outcome) → RisesIt w v b o → sent_in v.bios ≡ sent_in w.bios
+  up_same v b o it =
+      ap (λ (m : World × Outcome). sent_in m.0.bios) it.made
+      ∙ owner_same it.bio (found_there w b it.bio it.found) it.up it.bio.owner refl
 
   -- where all bios stay, or one arrives
   come_by : (v : World) (o : Outcome) → StayOrArrive w v o → sent_in v.bios ≡ sent_in w.bios
@@ -247,17 +226,12 @@ module _ (w : World) (firm : Firm w) where
   -- each step but a Start and a Take
   pub sent_same : (v : World) (seat : ℕ) (s : Step) (o : Outcome) → starts_or_takes s ≡ false
       → step w seat s ≡ Ok (v, o) → sent_in v.bios ≡ sent_in w.bios
-  unfolding step
-  sent_same v seat (steps.Go actor) o other made = come_by v o (bios_stay_or_arrive.go w v seat actor o made)
-  sent_same v seat steps.Event o other made = come_by v o (bios_stay_or_arrive.event w v seat o made)
-  sent_same v seat steps.Judge o other made = come_by v o (bios_stay_or_arrive.judge w v seat o made)
-  sent_same v seat steps.Reap o other made = come_by v o (bios_stay_or_arrive.reap w v seat o made)
-  sent_same v seat steps.Wash o other made = come_by v o (bios_stay_or_arrive.wash w v seat o made)
   sent_same v seat (steps.Start b) o other made = absurd (let no : ⊥ = cc in no)
   sent_same v seat (steps.Take disk b) o other made = absurd (let no : ⊥ = cc in no)
   sent_same v seat (steps.Deliver b got) o other made =
-      subst (Same w) made (deliver_at seat b got (bio_at w b) refl)
-  sent_same v seat (steps.Up b) o other made = subst (Same w) made (up_at b (bio_at w b) refl)
+      deliver_same v seat b got o (delivers_it w v seat b got o made)
+  sent_same v seat (steps.Up b) o other made = up_same v b o (rises_it w v seat b o made)
+  sent_same v seat s o other made = come_by v o (made_known w v seat s o refl made)
 
 -- One more, and one less
 

@@ -20,8 +20,7 @@ use Rattle.geo_laws_graph.proofs.Lists.{rise-from}
 use Rattle.geo_laws_graph.proofs.Members.{All-from_contained, at_contained, Contains-filter, Contains-map, filter-Contains, find-Contains}
 use Rattle.geo_laws_graph.proofs.Numbered.{number_found, unique}
 use Rattle.geo_laws_bios.proofs.Turning.{sent_disk}
-use Rattle.geo_laws_requests.proofs.Starts.{StartsIt, starts_it}
-use Rattle.geo_laws_requests.proofs.Takes.{TakesIt, takes_it}
+use Rattle.geo_laws_requests.proofs.Named.{StartsIt, starts_it, TakesIt, takes_it}
 use Rattle.geo_headline.specs.Sweep.{Waiting, waiting_of, is_sent_to, waiting_for}
 use Rattle.geo_laws_sweep.specs.SweepLaws.{is_queued, is_asked, OneMore, StepsChangeWaiting, Asks, TakesAskWaiting}
 use Rattle.geo_laws_sweep.proofs.Outcomes.{is_to_disk, starts_or_takes, others_not_to_disk}
@@ -297,13 +296,7 @@ module _ (w v : World) (firm : Firm w) (seat disk : ℕ) (o : Outcome) where
   stay (steps.Take other b) made queued asked =
       take_stays w v firm seat other b o made disk
       (subst (λ (p : Outcome). is_asked disk p ≡ false) (taken_asks w v firm seat other b o made) asked)
-  stay (steps.Go actor) made queued asked = others_stay (steps.Go actor) refl made
-  stay steps.Event made queued asked = others_stay steps.Event refl made
-  stay steps.Judge made queued asked = others_stay steps.Judge refl made
-  stay steps.Reap made queued asked = others_stay steps.Reap refl made
-  stay steps.Wash made queued asked = others_stay steps.Wash refl made
-  stay (steps.Deliver b got) made queued asked = others_stay (steps.Deliver b got) refl made
-  stay (steps.Up b) made queued asked = others_stay (steps.Up b) refl made
+  stay s made queued asked = others_stay s refl made
 
   -- only a Start queues to the disk
   not_queued : (s : Step) → starts_or_takes s ≡ false → step w seat s ≡ Ok (v, o) → IsTrue (is_queued disk o) → ⊥
@@ -321,13 +314,7 @@ module _ (w v : World) (firm : Firm w) (seat disk : ℕ) (o : Outcome) where
       let no : IsTrue false =
       subst (λ (p : Outcome). IsTrue (is_queued disk p)) (taken_asks w v firm seat other b o made) queued in
       absurd (let bad : ⊥ = cc in bad)
-  by_start (steps.Go actor) made queued = absurd (not_queued (steps.Go actor) refl made queued)
-  by_start steps.Event made queued = absurd (not_queued steps.Event refl made queued)
-  by_start steps.Judge made queued = absurd (not_queued steps.Judge refl made queued)
-  by_start steps.Reap made queued = absurd (not_queued steps.Reap refl made queued)
-  by_start steps.Wash made queued = absurd (not_queued steps.Wash refl made queued)
-  by_start (steps.Deliver b got) made queued = absurd (not_queued (steps.Deliver b got) refl made queued)
-  by_start (steps.Up b) made queued = absurd (not_queued (steps.Up b) refl made queued)
+  by_start s made queued = absurd (not_queued s refl made queued)
 
   -- only a Take asks it
   quiet_asks : (p : Outcome) → is_to_disk p ≡ false → IsTrue (is_asked disk p) → ⊥
@@ -353,13 +340,7 @@ module _ (w v : World) (firm : Firm w) (seat disk : ℕ) (o : Outcome) where
       (b, ap (λ (d : ℕ). steps.Take d b) (eqb-true other disk here))
   by_take (steps.Start b) made asked =
       absurd (start_asks b made (starts w v firm seat b o made) asked)
-  by_take (steps.Go actor) made asked = absurd (not_asked (steps.Go actor) refl made asked)
-  by_take steps.Event made asked = absurd (not_asked steps.Event refl made asked)
-  by_take steps.Judge made asked = absurd (not_asked steps.Judge refl made asked)
-  by_take steps.Reap made asked = absurd (not_asked steps.Reap refl made asked)
-  by_take steps.Wash made asked = absurd (not_asked steps.Wash refl made asked)
-  by_take (steps.Deliver b got) made asked = absurd (not_asked (steps.Deliver b got) refl made asked)
-  by_take (steps.Up b) made asked = absurd (not_asked (steps.Up b) refl made asked)
+  by_take s made asked = absurd (not_asked s refl made asked)
 
 -- so by each step what waits changes
 pub steps_change_waiting : StepsChangeWaiting

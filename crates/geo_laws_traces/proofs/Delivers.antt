@@ -66,16 +66,7 @@ entry_few : (w : World) (seat : ℕ) (s : Step) (outcome : Outcome) → Firm w
 unfolding step
 entry_few w seat (steps.Deliver b (devices.Bytes bytes)) outcome firm is =
     let few : AreFew bytes = few_at w b seat bytes outcome firm (bio_at w b) refl is in (few.some, few.few)
-entry_few w seat (steps.Deliver b devices.Done) outcome firm is = tt
-entry_few w seat (steps.Deliver b (devices.Failed done)) outcome firm is = tt
-entry_few w seat (steps.Go actor) outcome firm is = tt
-entry_few w seat steps.Event outcome firm is = tt
-entry_few w seat steps.Judge outcome firm is = tt
-entry_few w seat steps.Reap outcome firm is = tt
-entry_few w seat steps.Wash outcome firm is = tt
-entry_few w seat (steps.Start b) outcome firm is = tt
-entry_few w seat (steps.Take disk b) outcome firm is = tt
-entry_few w seat (steps.Up b) outcome firm is = tt
+entry_few w seat s outcome firm is = tt
 
 -- along a log
 few_along : (w : World) (log : List Entry) → Firm w → Legal w log → AllByRecursion (λ (e : Entry). FewBytes e.step) log

@@ -64,19 +64,13 @@ some_answer (devices.Bytes bytes) = omega arith
 
 -- a step's text is the line of its words
 step_spelled : (s : Step) → step_text s ≡ line_of (step_words s)
-step_spelled (steps.Go actor) = refl
-step_spelled steps.Event = refl
-step_spelled steps.Judge = refl
-step_spelled steps.Reap = refl
-step_spelled steps.Wash = refl
-step_spelled (steps.Start b) = refl
 step_spelled (steps.Take disk b) = ap (λ (xs : List ℕ). codes "take " ++ xs) (behind_space (decimal disk) (decimal b))
 step_spelled (steps.Deliver b got) =
     ap (λ (xs : List ℕ). codes "deliver " ++ xs)
     (behind_space (decimal b) (answer_text got)
     ∙ ap (λ (xs : List ℕ). decimal b ++ 32 ∷ xs) (answer_spelled got)
     ∙ sym (line_more (decimal b) (answer_words got) (some_answer got)))
-step_spelled (steps.Up b) = refl
+step_spelled s = refl
 
 -- a step has a word
 some_step : (s : Step) → 1 ≤ length (step_words s)
@@ -132,10 +126,6 @@ clean_step : (s : Step) → IsWritable s → AreClean (step_words s)
 clean_step (steps.Go actor) fits =
     clean_behind (codes "go") (decimal actor ∷ []) (search rules) (search rules)
     (clean_number actor [] (omega (arith, fits)) clean_none)
-clean_step steps.Event fits = record { spaceless = search rules; unended = search rules }
-clean_step steps.Judge fits = record { spaceless = search rules; unended = search rules }
-clean_step steps.Reap fits = record { spaceless = search rules; unended = search rules }
-clean_step steps.Wash fits = record { spaceless = search rules; unended = search rules }
 clean_step (steps.Start b) fits =
     clean_behind (codes "start") (decimal b ∷ []) (search rules) (search rules) (clean_number b [] fits clean_none)
 clean_step (steps.Take disk b) fits =
@@ -146,6 +136,7 @@ clean_step (steps.Deliver b got) fits =
     (clean_number b (answer_words got) fits.0 (clean_answer got fits.1))
 clean_step (steps.Up b) fits =
     clean_behind (codes "up") (decimal b ∷ []) (search rules) (search rules) (clean_number b [] fits clean_none)
+clean_step s fits = record { spaceless = search rules; unended = search rules }
 
 -- a seat and a step that can be written
 abbrev pub IsWritableItem : ℕ × Step → Type 0
@@ -176,10 +167,6 @@ answer_back (devices.Bytes bytes) fits = ap (λ r. r >>= λ b. at_end (devices.B
 -- a step
 step_back : (s : Step) → IsWritable s → by_word step_table (step_words s) ≡ Ok s
 step_back (steps.Go actor) fits = ap (λ r. r >>= λ a. at_end (steps.Go a.0) a.1) (small_back actor [] fits)
-step_back steps.Event fits = refl
-step_back steps.Judge fits = refl
-step_back steps.Reap fits = refl
-step_back steps.Wash fits = refl
 step_back (steps.Start b) fits = ap (λ r. r >>= λ n. at_end (steps.Start n.0) n.1) (any_back b [] fits)
 step_back (steps.Take disk b) fits =
     ap (λ r. r >>= λ d. any_number d.1 >>= λ n. at_end (steps.Take d.0 n.0) n.1)
@@ -190,6 +177,7 @@ step_back (steps.Deliver b got) fits =
     (any_back b (answer_words got) fits.0)
     ∙ ap (λ r. r >>= λ x. Ok (steps.Deliver b x)) (answer_back got fits.1)
 step_back (steps.Up b) fits = ap (λ r. r >>= λ n. at_end (steps.Up n.0) n.1) (any_back b [] fits)
+step_back s fits = refl
 
 -- the line of a seat and its step, without its line feed
 pub item_back : (item : ℕ × Step) → IsWritableItem item → marked seat_and_step (line_of (item_words item)) ≡ Ok item

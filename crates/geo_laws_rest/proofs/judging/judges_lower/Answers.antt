@@ -1,4 +1,4 @@
-use Rattle.geo_laws_rest.proofs.JudgedMade.{judges_lower}
+use Rattle.geo_laws_rest.proofs.EachStep.{judges_lower}
 use Rattle.geo_laws_rest.proofs.judging.judges_lower.Goals as goal
 
 pub returns : goal.returns

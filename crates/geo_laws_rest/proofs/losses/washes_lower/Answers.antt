@@ -1,4 +1,4 @@
-use Rattle.geo_laws_rest.proofs.Washing.{washes_lower}
+use Rattle.geo_laws_rest.proofs.EachStep.{washes_lower}
 use Rattle.geo_laws_rest.proofs.losses.washes_lower.Goals as goal
 
 pub returns : goal.returns

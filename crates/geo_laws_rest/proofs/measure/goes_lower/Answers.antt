@@ -1,5 +1,4 @@
-use Rattle.geo_laws_rest.proofs.Gone.{goes_lower}
-use Rattle.geo_laws_rest.proofs.Gone.{reaps_lower}
+use Rattle.geo_laws_rest.proofs.EachStep.{goes_lower, reaps_lower}
 use Rattle.geo_laws_rest.proofs.measure.goes_lower.Goals as goal
 
 pub returns-clause-goes : goal.returns-clause-goes

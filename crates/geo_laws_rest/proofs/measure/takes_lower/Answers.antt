@@ -1,5 +1,4 @@
-use Rattle.geo_laws_rest.proofs.Turned.{takes_lower}
-use Rattle.geo_laws_rest.proofs.Turned.{delivers_lower}
+use Rattle.geo_laws_rest.proofs.EachStep.{takes_lower, delivers_lower}
 use Rattle.geo_laws_rest.proofs.measure.takes_lower.Goals as goal
 
 pub returns-clause-takes : goal.returns-clause-takes

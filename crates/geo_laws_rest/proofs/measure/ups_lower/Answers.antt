@@ -1,4 +1,4 @@
-use Rattle.geo_laws_rest.proofs.Risen.{ups_lower}
+use Rattle.geo_laws_rest.proofs.EachStep.{ups_lower}
 use Rattle.geo_laws_rest.proofs.measure.ups_lower.Goals as goal
 
 pub returns : goal.returns
