@@ -1,9 +1,8 @@
 -- Other handles of the same consumers: a firm world stays firm.
 use Rattle.std.specs.Prelude.{◌≡◌, ℕ, ◌==◌, List, map, find, count_by, Option, Some, All, IsSomeAnd}
 use Rattle.std.specs.Option.{option_map_or}
-use Rattle.std.proofs.Common.{sym, ◌∙◌, ap, subst}
+use Rattle.std.proofs.Common.{◌∙◌, ap}
 use Rattle.std.proofs.lemmas.List.Elements.{All-weaker}
-use Rattle.geo_base.specs.declared.request.Counts.{Counts}
 use Rattle.geo_model.specs.declared.step.Owner.{Owner}
 use Rattle.geo_model.specs.declared.step.Owner.TheVariants as owners
 use Rattle.geo_model.specs.Words.{names_number}
@@ -11,9 +10,9 @@ use Rattle.geo_model.specs.Topology.{Consumer, consumers_of}
 use Rattle.geo_model.specs.World.{World, Handle, Bio, granted_in, taste_grant}
 use Rattle.geo_model.specs.Graph.{AreNumbers}
 use Rattle.geo_model.specs.Sound.{IsHandleConsumer, HasItsConsumer}
-use Rattle.geo_model.specs.SoundBios.{IsBioInOrder}
 use Rattle.geo_model.specs.Steady.{ComesFromItsOwner}
-use Rattle.geo_model.specs.Fitting.{DemandHolds, Firm}
+use Rattle.geo_model.specs.Fitting.{Firm}
+use Rattle.geo_laws_life.proofs.Frames.{held-firm}
 use Rattle.geo_laws_life.proofs.Killed.{grants-same}
 
 -- the handles of a world in which none holds another consumer than before: each consumer has the handles that it
@@ -53,30 +52,14 @@ module _ (w : World) (firm : Firm w) (hs : List Handle) (steady : AreSteady w hs
   comes x owners.Taste fact = fact
   comes x (owners.Child parent index) fact = fact
 
-  -- so the world is firm: the graph, by the same grants
+  -- so the world is firm
   pub handles-firm : Firm v
-  handles-firm = record {
-    graph = firm.graph;
-    demand = subst (λ (G : ℕ → Counts). DemandHolds G w.topology) (sym grants) firm.demand;
-    sizes = firm.sizes;
-    handles = record {
-      numbers = steady.numbers;
-      consumers = All-weaker (IsHandleConsumer w.handles) (IsHandleConsumer hs) consumer_of_handle
-          (consumers_of w.topology 1) firm.handles.consumers;
-      handles = steady.each;
-      taste = firm.handles.taste;
-    };
-    taste = firm.taste;
-    bios = record {
-      numbers = firm.bios.numbers;
-      order = subst (λ (G : ℕ → Counts). All (IsBioInOrder G w.topology) w.bios) (sym grants) firm.bios.order;
-      families = firm.bios.families;
-      disks = firm.bios.disks;
-      read_out = firm.bios.read_out;
-      owners = All-weaker (λ x. ComesFromItsOwner w.handles w.taste x x.owner)
-          (λ x. ComesFromItsOwner hs w.taste x x.owner) (λ x. comes x x.owner) w.bios firm.bios.owners;
-      results = firm.bios.results;
-      read = firm.bios.read;
-    };
-    commands = firm.commands;
-  }
+  handles-firm =
+      held-firm w firm v grants (record {
+        numbers = steady.numbers;
+        consumers = All-weaker (IsHandleConsumer w.handles) (IsHandleConsumer hs) consumer_of_handle
+            (consumers_of w.topology 1) firm.handles.consumers;
+        handles = steady.each;
+        taste = firm.handles.taste;
+      })
+      (λ x. comes x x.owner) firm.bios.read_out firm.taste.order firm.taste.asked

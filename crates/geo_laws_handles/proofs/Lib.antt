@@ -1,4 +1,3 @@
-pub mod Devs
 pub mod Handles
 pub mod Released
 pub mod Closed

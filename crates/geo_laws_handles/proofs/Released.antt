@@ -1,31 +1,27 @@
 -- A consumer of DEV that is idle goes, and its handle has none or goes too: a firm world stays firm.
-use Rattle.std.specs.Prelude.{◌≡◌, ◌≢◌, ◌⊎◌, ℕ, ◌<◌, ◌≤◌, ◌==◌, ◌%◌, Bool, true, false, not, ◌&&◌, List, [], ◌∷◌, map, find, count_by, Option, Some, None, All, Contains, IsSome, IsSomeAnd, IfSome, IsTrue, MatchOption, option_and_then, if◌then◌else◌}
-use Rattle.std.specs.List.{list_any}
+use Rattle.std.specs.Prelude.{◌≡◌, ◌≢◌, ◌⊎◌, ℕ, ◌<◌, ◌≤◌, ◌==◌, true, false, not, ◌&&◌, List, map, find, count_by, Option, Some, All, Contains, IsSomeAnd, IsTrue, MatchOption, if◌then◌else◌}
 use Rattle.std.specs.Option.{option_map_or}
 use Rattle.std.proofs.Common.{inl, inr, refl, sym, ◌∙◌, ap, subst, arith}
-use Rattle.std.proofs.lemmas.Bool.{eq-eqb, eqb-true, ne_eqb, cases_eq, not_from_false, not-true, or_cases, or_left, or_right}
-use Rattle.std.proofs.lemmas.List.Elements.{All-contains, All-weaker, All-filter}
+use Rattle.std.proofs.lemmas.Bool.{eq-eqb, ne_eqb}
+use Rattle.std.proofs.lemmas.List.Elements.{All-contains}
 use Rattle.geo_base.specs.declared.request.Counts.{Counts}
-use Rattle.geo_base.specs.declared.limits.TheConstants.{UNTASTED_RANK}
 use Rattle.geo_model.specs.declared.step.Owner.{Owner}
 use Rattle.geo_model.specs.declared.step.Owner.TheVariants as owners
 use Rattle.geo_model.specs.Words.{names_number, is_read}
-use Rattle.geo_model.specs.Topology.{Topology, Geom, Provider, Consumer, geom_at, provider_at, consumer_at, geom_of_provider, providers_of, consumers_of, remove_consumer}
+use Rattle.geo_model.specs.Topology.{Topology, Consumer, consumer_at, consumers_of, remove_consumer}
 use Rattle.geo_model.specs.Rank.{rank}
 use Rattle.geo_model.specs.Demand.{have, want, is_zero, no_counts}
-use Rattle.geo_model.specs.Place.{Spot, place, component, components, disk_of}
-use Rattle.geo_model.specs.Acceptance.{places_of}
-use Rattle.geo_model.specs.World.{World, Config, Handle, Taste, Bio, granted_in, taste_grant, is_active, is_root, is_done}
-use Rattle.geo_model.specs.Graph.{AreNumbers, IsInOrder, PartsLive}
-use Rattle.geo_model.specs.Sound.{IsHandleConsumer, HasItsConsumer, IsPlaceInside, IsPlaced, LeadsDown, IsTasteInOrder}
+use Rattle.geo_model.specs.World.{World, Config, Handle, Bio, granted_in, taste_grant, is_active, is_root, is_done}
+use Rattle.geo_model.specs.Graph.{AreNumbers, IsInOrder}
+use Rattle.geo_model.specs.Sound.{IsHandleConsumer, HasItsConsumer}
 use Rattle.geo_model.specs.SoundBios.{IsBioInOrder, IsFamilyInOrder, HasCountFor}
-use Rattle.geo_model.specs.Steady.{HasItsComponents, ComesFromItsOwner}
-use Rattle.geo_model.specs.Fitting.{sizes_of, FitsBelow, FitsPlace, FitsPlaces, Firm}
-use Rattle.geo_laws_graph.proofs.Members.{find-Contains, filter-Contains, All-from_contained}
+use Rattle.geo_model.specs.Steady.{ComesFromItsOwner}
+use Rattle.geo_model.specs.Fitting.{Firm}
+use Rattle.geo_laws_graph.proofs.Members.{find-Contains, filter-Contains}
 use Rattle.geo_laws_graph.proofs.Lists.{found_itself}
 use Rattle.geo_laws_graph.proofs.Numbered.{number_found, any-contained}
 use Rattle.geo_laws_graph.proofs.Found.{removed-consumer}
-use Rattle.geo_laws_graph.proofs.Living.{sound-order, steady-parts, all_members, remove_consumer-geoms, remove_consumer-providers}
+use Rattle.geo_laws_graph.proofs.Living.{sound-order, remove_consumer-geoms, remove_consumer-providers}
 use Rattle.geo_laws_graph.proofs.EdgeRanks.{ranked-live, fewer-edges}
 use Rattle.geo_laws_graph.proofs.Attaching.{removed-edges}
 use Rattle.geo_laws_graph.proofs.Holding.{sound-ranks}
@@ -36,9 +32,10 @@ use Rattle.geo_laws_counts.proofs.LimitFacts.{all_of}
 use Rattle.geo_laws_counts.proofs.Openers.{wants_grant, went_quietly, went_less, went_exclusive, went_limit}
 use Rattle.geo_laws_bios.specs.PieceLaws.{Serves, SourceServes}
 use Rattle.geo_laws_bios.proofs.Serving.{all_serve}
-use Rattle.geo_laws_life.proofs.Found.{found-with, some-with, if-found, at-found, one-found, all_zip-weaker, keeps_all, passes_apart}
+use Rattle.geo_laws_life.proofs.Found.{found-with, at-some, some-with, one-found, passes_apart}
 use Rattle.geo_laws_life.proofs.LessBios.{no_count}
-use Rattle.geo_laws_handles.proofs.Devs.{tasting_stays, holds_grants, dev_config, not_of_dev, of_taste}
+use Rattle.geo_laws_life.proofs.Bare.{holds_grants, of_taste}
+use Rattle.geo_laws_life.proofs.Frames.{Frame, went, tasting_stays, taste-still, framed-firm}
 
 -- the handles of a world where the consumer of a number has gone: all other consumers have the handles that they
 -- had, each handle has its consumer, and a line's handle has the consumer that it had
@@ -71,10 +68,6 @@ module _ (w : World) (firm : Firm w) (d : Consumer) (here : Contains w.topology.
   order : IsInOrder t
   order = sound-order w firm.graph.numbers
 
-  -- what its parts name lives
-  live : PartsLive t
-  live = steady-parts t firm.graph.parts firm.graph.attached
-
   -- the consumer is found
   found_it : consumer_at t d.number ≡ Some d
   found_it = found_itself (λ (x : Consumer). x.number) t.next_consumer t.consumers d order.consumers here
@@ -98,174 +91,14 @@ module _ (w : World) (firm : Firm w) (d : Consumer) (here : Contains w.topology.
   less : (q : ℕ) → IsAtMost (have (granted_in without) u q) (have (granted_in w) t q)
   less = went_less (granted_in w) (granted_in without) t d only holds agree
 
-  -- a provider that has a count then, had one
-  count_was : (p : ℕ) → is_zero (have (granted_in without) u p) ≡ false → is_zero (have (granted_in w) t p) ≡ false
-  count_was p some = stays (is_zero (have (granted_in w) t p)) refl where
-    -- by whether it had
-    stays : (b : Bool) → is_zero (have (granted_in w) t p) ≡ b → b ≡ false
-    stays false e = refl
-    stays true e =
-        let none : have (granted_in w) t p ≡ no_counts = zero-test (have (granted_in w) t p) e in
-        let gone : have (granted_in without) u p ≡ no_counts =
-        at_most-under (have (granted_in without) u p) (have (granted_in w) t p) (less p) none in
-        let zero : is_zero (have (granted_in without) u p) ≡ true = ap is_zero gone in
-        absurd (let bad : ⊥ = cc in bad)
+  -- a provider that had no count has none
+  closed : (p : ℕ) → is_zero (have (granted_in w) t p) ≡ true → is_zero (have (granted_in without) u p) ≡ true
+  closed p zero = ap is_zero (at_most-under (have (granted_in without) u p) (have (granted_in w) t p) (less p)
+      (zero-test (have (granted_in w) t p) zero))
 
-  -- a geom that is open then, was open
-  open_was : (ps : List Provider)
-      → list_any (λ (p : Provider). not (is_zero (have (granted_in without) u p.number))) ps ≡ true
-      → list_any (λ (p : Provider). not (is_zero (have (granted_in w) t p.number))) ps ≡ true
-  open_was [] some = absurd (let bad : ⊥ = cc in bad)
-  open_was (p ∷ ps) some = elim
-      (or_cases (not (is_zero (have (granted_in without) u p.number)))
-      (list_any (λ (q : Provider). not (is_zero (have (granted_in without) u q.number))) ps) some) [
-        | inl is ↦ or_left (not (is_zero (have (granted_in w) t p.number)))
-            (list_any (λ (q : Provider). not (is_zero (have (granted_in w) t q.number))) ps)
-            (not_from_false (is_zero (have (granted_in w) t p.number))
-            (count_was p.number (not-true (is_zero (have (granted_in without) u p.number)) is)))
-        | inr rest ↦ or_right (not (is_zero (have (granted_in w) t p.number)))
-            (list_any (λ (q : Provider). not (is_zero (have (granted_in w) t q.number))) ps) (open_was ps rest)
-      ]
-
-  -- What is found
-
-  -- a consumer of another geom isn't it
-  apart_by_geom : (n : ℕ) (c : Consumer) → consumer_at t n ≡ Some c → c.geom ≢ 1 → n ≢ d.number
-  apart_by_geom n c e other same =
-      let there : consumer_at t d.number ≡ Some c = subst (λ m. consumer_at t m ≡ Some c) same e in
-      let one : d ≡ c = one-found (consumer_at t d.number) d c found_it there in
-      other (sym (ap (λ (x : Consumer). x.geom) one) ∙ dev)
-
-  -- so it is still found
-  still : (n : ℕ) (c : Consumer) → consumer_at t n ≡ Some c → c.geom ≢ 1 → consumer_at u n ≡ Some c
-  still n c e other = removed-consumer.others t d.number n (apart_by_geom n c e other) ∙ e
-
-  -- what is found then was found before
-  was : (n : ℕ) (c : Consumer) → consumer_at u n ≡ Some c → consumer_at t n ≡ Some c
-  was n c e = by (cases_eq n d.number) where
-    -- whether it would be the one that is gone
-    by : (n ≡ d.number) ⊎ (n ≢ d.number) → consumer_at t n ≡ Some c
-    by (inl same) =
-        let gone : consumer_at u n ≡ None = subst (λ m. consumer_at u m ≡ None) (sym same)
-        (removed-consumer.gone t d.number) in
-        absurd (let bad : ⊥ = cc in bad)
-    by (inr apart) = sym (removed-consumer.others t d.number n apart) ∙ e
-
-  -- TASTE has the consumers that it had
-  taste_stays : consumers_of u 2 ≡ consumers_of t 2
-  taste_stays =
-      removed-consumer.of t d.number 2 ∙ keeps_all (λ (y : Consumer). not (y.number == d.number)) (consumers_of t 2)
-      (All-from_contained (λ (y : Consumer). not (y.number == d.number) ≡ true) (consumers_of t 2) (λ y is.
-      let kept = filter-Contains (λ (z : Consumer). z.geom == 2) t.consumers y is in
-      let two : y.geom ≡ 2 = eqb-true y.geom 2 kept.1 in
-      ap not (ne_eqb y.number d.number (apart_by_geom y.number y
-      (found_itself (λ (x : Consumer). x.number) t.next_consumer t.consumers y order.consumers kept.0)
-      (λ one. let no : 2 ≡ 1 = sym two ∙ one in absurd (omega (arith, no)))))))
-
-  -- Places
-
-  -- a place is still inside, at another geom than DEV
-  inside : (g : Geom Config) (q : Provider) (spot : Spot) → g.number ≢ 1 → IsPlaceInside t g q spot
-      → IsPlaceInside u g q spot
-  inside g q spot other fact = by (component g.config spot.component) refl fact where
-    -- by the component
-    by : (o : Option ℕ) → component g.config spot.component ≡ o
-        → IsSomeAnd (option_and_then (consumer_at t) o) (λ c. (c.geom ≡ g.number)
-        × IsSomeAnd (option_and_then (provider_at t) c.provider)
-        (λ r. (spot.offset < r.size) × (r.sector ≡ q.sector)))
-        → IsPlaceInside u g q spot
-    by None e fact = absurd fact
-    by (Some n) e fact =
-        let c = found-with (consumer_at t n) (λ c. (c.geom ≡ g.number)
-        × IsSomeAnd (option_and_then (provider_at t) c.provider)
-        (λ r. (spot.offset < r.size) × (r.sector ≡ q.sector))) fact in
-        some-with (option_and_then (consumer_at u) (component g.config spot.component)) (λ c. (c.geom ≡ g.number)
-        × IsSomeAnd (option_and_then (provider_at t) c.provider)
-        (λ r. (spot.offset < r.size) × (r.sector ≡ q.sector)))
-        c.item (ap (option_and_then (consumer_at u)) e
-        ∙ still n c.item c.is (λ one. other (sym c.fact.0 ∙ one))) c.fact
-
-  -- so is each offset
-  placed : (g : Geom Config) (q : Provider) → g.number ≢ 1 → IsPlaced t g q → IsPlaced u g q
-  placed g q other old o short =
-      let spot = found-with (place g.config q.name o) (IsPlaceInside t g q) (old o short) in
-      some-with (place g.config q.name o) (IsPlaceInside u g q) spot.item spot.is
-      (inside g q spot.item other spot.fact)
-
-  -- each provider leads down
-  leads : (q : Provider) → Contains t.providers q → LeadsDown (granted_in w) t q
-      → LeadsDown (granted_in without) u q
-  leads q q_here old =
-      let g = found-with (geom_at t q.geom) (λ g. (is_zero (have (granted_in w) t q.number) ≡ false)
-      ⊎ (g.withering ≡ false) → IsSome (disk_of g.config) ⊎ IsPlaced t g q) old in
-      let other : g.item.number ≢ 1 =
-      (λ one. not_of_dev w firm q q_here
-      (sym (number_found (λ (x : Geom Config). x.number) t.geoms q.geom g.item g.is) ∙ one)) in
-      some-with (geom_at t q.geom) (λ g. (is_zero (have (granted_in without) u q.number) ≡ false)
-      ⊎ (g.withering ≡ false) → IsSome (disk_of g.config) ⊎ IsPlaced u g q) g.item g.is
-      (λ used. by g.item other (g.fact (before used)))
-    where
-      -- it was used so before
-      before : {A : Type 0} → (is_zero (have (granted_in without) u q.number) ≡ false) ⊎ A
-          → (is_zero (have (granted_in w) t q.number) ≡ false) ⊎ A
-      before (inl opened) = inl (count_was q.number opened)
-      before (inr stands) = inr stands
-
-      -- a disk, or placed
-      by : (g : Geom Config) → g.number ≢ 1 → IsSome (disk_of g.config) ⊎ IsPlaced t g q
-          → IsSome (disk_of g.config) ⊎ IsPlaced u g q
-      by g other (inl disk) = inl disk
-      by g other (inr is_placed) = inr (placed g q other is_placed)
-
-  -- a component of another geom than DEV stands
-  component_stands : (g : Geom Config) → g.number ≢ 1 → (c : ℕ)
-      → IsSomeAnd (consumer_at t c) (λ x. (x.geom ≡ g.number) × IsSome x.provider)
-      → IsSomeAnd (consumer_at u c) (λ x. (x.geom ≡ g.number) × IsSome x.provider)
-  component_stands g other c fact =
-      let x = found-with (consumer_at t c) (λ x. (x.geom ≡ g.number) × IsSome x.provider) fact in
-      some-with (consumer_at u c) (λ x. (x.geom ≡ g.number) × IsSome x.provider) x.item
-      (still c x.item x.is (λ one. other (sym x.fact.0 ∙ one))) x.fact
-
-  -- each geom has its components
-  has_components : (g : Geom Config) → Contains t.geoms g → HasItsComponents (granted_in w) t g
-      → HasItsComponents (granted_in without) u g
-  has_components g g_here old used = by (cases_eq g.number 1) where
-    -- it was used so before
-    before : (g.withering ≡ false)
-        ⊎ IsTrue (list_any (λ (p : Provider). not (is_zero (have (granted_in without) u p.number)))
-        (providers_of t g.number))
-        → (g.withering ≡ false)
-        ⊎ IsTrue (list_any (λ (p : Provider). not (is_zero (have (granted_in w) t p.number)))
-        (providers_of t g.number))
-    before (inl stands) = inl stands
-    before (inr is_open) = inr (open_was (providers_of t g.number) is_open)
-
-    -- DEV has none
-    by : (g.number ≡ 1) ⊎ (g.number ≢ 1)
-        → All (λ c. IsSomeAnd (consumer_at u c) (λ x. (x.geom ≡ g.number) × IsSome x.provider))
-        (components g.config)
-    by (inl one) =
-        subst (λ config. All (λ c. IsSomeAnd (consumer_at u c) (λ x. (x.geom ≡ g.number) × IsSome x.provider))
-        (components config)) (sym (dev_config w firm g g_here one)) (λ k x short. absurd (omega (arith, short)))
-    by (inr other) =
-        All-weaker (λ c. IsSomeAnd (consumer_at t c) (λ x. (x.geom ≡ g.number) × IsSome x.provider))
-        (λ c. IsSomeAnd (consumer_at u c) (λ x. (x.geom ≡ g.number) × IsSome x.provider))
-        (component_stands g other) (components g.config) (old (before used))
-
-  -- each place fits
-  fits_place : (g : ℕ) (place : Option ℕ) (size : ℕ) → FitsPlace t g place size → FitsPlace u g place size
-  fits_place g None size fact = tt
-  fits_place g (Some n) size fact =
-      if-found (consumer_at u n) (λ c. c.geom ≡ g → IfSome (option_and_then (provider_at t) c.provider)
-      (λ q. (size ≤ q.size) × (size % q.sector ≡ 0)))
-      (λ c e.
-      at-found (consumer_at t n) (λ c. c.geom ≡ g → IfSome (option_and_then (provider_at t) c.provider)
-      (λ q. (size ≤ q.size) × (size % q.sector ≡ 0))) c (was n c e) fact)
-
-  -- so do all of a geom
-  fits_places : (g : Geom Config) → FitsPlaces t g → FitsPlaces u g
-  fits_places g = all_zip-weaker (FitsPlace t g.number) (FitsPlace u g.number) (fits_place g.number)
-      (places_of g.config) (sizes_of g.config)
+  -- one consumer of DEV goes
+  frame : Frame t u 1
+  frame = went t order 1 d here dev
 
   -- Handles
 
@@ -285,20 +118,8 @@ module _ (w : World) (firm : Firm w) (d : Consumer) (here : Contains w.topology.
 
   -- no rank rises
   lower : (g : ℕ) → rank u g ≤ rank t g
-  lower = (fewer-edges t u firm.graph.ranks.ranked (remove_consumer-geoms t d.number live.geoms)
+  lower = (fewer-edges t u firm.graph.ranks.ranked (remove_consumer-geoms t d.number firm.graph.parts.consumers)
       (remove_consumer-providers t d.number (ranked-live t firm.graph.ranks.ranked)) (removed-edges t d.number)).1
-
-  -- the taste is in order
-  tastes : (o : Option Taste) → IfSome o (IsTasteInOrder t) → IfSome o (IsTasteInOrder u)
-  tastes None fact = tt
-  tastes (Some s) fact =
-      let g = found-with (geom_of_provider t s.provider) (λ g. rank t g.number < UNTASTED_RANK) fact.rank in
-      record {
-        rank = some-with (geom_of_provider t s.provider) (λ g. rank u g.number < UNTASTED_RANK) g.item g.is
-            (let low = lower g.item.number in let below = g.fact in omega arith);
-        reads = fact.reads;
-        chain = fact.chain;
-      }
 
   -- Bios
 
@@ -356,7 +177,7 @@ module _ (w : World) (firm : Firm w) (d : Consumer) (here : Contains w.topology.
         inl (subst (λ o. IsSomeAnd o (λ (x : Consumer). x.geom ≡ 1)) e at)
     source_of z c e owners.Taste root comes =
         let s = found-with w.taste (λ s. (s.consumer ≡ z.source) × (s.provider ≡ z.target)) comes in
-        inr (of_taste w firm s.item c s.is (subst (λ n. consumer_at t n ≡ Some c) (sym s.fact.0) e))
+        inr (of_taste w firm s.item s.is c (subst (λ n. consumer_at t n ≡ Some c) (sym s.fact.0) e))
     source_of z c e (owners.Child parent index) root comes = absurd (let bad : ⊥ = cc in bad)
 
     -- so the sources of roots serve
@@ -398,35 +219,20 @@ module _ (w : World) (firm : Firm w) (d : Consumer) (here : Contains w.topology.
         (serves z z_here) in
         server_apart z c.item c.is c.fact.1
 
-    -- each bio is in order
-    bio : (z : Bio) → Contains w.bios z → IsBioInOrder (granted_in w) t z → IsBioInOrder (granted_in without) u z
-    bio z z_here old =
-        let c = found-with (consumer_at t z.source) (λ c. (c.provider ≡ Some z.target) × Serves but_it t z c)
-        (serves z z_here) in
-        let apart : z.source ≢ d.number = server_apart z c.item c.is c.fact.1 in
-        let found : consumer_at u z.source ≡ Some c.item = removed-consumer.others t d.number z.source apart
-        ∙ c.is in
-        let same : want (granted_in without) u c.item ≡ want but_it t c.item =
-        quiet.wants c.item (find-Contains (λ (x : Consumer). x.number == z.source) u.consumers c.item found) in
-        record {
-          source = some-with (consumer_at u z.source)
-              (λ c. (c.provider ≡ Some z.target) × HasCountFor (granted_in without) u z c) c.item found (
-                c.fact.0,
-                subst (λ a. (IsTrue (is_read z.cmd) → 0 < a.r) × (is_read z.cmd ≡ false → 0 < a.w)) (sym same)
-                    c.fact.1,
-              );
-          target = old.target;
-          bytes = old.bytes;
-        }
-
-    -- and its family is in order
-    family_kept : (z : Bio) → IsFamilyInOrder t w.bios z → IsFamilyInOrder u w.bios z
-    family_kept z is = record {
-      parent = is.parent;
-      pieces = is.pieces;
-      not_complete = is.not_complete;
-      root = is.root;
-    }
+    -- so each source is found, and serves
+    source_serves : (z : Bio) → Contains w.bios z → (c : Consumer) → consumer_at t z.source ≡ Some c
+        → (consumer_at u z.source ≡ Some c) × HasCountFor (granted_in without) u z c
+    source_serves z z_here c e =
+        let serving : Serves but_it t z c =
+        (at-some (consumer_at t z.source) (λ c. (c.provider ≡ Some z.target) × Serves but_it t z c) c e
+        (serves z z_here)).1 in
+        let found : consumer_at u z.source ≡ Some c =
+        removed-consumer.others t d.number z.source (server_apart z c e serving) ∙ e in
+        let same : want (granted_in without) u c ≡ want but_it t c =
+        quiet.wants c (find-Contains (λ (x : Consumer). x.number == z.source) u.consumers c found) in (
+          found,
+          subst (λ a. (IsTrue (is_read z.cmd) → 0 < a.r) × (is_read z.cmd ≡ false → 0 < a.w)) (sym same) serving,
+        )
 
     -- it comes from its owner
     comes_by : (z : Bio) → Contains w.bios z → (o : Owner) → z.owner ≡ o → ComesFromItsOwner w.handles w.taste z o
@@ -438,80 +244,23 @@ module _ (w : World) (firm : Firm w) (d : Consumer) (here : Contains w.topology.
 
     -- so the world is firm
     pub without-firm : Firm without
-    without-firm = record {
-      graph = record {
-        ranks = sound-ranks.consumer_removed t d.number firm.graph.ranks live.geoms;
-        providers = record {
-          names = firm.graph.providers.names;
-          withering = firm.graph.providers.withering;
-          sizes = firm.graph.providers.sizes;
-        };
-        numbers = record {
-          geoms = firm.graph.numbers.geoms;
-          providers = firm.graph.numbers.providers;
-          consumers = (removed-consumer.order t d.number order).consumers;
-          classes = firm.graph.numbers.classes;
-          one_geom_of_disk = firm.graph.numbers.one_geom_of_disk;
-          disk_sizes = firm.graph.numbers.disk_sizes;
-        };
-        made = firm.graph.made;
-        parts = record {
-          providers = firm.graph.parts.providers;
-          consumers = remove_consumer-geoms t d.number firm.graph.parts.consumers;
-        };
-        attached = All-filter (λ (x : Consumer). not (x.number == d.number))
-            (λ (c : Consumer). IsSome (option_and_then (provider_at t) c.provider))
-            t.consumers firm.graph.attached;
-        partial = firm.graph.partial;
-        unmarked = subst (All (λ (c : Consumer). c.spoiled ≡ false)) (sym (removed-consumer.of t d.number 1))
-            (All-filter (λ (x : Consumer). not (x.number == d.number)) (λ (c : Consumer). c.spoiled ≡ false)
-            (consumers_of t 1) firm.graph.unmarked);
+    without-firm = framed-firm w firm without 1 (inl refl) frame (record {
+      ranks = sound-ranks.consumer_removed t d.number firm.graph.ranks firm.graph.parts.consumers;
+      counts = record {
+        exclusive = went_exclusive (granted_in w) (granted_in without) t d only holds agree
+            firm.demand.counts.exclusive;
+        limited = went_limit (granted_in w) (granted_in without) t d only holds agree firm.demand.counts.limited;
       };
-      demand = record {
-        counts = record {
-          exclusive = went_exclusive (granted_in w) (granted_in without) t d only holds agree
-              firm.demand.counts.exclusive;
-          limited = went_limit (granted_in w) (granted_in without) t d only holds agree firm.demand.counts.limited;
-        };
-        places = all_members (LeadsDown (granted_in w) t) (LeadsDown (granted_in without) u) t.providers leads
-            firm.demand.places;
-        components = all_members (HasItsComponents (granted_in w) t) (HasItsComponents (granted_in without) u)
-            t.geoms has_components firm.demand.components;
-      };
-      sizes = record {
-        disks = firm.sizes.disks;
-        sectors = firm.sizes.sectors;
-        wholes = All-filter (λ (x : Consumer). not (x.number == d.number)) (FitsBelow t) t.consumers
-            firm.sizes.wholes;
-        places = All-weaker (FitsPlaces t) (FitsPlaces u) fits_places t.geoms firm.sizes.places;
-        one = firm.sizes.one;
-        apart = firm.sizes.apart;
-        sums = firm.sizes.sums;
-      };
+      closed = λ p g p_here of withers. closed p.number;
       handles = record {
         numbers = released.numbers;
         consumers = all_of (IsHandleConsumer hs) (consumers_of u 1) one_each;
         handles = released.each;
-        taste = tasting_stays t u taste_stays w.taste firm.handles.taste;
+        taste = tasting_stays t u (frame.others 2 (λ e. absurd (omega (arith, e)))) w.taste firm.handles.taste;
       };
-      taste = record {
-        living = firm.taste.living;
-        order = tastes w.taste firm.taste.order;
-        asked = firm.taste.asked;
-      };
-      bios = record {
-        numbers = firm.bios.numbers;
-        order = all_members (IsBioInOrder (granted_in w) t) (IsBioInOrder (granted_in without) u) w.bios bio
-            firm.bios.order;
-        families = All-weaker (IsFamilyInOrder t w.bios) (IsFamilyInOrder u w.bios) family_kept w.bios
-            firm.bios.families;
-        disks = record { at_disk = firm.bios.disks.at_disk; one_busy = firm.bios.disks.one_busy };
-        read_out = firm.bios.read_out;
-        owners = all_members (λ z. ComesFromItsOwner w.handles w.taste z z.owner)
-            (λ z. ComesFromItsOwner hs w.taste z z.owner) w.bios
-            (λ z z_here fact. comes_by z z_here z.owner refl fact) firm.bios.owners;
-        results = firm.bios.results;
-        read = record { one = firm.bios.read.one; sector = firm.bios.read.sector };
-      };
-      commands = firm.commands;
-    }
+      sources = λ z z_here c e counts. source_serves z z_here c e;
+      owners = λ z z_here. comes_by z z_here z.owner refl;
+      read_out = firm.bios.read_out;
+      taste = taste-still w firm without 1 (inl refl) frame (λ g other. lower g) w.taste firm.taste.order;
+      asked = firm.taste.asked;
+    })

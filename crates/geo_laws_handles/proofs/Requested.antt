@@ -29,7 +29,7 @@ use Rattle.geo_laws_graph.proofs.Numbered.{number_found}
 use Rattle.geo_laws_counts.proofs.Upward.{names_some}
 use Rattle.geo_laws_counts.proofs.Openers.{wants_grant}
 use Rattle.geo_laws_life.proofs.Found.{some-with}
-use Rattle.geo_laws_handles.proofs.Devs.{holds_grants}
+use Rattle.geo_laws_life.proofs.Bare.{holds_grants}
 use Rattle.geo_laws_handles.proofs.Closed.{has_dev, one_holder}
 use Rattle.geo_laws_graph.proofs.Members.{at_contained}
 use Rattle.geo_laws_handles.specs.RequestLaws.{RequestsStayFirm}

@@ -20,7 +20,8 @@ use Rattle.geo_laws_graph.proofs.Members.{All-from_contained, Contains-filter, f
 use Rattle.geo_laws_graph.proofs.Numbered.{number_found}
 use Rattle.geo_laws_counts.proofs.LimitFacts.{all_of}
 use Rattle.geo_laws_life.specs.EffectLaws.{Lives, AnnouncesKeepFirm, EventsKeepFirm}
-use Rattle.geo_laws_life.proofs.MarksKept.{posted-firm, marked-firm, announced-firm, stands-at, made-at, class-at}
+use Rattle.geo_laws_life.proofs.MarksKept.{posted-firm, marked-firm, announced-firm, made-at}
+use Rattle.geo_laws_life.proofs.Bare.{stands-at, class-at}
 use Rattle.geo_laws_life.proofs.Withering.{withered-firm, unless-firm, whichever-firm}
 
 -- Offers and spoils

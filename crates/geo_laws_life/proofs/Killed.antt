@@ -1,7 +1,7 @@
 -- A handle that becomes dead: a firm world stays firm.
-use Rattle.std.specs.Prelude.{◌≡◌, ℕ, ◌==◌, Bool, true, List, [], ◌∷◌, length, filter, find, fold, count_by, Option, Some, None, All, IsSomeAnd, MatchOption, option_map}
+use Rattle.std.specs.Prelude.{◌≡◌, ℕ, ◌==◌, Bool, true, List, [], ◌∷◌, length, filter, find, fold, count_by, Option, Some, None, IsSomeAnd, MatchOption, option_map}
 use Rattle.std.specs.Option.{option_map_or}
-use Rattle.std.proofs.Common.{refl, sym, ◌∙◌, ap, subst}
+use Rattle.std.proofs.Common.{refl, sym, ◌∙◌, ap}
 use Rattle.std.proofs.lemmas.List.Elements.{All-weaker, All-from_recursion, recursion_from_All}
 use Rattle.std.proofs.lemmas.List.Sums.{length-filter}
 use Rattle.geo_model.specs.Counts.{Counts}
@@ -12,10 +12,10 @@ use Rattle.geo_model.specs.Topology.{Consumer, consumer_at, consumers_of}
 use Rattle.geo_model.specs.World.{World, Handle, Bio, granted_in, taste_grant}
 use Rattle.geo_model.specs.WorldEvents.{kill_handle}
 use Rattle.geo_model.specs.Sound.{IsHandleConsumer, HasItsConsumer}
-use Rattle.geo_model.specs.SoundBios.{IsBioInOrder}
 use Rattle.geo_model.specs.Steady.{ComesFromItsOwner}
-use Rattle.geo_model.specs.Fitting.{DemandHolds, Firm}
+use Rattle.geo_model.specs.Fitting.{Firm}
 use Rattle.geo_laws_graph.proofs.Lists.{changed, changed-keeps, find-changed, filter-changed, all-changed, length-changed, numbers-changed}
+use Rattle.geo_laws_life.proofs.Frames.{held-firm}
 use Rattle.geo_laws_life.proofs.Found.{found-with, some-with}
 
 -- what is granted is the same where it is the same at each number
@@ -86,35 +86,19 @@ module _ (w : World) (firm : Firm w) (c : ℕ) where
 
   -- so the world is firm
   pub killed-firm : Firm v
-  killed-firm = record {
-    graph = firm.graph;
-    demand = subst (λ (G : ℕ → Counts). DemandHolds G w.topology) (sym grants) firm.demand;
-    sizes = firm.sizes;
-    handles = record {
-      numbers = numbers-changed (λ (h : Handle). h.number) hit change (λ h e. refl) w.next_handle w.handles
-          firm.handles.numbers;
-      consumers = All-weaker (IsHandleConsumer w.handles) (IsHandleConsumer v.handles) consumer_of_handle
-          (consumers_of w.topology 1) firm.handles.consumers;
-      handles = All-from_recursion (HasItsConsumer w.topology) v.handles
-          (all-changed hit change (HasItsConsumer w.topology)
-          (λ h e fact. dead_too h.consumer h.dead (λ d. IsSomeAnd (consumer_at w.topology d) (λ x. x.geom ≡ 1))
-          fact) w.handles (recursion_from_All (HasItsConsumer w.topology) w.handles firm.handles.handles));
-      taste = firm.handles.taste;
-    };
-    taste = firm.taste;
-    bios = record {
-      numbers = firm.bios.numbers;
-      order = subst (λ (G : ℕ → Counts). All (IsBioInOrder G w.topology) w.bios) (sym grants) firm.bios.order;
-      families = firm.bios.families;
-      disks = firm.bios.disks;
-      read_out = firm.bios.read_out;
-      owners = All-weaker (λ x. ComesFromItsOwner w.handles w.taste x x.owner)
-          (λ x. ComesFromItsOwner v.handles w.taste x x.owner) (λ x. comes x x.owner) w.bios firm.bios.owners;
-      results = firm.bios.results;
-      read = firm.bios.read;
-    };
-    commands = firm.commands;
-  }
+  killed-firm =
+      held-firm w firm v grants (record {
+        numbers = numbers-changed (λ (h : Handle). h.number) hit change (λ h e. refl) w.next_handle w.handles
+            firm.handles.numbers;
+        consumers = All-weaker (IsHandleConsumer w.handles) (IsHandleConsumer v.handles) consumer_of_handle
+            (consumers_of w.topology 1) firm.handles.consumers;
+        handles = All-from_recursion (HasItsConsumer w.topology) v.handles
+            (all-changed hit change (HasItsConsumer w.topology)
+            (λ h e fact. dead_too h.consumer h.dead (λ d. IsSomeAnd (consumer_at w.topology d) (λ x. x.geom ≡ 1))
+            fact) w.handles (recursion_from_All (HasItsConsumer w.topology) w.handles firm.handles.handles));
+        taste = firm.handles.taste;
+      })
+      (λ x. comes x x.owner) firm.bios.read_out firm.taste.order firm.taste.asked
 
 -- so where some die
 pub all_killed-firm : (cs : List ℕ) (w : World) → Firm w → Firm (fold kill_handle w cs)

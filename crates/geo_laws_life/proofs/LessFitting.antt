@@ -17,6 +17,7 @@ use Rattle.geo_model.specs.Tasting.{facts_of}
 use Rattle.geo_model.specs.World.{World, Config, Taste, Asked, NoClass, NextSector, ReadOut, ReadBack, is_taste_root}
 use Rattle.geo_model.specs.Fitting.{IsWholeIn, FitsBelow, sizes_of, FitsPlace, FitsPlaces, IsAskedInOrder, IsOneSector, HasOneProvider, PlacesHold, HasItsSum, TasteReadHolds, SizesHold, Firm}
 use Rattle.geo_laws_counts.proofs.LimitFacts.{all_of}
+use Rattle.geo_laws_life.proofs.Frames.{FitsOver}
 use Rattle.geo_laws_life.proofs.Found.{some-with, some-there, if-found, at-found, at-some, one-found, all_zip-weaker}
 use Rattle.geo_laws_life.specs.LessLaws.{LessIsFirm, IsProviderOf, IsLess}
 use Rattle.geo_laws_life.proofs.Less.{remade, less-self, geom-number}
@@ -101,9 +102,7 @@ module _ (w : World) (u : Topology Config) (firm : Firm w) (less : IsLess w u) w
   fits_place : (n : ℕ) (place : Option ℕ) (size : ℕ) → FitsPlace w.topology n place size → FitsPlace u n place size
   fits_place n None size fact = tt
   fits_place n (Some k) size fact =
-      if-found (consumer_at u k) (λ c. c.geom ≡ n
-      → IfSome (option_and_then (provider_at u) c.provider) (λ q. (size ≤ q.size) × (size % q.sector ≡ 0)))
-      (λ c found own.
+      if-found (consumer_at u k) (FitsOver u n size) (λ c found own.
       if-found (option_and_then (provider_at u) c.provider) (λ q. (size ≤ q.size) × (size % q.sector ≡ 0)) (λ q under.
       let d = consumer_from w u firm less k c found in
       let b = below_before c.provider q under in
@@ -111,8 +110,7 @@ module _ (w : World) (u : Topology Config) (firm : Firm w) (less : IsLess w u) w
       (at-found (option_and_then (provider_at w.topology) d.item.provider)
       (λ q. (size ≤ q.size) × (size % q.sector ≡ 0)) b.before
       (subst (λ (z : Consumer). option_and_then (provider_at w.topology) z.provider ≡ Some b.before) d.is.same b.was)
-      (at-found (consumer_at w.topology k) (λ c. c.geom ≡ n
-      → IfSome (option_and_then (provider_at w.topology) c.provider) (λ q. (size ≤ q.size) × (size % q.sector ≡ 0)))
+      (at-found (consumer_at w.topology k) (FitsOver w.topology n size)
       d.item d.found fact (sym (ap (λ (z : Consumer). z.geom) d.is.same) ∙ own)))))
 
   -- all places of a geom fit

@@ -4,7 +4,7 @@ use Rattle.std.proofs.Common.{inl, inr, refl, sym, ◌∙◌, ap, subst, arith}
 use Rattle.std.proofs.lemmas.List.Elements.{All-contains}
 use Rattle.geo_model.proofs.FindLists.{some-passes}
 use Rattle.geo_model.specs.Counts.{Counts}
-use Rattle.geo_model.specs.Topology.{Topology, Geom, Provider, Consumer, geom_at, provider_at, consumer_at, providers_of}
+use Rattle.geo_model.specs.Topology.{Topology, Geom, Provider, Consumer, geom_at, provider_at, consumer_at, providers_of, consumers_of}
 use Rattle.geo_model.specs.Demand.{have, no_counts, is_zero}
 use Rattle.geo_model.specs.Place.{components}
 use Rattle.geo_model.specs.World.{World, Config, granted_in}
@@ -14,6 +14,7 @@ use Rattle.geo_model.specs.Fitting.{Firm}
 use Rattle.geo_laws_graph.proofs.Lists.{found_itself}
 use Rattle.geo_laws_graph.proofs.Numbered.{any-contained}
 use Rattle.geo_laws_counts.proofs.LimitFacts.{all_of}
+use Rattle.geo_laws_life.proofs.Frames.{IsPart}
 use Rattle.geo_laws_life.proofs.Found.{found-with, some-with, one-found}
 use Rattle.geo_laws_life.specs.LessLaws.{IsGeomOf, IsSpent, IsLess}
 use Rattle.geo_laws_life.proofs.Less.{upright-before, geom-number, provider-number}
@@ -94,16 +95,15 @@ module _ (w : World) (u : Topology Config) (firm : Firm w) (less : IsLess w u) w
       let before = used_before o.item y o.fact used in
       let old = All-contains (HasItsComponents (granted_in w) w.topology) w.topology.geoms o.item
       firm.demand.components o.stands before in
-      all_of (λ c. IsSomeAnd (consumer_at u c) (λ x. (x.geom ≡ y.number) × IsSome x.provider)) (components y.config)
-      (λ c among.
+      all_of (λ c. IsSomeAnd (consumer_at u c) (IsPart y)) (components y.config) (λ c among.
       let among_before : Contains (components o.item.config) c =
       subst (λ (z : Geom Config). Contains (components z.config) c) o.fact.same among in
-      let d = found-with (consumer_at w.topology c) (λ x. (x.geom ≡ o.item.number) × IsSome x.provider)
-      (All-contains (λ c. IsSomeAnd (consumer_at w.topology c) (λ x. (x.geom ≡ o.item.number) × IsSome x.provider))
+      let d = found-with (consumer_at w.topology c) (IsPart o.item)
+      (All-contains (λ c. IsSomeAnd (consumer_at w.topology c) (IsPart o.item))
       (components o.item.config) c old among_before) in
       elim (stays_or_spent w u firm less c d.item d.is) [
         | inl stays ↦
-            some-with (consumer_at u c) (λ x. (x.geom ≡ y.number) × IsSome x.provider) stays.now stays.found (
+            some-with (consumer_at u c) (IsPart y) stays.now stays.found (
               ap (λ (z : Consumer). z.geom) stays.is.same ∙ d.fact.0 ∙ sym (geom-number o.item y o.fact),
               subst (λ (z : Consumer). IsSome z.provider) (sym stays.is.same) d.fact.1,
             )

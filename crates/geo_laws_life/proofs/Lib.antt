@@ -4,6 +4,8 @@ pub mod Parts
 pub mod Opened
 pub mod Fits
 pub mod Found
+pub mod Bare
+pub mod Frames
 pub mod Less
 pub mod LessLooks
 pub mod LessSound

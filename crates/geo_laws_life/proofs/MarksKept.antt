@@ -6,7 +6,6 @@ use Rattle.std.proofs.Common.{inl, inr, refl, sym, ◌∙◌, ap, subst}
 use Rattle.std.proofs.lemmas.Bool.{eqb-true, or_from}
 use Rattle.std.proofs.lemmas.List.Elements.{All-contains, All-weaker, All-push, All-tail, All-from_recursion}
 use Rattle.geo_model.proofs.Tests.{from_false_true}
-use Rattle.geo_model.specs.Kind.{Kind}
 use Rattle.geo_model.specs.Kind.TheVariants as kinds
 use Rattle.geo_model.specs.declared.step.Event.{Event}
 use Rattle.geo_model.specs.declared.step.Event.TheVariants as events
@@ -16,14 +15,13 @@ use Rattle.geo_model.specs.Demand.{want}
 use Rattle.geo_model.specs.Events.{provider_of_event, post, mark_spoiled, is_to_spoil, spoil_at}
 use Rattle.geo_model.specs.World.{World, Config, granted_in}
 use Rattle.geo_model.specs.WorldEvents.{queued_of, with_queued}
-use Rattle.geo_model.specs.Sound.{IsOfItsClass}
 use Rattle.geo_model.specs.Fitting.{Firm}
-use Rattle.geo_laws_graph.proofs.Members.{Has, find-Contains, All-from_contained, filter-Contains}
+use Rattle.geo_laws_graph.proofs.Members.{find-Contains, All-from_contained, filter-Contains}
 use Rattle.geo_laws_graph.proofs.Numbered.{number_found}
 use Rattle.geo_laws_graph.proofs.Found.{marks-found}
 use Rattle.geo_laws_counts.proofs.LimitFacts.{all_of}
 use Rattle.geo_laws_life.specs.EffectLaws.{Lives, QueuesKeepFirm, KillsKeepFirm, MarksKeepFirm}
-use Rattle.geo_laws_life.proofs.Found.{found-with}
+use Rattle.geo_laws_life.proofs.Bare.{stands-at, class-at}
 use Rattle.geo_laws_life.proofs.Less.{less-self}
 use Rattle.geo_laws_life.proofs.LessFitting.{less-firm}
 use Rattle.geo_laws_life.proofs.Changes.{less-marks}
@@ -100,16 +98,7 @@ marked-firm w test mark so firm =
     ))))))
     firm.taste.living
 
--- the geom of DEV or TASTE stands
-pub stands-at : (w : World) → Firm w → (n : ℕ) → (n ≡ 1) ⊎ (n ≡ 2) → Has (geom_at w.topology n)
-stands-at w firm n (inl e) =
-    let g = found-with (geom_at w.topology 1) (λ x. x.withering ≡ false) firm.graph.ranks.dev.stands in
-    record { item = g.item; is = subst (λ m. geom_at w.topology m ≡ Some g.item) (sym e) g.is }
-stands-at w firm n (inr e) =
-    let g = found-with (geom_at w.topology 2) (λ x. x.withering ≡ false) firm.graph.ranks.taste.stands in
-    record { item = g.item; is = subst (λ m. geom_at w.topology m ≡ Some g.item) (sym e) g.is }
-
--- and isn't automatic
+-- the geom of DEV or TASTE isn't automatic
 pub made-at : (w : World) → Firm w → (n : ℕ) (g : Geom Config) → (n ≡ 1) ⊎ (n ≡ 2) → geom_at w.topology n ≡ Some g
     → g.automatic ≡ false
 made-at w firm n g which found =
@@ -120,12 +109,6 @@ made-at w firm n g which found =
     by : (n ≡ 1) ⊎ (n ≡ 2) → (g.number ≡ 1) ⊎ (g.number ≡ 2)
     by (inl e) = inl (number_found (λ (x : Geom Config). x.number) w.topology.geoms n g found ∙ e)
     by (inr e) = inr (number_found (λ (x : Geom Config). x.number) w.topology.geoms n g found ∙ e)
-
--- a geom that is found is of its class
-pub class-at : (w : World) → Firm w → (n : ℕ) (g : Geom Config) → geom_at w.topology n ≡ Some g → IsOfItsClass g
-class-at w firm n g found =
-    All-contains IsOfItsClass w.topology.geoms g firm.graph.numbers.classes
-    (find-Contains (λ (x : Geom Config). x.number == n) w.topology.geoms g found)
 
 -- nothing and nothing is nothing
 three_false : (a b c : Bool) → c ≡ false → (a && (b && c)) ≡ false
@@ -163,18 +146,6 @@ pub announced-firm : (w : World) (p : ℕ) → Lives w p → Firm w
 announced-firm w p lives firm =
     posted-firm (record w { topology = mark_spoiled (granted_in w) w.topology p }) (events.Spoil p) lives
     (spoiled-firm w p firm)
-
--- the class with TASTE's number is TASTE
-pub taste_kind : (kind : Kind) → is_kind kind kinds.Taste ≡ true → kind ≡ kinds.Taste
-taste_kind kinds.Taste e = refl
-taste_kind kinds.Disk e = from_false_true e
-taste_kind kinds.Dev e = from_false_true e
-taste_kind kinds.Mbr e = from_false_true e
-taste_kind kinds.Ebr e = from_false_true e
-taste_kind kinds.Label e = from_false_true e
-taste_kind kinds.Concat e = from_false_true e
-taste_kind kinds.Stripe e = from_false_true e
-taste_kind kinds.Nop e = from_false_true e
 
 -- marks keep a firm world firm
 pub marks_keep : MarksKeepFirm

@@ -1,10 +1,8 @@
 -- A taste goes on while no read of it is out: a firm world stays firm.
-use Rattle.std.specs.Prelude.{◌≡◌, ◌↔◌, ℕ, ◌==◌, Bool, true, false, ◌&&◌, List, find, Option, Some, All, IsSomeAnd, IfSome, IsTrue, if◌then◌else◌}
+use Rattle.std.specs.Prelude.{◌≡◌, ◌↔◌, ℕ, ◌==◌, Bool, true, false, ◌&&◌, List, find, Option, Some, IsSomeAnd, IfSome, IsTrue, if◌then◌else◌}
 use Rattle.std.specs.List.{list_any}
 use Rattle.std.specs.Option.{option_map_or}
 use Rattle.std.proofs.Common.{refl, sym, ◌∙◌, ap, subst}
-use Rattle.std.proofs.lemmas.List.Elements.{All-weaker}
-use Rattle.geo_base.specs.declared.request.Counts.{Counts}
 use Rattle.geo_base.specs.declared.kind.Kind.{Kind}
 use Rattle.geo_model.specs.declared.step.Owner.{Owner}
 use Rattle.geo_model.specs.declared.step.Owner.TheVariants as owners
@@ -14,9 +12,9 @@ use Rattle.geo_model.specs.Demand.{no_counts, one_read}
 use Rattle.geo_model.specs.Chain.{Chain}
 use Rattle.geo_model.specs.World.{World, Config, Handle, Taste, Asked, Bio, granted_in, taste_grant, is_read_out, is_taste_root}
 use Rattle.geo_model.specs.Sound.{IsTasting, HasTasteConsumer, IsTasteInOrder}
-use Rattle.geo_model.specs.SoundBios.{IsBioInOrder}
 use Rattle.geo_model.specs.Steady.{ComesFromItsOwner}
-use Rattle.geo_model.specs.Fitting.{DemandHolds, Firm}
+use Rattle.geo_model.specs.Fitting.{Firm}
+use Rattle.geo_laws_life.proofs.Frames.{held-firm}
 use Rattle.geo_laws_life.proofs.Killed.{grants-same}
 use Rattle.geo_laws_making.specs.TasteLaws.{taste_asking, world_with_taste, IsAsking}
 
@@ -76,31 +74,11 @@ module _ (w : World) (s : Taste) (classes : List Kind) (asked : Asked) (reads : 
 
   -- so the world is firm
   pub asking-firm : Firm v
-  asking-firm = record {
-    graph = firm.graph;
-    demand = subst (λ (G : ℕ → Counts). DemandHolds G t) (sym grants) firm.demand;
-    sizes = firm.sizes;
-    handles = record {
-      numbers = firm.handles.numbers;
-      consumers = firm.handles.consumers;
-      handles = firm.handles.handles;
-      taste = record { consumer = had.consumer; alone = had.alone; number = had.number; attached = had.attached };
-    };
-    taste = record {
-      living = firm.taste.living;
-      order = record { rank = was.rank; reads = asks.reads; chain = asks.chain };
-      asked = asks.asked;
-    };
-    bios = record {
-      numbers = firm.bios.numbers;
-      order = subst (λ (G : ℕ → Counts). All (IsBioInOrder G t) w.bios) (sym grants) firm.bios.order;
-      families = firm.bios.families;
-      disks = firm.bios.disks;
-      read_out = read_out;
-      owners = All-weaker (λ x. ComesFromItsOwner w.handles w.taste x x.owner)
-          (λ x. ComesFromItsOwner w.handles v.taste x x.owner) (λ x. comes x x.owner) w.bios firm.bios.owners;
-      results = firm.bios.results;
-      read = firm.bios.read;
-    };
-    commands = firm.commands;
-  }
+  asking-firm =
+      held-firm w firm v grants (record {
+        numbers = firm.handles.numbers;
+        consumers = firm.handles.consumers;
+        handles = firm.handles.handles;
+        taste = record { consumer = had.consumer; alone = had.alone; number = had.number; attached = had.attached };
+      })
+      (λ x. comes x x.owner) read_out (record { rank = was.rank; reads = asks.reads; chain = asks.chain }) asks.asked

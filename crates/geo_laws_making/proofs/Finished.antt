@@ -27,6 +27,7 @@ use Rattle.geo_laws_graph.proofs.Living.{found-before, sound-order, steady-parts
 use Rattle.geo_laws_counts.specs.CountWords.{IsAtMost}
 use Rattle.geo_laws_counts.proofs.LimitFacts.{all_true}
 use Rattle.geo_laws_counts.proofs.Sums.{at_most-same}
+use Rattle.geo_laws_life.proofs.Frames.{FitsOver}
 use Rattle.geo_laws_life.proofs.Found.{found-with, some-with, some-there, if-found, at-found}
 use Rattle.geo_laws_making.proofs.Over.{false_true}
 use Rattle.geo_laws_making.proofs.Made.{through}
@@ -127,9 +128,7 @@ module _ (w : World) (g : Geom Config) (name : List ℕ) (sector : ℕ) (firm : 
           let fits = at-found (option_and_then (provider_at t) x.item.provider)
           (λ q. (b ≤ q.size) × (b % q.sector ≡ 0)) q.item q.is
           (at-found (option_and_then (consumer_at t) a)
-          (λ c. c.geom ≡ n → IfSome (option_and_then (provider_at t) c.provider) (λ q.
-          (b ≤ q.size) × (b % q.sector ≡ 0))) x.item
-          (ap (option_and_then (consumer_at t)) d.is ∙ x.is) fact x.fact.0) in
+          (FitsOver t n b) x.item (ap (option_and_then (consumer_at t)) d.is ∙ x.is) fact x.fact.0) in
           record {
             number = d.item;
             is = d.is;
@@ -203,12 +202,10 @@ module _ (w : World) (g : Geom Config) (name : List ℕ) (sector : ℕ) (firm : 
       one : (a : Option ℕ) (b : ℕ) → Contains (places_of g.config) a → FitsPlace t n a b → FitsPlace u n a b
       one None b stands fact = tt
       one (Some d) b stands fact =
-          if-found (consumer_at t d) (λ c. c.geom ≡ n → IfSome (option_and_then (provider_at u) c.provider) (λ q.
-          (b ≤ q.size) × (b % q.sector ≡ 0))) (λ x e own_one.
+          if-found (consumer_at t d) (FitsOver u n b) (λ x e own_one.
           subst (λ o. IfSome o (λ q. (b ≤ q.size) × (b % q.sector ≡ 0)))
           (sym (below_still x (consumer_here d x e)))
-          (at-found (consumer_at t d) (λ c. c.geom ≡ n → IfSome (option_and_then (provider_at t) c.provider) (λ q.
-          (b ≤ q.size) × (b % q.sector ≡ 0))) x e fact own_one))
+          (at-found (consumer_at t d) (FitsOver t n b) x e fact own_one))
 
   -- the geom fits
   geom_fits : GeomFits w u g

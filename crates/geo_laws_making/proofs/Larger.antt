@@ -11,6 +11,7 @@ use Rattle.std.proofs.lemmas.List.Quantifiers.{all_pairs_push}
 use Rattle.std.proofs.lemmas.Nat.Gcd.{dvd_of_mod-eq-zero, mod-eq-zero_of_dvd}
 use Rattle.std.proofs.Math.Nat.{dvd-add}
 use Rattle.geo_base.proofs.MemberLists.{zip_members}
+use Rattle.geo_base.proofs.Options.{if-with}
 use Rattle.geo_base.specs.Sectors.{IsSectorSize}
 use Rattle.geo_base.specs.declared.kind.Kind.TheVariants as kinds
 use Rattle.geo_base.specs.declared.limits.TheConstants.{MAX_COMPONENTS, MAX_MEDIA_BYTES, UNTASTED_RANK}
@@ -43,6 +44,8 @@ use Rattle.geo_laws_growth.proofs.Appended.{appends_hold}
 use Rattle.geo_laws_life.specs.LessLaws.{ComesFrom}
 use Rattle.geo_laws_life.proofs.Found.{found-with, some-with, some-there, none-there, if-found, at-found, at-some, one-found, pairs-from}
 use Rattle.geo_laws_making.specs.MoreLaws.{IsGrownFrom, StandsGrown, IsUntouched, GeomFits, ProviderFits, ConsumerFits, IsMore}
+use Rattle.geo_laws_life.proofs.Frames.{fact_still, IsPart, FitsOver}
+use Rattle.geo_laws_making.proofs.More.{fits_grown, inside_grown}
 use Rattle.geo_laws_making.proofs.MoreFirm.{more-firm}
 use Rattle.geo_laws_making.proofs.Over.{false_true}
 use Rattle.geo_laws_making.proofs.Made.{through}
@@ -143,10 +146,8 @@ module _ (w : World) (x : Growing) (q : Provider) (firm : Firm w) (is : IsStandi
       nothing_in x.provider (subst (λ ys. Contains ys x.provider) none_left (provider_own w x firm is)))
 
   -- each component stood
-  stood : All (λ d. IsSomeAnd (consumer_at t d) (λ z. (z.geom ≡ n) × IsSome z.provider))
-      (flat_map option_to_list before.places)
-  stood = subst (λ z. All (λ d. IsSomeAnd (consumer_at t d) (λ z. (z.geom ≡ n) × IsSome z.provider))
-      (components z)) before.is
+  stood : All (λ d. IsSomeAnd (consumer_at t d) (IsPart x.geom)) (flat_map option_to_list before.places)
+  stood = subst (λ z. All (λ d. IsSomeAnd (consumer_at t d) (IsPart x.geom)) (components z)) before.is
       (All-contains (HasItsComponents (granted_in w) t) t.geoms x.geom firm.demand.components
       (geom_here w x firm is) (inl is.upright))
 
@@ -243,59 +244,20 @@ module _ (w : World) (x : Growing) (q : Provider) (firm : Firm w) (is : IsStandi
             (sym (grown_is_found.other_consumers w x q d.number apart) ∙ at))
       ]
 
-  -- what is below an old consumer, with its size before
-  pub record IsUnder (o : Option ℕ) (r : Provider) : Type 0 where
-    pub was : Provider
-    pub found : option_and_then (provider_at t) o ≡ Some was
-    pub from : IsGrownFrom was r
-
-  -- so it is
-  under : (o : Option ℕ) → IsSome (option_and_then (provider_at t) o) → (r : Provider)
-      → option_and_then (provider_at u) o ≡ Some r → IsUnder o r
-  under None some r e = absurd (let no : ⊥ = cc in no)
-  under (Some m) some r e =
-      let y = has (provider_at t m) some in
-      let s = provider_in m y.item y.is in
-      record {
-        was = y.item;
-        found = y.is;
-        from = subst (IsGrownFrom y.item)
-            (one-found (provider_at u m) s.now r s.found e) s.is;
-      }
-
   -- The grown geom
 
   -- an old place fits
   old_fits : (a : Option ℕ) (b : ℕ) → Contains before.places a → FitsPlace t n a b → FitsPlace u n a b
   old_fits None b here fact = tt
   old_fits (Some k) b here fact =
-      let d = found-with (consumer_at t k) (λ z. (z.geom ≡ n) × IsSome z.provider)
-      (All-contains (λ d. IsSomeAnd (consumer_at t d) (λ z. (z.geom ≡ n) × IsSome z.provider))
+      let d = found-with (consumer_at t k) (IsPart x.geom)
+      (All-contains (λ d. IsSomeAnd (consumer_at t d) (IsPart x.geom))
       (flat_map option_to_list before.places) k stood (place-component before.places k here)) in
-      some_if (consumer_at u k) d.item (consumer_in k d.item d.is) (λ own.
-      if-found (option_and_then (provider_at u) d.item.provider) (λ r. (b ≤ r.size) × (b % r.sector ≡ 0)) (λ r e.
-      let s = under d.item.provider
-      (All-contains (λ (z : Consumer). IsSome (option_and_then (provider_at t) z.provider))
-      t.consumers d.item firm.graph.attached
-      (find-Contains (λ (z : Consumer). z.number == k) t.consumers d.item d.is)) r e in
-      let fit = at-found (option_and_then (provider_at t) d.item.provider) (λ r. (b ≤ r.size)
-      × (b % r.sector ≡ 0)) s.was
-      s.found (at-found (consumer_at t k) (λ z. z.geom ≡ n
-      → IfSome (option_and_then (provider_at t) z.provider) (λ r. (b ≤ r.size) × (b % r.sector ≡ 0))) d.item
-      d.is fact own) in
-      let low : b ≤ s.was.size = fit.0 in
-      let more : s.was.size ≤ r.size = s.from.larger in
-      (omega arith, subst (λ m. b % m ≡ 0) (sym (ap (λ (z : Provider). z.sector) s.from.same)) fit.1)))
-    where
-      -- a fact of what is found
-      some_if : (o : Option Consumer) (d : Consumer) → o ≡ Some d
-          → (d.geom ≡ n → IfSome (option_and_then (provider_at u) d.provider) (λ r. (b ≤ r.size)
-          × (b % r.sector ≡ 0)))
-          → IfSome o (λ z. z.geom ≡ n
-          → IfSome (option_and_then (provider_at u) z.provider) (λ r. (b ≤ r.size) × (b % r.sector ≡ 0)))
-      some_if o d e so = subst (λ y. IfSome y (λ z. z.geom ≡ n
-          → IfSome (option_and_then (provider_at u) z.provider) (λ r. (b ≤ r.size) × (b % r.sector ≡ 0))))
-          (sym e) so
+      if-with (consumer_at u k) (FitsOver u n b) d.item (consumer_in k d.item d.is) (λ own.
+      fits_grown t u provider_in d.item.provider
+      (All-contains (λ (z : Consumer). IsSome (option_and_then (provider_at t) z.provider)) t.consumers d.item
+      firm.graph.attached (find-Contains (λ (z : Consumer). z.number == k) t.consumers d.item d.is)) b
+      (at-found (consumer_at t k) (FitsOver t n b) d.item d.is fact own))
 
   -- the provider below the new consumer
   q_media : IsMediaSize q.size q.sector
@@ -309,9 +271,7 @@ module _ (w : World) (x : Growing) (q : Provider) (firm : Firm w) (is : IsStandi
   -- the new place fits
   new_fits : FitsPlace u n (Some c) q.size
   new_fits =
-      subst (λ o. IfSome o (λ z. z.geom ≡ n
-      → IfSome (option_and_then (provider_at u) z.provider) (λ r. (q.size ≤ r.size) × (q.size % r.sector ≡ 0))))
-      (sym new_in) (λ own.
+      subst (λ o. IfSome o (FitsOver u n q.size)) (sym new_in) (λ own.
       if-found (provider_at u q.number) (λ r. (q.size ≤ r.size) × (q.size % r.sector ≡ 0)) (λ r e.
       subst (λ (z : Provider). (q.size ≤ z.size) × (q.size % z.sector ≡ 0))
       (one-found (provider_at u q.number) q_in.now r q_in.found e) (
@@ -321,11 +281,9 @@ module _ (w : World) (x : Growing) (q : Provider) (firm : Firm w) (is : IsStandi
       )))
 
   -- an old component is found in the end
-  component_stands : (d : ℕ) → IsSomeAnd (consumer_at t d) (λ z. (z.geom ≡ n) × IsSome z.provider)
-      → IsSomeAnd (consumer_at u d) (λ z. (z.geom ≡ n) × IsSome z.provider)
-  component_stands d fact =
-      let e = found-with (consumer_at t d) (λ z. (z.geom ≡ n) × IsSome z.provider) fact in
-      some-with (consumer_at u d) (λ z. (z.geom ≡ n) × IsSome z.provider) e.item (consumer_in d e.item e.is) e.fact
+  component_stands : (d : ℕ) → IsSomeAnd (consumer_at t d) (IsPart x.geom)
+      → IsSomeAnd (consumer_at u d) (IsPart x.geom)
+  component_stands d = fact_still t u (IsPart x.geom) (λ m y e part. consumer_in m y e) (Some d)
 
   -- the components in the end
   components_are : components config ≡ flat_map option_to_list before.places ++ c ∷ []
@@ -344,8 +302,8 @@ module _ (w : World) (x : Growing) (q : Provider) (firm : Firm w) (is : IsStandi
       let less = no_more (flat_map option_to_list before.places)
       (map (λ (z : Consumer). z.number) (consumers_of t n))
       (recursion-from_pairs (λ a b. a ≢ b) (flat_map option_to_list before.places) apart_before) (λ m here.
-      let d = found-with (consumer_at t m) (λ z. (z.geom ≡ n) × IsSome z.provider)
-      (All-contains (λ d. IsSomeAnd (consumer_at t d) (λ z. (z.geom ≡ n) × IsSome z.provider))
+      let d = found-with (consumer_at t m) (IsPart x.geom)
+      (All-contains (λ d. IsSomeAnd (consumer_at t d) (IsPart x.geom))
       (flat_map option_to_list before.places) m stood here) in
       subst (Contains (map (λ (z : Consumer). z.number) (consumers_of t n)))
       (number_found (λ (z : Consumer). z.number) t.consumers m d.item d.is)
@@ -400,14 +358,12 @@ module _ (w : World) (x : Growing) (q : Provider) (firm : Firm w) (is : IsStandi
         All (λ y. (y.sector ≡ disk.sector) × (y.size ≡ disk.size)) (providers_of u n))) (λ d e.
         let no : None ≡ Some d = sym (ap disk_of config_is) ∙ e in
         absurd (let bad : ⊥ = cc in bad));
-    components = subst (All (λ d. IsSomeAnd (consumer_at u d) (λ z. (z.geom ≡ n) × IsSome z.provider)))
-        (sym components_are)
-        (All-push (λ d. IsSomeAnd (consumer_at u d) (λ z. (z.geom ≡ n) × IsSome z.provider))
-        (flat_map option_to_list before.places) c
-        (All-weaker (λ d. IsSomeAnd (consumer_at t d) (λ z. (z.geom ≡ n) × IsSome z.provider))
-        (λ d. IsSomeAnd (consumer_at u d) (λ z. (z.geom ≡ n) × IsSome z.provider)) component_stands
+    components = subst (All (λ d. IsSomeAnd (consumer_at u d) (IsPart x.geom))) (sym components_are)
+        (All-push (λ d. IsSomeAnd (consumer_at u d) (IsPart x.geom)) (flat_map option_to_list before.places) c
+        (All-weaker (λ d. IsSomeAnd (consumer_at t d) (IsPart x.geom))
+        (λ d. IsSomeAnd (consumer_at u d) (IsPart x.geom)) component_stands
         (flat_map option_to_list before.places) stood)
-        (some-with (consumer_at u c) (λ z. (z.geom ≡ n) × IsSome z.provider) new new_in (refl, refl)));
+        (some-with (consumer_at u c) (IsPart x.geom) new new_in (refl, refl)));
     partial = λ free.
         false_true (sym (ap (λ z. list_any is_none (places_of z)) config_is
         ∙ filled_still before.places c no_free) ∙ free);
@@ -419,8 +375,8 @@ module _ (w : World) (x : Growing) (q : Provider) (firm : Firm w) (is : IsStandi
       apart = subst (AllPairs (λ a b. a ≢ b)) (sym components_are)
           (all_pairs_push (λ a b. a ≢ b) (flat_map option_to_list before.places) c apart_before (λ k d short.
           let m : ℕ = get_or (flat_map option_to_list before.places) k d in
-          let e = found-with (consumer_at t m) (λ z. (z.geom ≡ n) × IsSome z.provider)
-          (All-contains (λ d. IsSomeAnd (consumer_at t d) (λ z. (z.geom ≡ n) × IsSome z.provider))
+          let e = found-with (consumer_at t m) (IsPart x.geom)
+          (All-contains (λ d. IsSomeAnd (consumer_at t d) (IsPart x.geom))
           (flat_map option_to_list before.places) m stood
           (Contains-get_or (flat_map option_to_list before.places) k d short)) in
           old_apart m e.item e.is));
@@ -452,37 +408,9 @@ module _ (w : World) (x : Growing) (q : Provider) (firm : Firm w) (is : IsStandi
 
   -- a place that was inside is
   inside_still : (spot : Spot) → IsPlaceInside t x.geom x.provider spot → IsPlaceInside u g larger spot
-  inside_still spot fact = by (component x.geom.config spot.component) refl fact where
-    -- by what the consumer is attached to
-    lower : (o : Option ℕ) → IsSomeAnd (option_and_then (provider_at t) o) (λ r.
-        (spot.offset < r.size) × (r.sector ≡ x.provider.sector))
-        → IsSomeAnd (option_and_then (provider_at u) o) (λ r. (spot.offset < r.size)
-        × (r.sector ≡ x.provider.sector))
-    lower None fact = absurd fact
-    lower (Some m) fact =
-        let r = found-with (provider_at t m) (λ r. (spot.offset < r.size) × (r.sector ≡ x.provider.sector)) fact in
-        let s = provider_in m r.item r.is in
-        let short : spot.offset < r.item.size = r.fact.0 in
-        let more : r.item.size ≤ s.now.size = s.is.larger in
-        some-with (provider_at u m) (λ r. (spot.offset < r.size) × (r.sector ≡ x.provider.sector)) s.now s.found
-        (omega arith, ap (λ (z : Provider). z.sector) s.is.same ∙ r.fact.1)
-
-    -- by the component
-    by : (o : Option ℕ) → component x.geom.config spot.component ≡ o
-        → IsSomeAnd (option_and_then (consumer_at t) o) (λ d. (d.geom ≡ n)
-        × IsSomeAnd (option_and_then (provider_at t) d.provider) (λ r.
-        (spot.offset < r.size) × (r.sector ≡ x.provider.sector))) → IsPlaceInside u g larger spot
-    by None e fact = absurd fact
-    by (Some m) e fact =
-        let d = found-with (consumer_at t m) (λ d. (d.geom ≡ n)
-        × IsSomeAnd (option_and_then (provider_at t) d.provider) (λ r.
-        (spot.offset < r.size) × (r.sector ≡ x.provider.sector))) fact in
-        some-with (option_and_then (consumer_at u) (component config spot.component)) (λ d. (d.geom ≡ n)
-        × IsSomeAnd (option_and_then (provider_at u) d.provider) (λ r.
-        (spot.offset < r.size) × (r.sector ≡ x.provider.sector))) d.item
-        (ap (option_and_then (consumer_at u)) ((keeps_places x.geom.config c q.size).components spot.component m e)
-        ∙ consumer_in m d.item d.is)
-        (d.fact.0, lower d.item.provider d.fact.1)
+  inside_still spot =
+      inside_grown t u provider_in consumer_in x.geom x.provider spot (component x.geom.config spot.component)
+      (component config spot.component) ((keeps_places x.geom.config c q.size).components spot.component)
 
   -- each old offset was placed
   placed_before : IsPlaced t x.geom x.provider

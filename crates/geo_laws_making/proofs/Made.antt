@@ -38,8 +38,9 @@ use Rattle.geo_laws_counts.proofs.LimitFacts.{all_of}
 use Rattle.geo_laws_counts.proofs.Stays.{geom_came}
 use Rattle.geo_laws_counts.proofs.Sums.{at_most-same}
 use Rattle.geo_laws_life.proofs.Standers.{recursion-from_pairs}
+use Rattle.geo_laws_life.proofs.Frames.{FitsOver}
 use Rattle.geo_laws_life.proofs.Found.{found-with, some-with, some-there, none-there, if-found, at-found, one-found, all_zip-weaker}
-use Rattle.geo_laws_life.proofs.MarksKept.{stands-at}
+use Rattle.geo_laws_life.proofs.Bare.{stands-at}
 use Rattle.geo_laws_making.specs.MakingLaws.{below_new, HasPlace, CanOffer, IsNewDisk, CanMake, MakesKeepFirm}
 use Rattle.geo_laws_making.specs.MoreLaws.{IsUntouched, GeomFits, ProviderFits, IsMore}
 use Rattle.geo_laws_making.proofs.Over.{IsNewOne, attached_one, below-among, over-geoms, over-providers, over-found, over-new, over-cases, over-others, over-order, over-live, over-demand}
@@ -392,9 +393,7 @@ module _ (w : World) (kind : Kind) (name : List ℕ) (config : Config) (automati
           (b ≤ q.size) × (b % q.sector ≡ 0)) → FitsPlace u n a b
       fit None b fact = tt
       fit (Some k) b fact =
-          if-found (consumer_at u k) (λ c. c.geom ≡ n
-          → IfSome (option_and_then (provider_at u) c.provider) (λ q. (b ≤ q.size) × (b % q.sector ≡ 0)))
-          (λ c e own.
+          if-found (consumer_at u k) (FitsOver u n b) (λ c e own.
           let new = own_consumer c (find-Contains (λ (z : Consumer). z.number == k) u.consumers c e) own in
           let at : below_new t.next_consumer ps k ≡ Some new.below =
           subst (λ m. below_new t.next_consumer ps m ≡ Some new.below)

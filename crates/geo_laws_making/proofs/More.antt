@@ -1,29 +1,33 @@
 -- A graph that has come to more: what is found in it, and what soundness says still holds.
-use Rattle.std.specs.Prelude.{◌≡◌, ◌≢◌, ◌⊎◌, ℕ, ◌<◌, ◌≤◌, ◌/◌, ◌==◌, Bool, true, false, ◌&&◌, ◌||◌, List, map, Option, Some, None, All, Contains, IsSome, IsSomeAnd, IfSome, IsTrue, MatchOption, option_and_then, slice_get}
+use Rattle.std.specs.Prelude.{◌≡◌, ◌≢◌, ◌⊎◌, ℕ, ◌<◌, ◌≤◌, ◌/◌, ◌%◌, ◌==◌, Bool, true, false, ◌&&◌, ◌||◌, List, map, Option, Some, None, All, Contains, IsSome, IsSomeAnd, IfSome, IsTrue, option_and_then, slice_get}
 use Rattle.std.specs.List.{enumerate_from}
 use Rattle.std.proofs.Common.{inl, inr, refl, sym, ◌∙◌, ap, subst, arith, get_or}
 use Rattle.std.proofs.lemmas.Bool.{and_parts, eqb-true}
 use Rattle.std.proofs.lemmas.List.Elements.{All-contains, All-weaker, Contains-get_or}
 use Rattle.geo_base.proofs.FindLists.{some-passes}
+use Rattle.geo_base.proofs.Options.{some_weaker}
 use Rattle.geo_base.specs.declared.limits.TheConstants.{UNTASTED_RANK}
+use Rattle.geo_model.specs.declared.step.Event.{Event}
 use Rattle.geo_model.specs.Words.{is_read, is_flush}
 use Rattle.geo_model.specs.Topology.{Topology, Geom, Provider, Consumer, geom_at, provider_at, consumer_at, geom_of_provider, is_withering}
 use Rattle.geo_model.specs.Rank.{rank}
 use Rattle.geo_model.specs.Demand.{have, want, is_zero}
+use Rattle.geo_model.specs.Events.{provider_of_event}
 use Rattle.geo_model.specs.Bios.{piece_targets, disk_at}
 use Rattle.geo_model.specs.Place.{Spot, place, component, disk_of}
 use Rattle.geo_model.specs.World.{World, Config, Taste, Bio, granted_in, children_of, is_sent, is_busy}
 use Rattle.geo_model.specs.Graph.{IsInOrder}
-use Rattle.geo_model.specs.Sound.{IsMediaSize, ProvidersHold, CountsHold, IsOfItsClass, HasDiskSizes, NumbersHold, IsHandleConsumer, HasItsConsumer, HasTasteConsumer, HandlesHold, IsPlaceInside, IsPlaced, LeadsDown, ChainHolds, IsTasteInOrder}
+use Rattle.geo_model.specs.Sound.{IsMediaSize, ProvidersHold, CountsHold, IsOfItsClass, HasDiskSizes, NumbersHold, IsHandleConsumer, HasItsConsumer, HandlesHold, IsPlaceInside, IsPlaced, LeadsDown, ChainHolds, IsTasteInOrder, EventsHold}
 use Rattle.geo_model.specs.SoundBios.{IsRangeInside, HasCountFor, IsBioInOrder, shape_of_child, shape_of_piece, HasItsPieces, IsFamilyInOrder, DisksHold}
 use Rattle.geo_model.specs.Fitting.{Firm}
 use Rattle.geo_laws_graph.proofs.Members.{has, find-Contains}
 use Rattle.geo_laws_graph.proofs.Numbered.{any-contained}
 use Rattle.geo_laws_graph.proofs.Living.{sound-order}
 use Rattle.geo_laws_counts.proofs.LimitFacts.{all_of}
-use Rattle.geo_laws_life.proofs.Found.{found-with, some-with, at-some}
+use Rattle.geo_laws_life.proofs.Frames.{has_its-still, tasting_stays, IsOver, Leads}
+use Rattle.geo_laws_life.proofs.Found.{found-with, some-with, at-some, if-found, at-found, one-found}
 use Rattle.geo_laws_life.proofs.LessLooks.{disk_there}
-use Rattle.geo_laws_making.specs.MoreLaws.{IsGrownFrom, IsMore}
+use Rattle.geo_laws_making.specs.MoreLaws.{IsGrownFrom, StandsGrown, IsMore}
 
 -- a provider that stands with its geom as it stood
 pub record StandsBoth (t u : Topology Config) (p : ℕ) : Type 0 where
@@ -39,6 +43,59 @@ pub record WasBelow (t : Topology Config) (o : Option ℕ) (q : Provider) : Type
   pub before : Provider
   pub was : option_and_then (provider_at t) o ≡ Some before
   pub is : IsGrownFrom before q
+
+module _ (t u : Topology Config)
+    (grown : (m : ℕ) (x : Provider) → provider_at t m ≡ Some x → StandsGrown x (provider_at u m)) where
+  -- what is below then was below, and may have grown
+  pub was_below : (o : Option ℕ) → IsSome (option_and_then (provider_at t) o) → (q : Provider)
+      → option_and_then (provider_at u) o ≡ Some q → WasBelow t o q
+  was_below None there q found = absurd (let no : ⊥ = cc in no)
+  was_below (Some m) there q found =
+      let x = has (provider_at t m) there in
+      let s = grown m x.item x.is in
+      record {
+        before = x.item;
+        was = x.is;
+        is = subst (IsGrownFrom x.item) (one-found (provider_at u m) s.now q s.found found) s.is;
+      }
+
+  -- so a place that fitted fits
+  pub fits_grown : (o : Option ℕ) → IsSome (option_and_then (provider_at t) o) → (size : ℕ)
+      → IfSome (option_and_then (provider_at t) o) (λ q. (size ≤ q.size) × (size % q.sector ≡ 0))
+      → IfSome (option_and_then (provider_at u) o) (λ q. (size ≤ q.size) × (size % q.sector ≡ 0))
+  fits_grown o there size fact =
+      if-found (option_and_then (provider_at u) o) (λ q. (size ≤ q.size) × (size % q.sector ≡ 0)) (λ q found.
+      let b = was_below o there q found in
+      let fit = at-found (option_and_then (provider_at t) o) (λ q. (size ≤ q.size) × (size % q.sector ≡ 0)) b.before
+      b.was fact in
+      let low : size ≤ b.before.size = fit.0 in
+      let larger : b.before.size ≤ q.size = b.is.larger in
+      (omega arith, subst (λ m. size % m ≡ 0) (sym (ap (λ (z : Provider). z.sector) b.is.same)) fit.1))
+
+  -- and one that was inside is, where consumers stand
+  pub inside_grown : ((m : ℕ) (c : Consumer) → consumer_at t m ≡ Some c → consumer_at u m ≡ Some c) → (g : Geom Config)
+      (p : Provider) (spot : Spot) (a b : Option ℕ) → ((m : ℕ) → a ≡ Some m → b ≡ Some m)
+      → IsSomeAnd (option_and_then (consumer_at t) a) (IsOver t g p spot)
+      → IsSomeAnd (option_and_then (consumer_at u) b) (IsOver u g p spot)
+  inside_grown still g p spot None b same fact = absurd fact
+  inside_grown still g p spot (Some m) b same fact =
+      let d = found-with (consumer_at t m) (IsOver t g p spot) fact in
+      some-with (option_and_then (consumer_at u) b) (IsOver u g p spot) d.item
+      (ap (option_and_then (consumer_at u)) (same m refl) ∙ still m d.item d.is)
+      (d.fact.0, below d.item.provider d.fact.1)
+    where
+      -- by what the consumer is attached to
+      below : (o : Option ℕ)
+          → IsSomeAnd (option_and_then (provider_at t) o) (λ r. (spot.offset < r.size) × (r.sector ≡ p.sector))
+          → IsSomeAnd (option_and_then (provider_at u) o) (λ r. (spot.offset < r.size) × (r.sector ≡ p.sector))
+      below None under = under
+      below (Some n) under =
+          let r = found-with (provider_at t n) (λ r. (spot.offset < r.size) × (r.sector ≡ p.sector)) under in
+          let s = grown n r.item r.is in
+          let short : spot.offset < r.item.size = r.fact.0 in
+          let larger : r.item.size ≤ s.now.size = s.is.larger in
+          some-with (provider_at u n) (λ r. (spot.offset < r.size) × (r.sector ≡ p.sector)) s.now s.found
+          (omega arith, ap (λ (z : Provider). z.sector) s.is.same ∙ r.fact.1)
 
 -- counts that are enough stay so where they are no less
 enough : (b : Bool) (r n s m : ℕ) → r ≤ s → n ≤ m → (IsTrue b → 0 < r) × (b ≡ false → 0 < n)
@@ -124,92 +181,36 @@ module _ (w : World) (u : Topology Config) (g : Geom Config) (firm : Firm w) (mo
     disk_sizes = all_of (HasDiskSizes u w.disks) u.geoms disk_sizes;
   }
 
-  -- each handle has its consumer
-  its_consumer : (o : Option ℕ) (dead : Bool)
-      → MatchOption o (dead ≡ true) (λ c. IsSomeAnd (consumer_at t c) (λ x. x.geom ≡ 1))
-      → MatchOption o (dead ≡ true) (λ c. IsSomeAnd (consumer_at u c) (λ x. x.geom ≡ 1))
-  its_consumer None dead fact = fact
-  its_consumer (Some c) dead fact =
-      let d = found-with (consumer_at t c) (λ x. x.geom ≡ 1) fact in
-      some-with (consumer_at u c) (λ x. x.geom ≡ 1) d.item (more.old_consumers c d.item d.is) d.fact
-
-  -- the taste has its consumer
-  tasting_still : (o : Option Taste) → HasTasteConsumer t o → HasTasteConsumer u o
-  tasting_still None fact = more.tasting ∙ fact
-  tasting_still (Some s) fact = record {
-    consumer = fact.consumer;
-    alone = more.tasting ∙ fact.alone;
-    number = fact.number;
-    attached = fact.attached;
-  }
-
   -- handles and the taste's consumer hold
   pub more-handles : HandlesHold u w.handles w.next_handle w.taste
   more-handles = record {
     numbers = firm.handles.numbers;
     consumers = subst (All (IsHandleConsumer w.handles)) (sym more.dev) firm.handles.consumers;
-    handles = All-weaker (HasItsConsumer t) (HasItsConsumer u) (λ h. its_consumer h.consumer h.dead) w.handles
-        firm.handles.handles;
-    taste = tasting_still w.taste firm.handles.taste;
+    handles = All-weaker (HasItsConsumer t) (HasItsConsumer u) (has_its-still t u (λ m c e one. more.old_consumers m c e))
+        w.handles firm.handles.handles;
+    taste = tasting_stays t u more.tasting w.taste firm.handles.taste;
   }
 
   -- Places
 
-  -- a place is still inside
-  inside : (h : Geom Config) (p : Provider) (spot : Spot) → IsPlaceInside t h p spot → IsPlaceInside u h p spot
-  inside h p spot fact = by (component h.config spot.component) refl fact where
-    -- by what the consumer is attached to
-    below : (o : Option ℕ) → IsSomeAnd (option_and_then (provider_at t) o) (λ r. (spot.offset < r.size)
-        × (r.sector ≡ p.sector))
-        → IsSomeAnd (option_and_then (provider_at u) o) (λ r. (spot.offset < r.size) × (r.sector ≡ p.sector))
-    below None under = under
-    below (Some n) under =
-        let r = found-with (provider_at t n) (λ r. (spot.offset < r.size) × (r.sector ≡ p.sector)) under in
-        let s = more.old_providers n r.item r.is in
-        let short : spot.offset < r.item.size = r.fact.0 in
-        let larger : r.item.size ≤ s.now.size = s.is.larger in
-        some-with (provider_at u n) (λ r. (spot.offset < r.size) × (r.sector ≡ p.sector)) s.now s.found
-        (omega arith, ap (λ (z : Provider). z.sector) s.is.same ∙ r.fact.1)
-
-    -- by the component
-    by : (o : Option ℕ) → component h.config spot.component ≡ o
-        → IsSomeAnd (option_and_then (consumer_at t) o) (λ c. (c.geom ≡ h.number)
-        × IsSomeAnd (option_and_then (provider_at t) c.provider) (λ r. (spot.offset < r.size)
-        × (r.sector ≡ p.sector)))
-        → IsPlaceInside u h p spot
-    by None e fact = absurd fact
-    by (Some n) e fact =
-        let d = found-with (consumer_at t n) (λ c. (c.geom ≡ h.number)
-        × IsSomeAnd (option_and_then (provider_at t) c.provider)
-        (λ r. (spot.offset < r.size) × (r.sector ≡ p.sector))) fact in
-        some-with (option_and_then (consumer_at u) (component h.config spot.component)) (λ c. (c.geom ≡ h.number)
-        × IsSomeAnd (option_and_then (provider_at u) c.provider) (λ r. (spot.offset < r.size)
-        × (r.sector ≡ p.sector)))
-        d.item (ap (option_and_then (consumer_at u)) e ∙ more.old_consumers n d.item d.is)
-        (d.fact.0, below d.item.provider d.fact.1)
-
-  -- so is each offset
+  -- a place is still inside, and so is each offset
   placed : (h : Geom Config) (p : Provider) → IsPlaced t h p → IsPlaced u h p
   placed h p old o short =
-      let spot = found-with (place h.config p.name o) (IsPlaceInside t h p) (old o short) in
-      some-with (place h.config p.name o) (IsPlaceInside u h p) spot.item spot.is (inside h p spot.item spot.fact)
+      some_weaker (IsPlaceInside t h p) (IsPlaceInside u h p) (λ spot.
+      inside_grown t u more.old_providers more.old_consumers h p spot (component h.config spot.component)
+      (component h.config spot.component) (λ m e. e)) (place h.config p.name o) (old o short)
 
   -- an old provider leads down
   old_leads : (p : Provider) → Contains t.providers p → p.geom ≢ g.number → LeadsDown (granted_in w) t p
       → LeadsDown (granted_in w) u p
   old_leads p here apart old =
-      let h = found-with (geom_at t p.geom) (λ h. (is_zero (have (granted_in w) t p.number) ≡ false)
-      ⊎ (h.withering ≡ false) → IsSome (disk_of h.config) ⊎ IsPlaced t h p) old in
-      some-with (geom_at u p.geom) (λ h. (is_zero (have (granted_in w) u p.number) ≡ false) ⊎ (h.withering ≡ false)
-      → IsSome (disk_of h.config) ⊎ IsPlaced u h p) h.item (more.old_geoms p.geom h.item apart h.is)
-      (λ used. still h.item (h.fact (before h.item h.is used)))
+      let h = found-with (geom_at t p.geom) (Leads (granted_in w) t p) old in
+      some-with (geom_at u p.geom) (Leads (granted_in w) u p) h.item (more.old_geoms p.geom h.item apart h.is) (λ used.
+      elim (h.fact (before h.item h.is used)) [
+        | inl disk ↦ inl disk
+        | inr is_placed ↦ inr (placed h.item p is_placed)
+      ])
     where
-      -- a disk, or placed
-      still : (h : Geom Config) → IsSome (disk_of h.config) ⊎ IsPlaced t h p → IsSome (disk_of h.config)
-          ⊎ IsPlaced u h p
-      still h (inl disk) = inl disk
-      still h (inr is_placed) = inr (placed h p is_placed)
-
       -- it was used before
       before : (h : Geom Config) → geom_at t p.geom ≡ Some h
           → (is_zero (have (granted_in w) u p.number) ≡ false) ⊎ (h.withering ≡ false)
@@ -229,9 +230,8 @@ module _ (w : World) (u : Topology Config) (g : Geom Config) (firm : Firm w) (mo
             old_leads p old.0 old.1
             (All-contains (LeadsDown (granted_in w) t) t.providers p firm.demand.places old.0)
         | inr made ↦
-            some-with (geom_at u p.geom) (λ h. (is_zero (have (granted_in w) u p.number) ≡ false)
-            ⊎ (h.withering ≡ false) → IsSome (disk_of h.config) ⊎ IsPlaced u h p) g
-            (ap (geom_at u) made.geom ∙ more.stands) (λ used. made.leads)
+            some-with (geom_at u p.geom) (Leads (granted_in w) u p) g (ap (geom_at u) made.geom ∙ more.stands)
+            (λ used. made.leads)
       ])
 
   -- Bios

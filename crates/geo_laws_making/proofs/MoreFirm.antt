@@ -1,8 +1,8 @@
 -- A graph that has come to more is steady and fitting, and a firm world with it is firm.
-use Rattle.std.specs.Prelude.{◌≡◌, ◌≢◌, ◌⊎◌, ℕ, ◌≤◌, ◌/◌, ◌%◌, ◌==◌, true, false, not, List, [], length, Option, Some, None, All, Contains, IsSome, IsSomeAnd, IfSome, IsTrue, option_and_then}
+use Rattle.std.specs.Prelude.{◌≡◌, ◌≢◌, ◌⊎◌, ℕ, ◌≤◌, ◌/◌, ◌==◌, true, false, not, List, [], length, Option, Some, None, All, Contains, IsSome, IsSomeAnd, IfSome, IsTrue, option_and_then}
 use Rattle.std.specs.List.{list_any}
 use Rattle.std.specs.Option.{option_map_or}
-use Rattle.std.proofs.Common.{inl, inr, sym, ◌∙◌, ap, subst, arith}
+use Rattle.std.proofs.Common.{inl, inr, sym, ◌∙◌, ap, subst}
 use Rattle.std.proofs.lemmas.Bool.{eqb-true, cases_eq, not-true}
 use Rattle.std.proofs.lemmas.List.Elements.{All-contains, All-weaker}
 use Rattle.geo_base.proofs.FindLists.{some-passes}
@@ -24,10 +24,11 @@ use Rattle.geo_laws_graph.proofs.Members.{has, find-Contains, filter-Contains}
 use Rattle.geo_laws_graph.proofs.Lists.{found_itself}
 use Rattle.geo_laws_graph.proofs.Numbered.{any-contained, number_found}
 use Rattle.geo_laws_counts.proofs.LimitFacts.{all_of}
-use Rattle.geo_laws_life.proofs.Found.{found-with, some-with, some-there, if-found, at-found, at-some, one-found, all_zip-weaker}
+use Rattle.geo_laws_life.proofs.Found.{some-with, some-there, if-found, at-found, at-some, one-found, all_zip-weaker}
 use Rattle.geo_laws_life.proofs.Less.{remade}
-use Rattle.geo_laws_making.specs.MoreLaws.{IsGrownFrom, IsMore, MoreIsFirm}
-use Rattle.geo_laws_making.proofs.More.{WasBelow, before_order, target_stands, taste_stands, more-providers, more-counts, more-numbers, more-handles, more-places, more-bios, more-families, more-disks, more-taste}
+use Rattle.geo_laws_making.specs.MoreLaws.{IsMore, MoreIsFirm}
+use Rattle.geo_laws_life.proofs.Frames.{fact_still, IsPart, FitsOver}
+use Rattle.geo_laws_making.proofs.More.{was_below, fits_grown, before_order, target_stands, taste_stands, more-providers, more-counts, more-numbers, more-handles, more-places, more-bios, more-families, more-disks, more-taste}
 
 -- what is asked stays in order where the facts are the same
 asked_still : (t u : Topology Config) (p : Provider) → facts_of u p ≡ facts_of t p → (a : Asked)
@@ -75,16 +76,6 @@ module _ (w : World) (u : Topology Config) (g : Geom Config) (firm : Firm w) (mo
       let s = more.old_providers n x.item x.is in
       some-there (provider_at u n) s.now s.found
 
-  -- what is below an old consumer was so before, and may have grown
-  was_below : (o : Option ℕ) → IsSome (option_and_then (provider_at t) o) → (q : Provider)
-      → option_and_then (provider_at u) o ≡ Some q → WasBelow t o q
-  was_below None there q found = absurd (let no : ⊥ = cc in no)
-  was_below (Some n) there q found =
-      let x = has (provider_at t n) there in
-      let s = more.old_providers n x.item x.is in
-      let same : s.now ≡ q = one-found (provider_at u n) s.now q s.found found in
-      record { before = x.item; was = x.is; is = subst (IsGrownFrom x.item) same s.is }
-
   -- a consumer of another geom was there before
   other_consumer : (c : Consumer) → Contains u.consumers c → c.geom ≢ g.number → Contains t.consumers c
   other_consumer c here apart =
@@ -126,11 +117,8 @@ module _ (w : World) (u : Topology Config) (g : Geom Config) (firm : Firm w) (mo
   components_stand y here =
       elim (more.geoms y here) [
         | inl old ↦ (λ used.
-            All-weaker (λ c. IsSomeAnd (consumer_at t c) (λ x. (x.geom ≡ y.number) × IsSome x.provider))
-            (λ c. IsSomeAnd (consumer_at u c) (λ x. (x.geom ≡ y.number) × IsSome x.provider)) (λ c fact.
-            let d = found-with (consumer_at t c) (λ x. (x.geom ≡ y.number) × IsSome x.provider) fact in
-            some-with (consumer_at u c) (λ x. (x.geom ≡ y.number) × IsSome x.provider) d.item
-            (more.old_consumers c d.item d.is) d.fact) (components y.config)
+            All-weaker (λ c. IsSomeAnd (consumer_at t c) (IsPart y)) (λ c. IsSomeAnd (consumer_at u c) (IsPart y))
+            (λ c. fact_still t u (IsPart y) (λ m d e part. more.old_consumers m d e) (Some c)) (components y.config)
             (All-contains (HasItsComponents (granted_in w) t) t.geoms y firm.demand.components old.0
             (used_before y old.0 old.1 used)))
         | inr same ↦ (λ used.
@@ -177,7 +165,7 @@ module _ (w : World) (u : Topology Config) (g : Geom Config) (firm : Firm w) (mo
     unmarked = subst (All (λ (c : Consumer). c.spoiled ≡ false)) (sym more.dev) firm.graph.unmarked;
   }
 
-  -- Sizes
+  -- Fitting
 
   -- what is below a consumer fits
   fits_below : (c : Consumer) → Contains u.consumers c → FitsBelow u c
@@ -200,7 +188,7 @@ module _ (w : World) (u : Topology Config) (g : Geom Config) (firm : Firm w) (mo
           (All-contains (λ (z : Consumer). IsSome (geom_at t z.geom)) t.consumers c firm.graph.parts.consumers
           old) h found in
           if-found (option_and_then (provider_at u) c.provider) (λ q. IsWholeIn h.config q.sector) (λ q under.
-          let b = was_below c.provider
+          let b = was_below t u more.old_providers c.provider
           (All-contains (λ (z : Consumer). IsSome (option_and_then (provider_at t) z.provider)) t.consumers c
           firm.graph.attached old) q under in
           subst (λ n. IsWholeIn h.config n) (sym (ap (λ (z : Provider). z.sector) b.is.same))
@@ -214,28 +202,16 @@ module _ (w : World) (u : Topology Config) (g : Geom Config) (firm : Firm w) (mo
       → FitsPlace u n place size
   fits_place n apart None size fact = tt
   fits_place n apart (Some k) size fact =
-      if-found (consumer_at u k) (λ c. c.geom ≡ n
-      → IfSome (option_and_then (provider_at u) c.provider) (λ q. (size ≤ q.size) × (size % q.sector ≡ 0)))
-      (λ c found own.
+      if-found (consumer_at u k) (FitsOver u n size) (λ c found own.
       let here = find-Contains (λ (z : Consumer). z.number == k) u.consumers c found in
       let old = other_consumer c here (λ same. apart (sym own ∙ same)) in
       let was : consumer_at t k ≡ Some c = subst (λ m. consumer_at t m ≡ Some c)
       (number_found (λ (z : Consumer). z.number) u.consumers k c found)
       (found_itself (λ (z : Consumer). z.number) t.next_consumer t.consumers c
       (before_order w u g firm more).consumers old) in
-      if-found (option_and_then (provider_at u) c.provider) (λ q. (size ≤ q.size) × (size % q.sector ≡ 0))
-      (λ q under.
-      let b = was_below c.provider
+      fits_grown t u more.old_providers c.provider
       (All-contains (λ (z : Consumer). IsSome (option_and_then (provider_at t) z.provider)) t.consumers c
-      firm.graph.attached old) q under in
-      let fit = at-found (option_and_then (provider_at t) c.provider) (λ q. (size ≤ q.size)
-      × (size % q.sector ≡ 0)) b.before
-      b.was (at-found (consumer_at t k) (λ c. c.geom ≡ n
-      → IfSome (option_and_then (provider_at t) c.provider) (λ q. (size ≤ q.size) × (size % q.sector ≡ 0))) c
-      was fact own) in
-      let low : size ≤ b.before.size = fit.0 in
-      let larger : b.before.size ≤ q.size = b.is.larger in
-      (omega arith, subst (λ m. size % m ≡ 0) (sym (ap (λ (z : Provider). z.sector) b.is.same)) fit.1)))
+      firm.graph.attached old) size (at-found (consumer_at t k) (FitsOver t n size) c was fact own))
 
   -- the taste asks in order
   asks : (o : Option Taste) → IfSome o (IsTasteInOrder t)

@@ -40,6 +40,7 @@ use Rattle.geo_laws_life.proofs.Less.{demand-trans}
 use Rattle.geo_laws_making.proofs.Over.{over-demand}
 use Rattle.geo_laws_making.proofs.Made.{through}
 use Rattle.geo_laws_making.specs.MoreLaws.{IsUntouched, GeomFits, ConsumerFits, IsMore}
+use Rattle.geo_laws_life.proofs.Frames.{fact_still, IsPart, FitsOver}
 use Rattle.geo_laws_making.proofs.MoreFirm.{more-firm}
 use Rattle.geo_laws_making.specs.PlaceLaws.{CanTakePlace, IsOpenAssembly, TakesStayFirm}
 use Rattle.geo_laws_making.proofs.OpenAssembly.{is-there, its-class, its-assembly, isnt-dev, isnt-taste, offers-not, only-one, component-there}
@@ -263,20 +264,17 @@ module _ (w : World) (p : Provider) (g : Geom Config) (k : ℕ) (firm : Firm w) 
 
   -- so once the place is filled
   components_there
-      : All (λ d. IsSomeAnd (consumer_at u d) (λ x. (x.geom ≡ n) × IsSome x.provider)) (components filled)
+      : All (λ d. IsSomeAnd (consumer_at u d) (IsPart g)) (components filled)
   components_there =
-      all_of (λ d. IsSomeAnd (consumer_at u d) (λ x. (x.geom ≡ n) × IsSome x.provider)) (components filled)
-      (λ d stands.
+      all_of (λ d. IsSomeAnd (consumer_at u d) (IsPart g)) (components filled) (λ d stands.
       elim (filled-cases (places_of g.config) k c d (subst (λ xs. Contains xs d) components-now stands)) [
         | inl new ↦
-            some-with (consumer_at u d) (λ x. (x.geom ≡ n) × IsSome x.provider) (new_consumer t n (Some p.number))
+            some-with (consumer_at u d) (IsPart g) (new_consumer t n (Some p.number))
             (ap (consumer_at u) new ∙ new-found) (refl, refl)
         | inr old ↦
-            (let x = found-with (consumer_at t d) (λ x. (x.geom ≡ n) × IsSome x.provider)
+            fact_still t u (IsPart g) (λ m x e part. consumer-still m x e) (Some d)
             (component-there w g firm waits d (subst (λ xs. Contains xs d)
-            (sym (has-places g.config waits.assembly).components_are) old)) in
-            some-with (consumer_at u d) (λ x. (x.geom ≡ n) × IsSome x.provider) x.item
-            (consumer-still d x.item x.is) x.fact)
+            (sym (has-places g.config waits.assembly).components_are) old))
       ])
 
   -- its places fit
@@ -292,8 +290,7 @@ module _ (w : World) (p : Provider) (g : Geom Config) (k : ℕ) (firm : Firm w) 
       -- the new place
       new : FitsPlace u n (Some c) size
       new =
-          if-found (consumer_at u c) (λ x. x.geom ≡ n → IfSome (option_and_then (provider_at u) x.provider) (λ q.
-          (size ≤ q.size) × (size % q.sector ≡ 0))) (λ x e own.
+          if-found (consumer_at u c) (FitsOver u n size) (λ x e own.
           subst (λ (z : Consumer). IfSome (option_and_then (provider_at u) z.provider) (λ q.
           (size ≤ q.size) × (size % q.sector ≡ 0)))
           (one-found (consumer_at u c) (new_consumer t n (Some p.number)) x new-found e)
@@ -306,12 +303,10 @@ module _ (w : World) (p : Provider) (g : Geom Config) (k : ℕ) (firm : Firm w) 
       old : (a : Option ℕ) (b : ℕ) → Contains (places_of g.config) a → FitsPlace t n a b → FitsPlace u n a b
       old None b stands fact = tt
       old (Some d) b stands fact =
-          let x = found-with (consumer_at t d) (λ x. (x.geom ≡ n) × IsSome x.provider)
-          (component-there w g firm waits d (subst (λ xs. Contains xs d)
+          let x = found-with (consumer_at t d) (IsPart g) (component-there w g firm waits d (subst (λ xs. Contains xs d)
           (sym (has-places g.config waits.assembly).components_are)
           (in-places (places_of g.config) d stands))) in
-          subst (λ o. IfSome o (λ x. x.geom ≡ n → IfSome (option_and_then (provider_at t) x.provider) (λ q.
-          (b ≤ q.size) × (b % q.sector ≡ 0)))) (x.is ∙ sym (consumer-still d x.item x.is)) fact
+          subst (λ o. IfSome o (FitsOver t n b)) (x.is ∙ sym (consumer-still d x.item x.is)) fact
 
   -- its places are apart and few
   places_hold : PlacesHold joined
@@ -322,7 +317,7 @@ module _ (w : World) (p : Provider) (g : Geom Config) (k : ℕ) (firm : Firm w) 
         apart = subst (AllPairs (λ a b. a ≢ b)) (sym components-now)
             (pairs-from_recursion (λ a b. a ≢ b) (filled_of (slice_set (places_of g.config) k (Some c)))
             (filled-differ (places_of g.config) k c (λ d stands.
-            let x = found-with (consumer_at t d) (λ x. (x.geom ≡ n) × IsSome x.provider)
+            let x = found-with (consumer_at t d) (IsPart g)
             (component-there w g firm waits d (subst (λ xs. Contains xs d)
             (sym (has-places g.config waits.assembly).components_are) stands)) in
             consumer_apart d x.item x.is)
