@@ -35,13 +35,8 @@ gain_is_want : (kind : Kind) (haves : List Counts) (grant : Counts) → (is_gran
     → gain_of_kind kind [] haves no_counts ≡ want_of_kind kind haves grant
 gain_is_want kinds.Dev haves grant none = sym (none refl)
 gain_is_want kinds.Taste haves grant none = sym (none refl)
-gain_is_want kinds.Disk haves grant none = refl
 gain_is_want kinds.Nop haves grant none = sym (add-zero (sum_counts haves))
-gain_is_want kinds.Mbr haves grant none = refl
-gain_is_want kinds.Ebr haves grant none = refl
-gain_is_want kinds.Label haves grant none = refl
-gain_is_want kinds.Concat haves grant none = refl
-gain_is_want kinds.Stripe haves grant none = refl
+gain_is_want _ haves grant none = refl
 
 -- the counts of some providers, stopped
 haves_are : {C : Type 0} (v : TopoView C) (f : ℕ → Counts) (ys : List Provider)

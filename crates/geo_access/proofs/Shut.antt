@@ -51,11 +51,7 @@ nothing_wanted kinds.Dev f ys grant none given = given
 nothing_wanted kinds.Taste f ys grant none given = given
 nothing_wanted kinds.Disk f ys grant none given = refl
 nothing_wanted kinds.Nop f ys grant none given = ap (λ a. add_counts a no_counts) (sum-none f ys (λ y there. none y))
-nothing_wanted kinds.Mbr f ys grant none given = none_added f ys none
-nothing_wanted kinds.Ebr f ys grant none given = none_added f ys none
-nothing_wanted kinds.Label f ys grant none given = none_added f ys none
-nothing_wanted kinds.Concat f ys grant none given = none_added f ys none
-nothing_wanted kinds.Stripe f ys grant none given = none_added f ys none
+nothing_wanted _ f ys grant none given = none_added f ys none
 
 -- what is found among rows of one value is that value
 one_value : {X V : Type 0} (key : X → ℕ) (v : V) (n : ℕ) (xs : List X)

@@ -217,11 +217,7 @@ made_gain kinds.Dev had gains = refl
 made_gain kinds.Taste had gains = refl
 made_gain kinds.Disk had gains = refl
 made_gain kinds.Nop had gains = cap-add (sum_counts gains) no_counts ∙ ap cap (add-zero (sum_counts gains))
-made_gain kinds.Mbr had gains = made_more (list_all is_zero had) gains
-made_gain kinds.Ebr had gains = made_more (list_all is_zero had) gains
-made_gain kinds.Label had gains = made_more (list_all is_zero had) gains
-made_gain kinds.Concat had gains = made_more (list_all is_zero had) gains
-made_gain kinds.Stripe had gains = made_more (list_all is_zero had) gains
+made_gain _ had gains = made_more (list_all is_zero had) gains
 
 -- tests may be grouped otherwise
 and-assoc : (a b c : Bool) → ((a && b) && c) ≡ (a && (b && c))

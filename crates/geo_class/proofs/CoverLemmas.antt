@@ -8,7 +8,7 @@ use Rattle.geo_model.specs.TheConstants.{MAX_MEDIA_BYTES}
 use Rattle.geo_model.specs.declared.class.EbrPart.{EbrPart}
 use Rattle.geo_model.specs.declared.class.Slice.{Slice}
 use Rattle.geo_model.specs.Place.{Spot, concat_spot, slice_at, part_at}
-use Rattle.geo_model.specs.World.{Nothing, Disk, Mbr, Ebr, Label, Concat, Stripe, Nop}
+use Rattle.geo_model.specs.World.{Mbr, Ebr, Label, Concat, Stripe, Nop}
 use Rattle.geo_class.specs.Cover.{WhatLiesIsCovered}
 
 -- an offset in the first component
@@ -53,8 +53,6 @@ concat-inside k (size ∷ sizes) o placed =
     omega (arith, below, sum_by-cons (λ x. x) size sizes)
 
 pub what_lies_is_covered : WhatLiesIsCovered
-what_lies_is_covered Nothing name size some lies whole long = tt
-what_lies_is_covered (Disk disk) name size some lies whole long = tt
 what_lies_is_covered (Mbr below slices) name size some lies whole long =
     slice-end (slice_at slices name) size some (lies (size - 1) (omega (arith, some)))
 what_lies_is_covered (Ebr below parts) name size some lies whole long =
@@ -69,3 +67,4 @@ what_lies_is_covered (Stripe id stripe places sizes) name size some lies whole l
 what_lies_is_covered (Nop below offset fail) name size some lies whole long =
     let last : offset + (size - 1) < MAX_MEDIA_BYTES = lies (size - 1) (omega (arith, some)) in
     omega (arith, some, last)
+what_lies_is_covered _ name size some lies whole long = tt

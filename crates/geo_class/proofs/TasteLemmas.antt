@@ -106,41 +106,20 @@ with-judge c _ bytes f other = refl
 pub chain-stays : (c : Chain) (kind : Kind) (bytes : List ℕ) (f : Facts) (v : Verdict) → (kind ≡ kinds.Ebr → ⊥)
     → c ≡ chain_with c kind bytes f v
 chain-stays c kinds.Ebr bytes f v other = absurd (other refl)
-chain-stays c kinds.Disk bytes f v other = refl
-chain-stays c kinds.Dev bytes f v other = refl
-chain-stays c kinds.Taste bytes f v other = refl
-chain-stays c kinds.Mbr bytes f v other = refl
-chain-stays c kinds.Label bytes f v other = refl
-chain-stays c kinds.Concat bytes f v other = refl
-chain-stays c kinds.Stripe bytes f v other = refl
-chain-stays c kinds.Nop bytes f v other = refl
+chain-stays c _ bytes f v other = refl
 
 -- an accepted sector leaves the chain
 chain-accepted : (c : Chain) (kind : Kind) (bytes : List ℕ) (f : Facts) (shape : Shape)
     → chain_with c kind bytes f (Accept shape) ≡ c
-chain-accepted c kinds.Disk bytes f shape = refl
-chain-accepted c kinds.Dev bytes f shape = refl
-chain-accepted c kinds.Taste bytes f shape = refl
-chain-accepted c kinds.Mbr bytes f shape = refl
 chain-accepted c kinds.Ebr bytes f shape = refl
-chain-accepted c kinds.Label bytes f shape = refl
-chain-accepted c kinds.Concat bytes f shape = refl
-chain-accepted c kinds.Stripe bytes f shape = refl
-chain-accepted c kinds.Nop bytes f shape = refl
+chain-accepted c _ bytes f shape = refl
 
 -- where more is wanted, the taste is the one after the verdict
 more-chain : (granted : ℕ → Counts) (s : Taste) (kind : Kind) (bytes : List ℕ) (f : Facts) (sector : ℕ)
     → record s { asked = NextSector kind sector; chain = chain_with s.chain kind bytes f (More sector) }
     ≡ after_verdict granted s kind bytes f (More sector)
-more-chain granted s kinds.Disk bytes f sector = refl
-more-chain granted s kinds.Dev bytes f sector = refl
-more-chain granted s kinds.Taste bytes f sector = refl
-more-chain granted s kinds.Mbr bytes f sector = refl
 more-chain granted s kinds.Ebr bytes f sector = refl
-more-chain granted s kinds.Label bytes f sector = refl
-more-chain granted s kinds.Concat bytes f sector = refl
-more-chain granted s kinds.Stripe bytes f sector = refl
-more-chain granted s kinds.Nop bytes f sector = refl
+more-chain granted s _ bytes f sector = refl
 
 -- a sector that is back was asked for
 back-is : (a : Asked) (kind : Kind) (bytes : List ℕ) → sector_back a ≡ Some (kind, bytes)

@@ -6,7 +6,7 @@ use Rattle.std.proofs.lemmas.List.Sums.{sum_by-append, sum_by-cons}
 use Rattle.std.specs.Prelude.{nat_lt}
 use Rattle.geo_model.specs.TheConstants.{MAX_COMPONENTS, MAX_MEDIA_BYTES}
 use Rattle.geo_model.specs.Place.{concat_spot}
-use Rattle.geo_model.specs.World.{Nothing, Disk, Mbr, Ebr, Label, Concat, Stripe, Nop}
+use Rattle.geo_model.specs.World.{Concat}
 use Rattle.geo_concat.specs.Growth.{SpotsStay, NewSpots, PlacesStay}
 use Rattle.geo_concat.specs.Kept.{IsKept}
 
@@ -48,13 +48,7 @@ new_spots sizes size j inside =
 -- each old offset of a provider keeps its place, by configurations
 pub places_stay : PlacesStay
 places_stay (Concat id places sizes) name consumer size o inside = spots_stay-from 0 sizes size o inside
-places_stay Nothing name consumer size o inside = refl
-places_stay (Disk disk) name consumer size o inside = refl
-places_stay (Mbr below slices) name consumer size o inside = refl
-places_stay (Ebr below parts) name consumer size o inside = refl
-places_stay (Label below) name consumer size o inside = refl
-places_stay (Stripe id stripe places sizes) name consumer size o inside = refl
-places_stay (Nop below offset fail) name consumer size o inside = refl
+places_stay _ name consumer size o inside = refl
 
 -- cells that keep these sizes, of which there are fewer than MAX_COMPONENTS, and one size more for which there is room
 module _ (sizes cells : List ℕ) (count size : ℕ) (kept : IsKept cells count) (same : sizes ≡ take count cells)

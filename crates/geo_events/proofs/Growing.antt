@@ -20,7 +20,7 @@ use Rattle.geo_model.specs.Names.{label_name, logical_name, slice_name}
 use Rattle.geo_model.specs.Demand.{no_counts}
 use Rattle.geo_model.specs.Topology.{Geom, Provider, Consumer, geom_at, set_config}
 use Rattle.geo_model.specs.Place.{disk_of}
-use Rattle.geo_model.specs.World.{Config, Nothing, Disk, Mbr, Ebr, Label, Concat, Stripe, Nop}
+use Rattle.geo_model.specs.World.{Config, Disk, Mbr, Ebr, Label}
 use Rattle.geo_model.specs.Acceptance.{Member, NewSlice, are_names_free, can_join, concat_member, fill_place, is_same_assembly, is_size, joined_size, new_parts, new_slices, places_of, standing_geom, stripe_member}
 use Rattle.geo_mesh.specs.Topo.{TopoView, with_geom, with_provider, with_topology}
 use Rattle.geo_laws_graph.specs.LookupLaws.{EachIsFound, new_geom, new_provider, new_consumer}
@@ -302,25 +302,13 @@ slices-grow t geom (x ∷ slices) m n g =
 
 -- a place that is filled doesn't make a geom one of a disk
 fill-disk : (config : Config) (k c size : ℕ) → disk_of (fill_place config k c size) ≡ disk_of config
-fill-disk Nothing k c size = refl
 fill-disk (Disk disk) k c size = refl
-fill-disk (Mbr below slices) k c size = refl
-fill-disk (Ebr below parts) k c size = refl
-fill-disk (Label below) k c size = refl
-fill-disk (Concat id places sizes) k c size = refl
-fill-disk (Stripe id stripe places sizes) k c size = refl
-fill-disk (Nop below offset fail) k c size = refl
+fill-disk _ k c size = refl
 
 -- an assembly is of no disk
 assembly-disk : (config empty : Config) → is_same_assembly config empty ≡ true → disk_of config ≡ None
-assembly-disk Nothing empty same = refl
 assembly-disk (Disk disk) empty never = absurd cc
-assembly-disk (Mbr below slices) empty same = refl
-assembly-disk (Ebr below parts) empty same = refl
-assembly-disk (Label below) empty same = refl
-assembly-disk (Concat id places sizes) empty same = refl
-assembly-disk (Stripe id stripe places sizes) empty same = refl
-assembly-disk (Nop below offset fail) empty same = refl
+assembly-disk _ empty same = refl
 
 -- a shape whose table has few parts
 abbrev pub IsShort : Shape → Type 0

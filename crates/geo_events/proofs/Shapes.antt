@@ -101,10 +101,7 @@ module _ (granted : ℕ → Counts) (s : Taste) (f : Facts) (shape : Shape)
   by-class kinds.Label bytes asked e = short-named f (label_record bytes) shape e
   by-class kinds.Concat bytes asked e = short-record Joined (concat_record bytes) shape (λ x. tt) e
   by-class kinds.Stripe bytes asked e = short-record Striped (stripe_record bytes) shape (λ x. tt) e
-  by-class kinds.Disk bytes asked e = absurd (let no : ⊥ = cc in no)
-  by-class kinds.Dev bytes asked e = absurd (let no : ⊥ = cc in no)
-  by-class kinds.Taste bytes asked e = absurd (let no : ⊥ = cc in no)
-  by-class kinds.Nop bytes asked e = absurd (let no : ⊥ = cc in no)
+  by-class _ bytes asked e = absurd (let no : ⊥ = cc in no)
 
   -- so of the sector that is back
   pub verdict-short : verdict_back granted s f ≡ Some (Accept shape) → IsShort shape

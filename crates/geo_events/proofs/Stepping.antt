@@ -134,26 +134,12 @@ module _ (granted : ℕ → Counts) (q : QueuedTopology Config) (s : Taste) (idl
     -- a sector that was read leaves the taste its consumer and its provider
     read_consumer : (kind : Kind) (bytes : List ℕ) → (with_read granted s kind bytes f).consumer ≡ s.consumer
     read_consumer kinds.Ebr bytes = refl
-    read_consumer kinds.Disk bytes = refl
-    read_consumer kinds.Dev bytes = refl
-    read_consumer kinds.Taste bytes = refl
-    read_consumer kinds.Mbr bytes = refl
-    read_consumer kinds.Label bytes = refl
-    read_consumer kinds.Concat bytes = refl
-    read_consumer kinds.Stripe bytes = refl
-    read_consumer kinds.Nop bytes = refl
+    read_consumer _ bytes = refl
 
     -- and its provider
     read_provider : (kind : Kind) (bytes : List ℕ) → (with_read granted s kind bytes f).provider ≡ s.provider
     read_provider kinds.Ebr bytes = refl
-    read_provider kinds.Disk bytes = refl
-    read_provider kinds.Dev bytes = refl
-    read_provider kinds.Taste bytes = refl
-    read_provider kinds.Mbr bytes = refl
-    read_provider kinds.Label bytes = refl
-    read_provider kinds.Concat bytes = refl
-    read_provider kinds.Stripe bytes = refl
-    read_provider kinds.Nop bytes = refl
+    read_provider _ bytes = refl
 
     -- a result
     takes : (kind : Kind) (got : BioResult) → Steps (take_result granted q s p kind got)

@@ -9,13 +9,14 @@ use Rattle.geo_model.specs.Kind.TheVariants as kinds
 use Rattle.geo_model.specs.Words.{is_kind, is_granted_kind, names_number}
 use Rattle.geo_model.specs.Topology.{Topology, Geom, Provider, Consumer, geom_at, provider_at, consumer_at, attached_to, providers_of}
 use Rattle.geo_model.specs.Demand.{have, want, sum_counts, want_of_kind}
-use Rattle.geo_model.specs.World.{World, Bio, Config, Nothing, Disk, Mbr, Ebr, Label, Concat, Stripe, Nop, granted_in}
+use Rattle.geo_model.specs.World.{World, Bio, Config, Nothing, Disk, granted_in}
 use Rattle.geo_model.specs.Place.{Spot, place, disk_of, component}
 use Rattle.geo_model.specs.Sound.{fits_kind, IsOfItsClass, IsMediaSize, IsPlaceInside}
 use Rattle.geo_model.specs.SoundBios.{IsBioInOrder, HasCountFor}
 use Rattle.geo_model.specs.Fitting.{Firm}
 use Rattle.geo_model.proofs.DemandLemmas.{have-sum}
 use Rattle.geo_laws_counts.specs.CountWords.{IsAtMost}
+use Rattle.geo_laws_graph.proofs.Classes.{bare_config}
 use Rattle.geo_laws_graph.proofs.Members.{find-Contains, Contains-filter, Contains-map, Contains-cases, nothing_in}
 use Rattle.geo_laws_graph.proofs.Numbered.{number_found, each_found}
 use Rattle.geo_laws_bios.specs.PieceLaws.{Serves}
@@ -39,59 +40,13 @@ want_over : (kind : Kind) (haves : List Counts) (granted : Counts) → is_grante
 want_over kinds.Disk haves granted other no_disk = absurd cc
 want_over kinds.Dev haves granted other no_disk = absurd cc
 want_over kinds.Taste haves granted other no_disk = absurd cc
-want_over kinds.Mbr haves granted other no_disk = record { r = omega arith; w = omega arith; e = omega arith }
-want_over kinds.Ebr haves granted other no_disk = record { r = omega arith; w = omega arith; e = omega arith }
-want_over kinds.Label haves granted other no_disk = record { r = omega arith; w = omega arith; e = omega arith }
-want_over kinds.Concat haves granted other no_disk = record { r = omega arith; w = omega arith; e = omega arith }
-want_over kinds.Stripe haves granted other no_disk = record { r = omega arith; w = omega arith; e = omega arith }
-want_over kinds.Nop haves granted other no_disk = record { r = omega arith; w = omega arith; e = omega arith }
-
--- a class with nothing in its configuration
-bare_config : (kind : Kind) (config : Config) → is_granted_kind kind ≡ true → IsTrue (fits_kind kind config)
-    → config ≡ Nothing
-bare_config kinds.Dev Nothing granted fits = refl
-bare_config kinds.Dev (Disk disk) granted fits = absurd cc
-bare_config kinds.Dev (Mbr below slices) granted fits = absurd cc
-bare_config kinds.Dev (Ebr below parts) granted fits = absurd cc
-bare_config kinds.Dev (Label below) granted fits = absurd cc
-bare_config kinds.Dev (Concat id places sizes) granted fits = absurd cc
-bare_config kinds.Dev (Stripe id stripe places sizes) granted fits = absurd cc
-bare_config kinds.Dev (Nop below offset fail) granted fits = absurd cc
-bare_config kinds.Taste Nothing granted fits = refl
-bare_config kinds.Taste (Disk disk) granted fits = absurd cc
-bare_config kinds.Taste (Mbr below slices) granted fits = absurd cc
-bare_config kinds.Taste (Ebr below parts) granted fits = absurd cc
-bare_config kinds.Taste (Label below) granted fits = absurd cc
-bare_config kinds.Taste (Concat id places sizes) granted fits = absurd cc
-bare_config kinds.Taste (Stripe id stripe places sizes) granted fits = absurd cc
-bare_config kinds.Taste (Nop below offset fail) granted fits = absurd cc
-bare_config kinds.Disk config granted fits = absurd cc
-bare_config kinds.Mbr config granted fits = absurd cc
-bare_config kinds.Ebr config granted fits = absurd cc
-bare_config kinds.Label config granted fits = absurd cc
-bare_config kinds.Concat config granted fits = absurd cc
-bare_config kinds.Stripe config granted fits = absurd cc
-bare_config kinds.Nop config granted fits = absurd cc
+want_over _ haves granted other no_disk = record { r = omega arith; w = omega arith; e = omega arith }
 
 -- the class DISK has a disk
 disk_config : (kind : Kind) (config : Config) → is_kind kind kinds.Disk ≡ true → IsTrue (fits_kind kind config)
     → IsSome (disk_of config)
 disk_config kinds.Disk (Disk disk) is fits = refl
-disk_config kinds.Disk Nothing is fits = absurd cc
-disk_config kinds.Disk (Mbr below slices) is fits = absurd cc
-disk_config kinds.Disk (Ebr below parts) is fits = absurd cc
-disk_config kinds.Disk (Label below) is fits = absurd cc
-disk_config kinds.Disk (Concat id places sizes) is fits = absurd cc
-disk_config kinds.Disk (Stripe id stripe places sizes) is fits = absurd cc
-disk_config kinds.Disk (Nop below offset fail) is fits = absurd cc
-disk_config kinds.Dev config is fits = absurd cc
-disk_config kinds.Taste config is fits = absurd cc
-disk_config kinds.Mbr config is fits = absurd cc
-disk_config kinds.Ebr config is fits = absurd cc
-disk_config kinds.Label config is fits = absurd cc
-disk_config kinds.Concat config is fits = absurd cc
-disk_config kinds.Stripe config is fits = absurd cc
-disk_config kinds.Nop config is fits = absurd cc
+disk_config _ _ is fits = absurd cc
 
 -- more counts serve too
 count_up : (granted : ℕ → Counts) (t : Topology Config) (x : Bio) (c d : Consumer)

@@ -1,18 +1,17 @@
 -- A Start that splits a bio keeps a mesh firm.
-use Rattle.std.specs.Prelude.{◌≡◌, ◌≢◌, ℕ, zero, suc, ◌+◌, ◌-◌, ◌%◌, ◌<◌, ◌≤◌, ◌==◌, min, true, false, not, List, [], ◌∷◌, length, map, flat_map, take, drop, sum, Option, Some, None, All, Contains, IsSome, IsSomeAnd, IsTrue, option_and_then, option_map, slice_get, if◌then◌else◌}
+use Rattle.std.specs.Prelude.{◌≡◌, ◌≢◌, ℕ, ◌+◌, ◌-◌, ◌%◌, ◌<◌, ◌≤◌, ◌==◌, min, true, false, not, List, [], ◌∷◌, length, map, take, drop, sum, Option, Some, None, All, Contains, IsSome, IsSomeAnd, IsTrue, option_and_then, option_map, slice_get}
 use Rattle.std.specs.List.{AllByRecursion, list_any}
-use Rattle.std.specs.Option.{option_flatten, option_to_list}
+use Rattle.std.specs.Option.{option_flatten}
 use Rattle.std.proofs.Common.{inl, inr, refl, sym, ◌∙◌, ap, subst, arith, length-take, length-drop}
 use Rattle.std.proofs.lemmas.Bool.{eq-eqb, not_from_false, cases_Bool}
 use Rattle.std.proofs.lemmas.List.Elements.{All-contains, recursion_from_All}
 use Rattle.std.proofs.lemmas.Nat.Gcd.{dvd_of_mod-eq-zero, mod-eq-zero_of_dvd}
 use Rattle.geo_model.proofs.BioLemmas.{write_moves}
-use Rattle.geo_model.specs.BioCmd.TheVariants as cmds
 use Rattle.geo_model.specs.declared.span.Piece.{Piece}
 use Rattle.geo_model.specs.Words.{is_flush}
 use Rattle.geo_model.specs.Topology.{Topology, Geom, Provider, Consumer, geom_at, provider_at, consumer_at, providers_of}
 use Rattle.geo_model.specs.Demand.{have, is_zero}
-use Rattle.geo_model.specs.World.{World, Bio, Config, Nothing, Disk, Mbr, Ebr, Label, Concat, Stripe, Nop, bio_at, is_down, granted_in}
+use Rattle.geo_model.specs.World.{World, Bio, Config, Concat, bio_at, is_down, granted_in}
 use Rattle.geo_model.specs.Place.{Spot, place, pieces, component, components, disk_of, Follow}
 use Rattle.geo_model.specs.Acceptance.{joined_size}
 use Rattle.geo_model.specs.Bios.{PieceTarget, piece_targets, split_bio, empty_piece}
@@ -25,6 +24,7 @@ use Rattle.geo_laws_graph.proofs.Members.{find-Contains, Contains-filter}
 use Rattle.geo_laws_graph.proofs.Numbered.{number_found, any-contained}
 use Rattle.geo_laws_bios.proofs.Apart.{bios_are_apart}
 use Rattle.geo_laws_bios.proofs.Items.{both_by_recursion}
+use Rattle.geo_laws_bios.proofs.Components.{some_components}
 use Rattle.geo_laws_bios.proofs.Pieces.{Below, IsBetween, LiesBelow, is_open, is_placed, range_of, whole_below, follow, pieces_below, no_piece_lost}
 use Rattle.geo_laws_bios.proofs.Counted.{counted, first_below}
 use Rattle.geo_laws_bios.proofs.Wholes.{IsWholePiece, AreWholeSizes, pieces_whole, sizes_whole, concat_kind}
@@ -36,33 +36,6 @@ bytes_cut : (at len total : ℕ) (bytes : List ℕ) → length bytes ≡ total �
 bytes_cut at len total bytes is inside =
     length-take len (drop at bytes)
     ∙ (let e : min len (length (drop at bytes)) ≡ len = omega (arith, length-drop at bytes, is, inside) in e)
-
--- a list in which a place is filled isn't empty
-filled : (places : List (Option ℕ)) (k n : ℕ) → option_flatten (slice_get places k) ≡ Some n
-    → flat_map option_to_list places ≢ []
-filled [] k n is none = cc
-filled (Some m ∷ places) k n is none = cc
-filled (None ∷ places) zero n is none = cc
-filled (None ∷ places) (suc k) n is none = filled places k n is none
-
--- one consumer below
-one_below : (below : Option ℕ) (k n : ℕ) → (if k == 0 then below else None) ≡ Some n → option_to_list below ≢ []
-one_below (Some m) k n is none = cc
-one_below None k n is none = elim (cases_Bool (k == 0)) [
-  | inl e ↦ (let bad : None ≡ Some n = rw e at is in cc)
-  | inr e ↦ (let bad : None ≡ Some n = rw e at is in cc)
-]
-
--- a configuration with a component has some
-some_components : (config : Config) (k n : ℕ) → component config k ≡ Some n → components config ≢ []
-some_components Nothing k n is none = cc
-some_components (Disk disk) k n is none = cc
-some_components (Mbr below slices) k n is none = one_below below k n is none
-some_components (Ebr below parts) k n is none = one_below below k n is none
-some_components (Label below) k n is none = one_below below k n is none
-some_components (Concat id places sizes) k n is none = filled places k n is none
-some_components (Stripe id stripe places sizes) k n is none = filled places k n is none
-some_components (Nop below offset fail) k n is none = one_below below k n is none
 
 -- what is mapped from some items isn't empty
 map_some : {X Y : Type 0} (f : X → Y) (xs : List X) → xs ≢ [] → map f xs ≢ []
@@ -95,13 +68,6 @@ module _ (w : World) (firm : Firm w) (x : Bio) (here : Contains w.bios x) (p : P
 
   -- the sizes of a concat are whole sectors
   sizes_by : (config : Config) → g.config ≡ config → AreWholeSizes p.sector config
-  sizes_by Nothing is = tt
-  sizes_by (Disk disk) is = tt
-  sizes_by (Mbr below slices) is = tt
-  sizes_by (Ebr below parts) is = tt
-  sizes_by (Label below) is = tt
-  sizes_by (Stripe id stripe places sizes) is = tt
-  sizes_by (Nop below offset fail) is = tt
   sizes_by (Concat id places sizes) is =
       let class : IsOfItsClass g = All-contains IsOfItsClass t.geoms g firm.graph.numbers.classes g_stands in
       let kind = concat_kind g.kind id places sizes (rw is at class.config) in
@@ -117,6 +83,7 @@ module _ (w : World) (firm : Firm w) (x : Bio) (here : Contains w.bios x) (p : P
       (subst (λ (c : Config). component c i ≡ option_flatten (slice_get places i)) (sym is) refl))
       (λ o below. subst (λ (c : Config). IsSomeAnd (place c p.name o) (IsPlaceInside t g p)) is
       (is_placed w firm x here p at_target g of_it no_disk o (omega (arith, size))))
+  sizes_by _ is = tt
 
   -- the consumers of the geom have the count
   count : (c : Consumer) → c.geom ≡ g.number → HasCountFor (granted_in w) w.topology x c

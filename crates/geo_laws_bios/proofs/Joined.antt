@@ -5,17 +5,17 @@ use Rattle.std.proofs.Common.{refl, sym, ◌∙◌, ap, subst, arith, length-app
 use Rattle.std.proofs.lemmas.Simd.{map-map}
 use Rattle.geo_model.proofs.BioLemmas.{read_moves}
 use Rattle.geo_model.specs.Errno.{Errno}
-use Rattle.geo_model.specs.BioCmd.TheVariants as cmds
 use Rattle.geo_model.specs.declared.step.BioResult.{BioResult}
 use Rattle.geo_model.specs.declared.step.BioResult.TheVariants as results
 use Rattle.geo_model.specs.Words.{is_read, is_flush}
 use Rattle.geo_model.specs.Topology.{Geom, Provider, geom_at, provider_at}
-use Rattle.geo_model.specs.World.{World, Bio, Config, Nothing, Disk, Mbr, Ebr, Label, Concat, Stripe, Nop}
+use Rattle.geo_model.specs.World.{World, Bio, Config, Disk}
 use Rattle.geo_model.specs.Place.{disk_of}
 use Rattle.geo_model.specs.Bios.{PieceTarget, piece_targets, error_of_result, bytes_of_result, first_failure, joined_result}
 use Rattle.geo_model.specs.SoundBios.{ChildShape, shape_of_child, shape_of_piece}
 use Rattle.geo_model.specs.Steady.{FitsBio}
 use Rattle.geo_model.specs.Fitting.{Firm}
+use Rattle.geo_laws_graph.proofs.Classes.{is_disk}
 use Rattle.geo_laws_graph.proofs.Members.{nothing_in}
 use Rattle.geo_laws_bios.proofs.Items.{both_by_recursion}
 use Rattle.geo_laws_bios.proofs.Pieces.{sum_cons, lengths}
@@ -125,17 +125,15 @@ module _ (y : Bio) (cs : List Bio) (targets : List PieceTarget)
       → FitsBio y (joined_result y.cmd (map got cs))
   joined_fits ended total = fits_by_failure ended total (first_failure (map got cs)) refl
 
--- a request to a provider of a disk has no pieces
-no_targets : (config : Config) (p : Provider) (y : Bio) (disk : ℕ) → disk_of config ≡ Some disk
-    → is_flush y.cmd ≡ false → piece_targets config p y ≡ []
-no_targets Nothing p y disk is moves = absurd cc
-no_targets (Disk d) p y disk is moves = rw moves refl
-no_targets (Mbr below slices) p y disk is moves = absurd cc
-no_targets (Ebr below parts) p y disk is moves = absurd cc
-no_targets (Label below) p y disk is moves = absurd cc
-no_targets (Concat id places sizes) p y disk is moves = absurd cc
-no_targets (Stripe id stripe places sizes) p y disk is moves = absurd cc
-no_targets (Nop below offset fail) p y disk is moves = absurd cc
+-- nothing goes down at the geom of a disk
+no_pieces_by : (disk : ℕ) (p : Provider) (y : Bio) (b : Bool) → is_flush y.cmd ≡ b → piece_targets (Disk disk) p y ≡ []
+no_pieces_by disk p y true e = rw e refl
+no_pieces_by disk p y false e = rw e refl
+
+-- so at a geom with a disk
+pub no_pieces : (config : Config) (p : Provider) (y : Bio) (disk : ℕ) → disk_of config ≡ Some disk
+    → piece_targets config p y ≡ []
+no_pieces config p y disk is = rw (is_disk config disk is) (no_pieces_by disk p y (is_flush y.cmd) refl)
 
 -- a list that has an item isn't mapped to nothing
 pub not_nothing : {X Y : Type 0} (f : X → Y) (xs : List X) (x : X) → Contains xs x → map f xs ≡ [] → ⊥
@@ -153,7 +151,7 @@ module _ (w : World) (firm : Firm w) (y : Bio) (here : Contains w.bios y) (cs : 
       → sum (map (λ (z : PieceTarget). z.piece.span.len) (piece_targets g.config p y)) ≡ y.len
   total_by p g to_it of_it shapes None e read = lengths w firm y here p to_it g of_it e (read_moves y.cmd read)
   total_by p g to_it of_it shapes (Some disk) e read =
-      let none : piece_targets g.config p y ≡ [] = no_targets g.config p y disk e (read_moves y.cmd read) in
+      let none : piece_targets g.config p y ≡ [] = no_pieces g.config p y disk e in
       absurd (not_nothing shape_of_child cs child has
       (shapes ∙ ap
       (λ (zs : List PieceTarget). map (λ (item : ℕ × PieceTarget). shape_of_piece y item.0 item.1)

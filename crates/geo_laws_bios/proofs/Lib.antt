@@ -1,5 +1,6 @@
 pub mod Apart
 pub mod Items
+pub mod Components
 pub mod Phases
 pub mod Owners
 pub mod Turned

@@ -11,7 +11,7 @@ use Rattle.geo_model.specs.declared.span.Piece.{Piece}
 use Rattle.geo_model.specs.Words.{is_read, is_flush, names_number}
 use Rattle.geo_model.specs.Topology.{Topology, Geom, Provider, Consumer, geom_at, provider_at, consumer_at, attached_to}
 use Rattle.geo_model.specs.Demand.{have, want, is_zero, sum_counts, no_counts}
-use Rattle.geo_model.specs.World.{World, Bio, Config, Nothing, Disk, Mbr, Ebr, Label, Concat, Stripe, Nop, granted_in}
+use Rattle.geo_model.specs.World.{World, Bio, Config, Nothing, Disk, Mbr, Ebr, Concat, Stripe, granted_in}
 use Rattle.geo_model.specs.Place.{Spot, place, pieces, component, disk_of, slice_at, part_at, concat_spot, PieceIsPlaced, Follow}
 use Rattle.geo_model.specs.Bios.{PieceTarget, piece_targets}
 use Rattle.geo_model.specs.Laws.{HasRange}
@@ -107,13 +107,12 @@ has_range t g p o len (Mbr below slices) some inside placed strips =
     (made_of_some (IsPlaceInside t g p) _ (slice_at slices p.name) (placed o (omega arith)), inside)
 has_range t g p o len (Ebr below parts) some inside placed strips =
     (made_of_some (IsPlaceInside t g p) _ (part_at parts p.name) (placed o (omega arith)), inside)
-has_range t g p o len (Label below) some inside placed strips = inside
 has_range t g p o len (Concat id places sizes) some inside placed strips =
     let last : o + len - 1 < sum sizes =
     concat_inside (IsPlaceInside t g p) 0 sizes (o + len - 1) (placed (o + len - 1) (omega arith)) in
     omega arith
 has_range t g p o len (Stripe id stripe places sizes) some inside placed strips = strips id stripe places sizes refl
-has_range t g p o len (Nop below offset fail) some inside placed strips = inside
+has_range t g p o len _ some inside placed strips = inside
 
 -- Targets
 

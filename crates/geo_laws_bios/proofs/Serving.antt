@@ -8,10 +8,10 @@ use Rattle.geo_model.specs.Counts.{Counts}
 use Rattle.geo_model.specs.BioCmd.{BioCmd}
 use Rattle.geo_model.specs.declared.step.Owner.{Owner}
 use Rattle.geo_model.specs.declared.step.Owner.TheVariants as owners
-use Rattle.geo_model.specs.Words.{is_read, is_flush}
+use Rattle.geo_model.specs.Words.{is_read}
 use Rattle.geo_model.specs.Topology.{Topology, Geom, Provider, Consumer, geom_at, provider_at, consumer_at}
 use Rattle.geo_model.specs.Demand.{want}
-use Rattle.geo_model.specs.World.{World, Bio, Config, Nothing, Disk, Mbr, Ebr, Label, Concat, Stripe, Nop, bio_at, children_of, is_root, is_waiting, is_child_of, granted_in}
+use Rattle.geo_model.specs.World.{World, Bio, Config, bio_at, children_of, is_root, is_waiting, is_child_of, granted_in}
 use Rattle.geo_model.specs.Place.{disk_of}
 use Rattle.geo_model.specs.Bios.{PieceTarget, piece_targets}
 use Rattle.geo_model.specs.SoundBios.{IsBioInOrder, IsFamilyInOrder, HasCountFor, ChildShape, shape_of_child, shape_of_piece}
@@ -22,6 +22,7 @@ use Rattle.geo_laws_graph.proofs.Numbered.{number_found}
 use Rattle.geo_laws_bios.specs.PieceLaws.{Serves, SourceServes}
 use Rattle.geo_laws_bios.specs.ServingLaws.{SourcesServeAll}
 use Rattle.geo_laws_bios.proofs.Joined.{not_nothing}
+pub use Rattle.geo_laws_bios.proofs.Joined.{no_pieces}
 use Rattle.geo_laws_bios.proofs.Counted.{serves_below}
 use Rattle.geo_laws_bios.proofs.Splitting.{GoesDown}
 use Rattle.geo_laws_bios.proofs.Descending.{all_go}
@@ -51,23 +52,6 @@ from_pieces w y (c ∷ cs) k (z ∷ zs) shapes go =
       },
       from_pieces w y cs (k + 1) zs tail go.1,
     )
-
--- nothing goes down at the geom of a disk
-no_pieces_by : (disk : ℕ) (p : Provider) (y : Bio) (b : Bool) → is_flush y.cmd ≡ b → piece_targets (Disk disk) p y ≡ []
-no_pieces_by disk p y true e = rw e refl
-no_pieces_by disk p y false e = rw e refl
-
--- so
-pub no_pieces : (config : Config) (p : Provider) (y : Bio) (disk : ℕ) → disk_of config ≡ Some disk
-    → piece_targets config p y ≡ []
-no_pieces Nothing p y disk is = absurd cc
-no_pieces (Disk d) p y disk is = no_pieces_by d p y (is_flush y.cmd) refl
-no_pieces (Mbr below slices) p y disk is = absurd cc
-no_pieces (Ebr below parts) p y disk is = absurd cc
-no_pieces (Label below) p y disk is = absurd cc
-no_pieces (Concat id places sizes) p y disk is = absurd cc
-no_pieces (Stripe id stripe places sizes) p y disk is = absurd cc
-no_pieces (Nop below offset fail) p y disk is = absurd cc
 
 module _ (w : World) (firm : Firm w) (granted : ℕ → Counts) where
   -- the graph

@@ -4,7 +4,7 @@ use Rattle.std.proofs.Common.{refl, sym, ◌∙◌, ap, subst}
 use Rattle.std.proofs.lemmas.Bool.{eqb-true, eqb-false}
 use Rattle.geo_model.specs.declared.step.Outcome.{Outcome}
 use Rattle.geo_model.specs.Topology.{Topology, Geom, Provider, geom_at, provider_at, is_errored, note_started}
-use Rattle.geo_model.specs.World.{World, Bio, Config, Nothing, Disk, Mbr, Ebr, Label, Concat, Stripe, Nop, bio_at, is_down}
+use Rattle.geo_model.specs.World.{World, Bio, Config, Disk, Nop, bio_at, is_down}
 use Rattle.geo_model.specs.Place.{disk_of}
 use Rattle.geo_model.specs.Bios.{Way, Bounces, Fails, Sends, Splits, Passes, PieceTarget, way_at, way_of, is_hit, piece_targets, start_by, split_bio}
 use Rattle.geo_model.specs.Step.{start_of}
@@ -49,33 +49,8 @@ way_splits : (x : Bio) (p : Provider) (g : Geom Config) (targets : List PieceTar
 way_splits x p g targets (Disk disk) is way = absurd (let bad : None ≡ Some targets = way in cc)
 way_splits x p g targets (Nop below offset fail) is way =
     (nop_splits x p g below offset fail targets (is_hit (g.started + 1) fail) refl way, ap disk_of is)
-way_splits x p g targets Nothing is way = (
-  let e : piece_targets Nothing p x ≡ targets = cc in
-      sym e ∙ ap (λ (c : Config). piece_targets c p x) (sym is),
-  ap disk_of is,
-)
-way_splits x p g targets (Mbr below slices) is way = (
-  let e : piece_targets (Mbr below slices) p x ≡ targets = cc in
-      sym e ∙ ap (λ (c : Config). piece_targets c p x) (sym is),
-  ap disk_of is,
-)
-way_splits x p g targets (Ebr below parts) is way = (
-  let e : piece_targets (Ebr below parts) p x ≡ targets = cc in
-      sym e ∙ ap (λ (c : Config). piece_targets c p x) (sym is),
-  ap disk_of is,
-)
-way_splits x p g targets (Label below) is way = (
-  let e : piece_targets (Label below) p x ≡ targets = cc in
-      sym e ∙ ap (λ (c : Config). piece_targets c p x) (sym is),
-  ap disk_of is,
-)
-way_splits x p g targets (Concat id places sizes) is way = (
-  let e : piece_targets (Concat id places sizes) p x ≡ targets = cc in
-      sym e ∙ ap (λ (c : Config). piece_targets c p x) (sym is),
-  ap disk_of is,
-)
-way_splits x p g targets (Stripe id stripe places sizes) is way = (
-  let e : piece_targets (Stripe id stripe places sizes) p x ≡ targets = cc in
+way_splits x p g targets config is way = (
+  let e : piece_targets config p x ≡ targets = cc in
       sym e ∙ ap (λ (c : Config). piece_targets c p x) (sym is),
   ap disk_of is,
 )

@@ -16,9 +16,9 @@ use Rattle.geo_model.specs.declared.step.BioResult.{BioResult}
 use Rattle.geo_model.specs.declared.step.BioResult.TheVariants as results
 use Rattle.geo_model.specs.declared.step.Owner.{Owner}
 use Rattle.geo_model.specs.declared.step.Owner.TheVariants as owners
-use Rattle.geo_model.specs.Words.{is_kind, is_read, names_number}
+use Rattle.geo_model.specs.Words.{is_kind, is_granted_kind, is_read, names_number}
 use Rattle.geo_model.specs.Topology.{Topology, Geom, Provider, Consumer, geom_at, provider_at, consumer_at, providers_of}
-use Rattle.geo_model.specs.Demand.{have, want, is_zero, no_counts, want_of_kind}
+use Rattle.geo_model.specs.Demand.{have, want, is_zero, no_counts}
 use Rattle.geo_model.specs.World.{World, Bio, Config, Handle, Taste, Asked, NoClass, NextSector, ReadOut, ReadBack, granted_in, taste_grant, bio_at, is_root, is_taste_root, is_read_out, is_waiting, is_done, is_up, is_busy, is_sent}
 use Rattle.geo_model.specs.Place.{disk_of}
 use Rattle.geo_model.specs.Bios.{disk_of_bio, up_taste}
@@ -30,6 +30,8 @@ use Rattle.geo_laws_counts.specs.CountWords.{IsAtMost, AreAtMost}
 use Rattle.geo_laws_counts.proofs.Sums.{at_most-same, at_most-zero, at_most-under, zero-test}
 use Rattle.geo_laws_counts.proofs.Levels.{have-at_most}
 use Rattle.geo_laws_counts.proofs.Keeping.{exclusive_less, limit_less}
+use Rattle.geo_laws_counts.proofs.Wants.{granted_want}
+use Rattle.geo_laws_graph.proofs.Classes.{granted_is}
 use Rattle.geo_laws_graph.proofs.Lists.{numbers-kept, filter-filter, found_itself}
 use Rattle.geo_laws_graph.proofs.Living.{if_some_weaker}
 use Rattle.geo_laws_graph.proofs.Members.{find-Contains, filter-Contains, Contains-filter, Contains-cases, nothing_in, at_contained}
@@ -69,19 +71,6 @@ filter_none : {X : Type 0} (test : X → Bool) (x : X) → test x ≡ false → 
 filter_none test x out = rw out refl
 
 -- Grants
-
--- a consumer of DEV wants what it is granted
-dev_kind : (kind : Kind) (haves : List Counts) (grant : Counts) → is_kind kind kinds.Dev ≡ true
-    → want_of_kind kind haves grant ≡ grant
-dev_kind kinds.Dev haves grant is = refl
-dev_kind kinds.Disk haves grant is = absurd cc
-dev_kind kinds.Taste haves grant is = absurd cc
-dev_kind kinds.Mbr haves grant is = absurd cc
-dev_kind kinds.Ebr haves grant is = absurd cc
-dev_kind kinds.Label haves grant is = absurd cc
-dev_kind kinds.Concat haves grant is = absurd cc
-dev_kind kinds.Stripe haves grant is = absurd cc
-dev_kind kinds.Nop haves grant is = absurd cc
 
 -- a taste's read is out, so it is asked so
 record IsOut (a : Asked) : Type 0 where
@@ -311,12 +300,13 @@ module _ (w : World) (x : Bio) (s : Taste) (kind : Kind) where
           let one : g.number ≡ 1 = number_found (λ (v : Geom Config). v.number) t.geoms 1 g e in
           let is_dev : is_kind g.kind kinds.Dev ≡ true = class.dev ∙ eq-eqb g.number 1 one in
           let geom : geom_at t c.geom ≡ Some g = subst (λ (n : ℕ). geom_at t n ≡ Some g) (sym dev) e in
-          rw geom (dev_kind g.kind
+          let grants : is_granted_kind g.kind ≡ true = granted_is g.kind ∙ rw is_dev refl in
+          rw geom (granted_want g.kind
           (map (λ (v : Provider). have (granted_in tasted) t v.number) (providers_of t g.number))
-          (granted_in tasted c.number) is_dev
+          (granted_in tasted c.number) grants
           ∙ same ∙ sym
-          (dev_kind g.kind (map (λ (v : Provider). have (granted_in w) t v.number) (providers_of t g.number))
-          (granted_in w c.number) is_dev))
+          (granted_want g.kind (map (λ (v : Provider). have (granted_in w) t v.number) (providers_of t g.number))
+          (granted_in w c.number) grants))
 
     -- the source of a root of a line, by the handle
     line_serves : (z : Bio) → Contains w.bios z → (o : Option Handle) (handle : ℕ)

@@ -9,7 +9,7 @@ use Rattle.geo_model.specs.declared.step.Found.{Found}
 use Rattle.geo_model.specs.declared.step.Phase.{Phase}
 use Rattle.geo_model.specs.declared.step.Phase.TheVariants as phases
 use Rattle.geo_model.specs.Topology.{Provider, Geom, geom_at, provider_at, is_errored, note_started}
-use Rattle.geo_model.specs.World.{World, Bio, Config, Nothing, Disk, Mbr, Ebr, Label, Concat, Stripe, Nop, bio_at, is_sent, is_busy, is_down}
+use Rattle.geo_model.specs.World.{World, Bio, Config, Disk, Nop, bio_at, is_sent, is_busy, is_down}
 use Rattle.geo_model.specs.Bios.{Bounces, Fails, Sends, Passes, way_at, way_of, is_hit, disk_of_bio, busy_bio, sector_of_bio, result_of_device, take_bio, deliver, piece_targets}
 use Rattle.geo_model.specs.Place.{disk_of}
 use Rattle.geo_model.specs.Step.{take_of, take_found, deliver_of, deliver_found, unless_found}
@@ -130,15 +130,10 @@ not_at_nop x p g below offset fail disk false e way =
 -- a way to a disk, by the configuration
 sent_by : (x : Bio) (p : Provider) (g : Geom Config) (disk : ℕ) (config : Config) → way_at x p g config ≡ Sends disk
     → disk_of config ≡ Some disk
-sent_by x p g disk Nothing way = absurd cc
 sent_by x p g disk (Disk d) way = let same : d ≡ disk = cc in rw same refl
-sent_by x p g disk (Mbr below slices) way = absurd cc
-sent_by x p g disk (Ebr below parts) way = absurd cc
-sent_by x p g disk (Label below) way = absurd cc
-sent_by x p g disk (Concat id places sizes) way = absurd cc
-sent_by x p g disk (Stripe id stripe places sizes) way = absurd cc
 sent_by x p g disk (Nop below offset fail) way =
     absurd (not_at_nop x p g below offset fail disk (is_hit (g.started + 1) fail) refl way)
+sent_by x p g disk _ way = absurd cc
 
 module _ (w : World) (x : Bio) (disk : ℕ) where
   -- the disk of the bio, by the geom of the provider

@@ -14,7 +14,7 @@ use Rattle.geo_model.specs.declared.class.EbrPart.{EbrPart}
 use Rattle.geo_model.specs.declared.span.Piece.{Piece}
 use Rattle.geo_model.specs.declared.span.Stretch.{Stretch}
 use Rattle.geo_model.specs.Topology.{Topology, Geom, Provider, provider_at, consumer_at}
-use Rattle.geo_model.specs.World.{Config, Nothing, Disk, Mbr, Ebr, Label, Concat, Stripe, Nop}
+use Rattle.geo_model.specs.World.{Config, Mbr, Ebr, Label, Concat, Stripe, Nop}
 use Rattle.geo_model.specs.Place.{Spot, place, pieces, piece_in, window, strip, stretches, concat_stretches, concat_spot, component, slice_at, part_at}
 use Rattle.geo_model.specs.Sound.{fits_kind, IsPlaceInside}
 use Rattle.geo_model.specs.Fitting.{FitsPlace, IsWholeIn}
@@ -124,8 +124,6 @@ AreWholeSizes d _ = ⊤
 whole_stretches : (d : ℕ) (p : Provider) (o len : ℕ) (config : Config) → d ∣ p.size → IsWholeIn config d
     → AreWholeSizes d config
     → AllByRecursion (IsWholeStretch d) (stretches config p o len)
-whole_stretches d p o len Nothing of_size whole sizes = tt
-whole_stretches d p o len (Disk disk) of_size whole sizes = tt
 whole_stretches d p o len (Mbr below slices) of_size whole sizes =
     whole_slice d p.size (slice_at slices p.name) whole of_size
 whole_stretches d p o len (Ebr below parts) of_size whole sizes =
@@ -138,6 +136,7 @@ whole_stretches d p o len (Stripe id stripe places ns) of_size whole sizes =
     (range_with_len (o / stripe) ((o + len - 1) / stripe + 1 - o / stripe))
 whole_stretches d p o len (Nop below offset fail) of_size whole sizes =
     whole_window d offset p.size (dvd_of_mod-eq-zero d whole) of_size
+whole_stretches d p o len _ of_size whole sizes = tt
 
 -- so are the pieces of a request of whole sectors
 pub pieces_whole : (d : ℕ) (p : Provider) (o len : ℕ) (config : Config) → d ∣ o → d ∣ len → d ∣ p.size
@@ -216,12 +215,5 @@ module _ (t : Topology Config) (g : Geom Config) (p : Provider) where
 -- the class CONCAT has such a configuration
 pub concat_kind : (kind : Kind) (id : Option ℕ) (places : List (Option ℕ)) (sizes : List ℕ)
     → IsTrue (fits_kind kind (Concat id places sizes)) → kind ≡ kinds.Concat
-concat_kind kinds.Disk id places sizes fits = absurd cc
-concat_kind kinds.Dev id places sizes fits = absurd cc
-concat_kind kinds.Taste id places sizes fits = absurd cc
-concat_kind kinds.Mbr id places sizes fits = absurd cc
-concat_kind kinds.Ebr id places sizes fits = absurd cc
-concat_kind kinds.Label id places sizes fits = absurd cc
 concat_kind kinds.Concat id places sizes fits = refl
-concat_kind kinds.Stripe id places sizes fits = absurd cc
-concat_kind kinds.Nop id places sizes fits = absurd cc
+concat_kind _ id places sizes fits = absurd cc

@@ -1,5 +1,5 @@
 -- A demand that comes with a new consumer or goes with a removed one: what it changes.
-use Rattle.std.specs.Prelude.{◌≡◌, ◌≢◌, ℕ, zero, suc, ◌==◌, Bool, true, false, not, cond, List, [], ◌∷◌, ◌++◌, map, filter, filter_map, flat_map, Option, Some, None, All, Contains, IsSomeAnd, length, if◌then◌else◌}
+use Rattle.std.specs.Prelude.{◌≡◌, ◌≢◌, ℕ, zero, suc, ◌==◌, Bool, true, false, not, cond, List, [], ◌∷◌, ◌++◌, map, filter, filter_map, flat_map, Option, Some, None, All, Contains, length, if◌then◌else◌}
 use Rattle.std.specs.List.{AllByRecursion}
 use Rattle.std.specs.Option.{option_map_or}
 use Rattle.std.proofs.Common.{refl, sym, ◌∙◌, ap, subst, arith, inl, inr, eq-eqb}
@@ -8,13 +8,11 @@ use Rattle.std.proofs.lemmas.List.{append-nil}
 use Rattle.std.proofs.lemmas.List.Elements.{All-contains, All-weaker, All-push, filter-append, recursion_from_All}
 use Rattle.geo_model.proofs.FindLists.{found_in}
 use Rattle.geo_model.specs.Counts.{Counts}
-use Rattle.geo_model.specs.Kind.{Kind}
-use Rattle.geo_model.specs.Kind.TheVariants as kinds
-use Rattle.geo_model.specs.Words.{names_number, is_granted_kind}
+use Rattle.geo_model.specs.Words.{names_number}
 use Rattle.geo_model.specs.Topology.{Topology, Geom, Provider, Consumer, geom_at, provider_at, providers_of, providers_under, attached_to, add_consumer, remove_consumer}
 use Rattle.geo_model.specs.Rank.{Ranked}
 use Rattle.geo_model.specs.Opens.{below, below_within, with_grant}
-use Rattle.geo_model.specs.Demand.{no_counts, add_counts, sum_counts, want_of_kind, have, want, is_exclusive, fits_limit}
+use Rattle.geo_model.specs.Demand.{no_counts, add_counts, sum_counts, have, want, is_exclusive, fits_limit}
 use Rattle.geo_laws_counts.specs.CountWords.{IsAtMost, AreAtMost, more_counts, gain_of_kind, NumbersLead, DemandStays, AgreeExcept, HoldsGrants, IsOnlyOne}
 use Rattle.geo_laws_counts.specs.DemandLaws.{StaysAround}
 use Rattle.geo_laws_counts.proofs.Sums.{at_most-same, at_most-zero, add-zero, zero-add, add-assoc, counts-same, sum-same, add-move}
@@ -22,7 +20,7 @@ use Rattle.geo_laws_counts.proofs.Levels.{have-at_most, of_each}
 use Rattle.geo_laws_counts.proofs.Members.{in_cases, in_nothing, in_filter, kept_members}
 use Rattle.geo_model.proofs.DemandLemmas.{map_same, all_weaker}
 use Rattle.geo_laws_counts.proofs.Gains.{want_gains, have_gains}
-use Rattle.geo_laws_counts.proofs.Quiet.{differs}
+use Rattle.geo_laws_counts.proofs.Quiet.{differs, grant_over}
 use Rattle.geo_laws_counts.proofs.LimitFacts.{all_of, of_filter}
 use Rattle.geo_laws_counts.proofs.Reach.{below_self, stays, wants_stay}
 use Rattle.geo_laws_counts.proofs.Keeping.{exclusive_less, limit_less}
@@ -159,24 +157,6 @@ sum-end_more f test (y ∷ ys) x = more (test y) (sum-end_more f test ys x)
     more true rest = ap (add_counts (f y)) rest
         ∙ sym (add-assoc (f y) (sum_counts (map f (filter test ys))) (if test x then f x else no_counts))
     more false rest = rest
-
--- a consumer of a found geom of DEV or TASTE wants its grant
-grant_over : {C : Type 0} (H : ℕ → Counts) (x : Counts) (t : Topology C) (o : Option (Geom C))
-    → IsSomeAnd o (λ g. is_granted_kind g.kind ≡ true)
-    → option_map_or (λ g. want_of_kind g.kind (map (λ p. H p.number) (providers_of t g.number)) x) o no_counts ≡ x
-grant_over H x t None kind = absurd kind
-grant_over H x t (Some g) kind = of_kind g.kind (map (λ p. H p.number) (providers_of t g.number)) kind
-  where
-    of_kind : (k : Kind) (haves : List Counts) → is_granted_kind k ≡ true → want_of_kind k haves x ≡ x
-    of_kind kinds.Dev haves kind = refl
-    of_kind kinds.Taste haves kind = refl
-    of_kind kinds.Disk haves kind = cc
-    of_kind kinds.Nop haves kind = cc
-    of_kind kinds.Mbr haves kind = cc
-    of_kind kinds.Ebr haves kind = cc
-    of_kind kinds.Label haves kind = cc
-    of_kind kinds.Concat haves kind = cc
-    of_kind kinds.Stripe haves kind = cc
 
 -- what a consumer of DEV or TASTE wants is what it is granted
 pub wants_grant : {C : Type 0} (granted : ℕ → Counts) (t : Topology C) (c : Consumer) → HoldsGrants t c.geom

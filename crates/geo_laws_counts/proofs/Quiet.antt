@@ -5,8 +5,6 @@ use Rattle.std.specs.Option.{option_map_or}
 use Rattle.std.proofs.Common.{refl, sym, ◌∙◌, ap, arith, eq-eqb}
 use Rattle.std.proofs.lemmas.Bool.{eqb-true}
 use Rattle.std.proofs.lemmas.List.Elements.{recursion_from_All}
-use Rattle.geo_model.specs.Kind.{Kind}
-use Rattle.geo_model.specs.Kind.TheVariants as kinds
 use Rattle.geo_model.specs.Counts.{Counts}
 use Rattle.geo_model.specs.Words.{names_number, change_where, is_granted_kind}
 use Rattle.geo_model.specs.Topology.{Topology, Geom, Consumer, geom_at, providers_of, add_consumer}
@@ -14,6 +12,7 @@ use Rattle.geo_model.specs.Demand.{no_counts, add_counts, sum_counts, want_of_ki
 use Rattle.geo_model.proofs.DemandLemmas.{all_weaker}
 use Rattle.geo_laws_counts.specs.CountWords.{keep_consumers, move_consumer, HoldsGrants}
 use Rattle.geo_laws_counts.proofs.Sums.{at_most-under, zero-add}
+use Rattle.geo_laws_counts.proofs.Wants.{granted_want}
 use Rattle.geo_laws_counts.proofs.Levels.{grants-same, want_given-at_most, levels-at_most}
 use Rattle.geo_laws_counts.proofs.BareParts.{levels_same, sum-end, sum-left_out}
 
@@ -119,29 +118,16 @@ module _ {C : Type 0} (granted : ℕ → Counts) (t : Topology C) where
       (quiet (attached_somewhere to q attached))))
       (length t.geoms) (omega arith) p
 
--- a consumer of DEV or TASTE wants what it is granted
-granted_nothing : {C : Type 0} (H : ℕ → Counts) (x : Counts) (t : Topology C) → x ≡ no_counts → (o : Option (Geom C))
+-- a consumer of a found geom of DEV or TASTE wants its grant
+pub grant_over : {C : Type 0} (H : ℕ → Counts) (x : Counts) (t : Topology C) (o : Option (Geom C))
     → IsSomeAnd o (λ g. is_granted_kind g.kind ≡ true)
-    → option_map_or (λ g. want_of_kind g.kind (map (λ p. H p.number) (providers_of t g.number)) x) o
-    no_counts ≡ no_counts
-granted_nothing H x t none None kind = absurd kind
-granted_nothing H x t none (Some g) kind = of_kind g.kind (map (λ p. H p.number) (providers_of t g.number)) kind none
-  where
-    of_kind : (k : Kind) (haves : List Counts) → is_granted_kind k ≡ true → x ≡ no_counts
-        → want_of_kind k haves x ≡ no_counts
-    of_kind kinds.Dev haves kind none = none
-    of_kind kinds.Taste haves kind none = none
-    of_kind kinds.Disk haves kind none = refl
-    of_kind kinds.Nop haves kind none = cc
-    of_kind kinds.Mbr haves kind none = cc
-    of_kind kinds.Ebr haves kind none = cc
-    of_kind kinds.Label haves kind none = cc
-    of_kind kinds.Concat haves kind none = cc
-    of_kind kinds.Stripe haves kind none = cc
+    → option_map_or (λ g. want_of_kind g.kind (map (λ p. H p.number) (providers_of t g.number)) x) o no_counts ≡ x
+grant_over H x t None kind = absurd kind
+grant_over H x t (Some g) kind = granted_want g.kind (map (λ p. H p.number) (providers_of t g.number)) x kind
 
 -- a consumer of DEV or TASTE without a grant wants nothing
 pub granted_wants_nothing : {C : Type 0} (granted : ℕ → Counts) (t : Topology C) (c : Consumer)
     → granted c.number ≡ no_counts
     → HoldsGrants t c.geom → want granted t c ≡ no_counts
 granted_wants_nothing granted t c none kind =
-    granted_nothing (have granted t) (granted c.number) t none (geom_at t c.geom) kind
+    grant_over (have granted t) (granted c.number) t (geom_at t c.geom) kind ∙ none

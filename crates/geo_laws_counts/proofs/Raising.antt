@@ -44,24 +44,14 @@ nothing_gained kinds.Dev had gains none = refl
 nothing_gained kinds.Taste had gains none = refl
 nothing_gained kinds.Disk had gains none = refl
 nothing_gained kinds.Nop had gains none = none
-nothing_gained kinds.Mbr had gains none = none_more (list_all is_zero had) gains none
-nothing_gained kinds.Ebr had gains none = none_more (list_all is_zero had) gains none
-nothing_gained kinds.Label had gains none = none_more (list_all is_zero had) gains none
-nothing_gained kinds.Concat had gains none = none_more (list_all is_zero had) gains none
-nothing_gained kinds.Stripe had gains none = none_more (list_all is_zero had) gains none
+nothing_gained _ had gains none = none_more (list_all is_zero had) gains none
 
 -- and what one of DEV or TASTE gains without a grant
 pub granted_gain : (kind : Kind) (had gains : List Counts) → is_granted_kind kind ≡ true
     → gain_of_kind kind had gains no_counts ≡ no_counts
 granted_gain kinds.Dev had gains e = refl
 granted_gain kinds.Taste had gains e = refl
-granted_gain kinds.Disk had gains e = absurd (cc)
-granted_gain kinds.Nop had gains e = absurd (cc)
-granted_gain kinds.Mbr had gains e = absurd (cc)
-granted_gain kinds.Ebr had gains e = absurd (cc)
-granted_gain kinds.Label had gains e = absurd (cc)
-granted_gain kinds.Concat had gains e = absurd (cc)
-granted_gain kinds.Stripe had gains e = absurd (cc)
+granted_gain _ had gains e = absurd cc
 
 -- the same over one item more
 swap_step : {X : Type 0} (a b : X → Bool) (f : Counts) (x : X) (xs : List X) (p q : Bool) → a x ≡ p → b x ≡ q

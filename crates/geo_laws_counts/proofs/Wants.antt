@@ -30,11 +30,14 @@ want-sum kinds.Dev haves granted = refl
 want-sum kinds.Taste haves granted = refl
 want-sum kinds.Disk haves granted = refl
 want-sum kinds.Nop haves granted = add-zero (sum_counts haves)
-want-sum kinds.Mbr haves granted = ap (λ b. exclusive_over b (sum_counts haves)) (zeros-sum haves)
-want-sum kinds.Ebr haves granted = ap (λ b. exclusive_over b (sum_counts haves)) (zeros-sum haves)
-want-sum kinds.Label haves granted = ap (λ b. exclusive_over b (sum_counts haves)) (zeros-sum haves)
-want-sum kinds.Concat haves granted = ap (λ b. exclusive_over b (sum_counts haves)) (zeros-sum haves)
-want-sum kinds.Stripe haves granted = ap (λ b. exclusive_over b (sum_counts haves)) (zeros-sum haves)
+want-sum _ haves granted = ap (λ b. exclusive_over b (sum_counts haves)) (zeros-sum haves)
+
+-- a consumer of DEV or TASTE wants what is granted to it
+pub granted_want : (kind : Kind) (haves : List Counts) (granted : Counts) → is_granted_kind kind ≡ true
+    → want_of_kind kind haves granted ≡ granted
+granted_want kinds.Dev haves granted is = refl
+granted_want kinds.Taste haves granted is = refl
+granted_want _ haves granted is = absurd cc
 
 -- more of each above and a greater grant never make it want less
 exclusive-at_most : (a b : Counts) → IsAtMost a b → (x y : Bool) → is_zero a ≡ x → is_zero b ≡ y
@@ -56,11 +59,7 @@ want_of_sum-at_most kinds.Dev a b x y h k = k
 want_of_sum-at_most kinds.Taste a b x y h k = k
 want_of_sum-at_most kinds.Disk a b x y h k = at_most-same no_counts
 want_of_sum-at_most kinds.Nop a b x y h k = h
-want_of_sum-at_most kinds.Mbr a b x y h k = exclusive-at_most a b h (is_zero a) (is_zero b) refl refl
-want_of_sum-at_most kinds.Ebr a b x y h k = exclusive-at_most a b h (is_zero a) (is_zero b) refl refl
-want_of_sum-at_most kinds.Label a b x y h k = exclusive-at_most a b h (is_zero a) (is_zero b) refl refl
-want_of_sum-at_most kinds.Concat a b x y h k = exclusive-at_most a b h (is_zero a) (is_zero b) refl refl
-want_of_sum-at_most kinds.Stripe a b x y h k = exclusive-at_most a b h (is_zero a) (is_zero b) refl refl
+want_of_sum-at_most _ a b x y h k = exclusive-at_most a b h (is_zero a) (is_zero b) refl refl
 
 -- by how much the want rises where each provider above has more
 exclusive-gain : (s d : Counts) (x y : Bool)
@@ -112,24 +111,14 @@ want_of_sum-gain kinds.Dev had gains x y = refl
 want_of_sum-gain kinds.Taste had gains x y = refl
 want_of_sum-gain kinds.Disk had gains x y = refl
 want_of_sum-gain kinds.Nop had gains x y = refl
-want_of_sum-gain kinds.Mbr had gains x y = exclusive_gain_of had gains
-want_of_sum-gain kinds.Ebr had gains x y = exclusive_gain_of had gains
-want_of_sum-gain kinds.Label had gains x y = exclusive_gain_of had gains
-want_of_sum-gain kinds.Concat had gains x y = exclusive_gain_of had gains
-want_of_sum-gain kinds.Stripe had gains x y = exclusive_gain_of had gains
+want_of_sum-gain _ had gains x y = exclusive_gain_of had gains
 
 -- a class that isn't DEV or TASTE wants nothing where there is nothing above, and but for DISK only there
 pub nothing_over : (kind : Kind) (x : Counts) → is_granted_kind kind ≡ false → want_of_sum kind no_counts x ≡ no_counts
 unfolding want_of_sum exclusive_over
 nothing_over kinds.Dev x e = cc
 nothing_over kinds.Taste x e = cc
-nothing_over kinds.Disk x e = refl
-nothing_over kinds.Nop x e = refl
-nothing_over kinds.Mbr x e = refl
-nothing_over kinds.Ebr x e = refl
-nothing_over kinds.Label x e = refl
-nothing_over kinds.Concat x e = refl
-nothing_over kinds.Stripe x e = refl
+nothing_over _ x e = refl
 
 -- there is nothing over nothing alone
 exclusive_nothing : (b : Bool) (s : Counts) → exclusive_over b s ≡ no_counts → s ≡ no_counts
@@ -148,8 +137,4 @@ over_nothing kinds.Dev s x e disk none = cc
 over_nothing kinds.Taste s x e disk none = cc
 over_nothing kinds.Disk s x e disk none = cc
 over_nothing kinds.Nop s x e disk none = none
-over_nothing kinds.Mbr s x e disk none = exclusive_nothing (is_zero s) s none
-over_nothing kinds.Ebr s x e disk none = exclusive_nothing (is_zero s) s none
-over_nothing kinds.Label s x e disk none = exclusive_nothing (is_zero s) s none
-over_nothing kinds.Concat s x e disk none = exclusive_nothing (is_zero s) s none
-over_nothing kinds.Stripe s x e disk none = exclusive_nothing (is_zero s) s none
+over_nothing _ s x e disk none = exclusive_nothing (is_zero s) s none

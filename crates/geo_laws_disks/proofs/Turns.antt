@@ -42,18 +42,13 @@ empty_targets config p x flushes = rw flushes (each (components config))
 -- the pieces of a FLUSH are empty
 empty_at : (x : Bio) (p : Provider) (g : Geom Config) → is_flush x.cmd ≡ true → (config : Config)
     → EmptyWay (way_at x p g config)
-empty_at x p g flushes Nothing = empty_targets Nothing p x flushes
 empty_at x p g flushes (Disk disk) = tt
-empty_at x p g flushes (Mbr below slices) = empty_targets (Mbr below slices) p x flushes
-empty_at x p g flushes (Ebr below parts) = empty_targets (Ebr below parts) p x flushes
-empty_at x p g flushes (Label below) = empty_targets (Label below) p x flushes
-empty_at x p g flushes (Concat id places sizes) = empty_targets (Concat id places sizes) p x flushes
-empty_at x p g flushes (Stripe id stripe places sizes) = empty_targets (Stripe id stripe places sizes) p x flushes
 empty_at x p g flushes (Nop below offset fail) = by (is_hit (g.started + 1) fail) refl
   where
     by : (b : Bool) → is_hit (g.started + 1) fail ≡ b → EmptyWay (way_at x p g (Nop below offset fail))
     by true e = rw e tt
     by false e = rw e (empty_targets g.config p x flushes)
+empty_at x p g flushes config = empty_targets config p x flushes
 
 -- whatever way a FLUSH goes
 empty_way : (t : Topology Config) (x : Bio) → is_flush x.cmd ≡ true → EmptyWay (way_of t x)

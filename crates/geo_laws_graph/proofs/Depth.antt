@@ -2,9 +2,8 @@
 use Rattle.std.specs.Prelude.{◌≡◌, ◌≢◌, ◌↔◌, ◌≤◌, nat_lt, Bool, true, false, not, ◌&&◌, ◌||◌, List, [], ◌∷◌, All}
 use Rattle.std.specs.List.{AllByRecursion, list_any}
 use Rattle.std.proofs.Common.{refl, sym, ◌∙◌}
-use Rattle.std.proofs.lemmas.Bool.{eqb-false, ne_eqb, or_parts, or_from, ltb-false, le-ltb}
+use Rattle.std.proofs.lemmas.Bool.{eqb-false, or_parts, or_from, ltb-false, le-ltb}
 use Rattle.std.proofs.lemmas.List.Elements.{recursion_from_All, All-from_recursion}
-use Rattle.geo_model.specs.Kind.{Kind}
 use Rattle.geo_model.specs.Kind.TheVariants as kinds
 use Rattle.geo_model.specs.TheConstants.{MAX_RANK}
 use Rattle.geo_model.specs.Words.{is_kind, is_granted_kind}
@@ -12,18 +11,7 @@ use Rattle.geo_model.specs.Topology.{Topology, Geom}
 use Rattle.geo_model.specs.Rank.{rank, is_too_deep}
 use Rattle.geo_model.specs.World.{Config}
 use Rattle.geo_model.specs.Sound.{IsOfItsClass}
-
--- a class is DEV, or TASTE, or grants nothing
-granted_is : (kind : Kind) → is_granted_kind kind ≡ (is_kind kind kinds.Dev || is_kind kind kinds.Taste)
-granted_is kinds.Disk = refl
-granted_is kinds.Dev = refl
-granted_is kinds.Taste = refl
-granted_is kinds.Mbr = refl
-granted_is kinds.Ebr = refl
-granted_is kinds.Label = refl
-granted_is kinds.Concat = refl
-granted_is kinds.Stripe = refl
-granted_is kinds.Nop = refl
+use Rattle.geo_laws_graph.proofs.Classes.{granted_is, not_granted}
 
 module _ (t : Topology Config) where
   -- a geom deeper than the limit, of a class other than DEV and TASTE
@@ -33,13 +21,6 @@ module _ (t : Topology Config) where
   -- a geom within the limit, if it is neither geom 1 nor 2
   abbrev IsShallow : Geom Config → Type 0
   IsShallow x = x.number ≢ 1 → x.number ≢ 2 → rank t x.number ≤ MAX_RANK
-
-  -- a geom of its class, neither 1 nor 2, is neither DEV nor TASTE
-  not_granted : (x : Geom Config) → IsOfItsClass x → x.number ≢ 1 → x.number ≢ 2 → is_granted_kind x.kind ≡ false
-  not_granted x of apart other =
-      granted_is x.kind
-      ∙ or_from (is_kind x.kind kinds.Dev) (is_kind x.kind kinds.Taste)
-      (of.dev ∙ ne_eqb x.number 1 apart) (of.taste ∙ ne_eqb x.number 2 other)
 
   -- so one that isn't too deep is within the limit
   shallow_from : (x : Geom Config) → IsOfItsClass x → is_deep x ≡ false → IsShallow x

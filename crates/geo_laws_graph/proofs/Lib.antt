@@ -1,4 +1,5 @@
 pub mod Members
+pub mod Classes
 pub mod Lists
 pub mod Numbered
 pub mod Spared

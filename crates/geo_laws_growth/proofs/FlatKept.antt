@@ -8,10 +8,11 @@ use Rattle.geo_model.specs.Words.{◌>>=◌}
 use Rattle.geo_model.specs.Topology.{Topology, Geom, Provider, Consumer, geom_at, provider_at, consumer_at}
 use Rattle.geo_model.specs.Rank.{Ranked}
 use Rattle.geo_model.specs.Opens.{below}
-use Rattle.geo_model.specs.World.{Config, Nothing, Disk, Mbr, Ebr, Label, Concat, Stripe, Nop}
+use Rattle.geo_model.specs.World.{Config, Nothing, Disk}
 use Rattle.geo_model.specs.Place.{Spot, DiskSector, place, component, disk_of, provider_below, flat_step, flat_within, flat}
 use Rattle.geo_model.specs.Sound.{IsPlaceInside, IsPlaced}
 use Rattle.geo_model.proofs.DemandLemmas.{find_passes}
+use Rattle.geo_laws_graph.proofs.Classes.{is_disk}
 use Rattle.geo_laws_graph.proofs.Members.{has, find-Contains}
 use Rattle.geo_laws_counts.proofs.Reach.{below_self, below_closed}
 use Rattle.geo_laws_growth.specs.GrowthLaws.{KeepsWays, IsLaid}
@@ -51,15 +52,7 @@ with_provider t r P (Some y) found fact = with_found t r P y found (geom_at t y.
 step_disk : (F : ℕ → ℕ → Option DiskSector) (v : Topology Config) (config : Config) (x : Provider) (o d : ℕ)
     → disk_of config ≡ Some d
     → flat_step F v config x o ≡ Some (record { disk = d; sector = o / x.sector })
-step_disk F v Nothing x o d e = absurd (let no : ⊥ = cc in no)
-step_disk F v (Disk disk) x o d e = let same : disk
-    ≡ d = cc in ap (λ n. Some (record { disk = n; sector = o / x.sector })) same
-step_disk F v (Mbr below slices) x o d e = absurd (let no : ⊥ = cc in no)
-step_disk F v (Ebr below parts) x o d e = absurd (let no : ⊥ = cc in no)
-step_disk F v (Label below) x o d e = absurd (let no : ⊥ = cc in no)
-step_disk F v (Concat id places sizes) x o d e = absurd (let no : ⊥ = cc in no)
-step_disk F v (Stripe id stripe places sizes) x o d e = absurd (let no : ⊥ = cc in no)
-step_disk F v (Nop below offset fail) x o d e = absurd (let no : ⊥ = cc in no)
+step_disk F v config x o d e = rw (is_disk config d e) refl
 
 module _ (F : ℕ → ℕ → Option DiskSector) (v : Topology Config) where
   -- from a spot it goes on at the provider below
@@ -73,15 +66,7 @@ module _ (F : ℕ → ℕ → Option DiskSector) (v : Topology Config) where
       → flat_step F v config x o ≡ (provider_below v config spot >>= (λ n. F n spot.offset))
   step_down Nothing x o spot e = absurd (let no : ⊥ = cc in no)
   step_down (Disk disk) x o spot e = absurd (let no : ⊥ = cc in no)
-  step_down (Mbr below slices) x o spot e = down_from (Mbr below slices) (place (Mbr below slices) x.name o) spot e
-  step_down (Ebr below parts) x o spot e = down_from (Ebr below parts) (place (Ebr below parts) x.name o) spot e
-  step_down (Label below) x o spot e = down_from (Label below) (place (Label below) x.name o) spot e
-  step_down (Concat id places sizes) x o spot e =
-      down_from (Concat id places sizes) (place (Concat id places sizes) x.name o) spot e
-  step_down (Stripe id stripe places sizes) x o spot e =
-      down_from (Stripe id stripe places sizes) (place (Stripe id stripe places sizes) x.name o) spot e
-  step_down (Nop below offset fail) x o spot e =
-      down_from (Nop below offset fail) (place (Nop below offset fail) x.name o) spot e
+  step_down config x o spot e = down_from config (place config x.name o) spot e
 
   -- to which the component's consumer is attached
   step_to : (config : Config) (x : Provider) (o : ℕ) (spot : Spot) (c : ℕ) (d : Consumer) (n : ℕ)

@@ -4,7 +4,7 @@ use Rattle.std.specs.Option.{option_to_list, option_flatten}
 use Rattle.std.proofs.Common.{refl, sym, ◌∙◌, ap, arith, append_assoc}
 use Rattle.std.proofs.lemmas.List.Sums.{sum_by-cons, sum_by_push}
 use Rattle.std.proofs.lemmas.Bool.{lt-ltb, le-ltb, ltb-false}
-use Rattle.geo_model.specs.World.{Config, Nothing, Disk, Mbr, Ebr, Label, Concat, Stripe, Nop}
+use Rattle.geo_model.specs.World.{Config, Concat}
 use Rattle.geo_model.specs.Place.{Spot, concat_spot}
 use Rattle.geo_model.specs.Acceptance.{add_place}
 use Rattle.geo_laws_growth.specs.GrowthLaws.{GrownConcat, KeepsPlaces}
@@ -102,18 +102,12 @@ same_places config = record { disk = refl; places = λ name o spot e. e; compone
 
 -- growth keeps the places of any configuration
 pub keeps_places : (config : Config) (c size : ℕ) → KeepsPlaces config (add_place config c size)
-keeps_places Nothing c size = same_places Nothing
-keeps_places (Disk disk) c size = same_places (Disk disk)
-keeps_places (Mbr below slices) c size = same_places (Mbr below slices)
-keeps_places (Ebr below parts) c size = same_places (Ebr below parts)
-keeps_places (Label below) c size = same_places (Label below)
 keeps_places (Concat id places sizes) c size = record {
   disk = refl;
   places = λ name o spot e. spot_more 0 sizes (size ∷ []) o spot e;
   components = λ k d e. place_more places (Some c ∷ []) k d e;
 }
-keeps_places (Stripe id stripe places sizes) c size = same_places (Stripe id stripe places sizes)
-keeps_places (Nop below offset fail) c size = same_places (Nop below offset fail)
+keeps_places config c size = same_places config
 
 -- a concat with one more component
 pub grown_concat : GrownConcat

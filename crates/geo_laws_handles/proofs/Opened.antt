@@ -98,8 +98,8 @@ module _ (w : World) (firm : Firm w) (actor : ℕ) (name : List ℕ) (p : ℕ) (
   granted =
       ap
       (λ (o : Option Handle). option_map_or (λ (h : Handle). h.grant) o (taste_grant w.taste t.next_consumer))
-      (find-pushed_hit (λ (h : Handle). names_number h.consumer t.next_consumer) w.handles handle (none_holds_next w firm)
-      (eq-eqb t.next_consumer t.next_consumer refl))
+      (find-pushed_hit (λ (h : Handle). names_number h.consumer t.next_consumer) w.handles handle
+      (none_holds_next w firm) (eq-eqb t.next_consumer t.next_consumer refl))
 
   module _ (x : Provider) (found : provider_at t p ≡ Some x)
       (allowed : IsAllowed (granted_in v) (with_opener t p) p) where

@@ -22,11 +22,12 @@ use Rattle.geo_model.specs.Graph.{IsInOrder}
 use Rattle.geo_model.specs.Sound.{IsHandleConsumer, HasItsConsumer, HasTasteConsumer, IsTasteInOrder}
 use Rattle.geo_model.specs.Steady.{ComesFromItsOwner}
 use Rattle.geo_model.specs.Fitting.{IsAskedInOrder, Firm}
+use Rattle.geo_laws_graph.proofs.Members.{find-Contains}
 use Rattle.geo_laws_graph.proofs.Found.{added-consumer}
 use Rattle.geo_laws_graph.proofs.Numbered.{number_found}
 use Rattle.geo_laws_graph.proofs.Living.{found-before, sound-order}
 use Rattle.geo_laws_graph.proofs.Holding.{sound-ranks}
-use Rattle.geo_laws_graph.proofs.Opens.{open-rises, open-other}
+use Rattle.geo_laws_graph.proofs.Opens.{open-rises}
 use Rattle.geo_laws_counts.specs.CountWords.{DemandStays, AnyConsumer}
 use Rattle.geo_laws_counts.proofs.Quiet.{granted_wants_nothing}
 use Rattle.geo_laws_counts.proofs.Stays.{consumer_came}
@@ -44,7 +45,7 @@ use Rattle.geo_model.specs.Step.{step, event, event_of}
 use Rattle.geo_laws_life.specs.EventLaws.{EventStepKeepsFirm}
 use Rattle.geo_laws_life.proofs.Killed.{all_killed-firm}
 use Rattle.geo_laws_life.proofs.Announced.{spoil-firm, orphan-firm, resize-firm, killed_queued}
-use Rattle.geo_laws_life.proofs.Bare.{bare_there, holds_grants, none_holds_next}
+use Rattle.geo_laws_life.proofs.Bare.{bare_there, not_of_bare, holds_grants, none_holds_next}
 use Rattle.geo_laws_life.proofs.Frames.{Frame, came, has_its-still, framed-firm}
 use Rattle.geo_laws_life.proofs.MarksKept.{queues_keep}
 
@@ -143,11 +144,10 @@ module _ (w : World) (p : ℕ) (firm : Firm w) (none : w.taste ≡ None) (x : Pr
   in_order = record {
     rank = some-with (geom_of_provider t p) (λ h. rank u h.number < UNTASTED_RANK) g
         (ap (option_and_then (λ (z : Provider). geom_at t z.geom)) found ∙ of)
-        (let same : rank u g.number ≡ rank t g.number = (open-rises t 2 p x firm.graph.ranks.ranked firm.graph.parts.consumers
-        (bare_there w firm 2 (inr refl)) firm.graph.ranks.taste.no_provider found).0.same
-        g.number
-        (λ e. open-other t 2 p x firm.graph.ranks.ranked firm.graph.parts.consumers
-        (bare_there w firm 2 (inr refl)) firm.graph.ranks.taste.no_provider found
+        (let rises = open-rises t 2 p x firm.graph.ranks.ranked firm.graph.parts.consumers
+        (bare_there w firm 2 (inr refl)) firm.graph.ranks.taste.no_provider found in
+        let same : rank u g.number ≡ rank t g.number = rises.0.same g.number (λ e.
+        not_of_bare w firm 2 (inr refl) x (find-Contains (λ (z : Provider). z.number == p) t.providers x found)
         (sym (number_found (λ (z : Geom Config). z.number) t.geoms x.geom g of) ∙ e)) in
         omega arith);
     reads = refl;

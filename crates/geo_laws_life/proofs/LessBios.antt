@@ -9,7 +9,7 @@ use Rattle.geo_model.specs.Topology.{Topology, Geom, Provider, Consumer, geom_at
 use Rattle.geo_model.specs.Demand.{want}
 use Rattle.geo_model.specs.Bios.{PieceTarget, piece_targets, disk_at}
 use Rattle.geo_model.specs.Place.{disk_of}
-use Rattle.geo_model.specs.World.{World, Config, Nothing, Disk, Mbr, Ebr, Label, Concat, Stripe, Nop, Bio, granted_in, children_among, is_sent, is_busy}
+use Rattle.geo_model.specs.World.{World, Config, Disk, Bio, granted_in, children_among, is_sent, is_busy}
 use Rattle.geo_model.specs.SoundBios.{IsRangeInside, HasCountFor, IsBioInOrder, shape_of_child, shape_of_piece, HasItsPieces, IsFamilyInOrder, DisksHold}
 use Rattle.geo_model.specs.Fitting.{Firm}
 use Rattle.geo_laws_counts.proofs.LimitFacts.{all_of}
@@ -20,14 +20,8 @@ use Rattle.geo_laws_life.proofs.LessLooks.{StandsStill, attached-still, stays_or
 -- the pieces of a bio don't depend on errors
 same_targets : (config : Config) (p : Provider) (b : Bool) (x : Bio)
     → piece_targets config (record p { errored = b }) x ≡ piece_targets config p x
-same_targets Nothing p b x = refl
 same_targets (Disk disk) p b x = refl
-same_targets (Mbr below slices) p b x = refl
-same_targets (Ebr below parts) p b x = refl
-same_targets (Label below) p b x = refl
-same_targets (Concat id places sizes) p b x = refl
-same_targets (Stripe id stripe places sizes) p b x = refl
-same_targets (Nop below offset fail) p b x = refl
+same_targets _ p b x = refl
 
 -- who wants nothing has no count for a request
 pub no_count : (b : Bool) (r n : ℕ) → r ≡ 0 → n ≡ 0 → (IsTrue b → 0 < r) × (b ≡ false → 0 < n) → ⊥

@@ -15,6 +15,7 @@ use Rattle.geo_model.specs.World.{World, Config, Nothing, Disk, granted_in}
 use Rattle.geo_model.specs.Graph.{IsInOrder}
 use Rattle.geo_model.specs.Sound.{fits_kind}
 use Rattle.geo_model.specs.Fitting.{Firm}
+use Rattle.geo_laws_graph.proofs.Classes.{bare_config}
 use Rattle.geo_laws_graph.proofs.Members.{has, find-Contains, Contains-filter, filter-Contains, nothing_in}
 use Rattle.geo_laws_graph.proofs.Living.{sound-order}
 use Rattle.geo_laws_graph.proofs.Numbered.{number_found}
@@ -46,36 +47,18 @@ pub record IsMiddleKind (kind : Kind) : Type 0 where
   pub granted : is_granted_kind kind ≡ false
   pub disk : is_kind kind kinds.Disk ≡ false
 
--- the configuration of a disk, of DEV and of TASTE has nothing below
+-- the configuration of a disk has nothing below
 bare_disk : (config : Config) → fits_kind kinds.Disk config ≡ true → has_below config ≡ false
-bare_disk Nothing e = refl
 bare_disk (Disk disk) e = refl
 bare_disk _ e = from_false_true e
-
--- so of DEV
-bare_dev : (config : Config) → fits_kind kinds.Dev config ≡ true → has_below config ≡ false
-bare_dev Nothing e = refl
-bare_dev (Disk disk) e = refl
-bare_dev _ e = from_false_true e
-
--- and of TASTE
-bare_taste : (config : Config) → fits_kind kinds.Taste config ≡ true → has_below config ≡ false
-bare_taste Nothing e = refl
-bare_taste (Disk disk) e = refl
-bare_taste _ e = from_false_true e
 
 -- a geom with something below is of such a class
 pub middle_kind : (kind : Kind) (config : Config) → fits_kind kind config ≡ true → has_below config ≡ true
     → IsMiddleKind kind
 middle_kind kinds.Disk config e has = from_false_true (sym (bare_disk config e) ∙ has)
-middle_kind kinds.Dev config e has = from_false_true (sym (bare_dev config e) ∙ has)
-middle_kind kinds.Taste config e has = from_false_true (sym (bare_taste config e) ∙ has)
-middle_kind kinds.Mbr config e has = record { granted = refl; disk = refl }
-middle_kind kinds.Ebr config e has = record { granted = refl; disk = refl }
-middle_kind kinds.Label config e has = record { granted = refl; disk = refl }
-middle_kind kinds.Concat config e has = record { granted = refl; disk = refl }
-middle_kind kinds.Stripe config e has = record { granted = refl; disk = refl }
-middle_kind kinds.Nop config e has = record { granted = refl; disk = refl }
+middle_kind kinds.Dev config e has = from_false_true (sym (ap has_below (bare_config kinds.Dev config refl e)) ∙ has)
+middle_kind kinds.Taste config e has = from_false_true (sym (ap has_below (bare_config kinds.Taste config refl e)) ∙ has)
+middle_kind _ config e has = record { granted = refl; disk = refl }
 
 -- the disk of a provider that stands with its geom
 pub disk_there : (t : Topology Config) (p : ℕ) (y : Provider) (g : Geom Config) → provider_at t p ≡ Some y

@@ -4,10 +4,8 @@ use Rattle.std.specs.Option.{option_map_or}
 use Rattle.std.proofs.Common.{inl, inr, refl, sym, ◌∙◌, ap, subst, arith}
 use Rattle.std.proofs.lemmas.Bool.{eqb-true, eq-eqb, ne_eqb, cases_eq}
 use Rattle.std.proofs.lemmas.List.Elements.{All-contains, All-filter}
-use Rattle.geo_model.specs.Kind.{Kind}
-use Rattle.geo_model.specs.Kind.TheVariants as kinds
 use Rattle.geo_model.specs.declared.step.Event.{Event}
-use Rattle.geo_model.specs.Words.{is_kind, is_granted_kind}
+use Rattle.geo_model.specs.Words.{is_granted_kind}
 use Rattle.geo_model.specs.Topology.{Topology, Geom, Provider, Consumer, geom_at, provider_at, consumer_at, attached_to, providers_of, consumers_of, is_withering, remove_geom, remove_provider, remove_consumer}
 use Rattle.geo_model.specs.Rank.{rank}
 use Rattle.geo_model.specs.Demand.{have, want, want_of_kind, no_counts}
@@ -16,6 +14,7 @@ use Rattle.geo_model.specs.World.{World, Config, Taste, granted_in}
 use Rattle.geo_model.specs.Graph.{IsInOrder, PartsLive}
 use Rattle.geo_model.specs.Sound.{HasTasteConsumer, IsOfItsClass, StandsBare}
 use Rattle.geo_model.specs.Fitting.{Firm}
+use Rattle.geo_laws_graph.proofs.Classes.{not_granted}
 use Rattle.geo_laws_graph.proofs.Members.{find-Contains, All-from_contained, Contains-filter, filter-Contains, nothing_in}
 use Rattle.geo_laws_graph.proofs.Lists.{found_itself}
 use Rattle.geo_laws_graph.proofs.Numbered.{number_found}
@@ -41,19 +40,6 @@ use Rattle.geo_laws_life.proofs.LessFitting.{less-firm}
 -- a number that isn't lower than itself
 at_most_itself : (n : ℕ) → n ≤ n
 at_most_itself n = omega arith
-
--- a class that is neither DEV's nor TASTE's isn't granted counts
-not_granted : (kind : Kind) → is_kind kind kinds.Dev ≡ false → is_kind kind kinds.Taste ≡ false
-    → is_granted_kind kind ≡ false
-not_granted kinds.Disk dev taste = refl
-not_granted kinds.Dev dev taste = absurd (let no : ⊥ = cc in no)
-not_granted kinds.Taste dev taste = absurd (let no : ⊥ = cc in no)
-not_granted kinds.Mbr dev taste = refl
-not_granted kinds.Ebr dev taste = refl
-not_granted kinds.Label dev taste = refl
-not_granted kinds.Concat dev taste = refl
-not_granted kinds.Stripe dev taste = refl
-not_granted kinds.Nop dev taste = refl
 
 -- a bare geom that withers
 pub record IsBareGeom (w : World) (g : ℕ) : Type 0 where
@@ -245,9 +231,9 @@ module _ (w : World) (firm : Firm w) where
         (find-Contains (λ (z : Geom Config). z.number == g) t.geoms bare.geom bare.found) in
         let number : bare.geom.number ≡ g = number_found (λ (z : Geom Config). z.number) t.geoms g bare.geom
         bare.found in
-        not_granted bare.geom.kind
-        (class.dev ∙ ne_eqb bare.geom.number 1 (λ same. not_upright 1 firm.graph.ranks.dev (sym number ∙ same)))
-        (class.taste ∙ ne_eqb bare.geom.number 2 (λ same. not_upright 2 firm.graph.ranks.taste (sym number ∙ same)))
+        not_granted bare.geom class
+        (λ same. not_upright 1 firm.graph.ranks.dev (sym number ∙ same))
+        (λ same. not_upright 2 firm.graph.ranks.taste (sym number ∙ same))
 
     -- all demand stays
     demand_stays : DemandStays (granted_in w) t (granted_in w) (remove_geom t g) AnyConsumer

@@ -92,10 +92,7 @@ module _ (w : World) (s : Taste) (p : Provider) (bytes : List ℕ) (shape : Shap
       let o = shape_of Striped (stripe_record bytes) shape accepted.verdict in
       places_stay.stripe w s p bytes o.found made firm
       (subst (λ x. IsAccepted w s p kinds.Stripe bytes x made) o.is accepted)
-  accepted-firm kinds.Disk accepted = absurd (let e = accepted.verdict in let no : ⊥ = cc in no)
-  accepted-firm kinds.Dev accepted = absurd (let e = accepted.verdict in let no : ⊥ = cc in no)
-  accepted-firm kinds.Taste accepted = absurd (let e = accepted.verdict in let no : ⊥ = cc in no)
-  accepted-firm kinds.Nop accepted = absurd (let e = accepted.verdict in let no : ⊥ = cc in no)
+  accepted-firm _ accepted = absurd (let e = accepted.verdict in let no : ⊥ = cc in no)
 
 -- so say all verdicts
 pub accepts_stay : AcceptsStayFirm

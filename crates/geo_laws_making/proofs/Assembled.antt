@@ -55,27 +55,13 @@ pub record IsOfAssembly (kind : Kind) (config : Config) : Type 0 where
 of_concat : (kind : Kind) (id : Option ℕ) (places : List (Option ℕ)) (sizes : List ℕ)
     → fits_kind kind (Concat id places sizes) ≡ true → IsOfAssembly kind (Concat id places sizes)
 of_concat kinds.Concat id places sizes fits = record { dev = refl; taste = refl; filled = λ k c size. refl }
-of_concat kinds.Disk id places sizes fits = absurd (let no : ⊥ = cc in no)
-of_concat kinds.Dev id places sizes fits = absurd (let no : ⊥ = cc in no)
-of_concat kinds.Taste id places sizes fits = absurd (let no : ⊥ = cc in no)
-of_concat kinds.Mbr id places sizes fits = absurd (let no : ⊥ = cc in no)
-of_concat kinds.Ebr id places sizes fits = absurd (let no : ⊥ = cc in no)
-of_concat kinds.Label id places sizes fits = absurd (let no : ⊥ = cc in no)
-of_concat kinds.Stripe id places sizes fits = absurd (let no : ⊥ = cc in no)
-of_concat kinds.Nop id places sizes fits = absurd (let no : ⊥ = cc in no)
+of_concat _ id places sizes fits = absurd (let no : ⊥ = cc in no)
 
 -- and for a stripe
 of_stripe : (kind : Kind) (id : Option ℕ) (stripe : ℕ) (places : List (Option ℕ)) (sizes : List ℕ)
     → fits_kind kind (Stripe id stripe places sizes) ≡ true → IsOfAssembly kind (Stripe id stripe places sizes)
 of_stripe kinds.Stripe id stripe places sizes fits = record { dev = refl; taste = refl; filled = λ k c size. refl }
-of_stripe kinds.Disk id stripe places sizes fits = absurd (let no : ⊥ = cc in no)
-of_stripe kinds.Dev id stripe places sizes fits = absurd (let no : ⊥ = cc in no)
-of_stripe kinds.Taste id stripe places sizes fits = absurd (let no : ⊥ = cc in no)
-of_stripe kinds.Mbr id stripe places sizes fits = absurd (let no : ⊥ = cc in no)
-of_stripe kinds.Ebr id stripe places sizes fits = absurd (let no : ⊥ = cc in no)
-of_stripe kinds.Label id stripe places sizes fits = absurd (let no : ⊥ = cc in no)
-of_stripe kinds.Concat id stripe places sizes fits = absurd (let no : ⊥ = cc in no)
-of_stripe kinds.Nop id stripe places sizes fits = absurd (let no : ⊥ = cc in no)
+of_stripe _ id stripe places sizes fits = absurd (let no : ⊥ = cc in no)
 
 -- so for any assembly
 pub of-assembly : (kind : Kind) (config : Config) → IsAssembly config → fits_kind kind config ≡ true

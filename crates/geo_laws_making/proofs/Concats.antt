@@ -9,7 +9,7 @@ use Rattle.geo_base.specs.declared.kind.Kind.{Kind}
 use Rattle.geo_base.specs.declared.kind.Kind.TheVariants as kinds
 use Rattle.geo_model.specs.Words.{is_kind, same_name}
 use Rattle.geo_model.specs.Topology.{Topology, Geom, Provider, providers_of}
-use Rattle.geo_model.specs.World.{Config, Nothing, Disk, Mbr, Ebr, Label, Concat, Stripe, Nop}
+use Rattle.geo_model.specs.World.{Config, Concat}
 use Rattle.geo_model.specs.Acceptance.{add_place}
 use Rattle.geo_model.specs.Append.{Growing, with_provider, is_growing, growing_concat}
 use Rattle.geo_model.specs.Graph.{IsInOrder}
@@ -27,14 +27,7 @@ use Rattle.geo_laws_making.proofs.Made.{through}
 -- the class with CONCAT's number is CONCAT
 concat_class : (kind : Kind) → is_kind kind kinds.Concat ≡ true → kind ≡ kinds.Concat
 concat_class kinds.Concat e = refl
-concat_class kinds.Disk e = false_true e
-concat_class kinds.Dev e = false_true e
-concat_class kinds.Taste e = false_true e
-concat_class kinds.Mbr e = false_true e
-concat_class kinds.Ebr e = false_true e
-concat_class kinds.Label e = false_true e
-concat_class kinds.Stripe e = false_true e
-concat_class kinds.Nop e = false_true e
+concat_class _ e = false_true e
 
 -- a configuration of a concat
 pub record IsConcat (config : Config) : Type 0 where
@@ -46,13 +39,7 @@ pub record IsConcat (config : Config) : Type 0 where
 -- the configuration of the class is one
 pub concat_of : (config : Config) → fits_kind kinds.Concat config ≡ true → IsConcat config
 concat_of (Concat id places sizes) e = record { id = id; places = places; sizes = sizes; is = refl }
-concat_of Nothing e = false_true e
-concat_of (Disk disk) e = false_true e
-concat_of (Mbr below slices) e = false_true e
-concat_of (Ebr below parts) e = false_true e
-concat_of (Label below) e = false_true e
-concat_of (Stripe id stripe places sizes) e = false_true e
-concat_of (Nop below offset fail) e = false_true e
+concat_of _ e = false_true e
 
 -- a concat that was found and its provider, of its class and not withering
 pub record IsStanding (t : Topology Config) (x : Growing) : Type 0 where

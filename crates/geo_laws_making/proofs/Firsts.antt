@@ -45,10 +45,7 @@ first_inside kinds.Ebr f sector some e = zero_in ((f.sector == 512) && is_kind f
 first_inside kinds.Label f sector some e = last_in (nat_le 2 f.sectors) f.sectors sector refl e
 first_inside kinds.Concat f sector some e = last_in (nat_le 2 f.sectors) f.sectors sector refl e
 first_inside kinds.Stripe f sector some e = last_in (nat_le 2 f.sectors) f.sectors sector refl e
-first_inside kinds.Disk f sector some e = not_some sector e
-first_inside kinds.Dev f sector some e = not_some sector e
-first_inside kinds.Taste f sector some e = not_some sector e
-first_inside kinds.Nop f sector some e = not_some sector e
+first_inside _ f sector some e = not_some sector e
 
 -- a media size has a sector
 pub has_sector : (size sector : ℕ) → IsSectorSize sector → IsMediaSize size sector → 1 ≤ size / sector
@@ -89,8 +86,4 @@ judge_no_more kinds.Mbr bytes f sector e = no_more Slices (mbr_table bytes f.sec
 judge_no_more kinds.Label bytes f sector e = label_no_more f (label_record bytes) sector e
 judge_no_more kinds.Concat bytes f sector e = no_more Joined (concat_record bytes) sector e
 judge_no_more kinds.Stripe bytes f sector e = no_more Striped (stripe_record bytes) sector e
-judge_no_more kinds.Ebr bytes f sector e = absurd (let no : ⊥ = cc in no)
-judge_no_more kinds.Disk bytes f sector e = absurd (let no : ⊥ = cc in no)
-judge_no_more kinds.Dev bytes f sector e = absurd (let no : ⊥ = cc in no)
-judge_no_more kinds.Taste bytes f sector e = absurd (let no : ⊥ = cc in no)
-judge_no_more kinds.Nop bytes f sector e = absurd (let no : ⊥ = cc in no)
+judge_no_more _ bytes f sector e = absurd (let no : ⊥ = cc in no)

@@ -196,22 +196,9 @@ module _ (w : World) (firm : Firm w) (s : Taste) (is : w.taste ≡ Some s)
     bytes_kept kinds.Ebr bytes asks going =
         follow_kept kinds.Ebr bytes (with_link n s.chain bytes) asks going (feed n s.chain bytes) refl
         (λ sector more. link_more bytes sector asks more)
-    bytes_kept kinds.Mbr bytes asks going =
-        follow_kept kinds.Mbr bytes s.chain asks going (judge kinds.Mbr bytes f) refl
-        (λ sector more. judge_no_more kinds.Mbr bytes f sector more)
-    bytes_kept kinds.Label bytes asks going =
-        follow_kept kinds.Label bytes s.chain asks going (judge kinds.Label bytes f) refl
-        (λ sector more. judge_no_more kinds.Label bytes f sector more)
-    bytes_kept kinds.Concat bytes asks going =
-        follow_kept kinds.Concat bytes s.chain asks going (judge kinds.Concat bytes f) refl
-        (λ sector more. judge_no_more kinds.Concat bytes f sector more)
-    bytes_kept kinds.Stripe bytes asks going =
-        follow_kept kinds.Stripe bytes s.chain asks going (judge kinds.Stripe bytes f) refl
-        (λ sector more. judge_no_more kinds.Stripe bytes f sector more)
-    bytes_kept kinds.Disk bytes asks going = class_ends w firm is s.classes
-    bytes_kept kinds.Dev bytes asks going = class_ends w firm is s.classes
-    bytes_kept kinds.Taste bytes asks going = class_ends w firm is s.classes
-    bytes_kept kinds.Nop bytes asks going = class_ends w firm is s.classes
+    bytes_kept kind bytes asks going =
+        follow_kept kind bytes s.chain asks going (judge kind bytes f) refl
+        (λ sector more. judge_no_more kind bytes f sector more)
 
     -- by the result
     result_kept : (kind : Kind) (got : BioResult) → s.asked ≡ ReadBack kind got → is_ended t s ≡ false

@@ -186,8 +186,8 @@ module _ (w : World) (u : Topology Config) (g : Geom Config) (firm : Firm w) (mo
   more-handles = record {
     numbers = firm.handles.numbers;
     consumers = subst (All (IsHandleConsumer w.handles)) (sym more.dev) firm.handles.consumers;
-    handles = All-weaker (HasItsConsumer t) (HasItsConsumer u) (has_its-still t u (λ m c e one. more.old_consumers m c e))
-        w.handles firm.handles.handles;
+    handles = All-weaker (HasItsConsumer t) (HasItsConsumer u)
+        (has_its-still t u (λ m c e one. more.old_consumers m c e)) w.handles firm.handles.handles;
     taste = tasting_stays t u more.tasting w.taste firm.handles.taste;
   }
 

@@ -190,13 +190,7 @@ none_wanted : (kind : Kind) (granted : Counts) → is_kind kind kinds.Dev ≡ fa
     → want_of_kind kind [] granted ≡ no_counts
 none_wanted kinds.Dev granted dev taste = false_true (sym dev)
 none_wanted kinds.Taste granted dev taste = false_true (sym taste)
-none_wanted kinds.Disk granted dev taste = refl
-none_wanted kinds.Mbr granted dev taste = refl
-none_wanted kinds.Ebr granted dev taste = refl
-none_wanted kinds.Label granted dev taste = refl
-none_wanted kinds.Concat granted dev taste = refl
-none_wanted kinds.Stripe granted dev taste = refl
-none_wanted kinds.Nop granted dev taste = refl
+none_wanted _ granted dev taste = refl
 
 -- so of any consumer of such a geom
 quiet_one : (granted : ℕ → Counts) (t : Topology Config) (c : Consumer) (g : Geom Config)

@@ -14,7 +14,7 @@ use Rattle.geo_base.specs.declared.limits.TheConstants.{MAX_COMPONENTS, MAX_MEDI
 use Rattle.geo_model.specs.Words.{is_kind, same_name}
 use Rattle.geo_model.specs.Topology.{Topology, Geom, Provider, Consumer, provider_at, consumer_at, provider_of_consumer, add_geom, add_consumer}
 use Rattle.geo_model.specs.Rank.{rank}
-use Rattle.geo_model.specs.World.{World, Config, Nothing, Disk, Mbr, Ebr, Label, Concat, Stripe, Nop}
+use Rattle.geo_model.specs.World.{World, Config, Concat, Stripe}
 use Rattle.geo_model.specs.Events.{QueuedTopology, offer}
 use Rattle.geo_model.specs.WorldEvents.{queued_of, with_queued}
 use Rattle.geo_model.specs.Place.{components}
@@ -165,15 +165,8 @@ same_concat (Concat (Some a) places sizes) id count sector e =
           ∙ length-replicate {A = Option ℕ} count None;
       whole = tt;
     }
-same_concat (Concat None places sizes) id count sector e = false_true e
 same_concat (Stripe (Some a) s places sizes) id count sector e = false_true e
-same_concat (Stripe None s places sizes) id count sector e = false_true e
-same_concat Nothing id count sector e = false_true e
-same_concat (Disk disk) id count sector e = false_true e
-same_concat (Mbr below slices) id count sector e = false_true e
-same_concat (Ebr below parts) id count sector e = false_true e
-same_concat (Label below) id count sector e = false_true e
-same_concat (Nop below offset fail) id count sector e = false_true e
+same_concat _ id count sector e = false_true e
 
 -- and of a stripe
 same_stripe : (config : Config) (id stripe count sector : ℕ) → (1 ≤ stripe) × (stripe % sector ≡ 0)
@@ -189,15 +182,8 @@ same_stripe (Stripe (Some a) s places sizes) id stripe count sector whole e =
           ∙ length-replicate {A = Option ℕ} count None;
       whole = subst (λ m. (1 ≤ m) × (m % sector ≡ 0)) (sym (eqb-true s stripe rest.0)) whole;
     }
-same_stripe (Stripe None s places sizes) id stripe count sector whole e = false_true e
 same_stripe (Concat (Some a) places sizes) id stripe count sector whole e = false_true e
-same_stripe (Concat None places sizes) id stripe count sector whole e = false_true e
-same_stripe Nothing id stripe count sector whole e = false_true e
-same_stripe (Disk disk) id stripe count sector whole e = false_true e
-same_stripe (Mbr below slices) id stripe count sector whole e = false_true e
-same_stripe (Ebr below parts) id stripe count sector whole e = false_true e
-same_stripe (Label below) id stripe count sector whole e = false_true e
-same_stripe (Nop below offset fail) id stripe count sector whole e = false_true e
+same_stripe _ id stripe count sector whole e = false_true e
 
 -- New geoms
 

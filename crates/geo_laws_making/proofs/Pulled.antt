@@ -1,7 +1,7 @@
 -- A pull and a destroy: a geom withers, or the command is refused.
 use Rattle.std.specs.Prelude.{◌≡◌, ◌≢◌, ℕ, ◌==◌, Bool, true, false, not, ◌&&◌, List, find, Option, Some, None}
 use Rattle.std.specs.Option.{option_map_or}
-use Rattle.std.proofs.Common.{inl, inr, refl, sym, ◌∙◌, ap}
+use Rattle.std.proofs.Common.{inl, inr, refl, sym, ◌∙◌, ap, subst}
 use Rattle.std.proofs.lemmas.Bool.{and_parts, eqb-true, eq-eqb}
 use Rattle.std.proofs.lemmas.List.Elements.{All-contains}
 use Rattle.geo_base.specs.Kind.{adds_exclusive}
@@ -10,7 +10,7 @@ use Rattle.geo_base.specs.declared.kind.Kind.{Kind}
 use Rattle.geo_base.specs.declared.kind.Kind.TheVariants as kinds
 use Rattle.geo_model.specs.Words.{first_error, is_kind, kind_number, same_name}
 use Rattle.geo_model.specs.Topology.{Geom}
-use Rattle.geo_model.specs.World.{World, Config, Nothing, Disk, Mbr, Ebr, Label, Concat, Stripe, Nop, HeaderDisk, granted_in}
+use Rattle.geo_model.specs.World.{World, Config, Disk, HeaderDisk, granted_in}
 use Rattle.geo_model.specs.Events.{wither}
 use Rattle.geo_model.specs.WorldEvents.{queued_of, with_queued}
 use Rattle.geo_model.specs.Place.{disk_of}
@@ -20,6 +20,7 @@ use Rattle.geo_model.specs.Plans.{IsNamedClass}
 use Rattle.geo_model.specs.Sound.{fits_kind, IsOfItsClass}
 use Rattle.geo_model.specs.Fitting.{Firm}
 use Rattle.geo_model.proofs.DemandLemmas.{find_passes}
+use Rattle.geo_laws_graph.proofs.Classes.{is_disk}
 use Rattle.geo_laws_graph.proofs.Members.{Has, find-Contains}
 use Rattle.geo_laws_life.proofs.Withering.{withered-firm}
 use Rattle.geo_laws_making.proofs.Over.{false_true}
@@ -50,26 +51,12 @@ number_there (Some d) n e = record { item = d; is = refl }
 -- a configuration of a disk is one of no other class
 disk_class : (kind : Kind) (disk : ℕ) → fits_kind kind (Disk disk) ≡ true → kind ≡ kinds.Disk
 disk_class kinds.Disk disk e = refl
-disk_class kinds.Dev disk e = false_true e
-disk_class kinds.Taste disk e = false_true e
-disk_class kinds.Mbr disk e = false_true e
-disk_class kinds.Ebr disk e = false_true e
-disk_class kinds.Label disk e = false_true e
-disk_class kinds.Concat disk e = false_true e
-disk_class kinds.Stripe disk e = false_true e
-disk_class kinds.Nop disk e = false_true e
+disk_class _ disk e = false_true e
 
 -- so the geom of a disk is one of DISK
 of_disk : (kind : Kind) (config : Config) (d : ℕ) → fits_kind kind config ≡ true → disk_of config ≡ Some d
     → kind ≡ kinds.Disk
-of_disk kind (Disk disk) d fits e = disk_class kind disk fits
-of_disk kind Nothing d fits e = absurd (let no : ⊥ = cc in no)
-of_disk kind (Mbr below slices) d fits e = absurd (let no : ⊥ = cc in no)
-of_disk kind (Ebr below parts) d fits e = absurd (let no : ⊥ = cc in no)
-of_disk kind (Label below) d fits e = absurd (let no : ⊥ = cc in no)
-of_disk kind (Concat id places sizes) d fits e = absurd (let no : ⊥ = cc in no)
-of_disk kind (Stripe id stripe places sizes) d fits e = absurd (let no : ⊥ = cc in no)
-of_disk kind (Nop below offset fail) d fits e = absurd (let no : ⊥ = cc in no)
+of_disk kind config d fits e = disk_class kind d (subst (λ c. fits_kind kind c ≡ true) (is_disk config d e) fits)
 
 -- a geom that is found by a test withers, where the test leaves out DEV and TASTE
 found-firm : (w : World) (line : ℕ) (e : Errno) (test : Geom Config → Bool)
@@ -112,15 +99,9 @@ named_class kind (inl adds) = by kind adds where
   -- by the class
   by : (kind : Kind) → adds_exclusive kind ≡ true → (is_kind kind kinds.Dev ≡ false)
       × (is_kind kind kinds.Taste ≡ false)
-  by kinds.Disk e = (refl, refl)
   by kinds.Dev e = false_true e
   by kinds.Taste e = false_true e
-  by kinds.Mbr e = (refl, refl)
-  by kinds.Ebr e = (refl, refl)
-  by kinds.Label e = (refl, refl)
-  by kinds.Concat e = (refl, refl)
-  by kinds.Stripe e = (refl, refl)
-  by kinds.Nop e = (refl, refl)
+  by _ e = (refl, refl)
 named_class kind (inr nop) = (ap (λ k. is_kind k kinds.Dev) nop, ap (λ k. is_kind k kinds.Taste) nop)
 
 -- a geom of such a class has neither's number

@@ -8,7 +8,7 @@ use Rattle.std.proofs.lemmas.Grind.{flat_map-append}
 use Rattle.std.proofs.lemmas.List.{map-append, drop-drop, take_all}
 use Rattle.std.proofs.lemmas.List.Elements.{All-contains, All-append, All-nil}
 use Rattle.std.proofs.lemmas.Simd.{map-map}
-use Rattle.geo_laws_bios.proofs.Serving.{no_pieces}
+use Rattle.geo_laws_bios.proofs.Joined.{no_pieces}
 use Rattle.geo_base.specs.declared.request.BioCmd.{BioCmd}
 use Rattle.geo_base.specs.declared.request.BioCmd.TheVariants as cmds
 use Rattle.geo_base.specs.Sectors.{IsSectorSize}

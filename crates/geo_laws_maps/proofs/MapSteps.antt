@@ -1,45 +1,14 @@
 -- One level of the way down: it is the same where the components lead to the same providers, and these go on
 -- the same.
-use Rattle.std.specs.Prelude.{◌≡◌, ℕ, zero, suc, ◌/◌, ◌==◌, Bool, true, false, List, [], ◌∷◌, ◌++◌, flat_map, filter_map, Option, Some, None, Contains, option_and_then, slice_get, if◌then◌else◌}
-use Rattle.std.specs.Option.{option_to_list, option_flatten, option_map_or}
-use Rattle.std.proofs.Common.{refl, sym, ◌∙◌, ap, subst}
+use Rattle.std.specs.Prelude.{◌≡◌, ℕ, suc, ◌/◌, List, [], ◌∷◌, ◌++◌, flat_map, filter_map, Option, Some, None, Contains, option_and_then}
+use Rattle.std.specs.Option.{option_map_or}
+use Rattle.std.proofs.Common.{refl, sym, ◌∙◌, ap}
 use Rattle.geo_model.specs.Words.{◌>>=◌}
 use Rattle.geo_model.specs.Topology.{Topology, Geom, Provider, geom_at, provider_at, provider_of_consumer, provider_with_geom}
-use Rattle.geo_model.specs.World.{Config, Nothing, Disk, Mbr, Ebr, Label, Concat, Stripe, Nop}
+use Rattle.geo_model.specs.World.{Config, Nothing, Disk}
 use Rattle.geo_model.specs.Place.{Spot, DiskSector, place, component, components, disk_of, provider_below, flat_step, flat_within, ends_step, ends_within}
 use Rattle.geo_laws_graph.proofs.Members.{Contains-here, Contains-there}
-
--- Components
-
--- the one component there may be
-one_among : (b : Bool) (below : Option ℕ) (c : ℕ) → (if b then below else None) ≡ Some c
-    → Contains (option_to_list below) c
-one_among true None c e = absurd (let no : ⊥ = cc in no)
-one_among true (Some d) c e = let same : d ≡ c = cc in subst (Contains (d ∷ [])) same (Contains-here d [])
-one_among false below c e = absurd (let no : ⊥ = cc in no)
-
--- the one at a place of many
-place_among : (places : List (Option ℕ)) (k c : ℕ) → option_flatten (slice_get places k) ≡ Some c
-    → Contains (flat_map option_to_list places) c
-place_among [] k c e = absurd (let no : ⊥ = cc in no)
-place_among (None ∷ places) zero c e = absurd (let no : ⊥ = cc in no)
-place_among (Some d ∷ places) zero c e =
-    let same : d ≡ c = cc in
-    subst (Contains (d ∷ flat_map option_to_list places)) same (Contains-here d (flat_map option_to_list places))
-place_among (None ∷ places) (suc k) c e = place_among places k c e
-place_among (Some d ∷ places) (suc k) c e =
-    Contains-there d c (flat_map option_to_list places) (place_among places k c e)
-
--- what stands at a place of a configuration is one of its components
-pub component-among : (config : Config) (k c : ℕ) → component config k ≡ Some c → Contains (components config) c
-component-among Nothing k c e = absurd (let no : ⊥ = cc in no)
-component-among (Disk disk) k c e = absurd (let no : ⊥ = cc in no)
-component-among (Mbr below slices) k c e = one_among (k == 0) below c e
-component-among (Ebr below parts) k c e = one_among (k == 0) below c e
-component-among (Label below) k c e = one_among (k == 0) below c e
-component-among (Concat id places sizes) k c e = place_among places k c e
-component-among (Stripe id stripe places sizes) k c e = place_among places k c e
-component-among (Nop below offset fail) k c e = one_among (k == 0) below c e
+use Rattle.geo_laws_bios.proofs.Components.{component-among}
 
 -- A provider with its geom
 
@@ -114,20 +83,9 @@ module _ (F G : ℕ → ℕ → Option DiskSector) (t u : Topology Config) where
   pub flat_step-same : (config : Config) → LeadSame t u config → OfEachBelow t config (λ q. (o : ℕ) → G q o ≡ F q o)
       → (x y : Provider) (o : ℕ) → y.name ≡ x.name → y.sector ≡ x.sector
       → flat_step G u config y o ≡ flat_step F t config x o
-  flat_step-same Nothing lead so x y o name sector = flat_named Nothing lead so x.name y.name o name
   flat_step-same (Disk disk) lead so x y o name sector =
       ap (λ s. Some (record { disk = disk; sector = o / s })) sector
-  flat_step-same (Mbr below slices) lead so x y o name sector =
-      flat_named (Mbr below slices) lead so x.name y.name o name
-  flat_step-same (Ebr below parts) lead so x y o name sector =
-      flat_named (Ebr below parts) lead so x.name y.name o name
-  flat_step-same (Label below) lead so x y o name sector = flat_named (Label below) lead so x.name y.name o name
-  flat_step-same (Concat id places sizes) lead so x y o name sector =
-      flat_named (Concat id places sizes) lead so x.name y.name o name
-  flat_step-same (Stripe id stripe places sizes) lead so x y o name sector =
-      flat_named (Stripe id stripe places sizes) lead so x.name y.name o name
-  flat_step-same (Nop below offset fail) lead so x y o name sector =
-      flat_named (Nop below offset fail) lead so x.name y.name o name
+  flat_step-same config lead so x y o name sector = flat_named config lead so x.name y.name o name
 
 -- an offset that has a place lies where the provider below says
 module _ (F : ℕ → ℕ → Option DiskSector) (t : Topology Config) where
@@ -145,31 +103,15 @@ module _ (F : ℕ → ℕ → Option DiskSector) (t : Topology Config) where
       → flat_step F t config x o ≡ F n spot.offset
   flat_step-place Nothing x o spot n at below = absurd (let no : ⊥ = cc in no)
   flat_step-place (Disk disk) x o spot n at below = absurd (let no : ⊥ = cc in no)
-  flat_step-place (Mbr b slices) x o spot n at below =
-      placed_at (Mbr b slices) (place (Mbr b slices) x.name o) spot n at below
-  flat_step-place (Ebr b parts) x o spot n at below =
-      placed_at (Ebr b parts) (place (Ebr b parts) x.name o) spot n at below
-  flat_step-place (Label b) x o spot n at below = placed_at (Label b) (place (Label b) x.name o) spot n at below
-  flat_step-place (Concat id places sizes) x o spot n at below =
-      placed_at (Concat id places sizes) (place (Concat id places sizes) x.name o) spot n at below
-  flat_step-place (Stripe id stripe places sizes) x o spot n at below =
-      placed_at (Stripe id stripe places sizes) (place (Stripe id stripe places sizes) x.name o) spot n at below
-  flat_step-place (Nop b offset fail) x o spot n at below =
-      placed_at (Nop b offset fail) (place (Nop b offset fail) x.name o) spot n at below
+  flat_step-place config x o spot n at below = placed_at config (place config x.name o) spot n at below
 
 -- Disks
 
 -- at a geom that isn't a disk's, the disks are those below
 pub ends_step-down : (F : ℕ → List ℕ) (t : Topology Config) (config : Config) → disk_of config ≡ None
     → ends_step F t config ≡ flat_map F (filter_map (provider_of_consumer t) (components config))
-ends_step-down F t Nothing none = refl
 ends_step-down F t (Disk disk) none = absurd (let no : ⊥ = cc in no)
-ends_step-down F t (Mbr below slices) none = refl
-ends_step-down F t (Ebr below parts) none = refl
-ends_step-down F t (Label below) none = refl
-ends_step-down F t (Concat id places sizes) none = refl
-ends_step-down F t (Stripe id stripe places sizes) none = refl
-ends_step-down F t (Nop below offset fail) none = refl
+ends_step-down F t _ none = refl
 
 module _ (F G : ℕ → List ℕ) (t u : Topology Config) where
   -- from a provider below, and then the rest
@@ -201,12 +143,5 @@ module _ (F G : ℕ → List ℕ) (t u : Topology Config) where
   -- the whole level
   pub ends_step-same : (config : Config) → LeadSame t u config → OfEachBelow t config (λ q. G q ≡ F q)
       → ends_step G u config ≡ ends_step F t config
-  ends_step-same Nothing lead so = ends_over (components Nothing) lead so
   ends_step-same (Disk disk) lead so = refl
-  ends_step-same (Mbr below slices) lead so = ends_over (components (Mbr below slices)) lead so
-  ends_step-same (Ebr below parts) lead so = ends_over (components (Ebr below parts)) lead so
-  ends_step-same (Label below) lead so = ends_over (components (Label below)) lead so
-  ends_step-same (Concat id places sizes) lead so = ends_over (components (Concat id places sizes)) lead so
-  ends_step-same (Stripe id stripe places sizes) lead so =
-      ends_over (components (Stripe id stripe places sizes)) lead so
-  ends_step-same (Nop below offset fail) lead so = ends_over (components (Nop below offset fail)) lead so
+  ends_step-same config lead so = ends_over (components config) lead so

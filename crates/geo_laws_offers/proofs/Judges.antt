@@ -47,15 +47,8 @@ either-goes q s false x y first second = second
 -- the links that are kept leave the taste's consumer
 read-consumer : (granted : ℕ → Counts) (s : Taste) (kind : Kind) (bytes : List ℕ) (f : Facts)
     → (with_read granted s kind bytes f).consumer ≡ s.consumer
-read-consumer granted s kinds.Disk bytes f = refl
-read-consumer granted s kinds.Dev bytes f = refl
-read-consumer granted s kinds.Taste bytes f = refl
-read-consumer granted s kinds.Mbr bytes f = refl
 read-consumer granted s kinds.Ebr bytes f = refl
-read-consumer granted s kinds.Label bytes f = refl
-read-consumer granted s kinds.Concat bytes f = refl
-read-consumer granted s kinds.Stripe bytes f = refl
-read-consumer granted s kinds.Nop bytes f = refl
+read-consumer granted s _ bytes f = refl
 
 module _ (granted : ℕ → Counts) (q : QueuedTopology Config) (order : IsInOrder q.topology) (start : Taste) where
   module _ (s : Taste) (same : s.consumer ≡ start.consumer) where

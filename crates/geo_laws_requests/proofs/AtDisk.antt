@@ -13,11 +13,12 @@ use Rattle.geo_base.specs.declared.request.BioCmd.TheVariants as cmds
 use Rattle.geo_model.specs.declared.step.DeviceResult.{DeviceResult}
 use Rattle.geo_model.specs.Words.{◌>>=◌, is_flush, same_cmd}
 use Rattle.geo_model.specs.Topology.{Topology, Geom, Provider, provider_at, geom_at, provider_with_geom}
-use Rattle.geo_model.specs.World.{World, Config, Nothing, Disk, Mbr, Ebr, Label, Concat, Stripe, Nop, Bio, granted_in}
+use Rattle.geo_model.specs.World.{World, Config, Disk, Bio, granted_in}
 use Rattle.geo_model.specs.Place.{DiskSector, disk_of, flat, flat_step, flat_within, ends, ends_step, ends_within}
 use Rattle.geo_model.specs.Bios.{disk_at, disk_of_bio, request_of_bio, sector_of_bio}
 use Rattle.geo_model.specs.SoundBios.{IsBioInOrder, IsRangeInside}
 use Rattle.geo_model.specs.Results.{Leaf, sector_offsets, sectors_of_request}
+use Rattle.geo_laws_graph.proofs.Classes.{is_disk}
 use Rattle.geo_laws_graph.proofs.Members.{find-Contains}
 use Rattle.geo_laws_maps.specs.Covers.{CoversBy}
 use Rattle.geo_laws_requests.specs.Covering.{CoversThere}
@@ -30,17 +31,6 @@ pub record AtDisk (t : Topology Config) (n disk : ℕ) : Type 0 where
   pub at : provider_at t n ≡ Some provider
   pub of : geom_at t provider.geom ≡ Some geom
   pub config : geom.config ≡ Disk disk
-
--- a configuration that has a disk
-is_disk : (config : Config) (disk : ℕ) → disk_of config ≡ Some disk → config ≡ Disk disk
-is_disk Nothing disk e = absurd (let bad : ⊥ = cc in bad)
-is_disk (Disk d) disk e = let same : d ≡ disk = cc in ap Disk same
-is_disk (Mbr below slices) disk e = absurd (let bad : ⊥ = cc in bad)
-is_disk (Ebr below parts) disk e = absurd (let bad : ⊥ = cc in bad)
-is_disk (Label below) disk e = absurd (let bad : ⊥ = cc in bad)
-is_disk (Concat id places sizes) disk e = absurd (let bad : ⊥ = cc in bad)
-is_disk (Stripe id stripe places sizes) disk e = absurd (let bad : ⊥ = cc in bad)
-is_disk (Nop below offset fail) disk e = absurd (let bad : ⊥ = cc in bad)
 
 -- where there is a disk, the provider and its geom are found
 pub at_disk : (t : Topology Config) (n disk : ℕ) → disk_at t n ≡ Some disk → AtDisk t n disk

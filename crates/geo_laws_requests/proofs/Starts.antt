@@ -16,7 +16,7 @@ use Rattle.geo_model.specs.declared.step.Phase.{Phase}
 use Rattle.geo_model.specs.declared.step.Phase.TheVariants as phases
 use Rattle.geo_model.specs.declared.step.Step.TheVariants as steps
 use Rattle.geo_model.specs.Topology.{Topology, Geom, Provider, is_errored, provider_with_geom, note_started}
-use Rattle.geo_model.specs.World.{World, Config, Nothing, Disk, Mbr, Ebr, Label, Concat, Stripe, Nop, Bio, bio_at, change_number, children_of, is_child_of, is_down, is_waiting}
+use Rattle.geo_model.specs.World.{World, Config, Nop, Bio, bio_at, change_number, children_of, is_child_of, is_down, is_waiting}
 use Rattle.geo_model.specs.SoundBios.{IsFamilyInOrder, HasItsParent}
 use Rattle.geo_model.specs.Bios.{Way, Bounces, Fails, Sends, Splits, Passes, PieceTarget, piece_child, is_hit, start_by, way_at, way_of, up_with}
 use Rattle.geo_model.specs.Step.{step}
@@ -77,18 +77,12 @@ ItsError t x way = ⊤
 -- by the configuration of the geom
 its_error_at : (t : Topology Config) (x : Bio) (p : Provider) (g : Geom Config) → is_errored t x.target ≡ false
     → (config : Config) → ItsError t x (way_at x p g config)
-its_error_at t x p g fine Nothing = tt
-its_error_at t x p g fine (Disk disk) = tt
-its_error_at t x p g fine (Mbr below slices) = tt
-its_error_at t x p g fine (Ebr below parts) = tt
-its_error_at t x p g fine (Label below) = tt
-its_error_at t x p g fine (Concat id places sizes) = tt
-its_error_at t x p g fine (Stripe id stripe places sizes) = tt
 its_error_at t x p g fine (Nop below offset fail) = by (is_hit (g.started + 1) fail) refl
   where
     by : (b : Bool) → is_hit (g.started + 1) fail ≡ b → ItsError t x (way_at x p g (Nop below offset fail))
     by true e = rw e (rw fine refl)
     by false e = rw e tt
+its_error_at t x p g fine _ = tt
 
 -- whatever way a bio goes
 its_error : (t : Topology Config) (x : Bio) → ItsError t x (way_of t x)

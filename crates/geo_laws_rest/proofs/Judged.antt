@@ -222,14 +222,7 @@ module _ (w : World) (firm : Firm w) (s : Taste) (is : w.taste ≡ Some s) where
   -- EBR's link is kept in the chain alone
   read_as : (kind : Kind) (bytes : List ℕ) (f : Facts) → IsAs (with_read g s kind bytes f) s
   read_as kinds.Ebr bytes f = record { provider = refl; classes = refl; asked = refl; reads = refl }
-  read_as kinds.Mbr bytes f = record { provider = refl; classes = refl; asked = refl; reads = refl }
-  read_as kinds.Label bytes f = record { provider = refl; classes = refl; asked = refl; reads = refl }
-  read_as kinds.Concat bytes f = record { provider = refl; classes = refl; asked = refl; reads = refl }
-  read_as kinds.Stripe bytes f = record { provider = refl; classes = refl; asked = refl; reads = refl }
-  read_as kinds.Disk bytes f = record { provider = refl; classes = refl; asked = refl; reads = refl }
-  read_as kinds.Dev bytes f = record { provider = refl; classes = refl; asked = refl; reads = refl }
-  read_as kinds.Taste bytes f = record { provider = refl; classes = refl; asked = refl; reads = refl }
-  read_as kinds.Nop bytes f = record { provider = refl; classes = refl; asked = refl; reads = refl }
+  read_as _ bytes f = record { provider = refl; classes = refl; asked = refl; reads = refl }
 
   -- the taste is as itself
   as_itself : IsAs s s

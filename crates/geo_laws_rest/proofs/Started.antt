@@ -12,7 +12,7 @@ use Rattle.geo_model.specs.declared.step.Phase.{Phase}
 use Rattle.geo_model.specs.declared.step.Phase.TheVariants as phases
 use Rattle.geo_model.specs.Topology.{Topology, Geom, Provider, Consumer, geom_at, provider_at, consumer_at, provider_of_consumer, provider_with_geom, note_started}
 use Rattle.geo_model.specs.Rank.{rank}
-use Rattle.geo_model.specs.World.{World, Bio, Config, Nothing, Disk, Mbr, Ebr, Label, Concat, Stripe, Nop, bio_at, change_number, is_down, is_sent, is_busy, granted_in}
+use Rattle.geo_model.specs.World.{World, Bio, Config, Disk, bio_at, change_number, is_down, is_sent, is_busy, granted_in}
 use Rattle.geo_model.specs.Place.{components, disk_of}
 use Rattle.geo_model.specs.Bios.{Way, Bounces, Fails, Sends, Splits, Passes, PieceTarget, way_of, piece_targets, piece_child, piece_children, start_by, split_bio, up_with, disk_of_bio}
 use Rattle.geo_model.specs.Order.{down_steps_within, steps_left}
@@ -49,14 +49,8 @@ down_phase w x phases.Done is = absurd cc
 
 -- a configuration with a disk is a disk's
 some_disk : (config : Config) → IsSome (disk_of config) → IsDisk config
-some_disk Nothing some = absurd cc
 some_disk (Disk disk) some = record { disk = disk; is = refl }
-some_disk (Mbr under slices) some = absurd cc
-some_disk (Ebr under parts) some = absurd cc
-some_disk (Label under) some = absurd cc
-some_disk (Concat id places sizes) some = absurd cc
-some_disk (Stripe id stripe places sizes) some = absurd cc
-some_disk (Nop under offset fail) some = absurd cc
+some_disk _ some = absurd cc
 
 -- what is found in a list is in it, so it has a length
 some_length : {X : Type 0} (test : X → Bool) (xs : List X) (x : X) → find test xs ≡ Some x → 1 ≤ length xs

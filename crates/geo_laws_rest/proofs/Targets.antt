@@ -5,14 +5,14 @@ use Rattle.std.proofs.Common.{inl, inr, refl, subst}
 use Rattle.geo_model.specs.declared.span.Piece.{Piece}
 use Rattle.geo_model.specs.Words.{is_flush}
 use Rattle.geo_model.specs.Topology.{Provider}
-use Rattle.geo_model.specs.World.{World, Bio, Config, Nothing, Disk, Mbr, Ebr, Label, Concat, Stripe, Nop}
+use Rattle.geo_model.specs.World.{World, Bio, Config, Disk}
 use Rattle.geo_model.specs.Place.{pieces, component, components}
 use Rattle.geo_model.specs.Bios.{PieceTarget, piece_targets, piece_child, empty_piece}
 use Rattle.geo_model.specs.Order.{down_step}
 use Rattle.geo_model.proofs.RankLemmas.{mapped_by}
 use Rattle.geo_laws_counts.proofs.Levels.{of_each}
 use Rattle.geo_laws_graph.proofs.Members.{All-from_contained, map-Contains}
-use Rattle.geo_laws_maps.proofs.MapSteps.{component-among}
+use Rattle.geo_laws_bios.proofs.Components.{component-among}
 
 -- the piece goes down through a component
 abbrev pub IsThrough : Config → PieceTarget → Type 0
@@ -64,11 +64,5 @@ pub record IsDisk (config : Config) : Type 0 where
 
 -- which of both
 pub disk_or_below : (config : Config) → IsDisk config ⊎ StepsBelow config
-disk_or_below Nothing = inr (record { steps = λ below w x p. refl })
 disk_or_below (Disk disk) = inl (record { disk = disk; is = refl })
-disk_or_below (Mbr under slices) = inr (record { steps = λ below w x p. refl })
-disk_or_below (Ebr under parts) = inr (record { steps = λ below w x p. refl })
-disk_or_below (Label under) = inr (record { steps = λ below w x p. refl })
-disk_or_below (Concat id places sizes) = inr (record { steps = λ below w x p. refl })
-disk_or_below (Stripe id stripe places sizes) = inr (record { steps = λ below w x p. refl })
-disk_or_below (Nop under offset fail) = inr (record { steps = λ below w x p. refl })
+disk_or_below _ = inr (record { steps = λ below w x p. refl })

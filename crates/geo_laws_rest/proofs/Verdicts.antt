@@ -245,7 +245,4 @@ module _ (w : World) (firm : Firm w) (s : Taste) (p : Provider) (bytes : List �
   accepted-makes kinds.Label accepted = named-makes accepted
   accepted-makes kinds.Concat accepted = concat-makes accepted
   accepted-makes kinds.Stripe accepted = stripe-makes accepted
-  accepted-makes kinds.Disk accepted = absurd (let e = accepted.verdict in let no : ⊥ = cc in no)
-  accepted-makes kinds.Dev accepted = absurd (let e = accepted.verdict in let no : ⊥ = cc in no)
-  accepted-makes kinds.Taste accepted = absurd (let e = accepted.verdict in let no : ⊥ = cc in no)
-  accepted-makes kinds.Nop accepted = absurd (let e = accepted.verdict in let no : ⊥ = cc in no)
+  accepted-makes _ accepted = absurd (let e = accepted.verdict in let no : ⊥ = cc in no)

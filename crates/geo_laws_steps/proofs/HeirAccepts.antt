@@ -13,7 +13,7 @@ use Rattle.geo_model.specs.declared.class.Shape.TheVariants.{Slices, Logical, Na
 use Rattle.geo_model.specs.Words.{same_name}
 use Rattle.geo_model.specs.Names.{label_name}
 use Rattle.geo_model.specs.Topology.{Topology, Geom, Provider, geom_at, add_geom, add_consumer}
-use Rattle.geo_model.specs.World.{World, Config, Nothing, Disk, Mbr, Ebr, Label, Concat, Stripe, Nop}
+use Rattle.geo_model.specs.World.{World, Config, Mbr, Ebr, Label, Concat, Stripe}
 use Rattle.geo_model.specs.Events.{QueuedTopology, offer}
 use Rattle.geo_model.specs.WorldEvents.{queued_of}
 use Rattle.geo_model.specs.Acceptance.{NewSlice, new_slices, new_parts, are_names_free, with_geom_over, with_slices, accept_slices, with_label, accept_named, is_same_assembly, standing_geom, places_of, fill_place, joined_size, is_size, if_free, providers_at, finish, with_place, join_place, can_join, Member, concat_member, stripe_member, join_at, accept_member, accept}
@@ -46,18 +46,13 @@ past_full (Some c ∷ places) (suc k) full free = let rest = past_full places k 
 -- a place past the end changes no configuration
 fill_past : (config : Config) (k c size : ℕ) → length (places_of config) ≤ k → length (sizes_of config) ≤ k
     → fill_place config k c size ≡ config
-fill_past Nothing k c size a b = refl
-fill_past (Disk disk) k c size a b = refl
-fill_past (Mbr below slices) k c size a b = refl
-fill_past (Ebr below parts) k c size a b = refl
-fill_past (Label below) k c size a b = refl
-fill_past (Nop below offset fail) k c size a b = refl
 fill_past (Concat id places sizes) k c size a b =
     ap (λ ps. Concat id ps (slice_set sizes k size)) (set_past places k (Some c) a)
     ∙ ap (λ ns. Concat id places ns) (set_past sizes k size b)
 fill_past (Stripe id stripe places sizes) k c size a b =
     ap (λ ps. Stripe id stripe ps (slice_set sizes k size)) (set_past places k (Some c) a)
     ∙ ap (λ ns. Stripe id stripe places ns) (set_past sizes k size b)
+fill_past _ k c size a b = refl
 
 module _ (T : ℕ → Type 0) (t : Topology Config) where
   -- what is made where something passes

@@ -11,7 +11,7 @@ use Rattle.geo_base.specs.declared.limits.TheConstants.{MAX_MEDIA_BYTES}
 use Rattle.geo_model.specs.declared.span.Piece.{Piece}
 use Rattle.geo_model.specs.Words.{names_number}
 use Rattle.geo_model.specs.Topology.{Topology, Geom, Provider, Consumer, geom_at, provider_at, consumer_at, providers_of}
-use Rattle.geo_model.specs.World.{World, Bio, Config, Nothing, Disk, Mbr, Ebr, Label, Concat, Stripe, Nop, Handle}
+use Rattle.geo_model.specs.World.{World, Bio, Config, Stripe, Handle}
 use Rattle.geo_model.specs.Place.{Spot, place, pieces, component, disk_of}
 use Rattle.geo_model.specs.Acceptance.{places_of, joined_size}
 use Rattle.geo_model.specs.Bios.{PieceTarget, piece_targets}
@@ -34,14 +34,7 @@ use Rattle.geo_requests.specs.Ways.{CanBeCut}
 stripe_kind : (kind : Kind) (id : Option ℕ) (stripe : ℕ) (places : List (Option ℕ)) (sizes : List ℕ)
     → IsTrue (fits_kind kind (Stripe id stripe places sizes)) → kind ≡ kinds.Stripe
 stripe_kind kinds.Stripe id stripe places sizes fits = refl
-stripe_kind kinds.Disk id stripe places sizes fits = absurd cc
-stripe_kind kinds.Dev id stripe places sizes fits = absurd cc
-stripe_kind kinds.Taste id stripe places sizes fits = absurd cc
-stripe_kind kinds.Mbr id stripe places sizes fits = absurd cc
-stripe_kind kinds.Ebr id stripe places sizes fits = absurd cc
-stripe_kind kinds.Label id stripe places sizes fits = absurd cc
-stripe_kind kinds.Concat id stripe places sizes fits = absurd cc
-stripe_kind kinds.Nop id stripe places sizes fits = absurd cc
+stripe_kind _ id stripe places sizes fits = absurd cc
 
 -- a list that isn't empty has some
 some_length : {X : Type 0} (xs : List X) → xs ≢ [] → 1 ≤ length xs
@@ -124,13 +117,7 @@ module _ (w : World) (firm : Firm w) (x : Bio) (here : Contains w.bios x) (p : P
       (sum_fact (inr kind)) p_offered in
       let size : p.size ≡ joined_size (Stripe id stripe places sizes) = total ∙ ap joined_size is in
       omega (arith, size)
-  long_by Nothing is = tt
-  long_by (Disk disk) is = tt
-  long_by (Mbr below slices) is = tt
-  long_by (Ebr below parts) is = tt
-  long_by (Label below) is = tt
-  long_by (Concat id places sizes) is = tt
-  long_by (Nop below offset fail) is = tt
+  long_by _ is = tt
 
   -- its range can be cut
   pub can_be_cut : CanBeCut g.config p x

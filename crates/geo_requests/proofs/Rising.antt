@@ -10,7 +10,7 @@ use Rattle.geo_laws_bios.proofs.Serving.{no_pieces}
 use Rattle.geo_model.specs.declared.step.Owner.{Owner}
 use Rattle.geo_model.specs.declared.step.Owner.TheVariants as owners
 use Rattle.geo_model.specs.Topology.{Topology, Geom, Provider, geom_at, provider_at, consumer_at}
-use Rattle.geo_model.specs.World.{World, Bio, Config, Taste, bio_at, children_of, is_child_of, is_waiting, is_taste_root, granted_in, bio_among}
+use Rattle.geo_model.specs.World.{World, Bio, Config, bio_at, children_of, is_child_of, is_waiting, is_taste_root, granted_in, bio_among}
 use Rattle.geo_model.specs.Place.{disk_of}
 use Rattle.geo_model.specs.Bios.{PieceTarget, piece_targets}
 use Rattle.geo_model.specs.SoundBios.{IsBioInOrder, IsFamilyInOrder, HasCountFor, ChildShape, shape_of_child, shape_of_piece}

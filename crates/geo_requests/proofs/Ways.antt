@@ -5,7 +5,7 @@ use Rattle.std.proofs.Common.{refl, ap}
 use Rattle.geo_base.specs.declared.errno.Errno.TheVariants.{ENXIO, EIO}
 use Rattle.geo_model.specs.declared.step.Owner.TheVariants as owners
 use Rattle.geo_model.specs.Topology.{Topology, Geom, Provider, geom_at, provider_at, is_errored, provider_with_geom}
-use Rattle.geo_model.specs.World.{BioOf, Config, Nothing, Disk, Mbr, Ebr, Label, Concat, Stripe, Nop}
+use Rattle.geo_model.specs.World.{BioOf, Config, Disk, Nop}
 use Rattle.geo_model.specs.Place.{disk_of}
 use Rattle.geo_model.specs.Bios.{Bounces, Sends, Splits, new_bio, piece_targets, way_at, way_of}
 use Rattle.geo_bio.specs.declared.bio.Held.{Held}
@@ -18,14 +18,8 @@ plain x = new_bio 0 x.cmd x.offset x.len [] 0 x.target owners.Taste
 
 way_at_plain : {R : Type 0} (x : BioOf R) (p : Provider) (g : Geom Config) (config : Config)
     → way_at x p g config ≡ way_at (plain x) p g config
-way_at_plain x p g Nothing = refl
 way_at_plain x p g (Disk disk) = refl
-way_at_plain x p g (Mbr below slices) = refl
-way_at_plain x p g (Ebr below parts) = refl
-way_at_plain x p g (Label below) = refl
-way_at_plain x p g (Concat id places sizes) = refl
-way_at_plain x p g (Stripe id stripe places sizes) = refl
-way_at_plain x p g (Nop below offset fail) = refl
+way_at_plain x p g _ = refl
 
 -- it goes the same way
 pub way_plain : {R : Type 0} (t : Topology Config) (x : BioOf R) → way_of t x ≡ way_of t (plain x)
@@ -38,49 +32,26 @@ way_plain t x i =
 -- a geom with pieces of its own: not a disk's, and no NOP
 pub way_splits : {R : Type 0} (x : BioOf R) (p : Provider) (g : Geom Config) (config : Config)
     → disk_of config ≡ None → fail_of config ≡ None → way_at x p g config ≡ Splits (piece_targets config p x)
-way_splits x p g Nothing no_disk no_nop = refl
 way_splits x p g (Disk disk) no_disk no_nop = absurd cc
-way_splits x p g (Mbr below slices) no_disk no_nop = refl
-way_splits x p g (Ebr below parts) no_disk no_nop = refl
-way_splits x p g (Label below) no_disk no_nop = refl
-way_splits x p g (Concat id places sizes) no_disk no_nop = refl
-way_splits x p g (Stripe id stripe places sizes) no_disk no_nop = refl
 way_splits x p g (Nop below offset fail) no_disk no_nop = absurd cc
+way_splits x p g _ no_disk no_nop = refl
 
 -- a NOP geom
 pub way_nop : {R : Type 0} (x : BioOf R) (p : Provider) (g : Geom Config) (config : Config) (fail : ℕ)
     → fail_of config ≡ Some fail → way_at x p g config ≡ at_nop x p g fail
 way_nop x p g (Nop below offset n) fail is = let same : n ≡ fail = cc in ap (at_nop x p g) same
-way_nop x p g Nothing fail is = absurd cc
-way_nop x p g (Disk disk) fail is = absurd cc
-way_nop x p g (Mbr below slices) fail is = absurd cc
-way_nop x p g (Ebr below parts) fail is = absurd cc
-way_nop x p g (Label below) fail is = absurd cc
-way_nop x p g (Concat id places sizes) fail is = absurd cc
-way_nop x p g (Stripe id stripe places sizes) fail is = absurd cc
+way_nop x p g _ fail is = absurd cc
 
 -- a disk
 pub way_sends : {R : Type 0} (x : BioOf R) (p : Provider) (g : Geom Config) (config : Config) (disk : ℕ)
     → disk_of config ≡ Some disk → way_at x p g config ≡ Sends disk
 way_sends x p g (Disk d) disk is = let same : d ≡ disk = cc in ap Sends same
-way_sends x p g Nothing disk is = absurd cc
-way_sends x p g (Mbr below slices) disk is = absurd cc
-way_sends x p g (Ebr below parts) disk is = absurd cc
-way_sends x p g (Label below) disk is = absurd cc
-way_sends x p g (Concat id places sizes) disk is = absurd cc
-way_sends x p g (Stripe id stripe places sizes) disk is = absurd cc
-way_sends x p g (Nop below offset n) disk is = absurd cc
+way_sends x p g _ disk is = absurd cc
 
 -- a NOP geom isn't a disk's
 pub nop_no_disk : (config : Config) (fail : ℕ) → fail_of config ≡ Some fail → disk_of config ≡ None
-nop_no_disk (Nop below offset n) fail is = refl
-nop_no_disk Nothing fail is = refl
 nop_no_disk (Disk disk) fail is = absurd cc
-nop_no_disk (Mbr below slices) fail is = refl
-nop_no_disk (Ebr below parts) fail is = refl
-nop_no_disk (Label below) fail is = refl
-nop_no_disk (Concat id places sizes) fail is = refl
-nop_no_disk (Stripe id stripe places sizes) fail is = refl
+nop_no_disk _ fail is = refl
 
 -- By the graph
 

@@ -18,7 +18,7 @@ use Rattle.geo_model.specs.declared.step.BioResult.{BioResult}
 use Rattle.geo_model.specs.declared.step.BioResult.TheVariants as results
 use Rattle.geo_model.specs.Words.{is_kind}
 use Rattle.geo_model.specs.Topology.{Topology, Geom, Provider, Consumer, geom_at, provider_at, consumer_at, providers_of}
-use Rattle.geo_model.specs.World.{World, Config, Nothing, Disk, Mbr, Ebr, Label, Concat, Stripe, Nop, Bio, HeaderDisk, Asked, NoClass, NextSector, ReadOut, ReadBack, is_taste_root}
+use Rattle.geo_model.specs.World.{World, Config, Mbr, Ebr, Stripe, Nop, Bio, HeaderDisk, Asked, NoClass, NextSector, ReadOut, ReadBack, is_taste_root}
 use Rattle.geo_model.specs.Place.{components}
 use Rattle.geo_model.specs.Acceptance.{places_of, joined_size}
 use Rattle.geo_model.specs.Plans.{IsGrant, IsRunsBytes, AreComponents, IsMark, IsStripe, IsNamedClass, IsCommand}
@@ -35,39 +35,18 @@ kind_is k c same told = (told, λ e. subst (λ x. is_kind x c ≡ true) (sym e) 
 
 -- the test tells the class
 concat_told : (k : Kind) → is_kind k kinds.Concat ≡ true → k ≡ kinds.Concat
-concat_told kinds.Disk e = from_false_true e
-concat_told kinds.Dev e = from_false_true e
-concat_told kinds.Taste e = from_false_true e
-concat_told kinds.Mbr e = from_false_true e
-concat_told kinds.Ebr e = from_false_true e
-concat_told kinds.Label e = from_false_true e
 concat_told kinds.Concat e = refl
-concat_told kinds.Stripe e = from_false_true e
-concat_told kinds.Nop e = from_false_true e
+concat_told _ e = from_false_true e
 
 -- the test tells the class
 nop_told : (k : Kind) → is_kind k kinds.Nop ≡ true → k ≡ kinds.Nop
-nop_told kinds.Disk e = from_false_true e
-nop_told kinds.Dev e = from_false_true e
-nop_told kinds.Taste e = from_false_true e
-nop_told kinds.Mbr e = from_false_true e
-nop_told kinds.Ebr e = from_false_true e
-nop_told kinds.Label e = from_false_true e
-nop_told kinds.Concat e = from_false_true e
-nop_told kinds.Stripe e = from_false_true e
 nop_told kinds.Nop e = refl
+nop_told _ e = from_false_true e
 
 -- the test tells the class
 stripe_told : (k : Kind) → is_kind k kinds.Stripe ≡ true → k ≡ kinds.Stripe
-stripe_told kinds.Disk e = from_false_true e
-stripe_told kinds.Dev e = from_false_true e
-stripe_told kinds.Taste e = from_false_true e
-stripe_told kinds.Mbr e = from_false_true e
-stripe_told kinds.Ebr e = from_false_true e
-stripe_told kinds.Label e = from_false_true e
-stripe_told kinds.Concat e = from_false_true e
 stripe_told kinds.Stripe e = refl
-stripe_told kinds.Nop e = from_false_true e
+stripe_told _ e = from_false_true e
 
 -- the class is CONCAT
 is_concat : (k : Kind) → Decides (is_kind k kinds.Concat) (k ≡ kinds.Concat)
@@ -100,15 +79,12 @@ header_disk d =
 
 -- windows and strips in whole sectors, and this at the provider below
 whole_in : (config : Config) (sector : ℕ) → Decides (is_whole_in config sector) (IsWholeIn config sector)
-whole_in Nothing sector = always
-whole_in (Disk disk) sector = always
 whole_in (Mbr below slices) sector = Decides-eqb sector 512
 whole_in (Ebr below parts) sector = Decides-eqb sector 512
-whole_in (Label below) sector = always
-whole_in (Concat id places sizes) sector = always
 whole_in (Stripe id stripe places sizes) sector =
     Decides-and (nat_le 1 stripe) (stripe % sector == 0) (at_most 1 stripe) (Decides-eqb (stripe % sector) 0)
 whole_in (Nop below offset fail) sector = Decides-eqb (offset % sector) 0
+whole_in _ sector = always
 
 below : (t : Topology Config) (c : Consumer) → Decides (fits_below t c) (FitsBelow t c)
 below t c =

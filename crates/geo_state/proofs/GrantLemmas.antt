@@ -24,15 +24,9 @@ grant-at g c add d b e = ap (λ z. if z then add else g d) e
 
 -- a class that holds grants wants what was granted
 kind-wants : (k : Kind) (haves : List Counts) (a : Counts) → is_granted_kind k ≡ true → want_of_kind k haves a ≡ a
-kind-wants kinds.Disk haves a e = absurd cc
 kind-wants kinds.Dev haves a e = refl
 kind-wants kinds.Taste haves a e = refl
-kind-wants kinds.Mbr haves a e = absurd cc
-kind-wants kinds.Ebr haves a e = absurd cc
-kind-wants kinds.Label haves a e = absurd cc
-kind-wants kinds.Concat haves a e = absurd cc
-kind-wants kinds.Stripe haves a e = absurd cc
-kind-wants kinds.Nop haves a e = absurd cc
+kind-wants _ haves a e = absurd cc
 
 module _ {C : Type 0} where
   -- a consumer of such a geom does

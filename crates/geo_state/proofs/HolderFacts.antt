@@ -54,15 +54,8 @@ kept-fact {X} P keep p (y ∷ ys) x all found kept =
 
 -- geom 1 is DEV
 dev-granted : (k : Kind) → is_kind k kinds.Dev ≡ true → is_granted_kind k ≡ true
-dev-granted kinds.Disk e = absurd cc
 dev-granted kinds.Dev e = refl
-dev-granted kinds.Taste e = refl
-dev-granted kinds.Mbr e = absurd cc
-dev-granted kinds.Ebr e = absurd cc
-dev-granted kinds.Label e = absurd cc
-dev-granted kinds.Concat e = absurd cc
-dev-granted kinds.Stripe e = absurd cc
-dev-granted kinds.Nop e = absurd cc
+dev-granted _ e = absurd cc
 
 -- the consumer of a handle: it stands, it is one of DEV, only this handle has it, and the taste granted it nothing
 pub record IsHeld (s : State) (c : ℕ) : Type 0 where

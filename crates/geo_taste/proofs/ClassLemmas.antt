@@ -1,5 +1,5 @@
 -- The geoms of an assembly are among those of its class and of its name.
-use Rattle.std.specs.Prelude.{◌≡◌, ℕ, Bool, true, false, ◌&&◌, List, [], ◌∷◌, find, filter, All, Some, None}
+use Rattle.std.specs.Prelude.{◌≡◌, ℕ, Bool, true, false, ◌&&◌, List, [], ◌∷◌, find, filter, All, Some}
 use Rattle.std.specs.List.{AllByRecursion}
 use Rattle.std.proofs.Common.{refl, ◌∙◌, sym}
 use Rattle.std.proofs.lemmas.List.Elements.{recursion_from_All}
@@ -7,7 +7,7 @@ use Rattle.geo_base.specs.declared.kind.Kind.{Kind}
 use Rattle.geo_base.specs.declared.kind.Kind.TheVariants as kinds
 use Rattle.geo_model.specs.Words.{same_name, is_kind}
 use Rattle.geo_model.specs.Topology.{Geom}
-use Rattle.geo_model.specs.World.{Config, Nothing, Disk, Mbr, Ebr, Label, Concat, Stripe, Nop}
+use Rattle.geo_model.specs.World.{Config, Concat, Stripe}
 use Rattle.geo_model.specs.Acceptance.{is_same_assembly}
 use Rattle.geo_model.specs.Sound.{IsOfItsClass, fits_kind}
 use Rattle.geo_laws_making.proofs.Over.{false_true}
@@ -18,27 +18,13 @@ use Rattle.geo_taste.proofs.StandingLemmas.{assembly_of}
 is_concat : (kind : Kind) (id : _) (places : _) (sizes : _) → fits_kind kind (Concat id places sizes) ≡ true
     → kind ≡ kinds.Concat
 is_concat kinds.Concat id places sizes e = refl
-is_concat kinds.Disk id places sizes e = false_true e
-is_concat kinds.Dev id places sizes e = false_true e
-is_concat kinds.Taste id places sizes e = false_true e
-is_concat kinds.Mbr id places sizes e = false_true e
-is_concat kinds.Ebr id places sizes e = false_true e
-is_concat kinds.Label id places sizes e = false_true e
-is_concat kinds.Stripe id places sizes e = false_true e
-is_concat kinds.Nop id places sizes e = false_true e
+is_concat _ id places sizes e = false_true e
 
 -- and of a stripe's
 is_stripe : (kind : Kind) (id : _) (stripe : _) (places : _) (sizes : _)
     → fits_kind kind (Stripe id stripe places sizes) ≡ true → kind ≡ kinds.Stripe
 is_stripe kinds.Stripe id stripe places sizes e = refl
-is_stripe kinds.Disk id stripe places sizes e = false_true e
-is_stripe kinds.Dev id stripe places sizes e = false_true e
-is_stripe kinds.Taste id stripe places sizes e = false_true e
-is_stripe kinds.Mbr id stripe places sizes e = false_true e
-is_stripe kinds.Ebr id stripe places sizes e = false_true e
-is_stripe kinds.Label id stripe places sizes e = false_true e
-is_stripe kinds.Concat id stripe places sizes e = false_true e
-is_stripe kinds.Nop id stripe places sizes e = false_true e
+is_stripe _ id stripe places sizes e = false_true e
 
 -- configurations of one assembly are of one class
 same_class : (kind other : Kind) (a b : Config) → fits_kind kind a ≡ true → fits_kind other b ≡ true
@@ -47,40 +33,9 @@ same_class kind other (Concat id places sizes) (Concat x others more) f g e =
     rw (is_concat kind id places sizes f, is_concat other x others more g) refl
 same_class kind other (Stripe id s places sizes) (Stripe x u others more) f g e =
     rw (is_stripe kind id s places sizes f, is_stripe other x u others more g) refl
-same_class kind other (Concat (Some n) places sizes) (Stripe x s others more) f g e = false_true e
-same_class kind other (Concat (Some n) places sizes) Nothing f g e = false_true e
-same_class kind other (Concat (Some n) places sizes) (Disk disk) f g e = false_true e
-same_class kind other (Concat (Some n) places sizes) (Mbr below slices) f g e = false_true e
-same_class kind other (Concat (Some n) places sizes) (Ebr below parts) f g e = false_true e
-same_class kind other (Concat (Some n) places sizes) (Label below) f g e = false_true e
-same_class kind other (Concat (Some n) places sizes) (Nop below offset fail) f g e = false_true e
-same_class kind other (Concat None places sizes) (Stripe x s others more) f g e = false_true e
-same_class kind other (Concat None places sizes) Nothing f g e = false_true e
-same_class kind other (Concat None places sizes) (Disk disk) f g e = false_true e
-same_class kind other (Concat None places sizes) (Mbr below slices) f g e = false_true e
-same_class kind other (Concat None places sizes) (Ebr below parts) f g e = false_true e
-same_class kind other (Concat None places sizes) (Label below) f g e = false_true e
-same_class kind other (Concat None places sizes) (Nop below offset fail) f g e = false_true e
-same_class kind other (Stripe (Some n) u places sizes) (Concat x others more) f g e = false_true e
-same_class kind other (Stripe (Some n) u places sizes) Nothing f g e = false_true e
-same_class kind other (Stripe (Some n) u places sizes) (Disk disk) f g e = false_true e
-same_class kind other (Stripe (Some n) u places sizes) (Mbr below slices) f g e = false_true e
-same_class kind other (Stripe (Some n) u places sizes) (Ebr below parts) f g e = false_true e
-same_class kind other (Stripe (Some n) u places sizes) (Label below) f g e = false_true e
-same_class kind other (Stripe (Some n) u places sizes) (Nop below offset fail) f g e = false_true e
-same_class kind other (Stripe None u places sizes) (Concat x others more) f g e = false_true e
-same_class kind other (Stripe None u places sizes) Nothing f g e = false_true e
-same_class kind other (Stripe None u places sizes) (Disk disk) f g e = false_true e
-same_class kind other (Stripe None u places sizes) (Mbr below slices) f g e = false_true e
-same_class kind other (Stripe None u places sizes) (Ebr below parts) f g e = false_true e
-same_class kind other (Stripe None u places sizes) (Label below) f g e = false_true e
-same_class kind other (Stripe None u places sizes) (Nop below offset fail) f g e = false_true e
-same_class kind other Nothing b f g e = false_true e
-same_class kind other (Disk disk) b f g e = false_true e
-same_class kind other (Mbr below slices) b f g e = false_true e
-same_class kind other (Ebr below parts) b f g e = false_true e
-same_class kind other (Label below) b f g e = false_true e
-same_class kind other (Nop below offset fail) b f g e = false_true e
+same_class kind other (Concat (Some n) places sizes) _ f g e = false_true e
+same_class kind other (Stripe (Some n) u places sizes) _ f g e = false_true e
+same_class kind other _ _ f g e = false_true e
 
 -- whether a geom is of the class and of the name
 abbrev pub has_name : Kind → List ℕ → Geom Config → Bool

@@ -115,15 +115,8 @@ any_kept {X} test f g none (x ∷ xs) = by (g x) (f x) refl (any_kept test f g n
 
 -- DEV is no other class
 dev_other : (kind : Kind) → is_kind kind kinds.Dev ≡ false → is_kind kinds.Dev kind ≡ false
-dev_other kinds.Disk e = refl
 dev_other kinds.Dev e = e
-dev_other kinds.Taste e = refl
-dev_other kinds.Mbr e = refl
-dev_other kinds.Ebr e = refl
-dev_other kinds.Label e = refl
-dev_other kinds.Concat e = refl
-dev_other kinds.Stripe e = refl
-dev_other kinds.Nop e = refl
+dev_other _ e = refl
 
 -- neither of two
 neither_one : (a b : Bool) → (a || not b) ≡ false → (a ≡ false) × (b ≡ true)

@@ -25,15 +25,8 @@ use Rattle.geo_taste.proofs.Taking.{goes_found}
 -- a verdict doesn't tell grants
 verdict_plain : (granted other : ℕ → Counts) (s : Taste) (kind : Kind) (bytes : List ℕ) (f : Facts)
     → verdict_on granted s kind bytes f ≡ verdict_on other s kind bytes f
-verdict_plain granted other s kinds.Disk bytes f = refl
-verdict_plain granted other s kinds.Dev bytes f = refl
-verdict_plain granted other s kinds.Taste bytes f = refl
-verdict_plain granted other s kinds.Mbr bytes f = refl
 verdict_plain granted other s kinds.Ebr bytes f = refl
-verdict_plain granted other s kinds.Label bytes f = refl
-verdict_plain granted other s kinds.Concat bytes f = refl
-verdict_plain granted other s kinds.Stripe bytes f = refl
-verdict_plain granted other s kinds.Nop bytes f = refl
+verdict_plain granted other s _ bytes f = refl
 
 -- what accepts a sector that is back
 pub record AcceptsBytes (granted : ℕ → Counts) (s : Taste) (f : Facts) (shape : Shape) : Type 0 where

@@ -86,10 +86,7 @@ verdict_named granted s bytes f shape kinds.Stripe e =
     shape_named Striped (first_error (stripe_tests bytes)) _ shape
     (record_place bytes (head_tests stripe_magic 1 bytes)
     (size_test (u32_at bytes 44) (length bytes) ∷ [])) e
-verdict_named granted s bytes f shape kinds.Disk e = absurd (let no : ⊥ = cc in no)
-verdict_named granted s bytes f shape kinds.Dev e = absurd (let no : ⊥ = cc in no)
-verdict_named granted s bytes f shape kinds.Taste e = absurd (let no : ⊥ = cc in no)
-verdict_named granted s bytes f shape kinds.Nop e = absurd (let no : ⊥ = cc in no)
+verdict_named granted s bytes f shape _ e = absurd (let no : ⊥ = cc in no)
 
 -- where a sector is back
 pub back_named : (granted : ℕ → Counts) (s : Taste) (f : Facts) (shape : Shape)

@@ -29,15 +29,8 @@ use Rattle.geo_taste.specs.Taster.{queued}
 -- a taste that is done with a class has no chain, whatever was read
 pub read-ended : (granted : ℕ → Counts) (s : Taste) (kind : Kind) (bytes : List ℕ) (f : Facts)
     → ended (with_read granted s kind bytes f) ≡ ended s
-read-ended granted s kinds.Disk bytes f = refl
-read-ended granted s kinds.Dev bytes f = refl
-read-ended granted s kinds.Taste bytes f = refl
-read-ended granted s kinds.Mbr bytes f = refl
 read-ended granted s kinds.Ebr bytes f = refl
-read-ended granted s kinds.Label bytes f = refl
-read-ended granted s kinds.Concat bytes f = refl
-read-ended granted s kinds.Stripe bytes f = refl
-read-ended granted s kinds.Nop bytes f = refl
+read-ended granted s _ bytes f = refl
 
 module _ (granted : ℕ → Counts) (q : QueuedTopology Config) (s : Taste) (p : Provider) (kind : Kind) where
   -- what the tasted provider is known by

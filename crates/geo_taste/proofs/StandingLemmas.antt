@@ -10,7 +10,7 @@ use Rattle.geo_base.proofs.PlaceLists.{free_at}
 use Rattle.geo_base.proofs.AllLists.{all_weaker}
 use Rattle.geo_model.specs.Words.{same_name}
 use Rattle.geo_model.specs.Topology.{Topology, Geom, Provider, geom_at, provider_at, provider_of_consumer, providers_of, is_withering}
-use Rattle.geo_model.specs.World.{Config, Nothing, Disk, Mbr, Ebr, Label, Concat, Stripe, Nop}
+use Rattle.geo_model.specs.World.{Config, Concat, Stripe}
 use Rattle.geo_model.specs.Acceptance.{Member, places_of, is_same_assembly, can_join, standing_geom}
 use Rattle.geo_model.specs.Place.{components}
 use Rattle.geo_model.specs.Steady.{has_free_place}
@@ -73,12 +73,7 @@ takes_as_joins t p g (Concat id places sizes) k e less =
     rw e (ap (λ b. is_none (option_flatten (slice_get places k)) && b) (all_fit t p.sector places))
 takes_as_joins t p g (Stripe id stripe places sizes) k e less =
     rw e (ap (λ b. is_none (option_flatten (slice_get places k)) && b) (all_fit t p.sector places))
-takes_as_joins t p g Nothing k e less = absurd (no_place k less)
-takes_as_joins t p g (Disk disk) k e less = absurd (no_place k less)
-takes_as_joins t p g (Mbr below slices) k e less = absurd (no_place k less)
-takes_as_joins t p g (Ebr below parts) k e less = absurd (no_place k less)
-takes_as_joins t p g (Label below) k e less = absurd (no_place k less)
-takes_as_joins t p g (Nop below offset fail) k e less = absurd (no_place k less)
+takes_as_joins t p g _ k e less = absurd (no_place k less)
 
 -- a provider can take a place that is free where each component fits
 pub can_take_is : (t : Topology Config) (sector : ℕ) (config : Config) (k : ℕ) (b r : Bool) (cs : List ℕ)
@@ -99,30 +94,7 @@ same_places (Stripe (Some a) s places sizes) (Stripe (Some b) u others other_siz
     eqb-true (length places) (length others)
     (and_parts (s == u) (length places == length others)
     (and_parts (a == b) ((s == u) && (length places == length others)) e).1).1
-same_places (Concat (Some a) places sizes) (Concat None others other_sizes) e = false_true e
-same_places (Concat (Some a) places sizes) (Stripe id s others other_sizes) e = false_true e
-same_places (Concat (Some a) places sizes) Nothing e = false_true e
-same_places (Concat (Some a) places sizes) (Disk disk) e = false_true e
-same_places (Concat (Some a) places sizes) (Mbr below slices) e = false_true e
-same_places (Concat (Some a) places sizes) (Ebr below parts) e = false_true e
-same_places (Concat (Some a) places sizes) (Label below) e = false_true e
-same_places (Concat (Some a) places sizes) (Nop below offset fail) e = false_true e
-same_places (Stripe (Some a) s places sizes) (Stripe None u others other_sizes) e = false_true e
-same_places (Stripe (Some a) s places sizes) (Concat id others other_sizes) e = false_true e
-same_places (Stripe (Some a) s places sizes) Nothing e = false_true e
-same_places (Stripe (Some a) s places sizes) (Disk disk) e = false_true e
-same_places (Stripe (Some a) s places sizes) (Mbr below slices) e = false_true e
-same_places (Stripe (Some a) s places sizes) (Ebr below parts) e = false_true e
-same_places (Stripe (Some a) s places sizes) (Label below) e = false_true e
-same_places (Stripe (Some a) s places sizes) (Nop below offset fail) e = false_true e
-same_places (Concat None places sizes) b e = false_true e
-same_places (Stripe None s places sizes) b e = false_true e
-same_places Nothing b e = false_true e
-same_places (Disk disk) b e = false_true e
-same_places (Mbr below slices) b e = false_true e
-same_places (Ebr below parts) b e = false_true e
-same_places (Label below) b e = false_true e
-same_places (Nop below offset fail) b e = false_true e
+same_places _ _ e = false_true e
 
 -- Standing geoms
 

@@ -24,12 +24,7 @@ want_writes : (kind : Kind) (f g : Provider → Counts) (ys : List Provider) (a 
 want_writes kinds.Dev f g ys a b same grants = grants
 want_writes kinds.Taste f g ys a b same grants = grants
 want_writes kinds.Disk f g ys a b same grants = refl
-want_writes kinds.Nop f g ys a b same grants = ap (λ n. n + 0) (sum_writes f g ys same)
-want_writes kinds.Mbr f g ys a b same grants = ap (λ n. n + 0) (sum_writes f g ys same)
-want_writes kinds.Ebr f g ys a b same grants = ap (λ n. n + 0) (sum_writes f g ys same)
-want_writes kinds.Label f g ys a b same grants = ap (λ n. n + 0) (sum_writes f g ys same)
-want_writes kinds.Concat f g ys a b same grants = ap (λ n. n + 0) (sum_writes f g ys same)
-want_writes kinds.Stripe f g ys a b same grants = ap (λ n. n + 0) (sum_writes f g ys same)
+want_writes _ f g ys a b same grants = ap (λ n. n + 0) (sum_writes f g ys same)
 
 module _ {C : Type 0} (t : Topology C) (granted other : ℕ → Counts) (same : (n : ℕ) → (granted n).w ≡ (other n).w) where
   -- a consumer wants to write as much, where providers have as much
