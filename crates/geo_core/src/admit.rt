@@ -10,17 +10,20 @@ use crate::found::found_against;
 use crate::owed::{decide_step, places_after};
 use crate::refusal::ApplyRefusal;
 use crate::running::Running;
+use geo_access::Steps;
 use geo_base::MAX_LOG_ENTRIES;
 use geo_commands::Decision;
 use geo_log::Log;
 use geo_model::Step;
+use std::sync::ledger::Ledger;
 
 /// Whether a step of a seat can be made: nothing is against it, it has its place in the log, and there is room for its
 /// entry. All stays but the room of the log.
-pub fn admit(
+pub fn admit<L: Ledger>(
     running: &mut Running,
     seat: u32,
     step: &Step,
+    steps: &mut Steps<L>,
 ) -> Result<Option<Decision>, ApplyRefusal>
     requires mesh { IsMesh running.old }
     ensures mesh { IsMesh running.new }
@@ -33,7 +36,7 @@ pub fn admit(
     if let Some(found) = found_against(&running.plan, &running.left, &running.state, seat, step) {
         return Err(ApplyRefusal::NotEnabled { found });
     }
-    let decision = decide_step(&running.plan, &running.left, &mut running.state, step);
+    let decision = decide_step(&running.plan, &running.left, &mut running.state, step, steps);
     let owed = places_after(running, step, &decision);
     match make_place(&mut running.log, owed) {
         Ok(()) => Ok(decision),

@@ -13,11 +13,13 @@ use crate::opening::opening;
 use crate::refusal::ApplyRefusal;
 use crate::running::Running;
 use crate::twin::{Spare, spare_of, twin};
+use geo_access::Steps;
 use geo_base::NoMemory;
 use geo_log::{DiskFacts, Log};
 use geo_model::{Outcome, Step};
 use geo_script::Plan;
 use std::alloc::Global;
+use std::sync::ledger::{Blank, Ledger};
 
 /// What a mesh holds that has made no step.
 pub fn begin(alloc: Global, plan: Plan, disks: &DiskFacts) -> Result<Running, NoMemory>
@@ -37,43 +39,53 @@ pub fn begin(alloc: Global, plan: Plan, disks: &DiskFacts) -> Result<Running, No
     })
 }
 
-/// Makes a step of a seat, and keeps it in the log.
-pub fn advance(
+/// Makes a step of a seat, and keeps it in the log. What it calls counts steps: here no one looks at the count.
+pub fn advance<L: Ledger>(
     alloc: Global,
     running: &mut Running,
     seat: u32,
     step: Step,
+    blank: Blank,
 ) -> Result<(), ApplyRefusal>
     requires mesh { IsMesh running.old }
+    requires name { blank.name ≡ L.name }
+    requires parts { blank.parts ≡ L.parts }
+    requires some { L.parts ≡ 1 }
     ensures mesh { IsMesh running.new }
     ensures answer { Advances result (seen running.old) (seen running.new) seat step }
     ensures sure { IsSure (world_of (seen running.old)) seat step → IsOk result }
 {
-    let decision = match admit(running, seat, &step) {
+    let mut steps: Steps<L> = Steps::new(blank);
+    let decision = match admit(running, seat, &step, &mut steps) {
         Ok(decision) => decision,
         Err(refusal) => return Err(refusal),
     };
-    match carry(alloc, running, seat, step, decision) {
+    match carry(alloc, running, seat, step, decision, &mut steps) {
         Ok(()) => Ok(()),
         Err(NoMemory) => Err(ApplyRefusal::NoMemory),
     }
 }
 
 /// Makes a step of a seat, keeps it in the log, and answers its outcome. What takes memory is copied before the step.
-pub fn apply(
+pub fn apply<L: Ledger>(
     alloc: Global,
     running: &mut Running,
     seat: u32,
     step: Step,
+    blank: Blank,
 ) -> Result<Outcome, ApplyRefusal>
     requires mesh { IsMesh running.old }
+    requires name { blank.name ≡ L.name }
+    requires parts { blank.parts ≡ L.parts }
+    requires some { L.parts ≡ 1 }
     ensures mesh { IsMesh running.new }
     ensures answer { Applies result (seen running.old) (seen running.new) seat step }
     ensures sure { IsSure (world_of (seen running.old)) seat step → IsOk result }
 {
-    let decision = admit(running, seat, &step)?;
+    let mut steps: Steps<L> = Steps::new(blank);
+    let decision = admit(running, seat, &step, &mut steps)?;
     let spare = spare_of(alloc, running, &step)?;
-    carry(alloc, running, seat, step, decision)?;
+    carry(alloc, running, seat, step, decision, &mut steps)?;
     Ok(last_outcome(&running.log, spare))
 }
 

@@ -17,26 +17,28 @@ ghost use Rattle.geo_core.specs.Moves.{Moves, IsFound};
 ghost use Rattle.geo_core.specs.Running.{seen, IsMesh};
 ghost use Rattle.geo_core.specs.Goes.{IsAdmitted, IsDecidedNext, IsReady};
 
-use crate::counted::do_command;
 use crate::left::Left;
 use crate::running::Running;
 use crate::turns::turn;
+use geo_access::Steps;
 use geo_base::NoMemory;
-use geo_commands::Decision;
+use geo_commands::{Decision, do_command};
 use geo_log::Log;
 use geo_model::{Entry, Outcome, Step};
 use geo_script::Plan;
 use geo_state::State;
 use std::alloc::Global;
+use std::sync::ledger::Ledger;
 
 /// Makes a step of a seat that can be made, and keeps it in the log. Where memory is wanting all stays. A Deliver takes
 /// none, nor does a close that is answered ok.
-pub fn carry(
+pub fn carry<L: Ledger>(
     alloc: Global,
     running: &mut Running,
     seat: u32,
     step: Step,
     decision: Option<Decision>,
+    steps: &mut Steps<L>,
 ) -> Result<(), NoMemory>
     requires mesh { IsMesh running.old }
     requires admitted { IsAdmitted running.old seat step decision }
@@ -54,6 +56,7 @@ pub fn carry(
         seat,
         &step,
         decision,
+        steps,
     )?;
     running.log.push(Entry {
         seat,
@@ -64,7 +67,7 @@ pub fn carry(
 }
 
 // Makes a step, against which nothing is.
-fn make(
+fn make<L: Ledger>(
     alloc: Global,
     plan: &Plan,
     left: &mut Left,
@@ -73,6 +76,7 @@ fn make(
     seat: u32,
     step: &Step,
     decision: Option<Decision>,
+    steps: &mut Steps<L>,
 ) -> Result<Outcome, NoMemory>
     requires kept { Holds state.old }
     requires firm { IsFirm state.old }
@@ -96,21 +100,22 @@ fn make(
 {
     match step {
         Step::Go { actor } => match decision {
-            Some(decision) => go(alloc, plan, left, state, *actor, decision),
+            Some(decision) => go(alloc, plan, left, state, *actor, decision, steps),
             None => unreachable!(),
         },
-        _ => turn(alloc, state, log, seat, step),
+        _ => turn(alloc, state, log, seat, step, steps),
     }
 }
 
 // Makes a Go, against which nothing is.
-fn go(
+fn go<L: Ledger>(
     alloc: Global,
     plan: &Plan,
     left: &mut Left,
     state: &mut State,
     actor: u32,
     decision: Decision,
+    steps: &mut Steps<L>,
 ) -> Result<Outcome, NoMemory>
     requires kept { Holds state.old }
     requires firm { IsFirm state.old }
@@ -134,7 +139,15 @@ fn go(
     let Ok(line) = left.next(plan, actor) else {
         unreachable!();
     };
-    let outcome = do_command(alloc, state, line.line, actor, &line.command, decision)?;
+    let outcome = do_command(
+        alloc,
+        state,
+        line.line,
+        actor,
+        &line.command,
+        decision,
+        steps,
+    )?;
     left.advance(plan, actor);
     Ok(outcome)
 }

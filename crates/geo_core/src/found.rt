@@ -1,12 +1,7 @@
 //! What is against a step.
-ghost use Rattle.std.specs.Prelude.{◌≡◌, List};
-ghost use Rattle.geo_model.specs.declared.step.Entry.{Entry};
-ghost use Rattle.geo_model.specs.Step.{go};
 ghost use Rattle.geo_state.specs.Holds.{Holds};
-ghost use Rattle.geo_state.specs.Steps.{against};
-ghost use Rattle.geo_state.specs.World.{world};
 ghost use Rattle.geo_state.specs.Steps.{IsFirm};
-ghost use Rattle.geo_core.specs.Left.{left_of, AreNext};
+ghost use Rattle.geo_core.specs.Left.{AreNext};
 ghost use Rattle.geo_core.specs.Moves.{IsFound};
 
 use crate::left::Left;
@@ -16,7 +11,8 @@ use geo_model::{Found, Step};
 use geo_script::Plan;
 use geo_state::State;
 
-/// What is against a step of a seat, if anything is.
+/// What is against a step of a seat, if anything is. Against a Go: there is no such actor, it has no command left, or
+/// what its next command waits for.
 pub fn found_against(
     plan: &Plan,
     left: &Left,
@@ -30,7 +26,10 @@ pub fn found_against(
     ensures { IsFound plan.now.commands left.now state.now seat step.now result }
 {
     match step {
-        Step::Go { actor } => go_found(plan, left, state, *actor),
+        Step::Go { actor } => match left.next(plan, *actor) {
+            Ok(line) => wait_found(state, *actor, &line.command),
+            Err(found) => Some(found),
+        },
         Step::Event => event_found(state),
         Step::Judge => judge_found(state),
         Step::Reap => reap_found(state),
@@ -39,19 +38,5 @@ pub fn found_against(
         Step::Take { disk, bio } => take_found(state, *disk, *bio),
         Step::Deliver { bio, got } => deliver_found(state, seat, *bio, got),
         Step::Up { bio } => up_found(state, *bio),
-    }
-}
-
-// What is against a Go: there is no such actor, it has no command left, or what its next command waits for.
-fn go_found(plan: &Plan, left: &Left, state: &State, actor: u32) -> Option<Found>
-    requires kept { Holds state.now }
-    requires firm { IsFirm state.now }
-    requires next { AreNext plan.now left.now }
-    ensures { (log : List Entry)
-        → against (go (world (left_of plan.now.commands left.now) log state.now) actor) ≡ result }
-{
-    match left.next(plan, actor) {
-        Ok(line) => wait_found(state, actor, &line.command),
-        Err(found) => Some(found),
     }
 }

@@ -34,7 +34,6 @@
 mod admit;
 mod apply;
 mod carry;
-mod counted;
 mod found;
 mod left;
 mod logged;

@@ -15,17 +15,19 @@ ghost use Rattle.geo_core.specs.Sent.{spot_of};
 use crate::apply::{advance, apply, begin};
 use crate::found::found_against;
 use crate::refusal::ApplyRefusal;
-use crate::rest::{first_down, first_to_take, first_up, is_at_rest, next_bio, room};
+use crate::rest::{bytes_read, disk_of, is_idle};
 use crate::running::Running;
 use crate::sent::{Spot, sent};
 use geo_base::{BioId, NoMemory};
-use geo_commands::listing;
+use geo_commands::{listing, reap_found};
+use geo_events::wash_found;
 use geo_log::{DiskFacts, Log};
 use geo_model::{MeshList, Outcome, Step};
 use geo_script::Plan;
 use std::alloc::Global;
-use std::marker::Model;
+use std::marker::{Brand, Model};
 use std::mem;
+use std::sync::ledger::Blank;
 
 /// A mesh under way. Contracts see what it began with, its plan and the sizes of its disks, and its log: its world is
 /// that to which the log leads from the opening.
@@ -67,7 +69,7 @@ impl Mesh {
         ensures history { IsHistory self.new }
         ensures sure { IsSure (world_of self.old) seat step → IsOk result }
     {
-        apply(self.alloc, &mut self.running, seat, step)
+        apply::<Brand>(self.alloc, &mut self.running, seat, step, Blank::new(1))
     }
 
     /// The same without the outcome, which is the last entry's, so that no bytes are copied.
@@ -76,7 +78,7 @@ impl Mesh {
         ensures history { IsHistory self.new }
         ensures sure { IsSure (world_of self.old) seat step → IsOk result }
     {
-        advance(self.alloc, &mut self.running, seat, step)
+        advance::<Brand>(self.alloc, &mut self.running, seat, step, Blank::new(1))
     }
 
     /// Whether a step is enabled for a seat.
@@ -92,7 +94,13 @@ impl Mesh {
         ensures rest { result ≡ is_at_rest (world_of self.now) }
         ensures history { IsHistory self.now }
     {
-        is_at_rest(&self.running)
+        let running = &*self.running;
+        if !is_idle(running) {
+            return false;
+        }
+        // These two are asked last, since a wash is sought among the geoms.
+        let state = &running.state;
+        reap_found(state).is_some() && wash_found(state).is_some()
     }
 
     /// The mesh as it is printed.
@@ -106,7 +114,10 @@ impl Mesh {
     pub fn first_up(&self) -> Option<Step>
         ensures { result ≡ first_bio (world_of self.now) (λ x. is_up x.phase) (λ x. steps.Up x.number) }
     {
-        first_up(&self.running)
+        match self.running.state.traffic.first_up() {
+            Some(bio) => Some(Step::Up { bio }),
+            None => None,
+        }
     }
 
     /// The Take of the smallest bio that can be taken, where none is Busy.
@@ -115,28 +126,41 @@ impl Mesh {
         ensures { result
             ≡ first_bio (world_of self.now) (is_to_take (world_of self.now)) (take_step (world_of self.now)) }
     {
-        first_to_take(&self.running)
+        let running = &*self.running;
+        match running.state.traffic.first_sent() {
+            Some(bio) => Some(Step::Take {
+                disk: disk_of(running, bio),
+                bio,
+            }),
+            None => None,
+        }
     }
 
     /// The Start of the smallest bio that is Down.
     pub fn first_down(&self) -> Option<Step>
         ensures { result ≡ first_bio (world_of self.now) (λ x. is_down x.phase) (λ x. steps.Start x.number) }
     {
-        first_down(&self.running)
+        match self.running.state.traffic.first_down() {
+            Some(bio) => Some(Step::Start { bio }),
+            None => None,
+        }
     }
 
     /// The least bio that isn't below a number.
     pub fn next_bio(&self, from: u64) -> Option<BioId>
         ensures { result ≡ option_map (λ x. x.number) (find (λ x. nat_le from x.number) (world_of self.now).bios) }
     {
-        next_bio(&self.running, from)
+        self.running.state.traffic.next_from(from)
     }
 
     /// How many bytes a READ of this bio gives; 0 for another command, or if there is no such bio.
     pub fn room(&self, bio: BioId) -> u32
         ensures { result ≡ bytes_read_by (world_of self.now) bio }
     {
-        room(&self.running, bio)
+        match self.running.state.traffic.get(bio) {
+            Some(found) => bytes_read(found),
+            None => 0,
+        }
     }
 
     /// Where a bio goes that waits for its disk: Some exactly where it is Sent. The numbers of bios fit 64 bits.

@@ -8,13 +8,14 @@ ghost use Rattle.geo_core.specs.Running.{seen, IsMesh};
 ghost use Rattle.geo_commands.specs.Decisions.{places_owed};
 ghost use Rattle.geo_core.specs.Goes.{IsReady, IsOwedAfter};
 
-use crate::counted::decide;
 use crate::left::Left;
 use crate::running::Running;
-use geo_commands::{Decision, owed_after};
+use geo_access::Steps;
+use geo_commands::{Decision, decide, owed_after};
 use geo_model::Step;
 use geo_script::Plan;
 use geo_state::State;
+use std::sync::ledger::Ledger;
 
 /// How many places are owed: one for the close of each handle, one for the Deliver of each Busy bio.
 fn owed(state: &State) -> u64
@@ -26,7 +27,13 @@ fn owed(state: &State) -> u64
 }
 
 /// What is decided of the command of a Go. Nothing changes.
-pub fn decide_step(plan: &Plan, left: &Left, state: &mut State, step: &Step) -> Option<Decision>
+pub fn decide_step<L: Ledger>(
+    plan: &Plan,
+    left: &Left,
+    state: &mut State,
+    step: &Step,
+    steps: &mut Steps<L>,
+) -> Option<Decision>
     requires kept { Holds state.old }
     requires firm { IsFirm state.old }
     requires next { AreNext plan.now left.now }
@@ -35,7 +42,7 @@ pub fn decide_step(plan: &Plan, left: &Left, state: &mut State, step: &Step) -> 
 {
     match step {
         Step::Go { actor } => match left.next(plan, *actor) {
-            Ok(line) => Some(decide(state, *actor, &line.command)),
+            Ok(line) => Some(decide(state, *actor, &line.command, steps)),
             Err(_) => None,
         },
         _ => None,

@@ -1,33 +1,32 @@
 //! Steps that aren't commands.
-ghost use Rattle.std.specs.Prelude.{◌≡◌, ◌++◌, ◌∷◌, [], List, None, Ok, IfOk, IsOk, OnErr};
+ghost use Rattle.std.specs.Prelude.{◌++◌, ◌∷◌, [], List, None, IfOk, IsOk, OnErr};
 ghost use Rattle.geo_model.specs.declared.step.Entry.{Entry as EntryValue};
-ghost use Rattle.geo_model.specs.declared.command.LineCommand.{LineCommand};
-ghost use Rattle.geo_model.specs.declared.step.Step.TheVariants as steps;
-ghost use Rattle.geo_model.specs.World.{bio_at};
-ghost use Rattle.geo_model.specs.Step.{step as answer_of, event, reap_next, wash_next, deliver_of};
+ghost use Rattle.geo_model.specs.Step.{step as answer_of, event, reap_next, wash_next};
 ghost use Rattle.geo_state.specs.Holds.{Holds};
 ghost use Rattle.geo_state.specs.Steps.{IsAgainst, Makes, SameWorld};
-ghost use Rattle.geo_state.specs.World.{HasBytes, world};
+ghost use Rattle.geo_state.specs.World.{HasBytes};
 ghost use Rattle.geo_state.specs.Steps.{IsFirm};
 ghost use Rattle.geo_core.specs.Moves.{Turns, IsTurn, IsDeliver};
 
-use crate::counted::{judge, reap, up};
-use geo_base::{BioId, NoMemory};
-use geo_commands::{deliver, start, take};
-use geo_events::{event, wash};
+use geo_access::Steps;
+use geo_base::NoMemory;
+use geo_commands::{deliver, reap, start, take, up};
+use geo_events::{event, judge, wash};
 use geo_log::Log;
-use geo_model::{DeviceResult, Outcome, Step};
+use geo_model::{Outcome, Step};
 use geo_state::State;
 use std::alloc::Global;
+use std::sync::ledger::Ledger;
 
 /// Makes a step that isn't a Go, against which nothing is. Its entry is to be the next of the log. Where memory is
 /// wanting all stays; a Deliver takes none.
-pub fn turn(
+pub fn turn<L: Ledger>(
     alloc: Global,
     state: &mut State,
     log: &Log,
     seat: u32,
     step: &Step,
+    steps: &mut Steps<L>,
 ) -> Result<Outcome, NoMemory>
     requires kept { Holds state.old }
     requires firm { IsFirm state.old }
@@ -44,13 +43,16 @@ pub fn turn(
     match step {
         Step::Go { .. } => unreachable!(),
         Step::Event => do_event(state),
-        Step::Judge => judge(alloc, state),
-        Step::Reap => Ok(do_reap(state)),
+        Step::Judge => judge(alloc, state, steps),
+        Step::Reap => Ok(do_reap(state, steps)),
         Step::Wash => Ok(do_wash(state)),
         Step::Start { bio } => start(alloc, state, *bio),
         Step::Take { disk, bio } => take(alloc, state, seat, *disk, *bio),
-        Step::Deliver { bio, got } => Ok(do_deliver(state, log, seat, *bio, got)),
-        Step::Up { bio } => up(alloc, state, log, *bio),
+        Step::Deliver { bio, got } => {
+            deliver(state, log, seat, *bio, got);
+            Ok(Outcome::Delivered)
+        }
+        Step::Up { bio } => up(alloc, state, log, *bio, steps),
     }
 }
 
@@ -69,7 +71,7 @@ fn do_event(state: &mut State) -> Result<Outcome, NoMemory>
 }
 
 // A Reap.
-fn do_reap(state: &mut State) -> Outcome
+fn do_reap<L: Ledger>(state: &mut State, steps: &mut Steps<L>) -> Outcome
     requires kept { Holds state.old }
     requires firm { IsFirm state.old }
     requires due { IsAgainst reap_next state.old None }
@@ -77,7 +79,7 @@ fn do_reap(state: &mut State) -> Outcome
     ensures kept { Holds state.new }
     ensures logged { (log : List EntryValue) → HasBytes log state.old → HasBytes log state.new }
 {
-    reap(state);
+    reap(state, steps);
     Outcome::Ran
 }
 
@@ -92,21 +94,4 @@ fn do_wash(state: &mut State) -> Outcome
 {
     wash(state);
     Outcome::Ran
-}
-
-// A Deliver.
-fn do_deliver(state: &mut State, log: &Log, seat: u32, bio: BioId, got: &DeviceResult) -> Outcome
-    requires kept { Holds state.old }
-    requires firm { IsFirm state.old }
-    requires enabled { IsAgainst (λ w. deliver_of w seat got.now (bio_at w bio)) state.old None }
-    requires logged { HasBytes log.now.items state.old }
-    ensures made { (e : EntryValue) → e.step ≡ steps.Deliver bio got.now → (actors : List (List LineCommand))
-        → deliver_of (world actors log.now.items state.old) seat got.now
-        (bio_at (world actors log.now.items state.old) bio)
-        ≡ Ok (world actors (log.now.items ++ e ∷ []) state.new, result) }
-    ensures kept { Holds state.new }
-    ensures logged { (e : EntryValue) → HasBytes (log.now.items ++ e ∷ []) state.new }
-{
-    deliver(state, log, seat, bio, got);
-    Outcome::Delivered
 }

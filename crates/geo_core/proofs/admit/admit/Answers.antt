@@ -9,35 +9,35 @@ use Rattle.geo_core.proofs.Owing.{log_few}
 use Rattle.geo_core.proofs.admit.admit.Goals as goal
 
 pub found_against-requires-clause-firm : goal.found_against-requires-clause-firm
-found_against-requires-clause-firm c = mesh_is_firm c.args.running.now c.requires.mesh
+found_against-requires-clause-firm g c = mesh_is_firm c.args.running.now c.requires.mesh
 
 pub decide_step-decision-requires-clause-firm : goal.decide_step-decision-requires-clause-firm
-decide_step-decision-requires-clause-firm c = mesh_is_firm c.args.running.now c.requires.mesh
+decide_step-decision-requires-clause-firm g c = mesh_is_firm c.args.running.now c.requires.mesh
 
 pub make_place-requires : goal.make_place-requires
-make_place-requires c = let few = log_few c.args.running.now c.requires.mesh in omega (arith, few)
+make_place-requires g c = let few = log_few c.args.running.now c.requires.mesh in omega (arith, few)
 
 -- what was found is what the step answers in the world of the log
 pub returns-in-Some-clause-refused : goal.returns-in-Some-clause-refused
-returns-in-Some-clause-refused c =
+returns-in-Some-clause-refused g c =
     let found =
     refused_found c.args.running.now c.requires.mesh c.args.seat c.args.step.now c.in-Some.found c.in-Some.ensures in
     (found, refl)
 
 -- a step that pays off is enabled, so nothing is against it
 pub returns-in-Some-clause-sure : goal.returns-in-Some-clause-sure
-returns-in-Some-clause-sure c = λ pays.
+returns-in-Some-clause-sure g c = λ pays.
     absurd
     (pays_found c.args.running.now c.requires.mesh c.args.seat c.args.step.now c.in-Some.found c.in-Some.ensures pays)
 
 -- what was decided left the state as it was, so this is the same mesh
 pub places_after-owed-requires-clause-mesh : goal.places_after-owed-requires-clause-mesh
-places_after-owed-requires-clause-mesh c =
+places_after-owed-requires-clause-mesh g c =
     other_mesh c.args.running.now c.requires.mesh c.decide_step-decision.new.state c.args.running.now.log
     c.decide_step-decision.ensures.same refl (omega arith)
 
 pub places_after-owed-requires-clause-ready : goal.places_after-owed-requires-clause-ready
-places_after-owed-requires-clause-ready c =
+places_after-owed-requires-clause-ready g c =
     let r = c.args.running.now in
     subst
     (λ (s : State). IsReady r.plan.commands r.left s c.args.step.now c.decide_step-decision.result)
@@ -45,18 +45,18 @@ places_after-owed-requires-clause-ready c =
 
 -- Each way out from here: deciding leaves the state, making a place adds room alone, so the mesh is the same
 pub returns-in-Err-clause-mesh : goal.returns-in-Err-clause-mesh
-returns-in-Err-clause-mesh c =
+returns-in-Err-clause-mesh g c =
     other_mesh c.args.running.now c.requires.mesh c.decide_step-decision.new.state c.make_place.new.log
     c.decide_step-decision.ensures.same c.make_place.ensures.entries c.make_place.ensures.spare
 
 pub returns-in-Err-clause-same : goal.returns-in-Err-clause-same
-returns-in-Err-clause-same c =
+returns-in-Err-clause-same g c =
     other_seen c.args.running.now c.requires.mesh c.decide_step-decision.new.state c.make_place.new.log
     c.decide_step-decision.ensures.same c.make_place.ensures.entries
 
 -- nothing is against the step, so it has no place for what is owed, or memory is wanting
 pub returns-in-Err-clause-refused : goal.returns-in-Err-clause-refused
-returns-in-Err-clause-refused c =
+returns-in-Err-clause-refused g c =
     other_refused c.args.running.now c.requires.mesh c.decide_step-decision.new.state c.make_place.new.log
     c.decide_step-decision.ensures.same c.make_place.ensures.entries c.args.seat c.args.step.now
     c.decide_step-decision.result c.places_after-owed.result c.in_default.is c.found_against.ensures
@@ -64,7 +64,7 @@ returns-in-Err-clause-refused c =
 
 -- a step that pays off owes fewer places than before, so the place of its entry was kept for it
 pub returns-in-Err-clause-sure : goal.returns-in-Err-clause-sure
-returns-in-Err-clause-sure c = λ pays.
+returns-in-Err-clause-sure g c = λ pays.
     let r = c.args.running.now in
     let owed = c.places_after-owed.result in
     let room = pays_room r c.requires.mesh c.args.seat c.args.step.now owed c.places_after-owed.ensures pays in
@@ -73,18 +73,18 @@ returns-in-Err-clause-sure c = λ pays.
     absurd (not_ok _ _ c.in-Err.is ok)
 
 pub returns-in-Ok-clause-mesh : goal.returns-in-Ok-clause-mesh
-returns-in-Ok-clause-mesh c =
+returns-in-Ok-clause-mesh g c =
     other_mesh c.args.running.now c.requires.mesh c.decide_step-decision.new.state c.make_place.new.log
     c.decide_step-decision.ensures.same c.make_place.ensures.entries c.make_place.ensures.spare
 
 pub returns-in-Ok-clause-same : goal.returns-in-Ok-clause-same
-returns-in-Ok-clause-same c =
+returns-in-Ok-clause-same g c =
     other_seen c.args.running.now c.requires.mesh c.decide_step-decision.new.state c.make_place.new.log
     c.decide_step-decision.ensures.same c.make_place.ensures.entries
 
 -- nothing is against the step, and the log has its place and those that are owed after it
 pub returns-in-Ok-clause-admitted : goal.returns-in-Ok-clause-admitted
-returns-in-Ok-clause-admitted c =
+returns-in-Ok-clause-admitted g c =
     other_admitted c.args.running.now c.requires.mesh c.decide_step-decision.new.state c.make_place.new.log
     c.decide_step-decision.ensures.same c.make_place.ensures.entries c.args.seat c.args.step.now
     c.decide_step-decision.result c.places_after-owed.result c.in_default.is c.found_against.ensures

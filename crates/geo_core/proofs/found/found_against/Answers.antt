@@ -1,15 +1,23 @@
-use Rattle.std.proofs.Common.{sym, subst}
+use Rattle.std.proofs.Common.{Some, sym, subst}
 use Rattle.geo_model.specs.declared.step.Step.{Step}
 use Rattle.geo_core.specs.Moves.{IsFound}
-use Rattle.geo_core.proofs.Founds.{found_event, found_judge, found_reap, found_wash, found_start, found_take, found_deliver, found_up}
+use Rattle.geo_core.proofs.Founds.{found_next, found_nothing, found_event, found_judge, found_reap, found_wash, found_start, found_take, found_deliver, found_up}
 use Rattle.geo_core.proofs.found.found_against.Goals as goal
 
--- Each kind of step: what was found is what that step answers in each world for which the state stands
-pub returns-in-Go : goal.returns-in-Go
-returns-in-Go c =
+pub returns-in-Ok : goal.returns-in-Ok
+returns-in-Ok c =
     let commands = c.args.plan.now.commands in
-    subst (λ (st : Step). IsFound commands c.args.left.now c.args.state.now c.args.seat st c.go_found.result)
-    (sym c.in-Go.is) c.go_found.ensures
+    subst (λ (st : Step). IsFound commands c.args.left.now c.args.state.now c.args.seat st c.wait_found.result)
+    (sym c.in-Go.is)
+    (found_next commands c.args.left.now c.args.state.now c.in-Go.actor c.in-Ok.line.now c.wait_found.result
+    c.in-Ok.ensures c.wait_found.ensures)
+
+pub returns-in-Err : goal.returns-in-Err
+returns-in-Err c =
+    let commands = c.args.plan.now.commands in
+    subst (λ (st : Step). IsFound commands c.args.left.now c.args.state.now c.args.seat st (Some c.in-Err.found))
+    (sym c.in-Go.is)
+    (found_nothing commands c.args.left.now c.args.state.now c.in-Go.actor c.in-Err.found c.in-Err.ensures)
 
 pub returns-in-Event : goal.returns-in-Event
 returns-in-Event c =

@@ -1,4 +1,5 @@
 use Rattle.std.proofs.Common.{None, IfOk, sym, subst}
+use Rattle.geo_model.specs.declared.step.Outcome.TheVariants as outcomes
 use Rattle.geo_model.specs.declared.step.Step.{Step}
 use Rattle.geo_model.specs.declared.step.Step.TheVariants as steps
 use Rattle.geo_model.specs.World.{bio_at}
@@ -11,62 +12,62 @@ use Rattle.geo_core.proofs.Turning.{turns_event, turns_judge, turns_reap, turns_
 use Rattle.geo_core.proofs.turns.turn.Goals as goal
 
 pub unreachable-requires : goal.unreachable-requires
-unreachable-requires c = subst IsTurn c.in-Go.is c.requires.turn
+unreachable-requires g c = subst IsTurn c.in-Go.is c.requires.turn
 
 -- For each step: what is enabled for the step of the seat is due for what it does
 pub do_event-requires-clause-due : goal.do_event-requires-clause-due
-do_event-requires-clause-due c =
+do_event-requires-clause-due g c =
     against_event c.args.state.now c.args.seat
     (subst (λ (st : Step). IsAgainst (λ w. step w c.args.seat st) c.args.state.now None)
     c.in-Event.is c.requires.enabled)
 
 pub judge-requires-clause-due : goal.judge-requires-clause-due
-judge-requires-clause-due c =
+judge-requires-clause-due g c =
     against_judge c.args.state.now c.args.seat
     (subst (λ (st : Step). IsAgainst (λ w. step w c.args.seat st) c.args.state.now None)
     c.in-Judge.is c.requires.enabled)
 
 pub do_reap-requires-clause-due : goal.do_reap-requires-clause-due
-do_reap-requires-clause-due c =
+do_reap-requires-clause-due g c =
     against_reap c.args.state.now c.args.seat
     (subst (λ (st : Step). IsAgainst (λ w. step w c.args.seat st) c.args.state.now None)
     c.in-Reap.is c.requires.enabled)
 
 pub do_wash-requires-clause-due : goal.do_wash-requires-clause-due
-do_wash-requires-clause-due c =
+do_wash-requires-clause-due g c =
     against_wash c.args.state.now c.args.seat
     (subst (λ (st : Step). IsAgainst (λ w. step w c.args.seat st) c.args.state.now None)
     c.in-Wash.is c.requires.enabled)
 
 -- a bio in another phase, or none, would be against the Start
 pub start-requires-clause-down : goal.start-requires-clause-down
-start-requires-clause-down c =
+start-requires-clause-down g c =
     is_down_now c.args.state.now c.args.seat c.in-Start.bio
     (subst (λ (st : Step). IsAgainst (λ w. step w c.args.seat st) c.args.state.now None)
     c.in-Start.is c.requires.enabled)
 
 pub take-requires-clause-enabled : goal.take-requires-clause-enabled
-take-requires-clause-enabled c =
+take-requires-clause-enabled g c =
     against_take c.args.state.now c.args.seat c.in-Take.disk c.in-Take.bio
     (subst (λ (st : Step). IsAgainst (λ w. step w c.args.seat st) c.args.state.now None)
     c.in-Take.is c.requires.enabled)
 
-pub do_deliver-requires-clause-enabled : goal.do_deliver-requires-clause-enabled
-do_deliver-requires-clause-enabled c =
+pub deliver-requires-clause-enabled : goal.deliver-requires-clause-enabled
+deliver-requires-clause-enabled g c =
     against_deliver c.args.state.now c.args.seat c.in-Deliver.bio c.in-Deliver.got
     (subst (λ (st : Step). IsAgainst (λ w. step w c.args.seat st) c.args.state.now None)
     c.in-Deliver.is c.requires.enabled)
 
 -- a bio in another phase, or none, would be against the Up
 pub up-requires-clause-up : goal.up-requires-clause-up
-up-requires-clause-up c =
+up-requires-clause-up g c =
     is_up_now c.args.state.now c.args.seat c.in-Up.bio
     (subst (λ (st : Step). IsAgainst (λ w. step w c.args.seat st) c.args.state.now None)
     c.in-Up.is c.requires.enabled)
 
 -- From here on for each step that may want memory: what was made is what the step does in the model
 pub returns-in-Event-clause-made : goal.returns-in-Event-clause-made
-returns-in-Event-clause-made c =
+returns-in-Event-clause-made g c =
     let log = c.args.log.now.items in
     let old = c.args.state.now in
     let new = c.do_event.new.state in
@@ -78,20 +79,20 @@ returns-in-Event-clause-made c =
 
 -- the bytes that bios name in the log are there still with one entry more
 pub returns-in-Event-clause-logged : goal.returns-in-Event-clause-logged
-returns-in-Event-clause-logged c =
+returns-in-Event-clause-logged g c =
     let log = c.args.log.now.items in
     more_bytes log c.do_event.new.state c.do_event.result (c.do_event.ensures.logged log c.requires.logged)
 
 pub returns-in-Event-clause-bytes : goal.returns-in-Event-clause-bytes
-returns-in-Event-clause-bytes c =
+returns-in-Event-clause-bytes g c =
     let log = c.args.log.now.items in
     all_bytes log c.do_event.new.state c.do_event.result (c.do_event.ensures.logged log c.requires.logged)
 
 pub returns-in-Event-clause-sure : goal.returns-in-Event-clause-sure
-returns-in-Event-clause-sure c = λ is. absurd (subst IsDeliver c.in-Event.is is)
+returns-in-Event-clause-sure g c = λ is. absurd (subst IsDeliver c.in-Event.is is)
 
 pub returns-in-Judge-clause-made : goal.returns-in-Judge-clause-made
-returns-in-Judge-clause-made c =
+returns-in-Judge-clause-made g c =
     let log = c.args.log.now.items in
     let old = c.args.state.now in
     let new = c.judge.new.state in
@@ -102,20 +103,20 @@ returns-in-Judge-clause-made c =
     c.judge.result (c.judge.ensures.made log))
 
 pub returns-in-Judge-clause-logged : goal.returns-in-Judge-clause-logged
-returns-in-Judge-clause-logged c =
+returns-in-Judge-clause-logged g c =
     let log = c.args.log.now.items in
     more_bytes log c.judge.new.state c.judge.result (c.judge.ensures.logged log c.requires.logged)
 
 pub returns-in-Judge-clause-bytes : goal.returns-in-Judge-clause-bytes
-returns-in-Judge-clause-bytes c =
+returns-in-Judge-clause-bytes g c =
     let log = c.args.log.now.items in
     all_bytes log c.judge.new.state c.judge.result (c.judge.ensures.logged log c.requires.logged)
 
 pub returns-in-Judge-clause-sure : goal.returns-in-Judge-clause-sure
-returns-in-Judge-clause-sure c = λ is. absurd (subst IsDeliver c.in-Judge.is is)
+returns-in-Judge-clause-sure g c = λ is. absurd (subst IsDeliver c.in-Judge.is is)
 
 pub returns-in-Start-clause-made : goal.returns-in-Start-clause-made
-returns-in-Start-clause-made c =
+returns-in-Start-clause-made g c =
     let log = c.args.log.now.items in
     let old = c.args.state.now in
     let new = c.start.new.state in
@@ -127,20 +128,20 @@ returns-in-Start-clause-made c =
     c.start.result (c.start.ensures.made log))
 
 pub returns-in-Start-clause-logged : goal.returns-in-Start-clause-logged
-returns-in-Start-clause-logged c =
+returns-in-Start-clause-logged g c =
     let log = c.args.log.now.items in
     more_bytes log c.start.new.state c.start.result (c.start.ensures.logged log c.requires.logged)
 
 pub returns-in-Start-clause-bytes : goal.returns-in-Start-clause-bytes
-returns-in-Start-clause-bytes c =
+returns-in-Start-clause-bytes g c =
     let log = c.args.log.now.items in
     all_bytes log c.start.new.state c.start.result (c.start.ensures.logged log c.requires.logged)
 
 pub returns-in-Start-clause-sure : goal.returns-in-Start-clause-sure
-returns-in-Start-clause-sure c = λ is. absurd (subst IsDeliver c.in-Start.is is)
+returns-in-Start-clause-sure g c = λ is. absurd (subst IsDeliver c.in-Start.is is)
 
 pub returns-in-Take-clause-made : goal.returns-in-Take-clause-made
-returns-in-Take-clause-made c =
+returns-in-Take-clause-made g c =
     let log = c.args.log.now.items in
     let old = c.args.state.now in
     let new = c.take.new.state in
@@ -152,20 +153,20 @@ returns-in-Take-clause-made c =
     c.take.result (c.take.ensures.made log))
 
 pub returns-in-Take-clause-logged : goal.returns-in-Take-clause-logged
-returns-in-Take-clause-logged c =
+returns-in-Take-clause-logged g c =
     let log = c.args.log.now.items in
     more_bytes log c.take.new.state c.take.result (c.take.ensures.logged log c.requires.logged)
 
 pub returns-in-Take-clause-bytes : goal.returns-in-Take-clause-bytes
-returns-in-Take-clause-bytes c =
+returns-in-Take-clause-bytes g c =
     let log = c.args.log.now.items in
     all_bytes log c.take.new.state c.take.result (c.take.ensures.logged log c.requires.logged)
 
 pub returns-in-Take-clause-sure : goal.returns-in-Take-clause-sure
-returns-in-Take-clause-sure c = λ is. absurd (subst IsDeliver c.in-Take.is is)
+returns-in-Take-clause-sure g c = λ is. absurd (subst IsDeliver c.in-Take.is is)
 
 pub returns-in-Up-clause-made : goal.returns-in-Up-clause-made
-returns-in-Up-clause-made c =
+returns-in-Up-clause-made g c =
     let log = c.args.log.now.items in
     let old = c.args.state.now in
     let new = c.up.new.state in
@@ -177,21 +178,21 @@ returns-in-Up-clause-made c =
     c.up.result c.up.ensures.made)
 
 pub returns-in-Up-clause-logged : goal.returns-in-Up-clause-logged
-returns-in-Up-clause-logged c =
+returns-in-Up-clause-logged g c =
     let log = c.args.log.now.items in
     more_bytes log c.up.new.state c.up.result (c.up.ensures.logged log c.requires.logged)
 
 pub returns-in-Up-clause-bytes : goal.returns-in-Up-clause-bytes
-returns-in-Up-clause-bytes c =
+returns-in-Up-clause-bytes g c =
     let log = c.args.log.now.items in
     all_bytes log c.up.new.state c.up.result (c.up.ensures.logged log c.requires.logged)
 
 pub returns-in-Up-clause-sure : goal.returns-in-Up-clause-sure
-returns-in-Up-clause-sure c = λ is. absurd (subst IsDeliver c.in-Up.is is)
+returns-in-Up-clause-sure g c = λ is. absurd (subst IsDeliver c.in-Up.is is)
 
 -- From here on a Reap and a Wash, which take no memory
 pub returns-in-Reap-clause-made : goal.returns-in-Reap-clause-made
-returns-in-Reap-clause-made c =
+returns-in-Reap-clause-made g c =
     let log = c.args.log.now.items in
     let old = c.args.state.now in
     let new = c.do_reap.new.state in
@@ -200,15 +201,15 @@ returns-in-Reap-clause-made c =
     (turns_reap log old new c.args.seat c.do_reap.result bytes (c.do_reap.ensures.made log))
 
 pub returns-in-Reap-clause-logged : goal.returns-in-Reap-clause-logged
-returns-in-Reap-clause-logged c = λ e.
+returns-in-Reap-clause-logged g c = λ e.
     let log = c.args.log.now.items in
     longer_bytes log e c.do_reap.new.state (c.do_reap.ensures.logged log c.requires.logged)
 
 pub returns-in-Reap-clause-sure : goal.returns-in-Reap-clause-sure
-returns-in-Reap-clause-sure c = λ is. absurd (subst IsDeliver c.in-Reap.is is)
+returns-in-Reap-clause-sure g c = λ is. absurd (subst IsDeliver c.in-Reap.is is)
 
 pub returns-in-Wash-clause-made : goal.returns-in-Wash-clause-made
-returns-in-Wash-clause-made c =
+returns-in-Wash-clause-made g c =
     let log = c.args.log.now.items in
     let old = c.args.state.now in
     let new = c.do_wash.new.state in
@@ -217,19 +218,19 @@ returns-in-Wash-clause-made c =
     (turns_wash log old new c.args.seat c.do_wash.result bytes (c.do_wash.ensures.made log))
 
 pub returns-in-Wash-clause-logged : goal.returns-in-Wash-clause-logged
-returns-in-Wash-clause-logged c = λ e.
+returns-in-Wash-clause-logged g c = λ e.
     let log = c.args.log.now.items in
     longer_bytes log e c.do_wash.new.state (c.do_wash.ensures.logged log c.requires.logged)
 
 pub returns-in-Wash-clause-sure : goal.returns-in-Wash-clause-sure
-returns-in-Wash-clause-sure c = λ is. absurd (subst IsDeliver c.in-Wash.is is)
+returns-in-Wash-clause-sure g c = λ is. absurd (subst IsDeliver c.in-Wash.is is)
 
 -- the entry that comes next is that of the Deliver, so the bio may name its bytes by it
 pub returns-in-Deliver-clause-made : goal.returns-in-Deliver-clause-made
-returns-in-Deliver-clause-made c =
+returns-in-Deliver-clause-made g c =
     let log = c.args.log.now.items in
     let old = c.args.state.now in
-    let new = c.do_deliver.new.state in
-    subst (λ (st : Step). Turns log old new c.args.seat st c.do_deliver.result) (sym c.in-Deliver.is)
-    (turns_deliver log old new c.args.seat c.in-Deliver.bio c.in-Deliver.got c.do_deliver.result
-    c.do_deliver.ensures.made)
+    let new = c.deliver.new.state in
+    subst (λ (st : Step). Turns log old new c.args.seat st outcomes.Delivered) (sym c.in-Deliver.is)
+    (turns_deliver log old new c.args.seat c.in-Deliver.bio c.in-Deliver.got outcomes.Delivered
+    c.deliver.ensures.made)

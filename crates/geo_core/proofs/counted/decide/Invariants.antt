@@ -1,4 +1,0 @@
-use Rattle.geo_core.proofs.counted.decide.Given as goal
-
-abbrev pub ghosts-decide_with : goal.ghosts-decide_with
-ghosts-decide_with a = record { name = a.blank.name; parts = a.blank.parts }
