@@ -4,7 +4,6 @@ use Rattle.std.proofs.Common.{refl, sym, ◌∙◌, ap, subst, inl, inr}
 use Rattle.std.proofs.Math.Bool.{and-false}
 use Rattle.std.proofs.lemmas.Bool.{ne_eqb}
 use Rattle.geo_base.specs.declared.errno.Errno.{Errno}
-use Rattle.geo_base.specs.declared.kind.Kind.{Kind}
 use Rattle.geo_base.specs.declared.request.Counts.{Counts}
 use Rattle.geo_model.specs.declared.command.Command.{Command}
 use Rattle.geo_model.specs.declared.command.Command.TheVariants as commands
@@ -30,7 +29,7 @@ use Rattle.geo_state.specs.World.{world, HasBytes}
 use Rattle.geo_opens.specs.Handles.{refusal_in, IsOpenRefusal}
 use Rattle.geo_commands.specs.declared.decisions.Decision.{Decision}
 use Rattle.geo_commands.specs.declared.decisions.Decision.TheVariants.{Opens, Closes}
-use Rattle.geo_commands.specs.Decisions.{IsDecided, decision_of, is_on_geoms}
+use Rattle.geo_commands.specs.Decisions.{IsDecided, decision_of}
 
 -- counts that aren't all zero
 pub some_counts : (a : Counts) → IsGrant a → is_zero a ≡ false
@@ -131,60 +130,3 @@ lists s line log lines is actors =
     (λ (ls : List GeomLine).
     let made : World × Outcome = (world actors log s, outcomes.Replied line (replies.Listing ls)) in made)
     (sym (is actors log))
-
--- Commands on geoms
-
--- A command that is none of these
-module _ (c : Command)
-    (no_open : (name prov : List ℕ) (grant : Counts) → c ≡ commands.Open name prov grant → ⊥)
-    (no_close : (name : List ℕ) → c ≡ commands.Close name → ⊥)
-    (no_read : (name : List ℕ) (offset len : ℕ) → c ≡ commands.Read name offset len → ⊥)
-    (no_write : (name : List ℕ) (offset : ℕ) (bytes : List ℕ) → c ≡ commands.Write name offset bytes → ⊥)
-    (no_delete : (name : List ℕ) (offset len : ℕ) → c ≡ commands.Delete name offset len → ⊥)
-    (no_flush : (name : List ℕ) → c ≡ commands.Flush name → ⊥)
-    (no_sync : c ≡ commands.Sync → ⊥)
-    (no_settle : c ≡ commands.Settle → ⊥)
-    (no_mesh : c ≡ commands.Mesh → ⊥) where
-  -- is one on geoms, or writes a record
-  pub on_geoms_else : (k : Command) → c ≡ k → is_on_geoms k ≡ true
-  on_geoms_else (commands.Open name prov grant) is = absurd (no_open name prov grant is)
-  on_geoms_else (commands.Close name) is = absurd (no_close name is)
-  on_geoms_else (commands.Read name offset len) is = absurd (no_read name offset len is)
-  on_geoms_else (commands.Write name offset bytes) is = absurd (no_write name offset bytes is)
-  on_geoms_else (commands.Delete name offset len) is = absurd (no_delete name offset len is)
-  on_geoms_else (commands.Flush name) is = absurd (no_flush name is)
-  on_geoms_else commands.Sync is = absurd (no_sync is)
-  on_geoms_else commands.Settle is = absurd (no_settle is)
-  on_geoms_else commands.Mesh is = absurd (no_mesh is)
-  on_geoms_else k is = refl
-
--- One that is none of these
-module _ (c : Command)
-    (no_insert : (disk : List ℕ) → c ≡ commands.Insert disk → ⊥)
-    (no_pull : (disk : List ℕ) → c ≡ commands.Pull disk → ⊥)
-    (no_nop : (prov : List ℕ) (offset size fail : ℕ) → c ≡ commands.Nop prov offset size fail → ⊥)
-    (no_concat : (name : List ℕ) (provs : List (List ℕ)) → c ≡ commands.Concat name provs → ⊥)
-    (no_stripe : (name : List ℕ) (strip : ℕ) (provs : List (List ℕ)) → c ≡ commands.Stripe name strip provs → ⊥)
-    (no_append : (name prov : List ℕ) → c ≡ commands.Append name prov → ⊥)
-    (no_destroy : (kind : Kind) (name : List ℕ) → c ≡ commands.Destroy kind name → ⊥)
-    (no_label : (name label : List ℕ) → c ≡ commands.Label name label → ⊥)
-    (no_relabel : (name label : List ℕ) → c ≡ commands.Relabel name label → ⊥)
-    (no_mark_concat : (name label : List ℕ) (id place count : ℕ)
-    → c ≡ commands.MarkConcat name label id place count → ⊥)
-    (no_mark_stripe : (name label : List ℕ) (id place count strip : ℕ)
-    → c ≡ commands.MarkStripe name label id place count strip → ⊥) where
-  -- isn't one on geoms, and writes no record
-  pub geoms_are : (k : Command) → c ≡ k → is_on_geoms k ≡ true → ⊥
-  geoms_are (commands.Insert disk) is on = no_insert disk is
-  geoms_are (commands.Pull disk) is on = no_pull disk is
-  geoms_are (commands.Nop prov offset size fail) is on = no_nop prov offset size fail is
-  geoms_are (commands.Concat name provs) is on = no_concat name provs is
-  geoms_are (commands.Stripe name strip provs) is on = no_stripe name strip provs is
-  geoms_are (commands.Append name prov) is on = no_append name prov is
-  geoms_are (commands.Destroy kind name) is on = no_destroy kind name is
-  geoms_are (commands.Label name label) is on = no_label name label is
-  geoms_are (commands.Relabel name label) is on = no_relabel name label is
-  geoms_are (commands.MarkConcat name label id place count) is on = no_mark_concat name label id place count is
-  geoms_are (commands.MarkStripe name label id place count strip) is on =
-      no_mark_stripe name label id place count strip is
-  geoms_are k is on = let no : ⊥ = cc in no

@@ -62,23 +62,24 @@ pub fn do_command<L: Ledger>(
         Command::Write(name, offset, bytes) => {
             write(alloc, state, line, actor, name, *offset, bytes)
         }
-        Command::Delete(name, offset, len) => {
-            ask(
-                alloc,
-                state,
-                line,
-                actor,
-                name,
-                BioCmd::Delete,
-                *offset,
-                *len,
-            )
+        Command::Delete(name, from, len) => {
+            ask(alloc, state, line, actor, name, BioCmd::Delete, *from, *len)
         }
         Command::Flush(name) => ask(alloc, state, line, actor, name, BioCmd::Flush, 0, 0),
         Command::Sync => Ok(done(line)),
         Command::Settle => Ok(done(line)),
         Command::Mesh => list(alloc, state, line),
-        _ => on_geoms(alloc, state, line, actor, command, steps),
+        Command::Insert(..)
+        | Command::Pull(..)
+        | Command::Nop(..)
+        | Command::Concat(..)
+        | Command::Stripe(..)
+        | Command::Append(..)
+        | Command::Destroy(..)
+        | Command::Label(..)
+        | Command::Relabel(..)
+        | Command::MarkConcat(..)
+        | Command::MarkStripe(..) => on_geoms(alloc, state, line, actor, command, steps),
     }
 }
 
@@ -126,7 +127,15 @@ fn on_geoms<L: Ledger>(
             let part = stripe_record(label, *id, *place, *count, *strip);
             write_record(alloc, state, line, actor, name, &Mark::Stripe(part))
         }
-        _ => unreachable!(),
+        Command::Open(..)
+        | Command::Close(..)
+        | Command::Read(..)
+        | Command::Write(..)
+        | Command::Delete(..)
+        | Command::Flush(..)
+        | Command::Sync
+        | Command::Settle
+        | Command::Mesh => unreachable!(),
     }
 }
 

@@ -36,7 +36,13 @@ pub fn admit<L: Ledger>(
     if let Some(found) = found_against(&running.plan, &running.left, &running.state, seat, step) {
         return Err(ApplyRefusal::NotEnabled { found });
     }
-    let decision = decide_step(&running.plan, &running.left, &mut running.state, step, steps);
+    let decision = decide_step(
+        &running.plan,
+        &running.left,
+        &mut running.state,
+        step,
+        steps,
+    );
     let owed = places_after(running, step, &decision);
     match make_place(&mut running.log, owed) {
         Ok(()) => Ok(decision),

@@ -3,7 +3,7 @@ ghost use Rattle.std.specs.Prelude.{◌≡◌, ◌++◌, ◌∷◌, [], List, No
 ghost use Rattle.geo_model.specs.declared.command.LineCommand.{LineCommand as LineCommandValue};
 ghost use Rattle.geo_model.specs.declared.step.Entry.{Entry as EntryValue};
 ghost use Rattle.geo_model.specs.declared.step.Outcome.{Outcome as OutcomeValue};
-ghost use Rattle.geo_model.specs.declared.step.Step.TheVariants as steps;
+ghost use Rattle.geo_model.specs.declared.step.Step.{Step as StepValue};
 ghost use Rattle.geo_model.specs.Step.{go};
 ghost use Rattle.geo_model.specs.Plans.{IsCommand};
 ghost use Rattle.geo_state.specs.Holds.{Holds};
@@ -123,7 +123,7 @@ fn go<L: Ledger>(
     requires named { HaveNames state.old.topo.topology }
     requires commands { All (All (λ (c : LineCommandValue). IsCommand c.command))
         (left_of plan.now.commands left.old) }
-    requires found { IsFound plan.now.commands left.old state.old 0 (steps.Go actor) None }
+    requires found { IsFound plan.now.commands left.old state.old 0 (StepValue.Go actor) None }
     requires ready { IsDecidedNext plan.now.commands left.old state.old actor decision }
     ensures made { (log : List EntryValue) → IfOk result (λ o.
         go (world (left_of plan.now.commands left.old) log state.old) actor
@@ -134,7 +134,7 @@ fn go<L: Ledger>(
     ensures left_stays { OnErr result (left.new ≡ left.old) }
     ensures logged { (log : List EntryValue) → HasBytes log state.old → HasBytes log state.new }
     ensures sure { (log : List EntryValue)
-        → IsSure (world (left_of plan.now.commands left.old) log state.old) 0 (steps.Go actor) → IsOk result }
+        → IsSure (world (left_of plan.now.commands left.old) log state.old) 0 (StepValue.Go actor) → IsOk result }
 {
     let Ok(line) = left.next(plan, actor) else {
         unreachable!();

@@ -9,7 +9,7 @@ use Rattle.geo_model.specs.declared.step.Phase.TheVariants as phases
 use Rattle.geo_base.specs.declared.errno.Errno.TheVariants.{EIO}
 use Rattle.geo_model.specs.Words.{is_flush}
 use Rattle.geo_model.specs.Topology.{Topology, Geom, Provider, is_errored, provider_with_geom, note_started}
-use Rattle.geo_model.specs.World.{World, Config, Nothing, Disk, Mbr, Ebr, Label, Concat, Stripe, Nop, Bio, bio_at, change_number}
+use Rattle.geo_model.specs.World.{World, Config, Disk, Nop, Bio, bio_at, change_number}
 use Rattle.geo_model.specs.Place.{components}
 use Rattle.geo_model.specs.Bios.{Way, Bounces, Fails, Sends, Splits, Passes, PieceTarget, empty_piece, is_hit, piece_child, piece_children, piece_targets, split_bio, start_by, up_with, way_at, way_of}
 use Rattle.geo_model.specs.Graph.{AreNumbers}

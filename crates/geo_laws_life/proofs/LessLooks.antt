@@ -57,7 +57,8 @@ pub middle_kind : (kind : Kind) (config : Config) → fits_kind kind config ≡ 
     → IsMiddleKind kind
 middle_kind kinds.Disk config e has = from_false_true (sym (bare_disk config e) ∙ has)
 middle_kind kinds.Dev config e has = from_false_true (sym (ap has_below (bare_config kinds.Dev config refl e)) ∙ has)
-middle_kind kinds.Taste config e has = from_false_true (sym (ap has_below (bare_config kinds.Taste config refl e)) ∙ has)
+middle_kind kinds.Taste config e has =
+    from_false_true (sym (ap has_below (bare_config kinds.Taste config refl e)) ∙ has)
 middle_kind _ config e has = record { granted = refl; disk = refl }
 
 -- the disk of a provider that stands with its geom

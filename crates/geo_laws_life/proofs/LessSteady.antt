@@ -4,7 +4,7 @@ use Rattle.std.proofs.Common.{inl, inr, refl, sym, ◌∙◌, ap, subst, arith}
 use Rattle.std.proofs.lemmas.List.Elements.{All-contains}
 use Rattle.geo_model.proofs.FindLists.{some-passes}
 use Rattle.geo_model.specs.Counts.{Counts}
-use Rattle.geo_model.specs.Topology.{Topology, Geom, Provider, Consumer, geom_at, provider_at, consumer_at, providers_of, consumers_of}
+use Rattle.geo_model.specs.Topology.{Topology, Geom, Provider, Consumer, geom_at, provider_at, consumer_at, providers_of}
 use Rattle.geo_model.specs.Demand.{have, no_counts, is_zero}
 use Rattle.geo_model.specs.Place.{components}
 use Rattle.geo_model.specs.World.{World, Config, granted_in}

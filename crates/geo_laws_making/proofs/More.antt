@@ -7,17 +7,15 @@ use Rattle.std.proofs.lemmas.List.Elements.{All-contains, All-weaker, Contains-g
 use Rattle.geo_base.proofs.FindLists.{some-passes}
 use Rattle.geo_base.proofs.Options.{some_weaker}
 use Rattle.geo_base.specs.declared.limits.TheConstants.{UNTASTED_RANK}
-use Rattle.geo_model.specs.declared.step.Event.{Event}
 use Rattle.geo_model.specs.Words.{is_read, is_flush}
 use Rattle.geo_model.specs.Topology.{Topology, Geom, Provider, Consumer, geom_at, provider_at, consumer_at, geom_of_provider, is_withering}
 use Rattle.geo_model.specs.Rank.{rank}
 use Rattle.geo_model.specs.Demand.{have, want, is_zero}
-use Rattle.geo_model.specs.Events.{provider_of_event}
 use Rattle.geo_model.specs.Bios.{piece_targets, disk_at}
 use Rattle.geo_model.specs.Place.{Spot, place, component, disk_of}
 use Rattle.geo_model.specs.World.{World, Config, Taste, Bio, granted_in, children_of, is_sent, is_busy}
 use Rattle.geo_model.specs.Graph.{IsInOrder}
-use Rattle.geo_model.specs.Sound.{IsMediaSize, ProvidersHold, CountsHold, IsOfItsClass, HasDiskSizes, NumbersHold, IsHandleConsumer, HasItsConsumer, HandlesHold, IsPlaceInside, IsPlaced, LeadsDown, ChainHolds, IsTasteInOrder, EventsHold}
+use Rattle.geo_model.specs.Sound.{IsMediaSize, ProvidersHold, CountsHold, IsOfItsClass, HasDiskSizes, NumbersHold, IsHandleConsumer, HasItsConsumer, HandlesHold, IsPlaceInside, IsPlaced, LeadsDown, ChainHolds, IsTasteInOrder}
 use Rattle.geo_model.specs.SoundBios.{IsRangeInside, HasCountFor, IsBioInOrder, shape_of_child, shape_of_piece, HasItsPieces, IsFamilyInOrder, DisksHold}
 use Rattle.geo_model.specs.Fitting.{Firm}
 use Rattle.geo_laws_graph.proofs.Members.{has, find-Contains}

@@ -313,21 +313,8 @@ class_is kinds.Label is = (literal (codes "label") refl, refl)
 class_is kinds.Concat is = (literal (codes "concat") refl, refl)
 class_is kinds.Stripe is = (literal (codes "stripe") refl, refl)
 class_is kinds.Nop is = (literal (codes "nop") refl, refl)
-class_is kinds.Disk is = absurd (unnamed is)
-  where
-    unnamed : IsNamedClass kinds.Disk → ⊥
-    unnamed (inl e) = cc
-    unnamed (inr e) = cc
-class_is kinds.Dev is = absurd (unnamed is)
-  where
-    unnamed : IsNamedClass kinds.Dev → ⊥
-    unnamed (inl e) = cc
-    unnamed (inr e) = cc
-class_is kinds.Taste is = absurd (unnamed is)
-  where
-    unnamed : IsNamedClass kinds.Taste → ⊥
-    unnamed (inl e) = cc
-    unnamed (inr e) = cc
+class_is _ (inl e) = absurd cc
+class_is _ (inr e) = absurd cc
 
 destroy_are : (class : Kind) (geom : List ℕ) → Written (commands.Destroy class geom)
 destroy_are class geom is =

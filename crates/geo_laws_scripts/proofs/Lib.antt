@@ -4,3 +4,5 @@ pub mod CommandWords
 pub mod LinesRead
 pub mod PlansRead
 pub mod PlansFit
+pub mod Deciders
+pub mod CommandForms

@@ -1,2 +1,3 @@
 pub mod PlanTexts
 pub mod ScriptLaws
+pub mod CommandForms

@@ -4,7 +4,7 @@ use Rattle.std.proofs.Common.{inl, inr, refl, ◌∙◌, subst, arith}
 use Rattle.std.proofs.lemmas.List.Elements.{Contains-push_cases}
 use Rattle.geo_base.specs.declared.kind.Kind.{Kind}
 use Rattle.geo_model.specs.Words.{change_where}
-use Rattle.geo_model.specs.Topology.{Topology, Geom, Provider, Consumer, set_error, set_withering, set_marks, set_config, set_size, note_started, add_geom, add_provider, add_consumer, remove_geom, remove_provider, remove_consumer}
+use Rattle.geo_model.specs.Topology.{Topology, Geom, Provider, Consumer, set_error, set_withering, set_marks, set_config, set_size, add_geom, add_provider, add_consumer, remove_geom, remove_provider, remove_consumer}
 use Rattle.geo_model.specs.World.{Config}
 use Rattle.geo_laws_graph.proofs.Members.{map-Contains, filter-Contains}
 use Rattle.geo_laws_steps.specs.Heirs.{IsOld, IsHeirGeom, IsHeirProvider, IsHeirConsumer, Inherits}

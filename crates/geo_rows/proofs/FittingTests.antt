@@ -1,19 +1,14 @@
 -- The tests of Fitting say what Fitting says.
-use Rattle.std.specs.Prelude.{◌≡◌, ◌≢◌, ℕ, ◌<◌, ◌%◌, ◌/◌, ◌^◌, ◌==◌, nat_lt, nat_le, true, not, ◌&&◌, ◌||◌, List, length, count_by, Option, IsTrue, option_and_then}
+use Rattle.std.specs.Prelude.{◌≢◌, ℕ, ◌%◌, ◌/◌, ◌==◌, nat_lt, nat_le, not, ◌&&◌, ◌||◌, List, length, count_by, Option, option_and_then}
 use Rattle.std.specs.Bool.{Decides}
-use Rattle.std.proofs.Common.{refl, sym, subst}
 use Rattle.std.proofs.lemmas.Bool.Decides.{Decides-and, Decides-or, Decides-not, Decides-like, Decides-eqb, Decides-ltb}
-use Rattle.geo_base.proofs.Tests.{from_false_true}
-use Rattle.geo_rows.proofs.TestFacts.{always, itself, at_most, under, each, if_there, there_and, beside, pairs, three, four}
+use Rattle.geo_laws_scripts.proofs.CommandForms.{formed}
+use Rattle.geo_laws_scripts.proofs.Deciders.{always, itself, at_most, each, kind_is}
+use Rattle.geo_rows.proofs.TestFacts.{under, if_there, there_and, beside, pairs}
 use Rattle.geo_base.specs.Sectors.{IsSectorSize}
-use Rattle.geo_base.specs.Name.{is_name, is_short_name}
-use Rattle.geo_base.specs.Kind.{adds_exclusive}
 use Rattle.geo_base.specs.declared.kind.Kind.{Kind}
 use Rattle.geo_base.specs.declared.kind.Kind.TheVariants as kinds
-use Rattle.geo_base.specs.declared.request.Counts.{Counts}
-use Rattle.geo_base.specs.declared.limits.TheConstants.{MAX_COMPONENTS, MAX_MEDIA_BYTES, MAX_RUNS_BYTES}
-use Rattle.geo_model.specs.declared.command.Command.{Command}
-use Rattle.geo_model.specs.declared.command.Command.TheVariants as commands
+use Rattle.geo_base.specs.declared.limits.TheConstants.{MAX_COMPONENTS, MAX_MEDIA_BYTES}
 use Rattle.geo_model.specs.declared.step.BioResult.{BioResult}
 use Rattle.geo_model.specs.declared.step.BioResult.TheVariants as results
 use Rattle.geo_model.specs.Words.{is_kind}
@@ -21,40 +16,9 @@ use Rattle.geo_model.specs.Topology.{Topology, Geom, Provider, Consumer, geom_at
 use Rattle.geo_model.specs.World.{World, Config, Mbr, Ebr, Stripe, Nop, Bio, HeaderDisk, Asked, NoClass, NextSector, ReadOut, ReadBack, is_taste_root}
 use Rattle.geo_model.specs.Place.{components}
 use Rattle.geo_model.specs.Acceptance.{places_of, joined_size}
-use Rattle.geo_model.specs.Plans.{IsGrant, IsRunsBytes, AreComponents, IsMark, IsStripe, IsNamedClass, IsCommand}
 use Rattle.geo_model.specs.Sound.{IsMediaSize}
 use Rattle.geo_model.specs.Fitting.{IsHeaderDisk, IsWholeIn, FitsBelow, sizes_of, FitsPlace, FitsPlaces, AsksThere, IsOneSector, IsAskedInOrder, TasteReadHolds, HasOneProvider, PlacesHold, HasItsSum, Fitting}
-use Rattle.geo_rows.specs.WorkedFitting.{is_sector_size, is_header_disk, is_whole_in, fits_below, fits_place, fits_places, asks_there, is_one_sector, is_asked_in_order, taste_read_holds, has_one_provider, has_its_sum, places_hold, is_grant, is_runs_bytes, are_components, is_mark, is_stripe, is_named_class, is_command, is_fitting_world}
-
--- Classes
-
--- a test of a class that passes for that class alone
-pub kind_is : (k : Kind) (c : Kind) → IsTrue (is_kind c c) → (is_kind k c ≡ true → k ≡ c)
-    → Decides (is_kind k c) (k ≡ c)
-kind_is k c same told = (told, λ e. subst (λ x. is_kind x c ≡ true) (sym e) same)
-
--- the test tells the class
-concat_told : (k : Kind) → is_kind k kinds.Concat ≡ true → k ≡ kinds.Concat
-concat_told kinds.Concat e = refl
-concat_told _ e = from_false_true e
-
--- the test tells the class
-nop_told : (k : Kind) → is_kind k kinds.Nop ≡ true → k ≡ kinds.Nop
-nop_told kinds.Nop e = refl
-nop_told _ e = from_false_true e
-
--- the test tells the class
-stripe_told : (k : Kind) → is_kind k kinds.Stripe ≡ true → k ≡ kinds.Stripe
-stripe_told kinds.Stripe e = refl
-stripe_told _ e = from_false_true e
-
--- the class is CONCAT
-is_concat : (k : Kind) → Decides (is_kind k kinds.Concat) (k ≡ kinds.Concat)
-is_concat k = kind_is k kinds.Concat refl (concat_told k)
-
--- the class is STRIPE
-is_striped : (k : Kind) → Decides (is_kind k kinds.Stripe) (k ≡ kinds.Stripe)
-is_striped k = kind_is k kinds.Stripe refl (stripe_told k)
+use Rattle.geo_rows.specs.WorkedFitting.{is_sector_size, is_header_disk, is_whole_in, fits_below, fits_place, fits_places, asks_there, is_one_sector, is_asked_in_order, taste_read_holds, has_one_provider, has_its_sum, places_hold, is_fitting_world}
 
 -- Sizes and sectors
 
@@ -110,12 +74,12 @@ places t g =
 -- one provider, its size, and places that differ
 one_provider : (t : Topology Config) (g : Geom Config) → Decides (has_one_provider t g) (HasOneProvider t g)
 one_provider t g =
-    under (is_kind g.kind kinds.Concat) _ (is_concat g.kind) (at_most (length (providers_of t g.number)) 1)
+    under (is_kind g.kind kinds.Concat) _ (kind_is g.kind kinds.Concat) (at_most (length (providers_of t g.number)) 1)
 
 its_sum : (t : Topology Config) (g : Geom Config) → Decides (has_its_sum t g) (HasItsSum t g)
 its_sum t g =
     under (is_kind g.kind kinds.Concat || is_kind g.kind kinds.Stripe) _
-    (Decides-or (is_kind g.kind kinds.Concat) (is_kind g.kind kinds.Stripe) (is_concat g.kind) (is_striped g.kind))
+    (Decides-or (is_kind g.kind kinds.Concat) (is_kind g.kind kinds.Stripe) (kind_is g.kind kinds.Concat) (kind_is g.kind kinds.Stripe))
     (each _ _ (λ p. Decides-eqb p.size (joined_size g.config)) (providers_of t g.number))
 
 held_places : (g : Geom Config) → Decides (places_hold g) (PlacesHold g)
@@ -160,91 +124,6 @@ taste_read t bios =
     under (is_taste_root x.owner) _ (itself (is_taste_root x.owner))
     (there_and (provider_at t x.target) _ _ (λ p. Decides-eqb x.len p.sector)))
     bios))
-
--- Commands
-
--- the words of a command, part by part
-grant : (a : Counts) → Decides (is_grant a) (IsGrant a)
-grant a =
-    Decides-like _
-    (λ h. record { r = h.0; w = h.1.0; e = h.1.1.0; some = h.1.1.1.0 })
-    (λ h. (h.r, (h.w, (h.e, (h.some, tt)))))
-    (Decides-and _ _ (at_most a.r 9)
-    (Decides-and _ _ (at_most a.w 9)
-    (Decides-and _ _ (at_most a.e 9)
-    (Decides-and _ _
-    (Decides-or _ _ (Decides-not _ (Decides-eqb a.r 0))
-    (Decides-or _ _ (Decides-not _ (Decides-eqb a.w 0)) (Decides-not _ (Decides-eqb a.e 0))))
-    always))))
-
-runs_bytes : (bytes : List ℕ) → Decides (is_runs_bytes bytes) (IsRunsBytes bytes)
-runs_bytes bytes =
-    Decides-like _
-    (λ h. record { some = h.0; not_long = h.1.0; each = h.1.1 })
-    (λ h. (h.some, (h.not_long, h.each)))
-    (Decides-and _ _ (at_most 1 (length bytes))
-    (Decides-and _ _ (at_most (length bytes) MAX_RUNS_BYTES) (each _ _ (λ b. Decides-ltb b 256) bytes)))
-
-names : (ns : List (List ℕ)) → Decides (are_components ns) (AreComponents ns)
-names ns =
-    Decides-like _
-    (λ h. record { some = h.0; not_many = h.1.0; each = h.1.1 })
-    (λ h. (h.some, (h.not_many, h.each)))
-    (Decides-and _ _ (at_most 1 (length ns))
-    (Decides-and _ _ (at_most (length ns) 16) (each _ _ (λ n. itself (is_name n)) ns)))
-
-mark : (id place count : ℕ) → Decides (is_mark id place count) (IsMark id place count)
-mark id place count =
-    Decides-like _
-    (λ h. record { id_fits = h.0; place_fits = h.1.0; some_place = h.1.1.0; few_places = h.1.1.1 })
-    (λ h. (h.id_fits, (h.place_fits, (h.some_place, h.few_places))))
-    (Decides-and _ _ (Decides-ltb id (2 ^ 32))
-    (Decides-and _ _ (Decides-ltb place (2 ^ 16)) (Decides-and _ _ (at_most 1 count) (at_most count MAX_COMPONENTS))))
-
-stripe_size : (n : ℕ) → Decides (is_stripe n) (IsStripe n)
-stripe_size n =
-    Decides-like _
-    (λ h. record { some = h.0; limited = h.1 })
-    (λ h. (h.some, h.limited))
-    (Decides-and _ _ (at_most 1 n) (Decides-ltb n (2 ^ 32)))
-
-named_class : (k : Kind) → Decides (is_named_class k) (IsNamedClass k)
-named_class k =
-    Decides-or (adds_exclusive k) (is_kind k kinds.Nop) (itself (adds_exclusive k))
-    (kind_is k kinds.Nop refl (nop_told k))
-
-short : (n : List ℕ) → Decides (is_short_name n) (IsTrue (is_short_name n))
-short n = itself (is_short_name n)
-
-long : (n : List ℕ) → Decides (is_name n) (IsTrue (is_name n))
-long n = itself (is_name n)
-
-word64 : (n : ℕ) → Decides (nat_lt n (2 ^ 64)) (n < 2 ^ 64)
-word64 n = Decides-ltb n (2 ^ 64)
-
--- a whole command
-formed : (c : Command) → Decides (is_command c) (IsCommand c)
-formed (commands.Open h p a) = three _ _ _ (short h) (long p) (grant a)
-formed (commands.Close h) = short h
-formed (commands.Read h offset len) = three _ _ _ (short h) (word64 offset) (word64 len)
-formed (commands.Write h offset bytes) = three _ _ _ (short h) (word64 offset) (runs_bytes bytes)
-formed (commands.Delete h offset len) = three _ _ _ (short h) (word64 offset) (word64 len)
-formed (commands.Flush h) = short h
-formed commands.Sync = always
-formed commands.Settle = always
-formed (commands.Insert disk) = short disk
-formed (commands.Pull disk) = short disk
-formed (commands.Nop p offset size fail) = four _ _ _ _ (long p) (word64 offset) (word64 size) (word64 fail)
-formed (commands.Concat name ps) = Decides-and _ _ (short name) (names ps)
-formed (commands.Stripe name stripe ps) = three _ _ _ (short name) (stripe_size stripe) (names ps)
-formed (commands.Append name p) = Decides-and _ _ (short name) (long p)
-formed (commands.Destroy kind geom) = Decides-and _ _ (named_class kind) (long geom)
-formed (commands.Label h name) = Decides-and _ _ (short h) (short name)
-formed (commands.Relabel h name) = Decides-and _ _ (short h) (short name)
-formed (commands.MarkConcat h name id place count) = three _ _ _ (short h) (short name) (mark id place count)
-formed (commands.MarkStripe h name id place count stripe) =
-    four _ _ _ _ (short h) (short name) (mark id place count) (stripe_size stripe)
-formed commands.Mesh = always
 
 -- All of it
 

@@ -15,9 +15,10 @@ use Rattle.std.proofs.lemmas.List.Kept.{AllPairs-from_increasing}
 use Rattle.std.proofs.lemmas.Slice.Eq.{bytes_eq-Decides}
 use Rattle.std.proofs.lemmas.Option.{same_Some}
 use Rattle.geo_base.proofs.Tests.{from_false_true}
-use Rattle.geo_rows.proofs.TestFacts.{always, itself, at_most, under, each, if_there, there_and, pairs}
+use Rattle.geo_laws_scripts.proofs.Deciders.{always, itself, at_most, each, kind_is}
+use Rattle.geo_rows.proofs.TestFacts.{under, if_there, there_and, pairs}
 use Rattle.geo_rows.proofs.SteadyTests.{untrue, bare, named}
-use Rattle.geo_rows.proofs.FittingTests.{kind_is, media_size}
+use Rattle.geo_rows.proofs.FittingTests.{media_size}
 use Rattle.geo_base.specs.declared.kind.Kind.{Kind}
 use Rattle.geo_base.specs.declared.kind.Kind.TheVariants as kinds
 use Rattle.geo_base.specs.declared.request.BioCmd.{BioCmd}
@@ -458,11 +459,6 @@ one_chain n asked made c =
     (Decides-and _ _ (pairs _ _ (λ a b. Decides-not _ (Decides-eqb a b)) (map (λ l. l.sector) c.links))
     (Decides-and _ _ (each _ _ (λ l. Decides-not _ (Decides-eqb l.sector c.next)) c.links) always)))))))))
 
--- the test tells the class
-ebr_told : (k : Kind) → is_kind k kinds.Ebr ≡ true → k ≡ kinds.Ebr
-ebr_told kinds.Ebr e = refl
-ebr_told _ e = from_false_true e
-
 -- the class in an option
 abbrev kind_in : Option Kind → Kind
 kind_in None = kinds.Disk
@@ -472,8 +468,8 @@ kind_in (Some k) = k
 ebr_asked : (o : Option Kind) → Decides (some_and o (λ k. is_kind k kinds.Ebr)) (o ≡ Some kinds.Ebr)
 ebr_asked None = (λ e. from_false_true e, λ e. from_false_true (ap (λ o. is_some o) e))
 ebr_asked (Some k) = (
-  λ e. ap (λ j. Some j) (ebr_told k e),
-  λ e. (kind_is k kinds.Ebr refl (ebr_told k)).1 (ap (λ o. kind_in o) e),
+  λ e. ap (λ j. Some j) ((kind_is k kinds.Ebr).0 e),
+  λ e. (kind_is k kinds.Ebr).1 (ap (λ o. kind_in o) e),
 )
 
 -- the chain, and all of the taste

@@ -5,7 +5,8 @@ use Rattle.std.proofs.Common.{refl, arith, sym, ap}
 use Rattle.std.proofs.lemmas.Bool.{true≢false, eqb-true}
 use Rattle.std.proofs.lemmas.Bool.Decides.{Decides-and, Decides-or, Decides-like, Decides-eqb, Decides-ltb}
 use Rattle.std.proofs.lemmas.Option.{same_Some}
-use Rattle.geo_rows.proofs.TestFacts.{always, itself, under, each, there_and}
+use Rattle.geo_laws_scripts.proofs.Deciders.{always, itself, each}
+use Rattle.geo_rows.proofs.TestFacts.{under, there_and}
 use Rattle.geo_base.specs.declared.request.Counts.{Counts}
 use Rattle.geo_model.specs.declared.step.BioResult.{BioResult}
 use Rattle.geo_model.specs.declared.step.BioResult.TheVariants as results

@@ -1,36 +1,20 @@
--- Tests that decide a fact, put together.
-use Rattle.std.specs.Prelude.{ℕ, ◌≤◌, nat_le, Bool, true, false, not, ◌&&◌, ◌||◌, List, [], ◌∷◌, Option, Some, None, IsSomeAnd, IfSome, IsTrue, All, AllPairs, ⊤}
+-- Tests that decide a fact of a value that may be missing, of two lists, and under a condition.
+use Rattle.std.specs.Prelude.{Bool, true, false, not, ◌&&◌, ◌||◌, List, [], ◌∷◌, Option, Some, None, IsSomeAnd, IfSome, AllPairs}
 use Rattle.std.specs.Bool.{Decides}
 use Rattle.std.specs.List.{list_all, AllZip}
 use Rattle.std.proofs.Common.{refl, arith, sym}
-use Rattle.std.proofs.lemmas.Bool.{true≢false, leb-true, le-leb}
-use Rattle.std.proofs.lemmas.Bool.Decides.{Decides-and, Decides-like, Decides-by_and}
+use Rattle.std.proofs.lemmas.Bool.{true≢false}
+use Rattle.std.proofs.lemmas.Bool.Decides.{Decides-and, Decides-like}
 use Rattle.std.proofs.lemmas.List.Kept.{AllPairs-cons}
 use Rattle.geo_base.proofs.AllLists.{pairs_head, pairs_tail}
+use Rattle.geo_laws_scripts.proofs.Deciders.{always, each}
 use Rattle.geo_rows.specs.WorkedSound.{some_and, none_or, all_pairs}
 use Rattle.geo_rows.specs.WorkedFitting.{all_beside}
-
--- what always holds
-pub always : Decides true ⊤
-always = (λ e. tt, λ h. refl)
-
--- a fact that is a test
-pub itself : (b : Bool) → Decides b (IsTrue b)
-itself b = (λ e. e, λ e. e)
-
--- a number is at most another
-pub at_most : (a b : ℕ) → Decides (nat_le a b) (a ≤ b)
-at_most a b = (leb-true a b, le-leb a b)
 
 -- a fact under a condition
 pub under : {P Q : Type 0} → (a b : Bool) → Decides a P → Decides b Q → Decides (not a || b) (P → Q)
 under true b d k = (λ e p. k.0 e, λ h. k.1 (h (d.0 refl)))
 under false b d k = (λ e p. absurd (true≢false (sym (d.1 p))), λ h. refl)
-
--- a fact of each item
-pub each : {A : Type 0} → (test : A → Bool) → (P : A → Type 0) → ((x : A) → Decides (test x) (P x)) → (xs : List A)
-    → Decides (list_all test xs) (All P xs)
-each test P one xs = Decides-by_and test P (list_all test) one refl (λ x xs. refl) xs
 
 -- a fact of a value, if there is one
 pub if_there : {A : Type 0} → (o : Option A) → (test : A → Bool) → (P : A → Type 0)
@@ -62,20 +46,3 @@ pairs test P one (x ∷ xs) =
     (λ h. AllPairs-cons P x xs h.0 h.1)
     (λ h. (pairs_head P x xs h, pairs_tail P x xs h))
     (Decides-and (list_all (test x) xs) (all_pairs test xs) (each (test x) (P x) (one x) xs) (pairs test P one xs))
-
--- three facts, and four
-pub three : {A B C : Type 0} → (a b c : Bool) → Decides a A → Decides b B → Decides c C
-    → Decides (a && b && c) (A × B × C)
-three a b c da db dc =
-    Decides-like (a && b && c)
-    (λ h. (h.0.0, h.0.1, h.1))
-    (λ h. ((h.0, h.1), h.2))
-    (Decides-and (a && b) c (Decides-and a b da db) dc)
-
-pub four : {A B C D : Type 0} → (a b c d : Bool) → Decides a A → Decides b B → Decides c C → Decides d D
-    → Decides (a && b && c && d) (A × B × C × D)
-four a b c d da db dc dd =
-    Decides-like (a && b && c && d)
-    (λ h. (h.0.0, h.0.1, h.0.2, h.1))
-    (λ h. ((h.0, h.1, h.2), h.3))
-    (Decides-and (a && b && c) d (three a b c da db dc) dd)

@@ -1,7 +1,7 @@
-use Rattle.std.proofs.Common.{refl, subst}
+use Rattle.std.proofs.Common.{arith, refl, subst}
 use Rattle.geo_model.specs.Commands.{do_command}
 use Rattle.geo_commands.specs.Decisions.{IsDecided}
-use Rattle.geo_commands.proofs.Doing.{as_made, by_command, does_by, done_does, logged_same, never_closes, on_geoms_else, only_closes}
+use Rattle.geo_commands.proofs.Doing.{as_made, by_command, does_by, done_does, logged_same, never_closes, only_closes}
 use Rattle.geo_commands.proofs.dispatch.do_command.Goals as goal
 
 pub open_decided-requires-clause-grant : goal.open_decided-requires-clause-grant
@@ -98,14 +98,8 @@ returns-in-Mesh-clause-no_memory g c =
     never_closes c.args.state.now c.args.actor c.args.command.now _ c.args.decision c.requires.decided
     c.in-Mesh.is refl
 
-pub on_geoms-requires-clause-geoms : goal.on_geoms-requires-clause-geoms
-on_geoms-requires-clause-geoms g c =
-    on_geoms_else c.args.command.now c.in_default.not-Open c.in_default.not-Close c.in_default.not-Read
-    c.in_default.not-Write c.in_default.not-Delete c.in_default.not-Flush c.in_default.not-Sync
-    c.in_default.not-Settle c.in_default.not-Mesh c.args.command.now refl
-
-pub returns-in_default-clause-no_memory : goal.returns-in_default-clause-no_memory
-returns-in_default-clause-no_memory g c closes =
+pub returns-in-Insert-clause-no_memory : goal.returns-in-Insert-clause-no_memory
+returns-in-Insert-clause-no_memory g c closes =
     absurd
     (only_closes c.args.state.now c.args.actor c.args.command.now c.args.decision c.requires.decided closes
-    c.in_default.not-Close)
+    (λ name same. grind arith))

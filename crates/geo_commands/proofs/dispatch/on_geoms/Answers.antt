@@ -1,5 +1,5 @@
 use Rattle.std.specs.Prelude.{◌≤◌, IfOk, IsTrue, length}
-use Rattle.std.proofs.Common.{refl, sym, subst}
+use Rattle.std.proofs.Common.{sym, subst}
 use Rattle.geo_base.specs.Name.{is_short_name}
 use Rattle.geo_base.specs.declared.limits.TheConstants.{MAX_COMPONENTS}
 use Rattle.geo_model.specs.Commands.{do_command}
@@ -9,7 +9,7 @@ use Rattle.geo_model.specs.GeomCommands.{do_concat, do_stripe, found_providers}
 use Rattle.geo_model.specs.Records.{concat_sector, stripe_sector}
 use Rattle.geo_model.specs.Topology.{Provider}
 use Rattle.geo_state.specs.Steps.{Does}
-use Rattle.geo_commands.proofs.Doing.{as_made, by_command, does_by, geoms_are, mark_does}
+use Rattle.geo_commands.proofs.Doing.{as_made, by_command, does_by, mark_does}
 use Rattle.geo_commands.proofs.dispatch.on_geoms.Goals as goal
 
 pub returns-in-Insert-clause-does : goal.returns-in-Insert-clause-does
@@ -139,13 +139,6 @@ stripe_record-part-requires-clause-mark g c =
 pub stripe_record-part-requires-clause-strips : goal.stripe_record-part-requires-clause-strips
 stripe_record-part-requires-clause-strips g c =
     (as_made c.args.command.now _ c.in-MarkStripe.is c.requires.is_command).3
-
-pub unreachable-requires : goal.unreachable-requires
-unreachable-requires g c =
-    geoms_are c.args.command.now c.in_default.not-Insert c.in_default.not-Pull c.in_default.not-Nop
-    c.in_default.not-Concat c.in_default.not-Stripe c.in_default.not-Append c.in_default.not-Destroy
-    c.in_default.not-Label c.in_default.not-Relabel c.in_default.not-MarkConcat c.in_default.not-MarkStripe
-    c.args.command.now refl c.requires.geoms
 
 pub write_record-requires-in-MarkConcat-clause-short : goal.write_record-requires-in-MarkConcat-clause-short
 write_record-requires-in-MarkConcat-clause-short g c =

@@ -13,14 +13,14 @@ returns-in-Err-clause-sure g c = λ sure.
     absurd (not_ok _ _ c.in-Err.is ok)
 
 -- the step was admitted, so the only thing that can refuse it now is want of memory
-pub returns-in-Err-carry-clause-answer : goal.returns-in-Err-carry-clause-answer
-returns-in-Err-carry-clause-answer g c =
+pub returns-clause-answer : goal.returns-clause-answer
+returns-clause-answer g c =
     refused_memory (seen c.args.running.now) c.admit.new.running (seen c.carry.new.running) c.args.seat c.args.step
     c.in-Ok.decision c.admit.ensures.mesh c.admit.ensures.same c.in-Ok.ensures.admitted c.in-Err-carry.ensures.same
 
 -- a step that is never refused takes no memory
-pub returns-in-Err-carry-clause-sure : goal.returns-in-Err-carry-clause-sure
-returns-in-Err-carry-clause-sure g c = λ sure.
+pub returns-clause-sure : goal.returns-clause-sure
+returns-clause-sure g c = λ sure.
     let ok =
     c.carry.ensures.sure
     (subst (λ (v : MeshView). IsSure (world_of v) c.args.seat c.args.step) (sym c.admit.ensures.same) sure) in
