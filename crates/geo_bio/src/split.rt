@@ -75,8 +75,9 @@ pub fn insert_all(bios: &mut Slots<Bio>, children: Vec<Bio>) -> u64
 
 // The bio of a number, if there is one, waits for its children.
 pub fn wait_for(bios: &mut Slots<Bio>, number: u64, children: u32, first_child: u64)
-    ensures { MatchOption (value_at bios.old.rows number) (bios.new ≡ bios.old) (λ x.
+    ensures waits { MatchOption (value_at bios.old.rows number) (bios.new ≡ bios.old) (λ x.
         bios.new ≡ record bios.old { rows = with_value bios.old.rows number (waiting children first_child x) }) }
+    ensures bound { bios.new.next < 2 ^ 64 }
 {
     if let Some(bio) = bios.get_mut(number) {
         bio.phase = Phase::Waiting;
@@ -98,6 +99,7 @@ pub fn split_bio(bios: &mut Slots<Bio>, number: u64, children: Vec<Bio>) -> u64
         ≡ with_value rows number (waiting (length children.items) bios.old.next x)) }
     ensures next { bios.new.next ≡ bios.old.next + length children.items }
     ensures room { bios.new.spare ≡ bios.old.spare - length children.items }
+    ensures bound { bios.new.next < 2 ^ 64 }
 {
     let count = children.len();
     let last = insert_all(bios, children);

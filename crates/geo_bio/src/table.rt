@@ -112,6 +112,8 @@ impl BioTable {
         ensures room { OnOk result (self.new.spare ≡ self.old.spare - 1) }
         ensures room_stays { OnErr result (self.old.spare ≤ self.new.spare) }
         ensures had_room { 1 ≤ self.old.spare → IsOk result }
+        ensures in_order { OnOk result (AreInOrder self.new) }
+        ensures bound { OnOk result (self.new.next < 2 ^ 64) }
     {
         self.bios.reserve(1)?;
         Ok(BioId::new(
@@ -154,6 +156,8 @@ impl BioTable {
         ensures bios_stay { OnErr result (self.new.bios ≡ self.old.bios) }
         ensures next_stays { OnErr result (self.new.next ≡ self.old.next) }
         ensures room_stays { OnErr result (self.old.spare ≤ self.new.spare) }
+        ensures in_order { OnOk result (AreInOrder self.new) }
+        ensures bound { OnOk result (self.new.next < 2 ^ 64) }
     {
         let items = pieces.items();
         if items.len() > u32::MAX as usize {
@@ -171,7 +175,8 @@ impl BioTable {
     /// A bio that isn't let down: it goes up with an error.
     pub fn bounce(&mut self, bio: BioId, errno: Errno)
         requires { IsTrue (has_phase is_down self.old.bios bio) }
-        ensures { self.new ≡ record self.old { bios = change_number bio (up_with (Held.Failed errno)) self.old.bios } }
+        ensures bounced { self.new ≡ record self.old { bios = change_number bio (up_with (Held.Failed errno)) self.old.bios } }
+        ensures in_order { AreInOrder self.new }
     {
         end_with(&mut self.bios, bio.number(), Held::Failed(errno));
     }
@@ -179,7 +184,8 @@ impl BioTable {
     /// A bio goes to its disk.
     pub fn send(&mut self, bio: BioId)
         requires { IsTrue (has_phase is_down self.old.bios bio) }
-        ensures { self.new ≡ record self.old { bios = change_number bio (with_phase Phase.Sent) self.old.bios } }
+        ensures sent { self.new ≡ record self.old { bios = change_number bio (with_phase Phase.Sent) self.old.bios } }
+        ensures in_order { AreInOrder self.new }
     {
         set_phase(&mut self.bios, bio.number(), Phase::Sent);
     }
@@ -187,7 +193,8 @@ impl BioTable {
     /// A seat takes a bio for its disk.
     pub fn take(&mut self, bio: BioId, seat: u32)
         requires { IsTrue (has_phase is_sent self.old.bios bio) }
-        ensures { self.new ≡ record self.old { bios = change_number bio (with_phase (Phase.Busy seat)) self.old.bios } }
+        ensures taken { self.new ≡ record self.old { bios = change_number bio (with_phase (Phase.Busy seat)) self.old.bios } }
+        ensures in_order { AreInOrder self.new }
     {
         set_phase(&mut self.bios, bio.number(), Phase::Busy(seat));
     }
@@ -195,7 +202,8 @@ impl BioTable {
     /// A bio's disk has answered: it goes up with the bytes at this place of the log, with success, or with an error.
     pub fn deliver(&mut self, bio: BioId, place: u64, errno: Option<Errno>)
         requires { IsTrue (has_phase is_busy self.old.bios bio) }
-        ensures { self.new ≡ record self.old { bios = change_number bio (delivered place errno) self.old.bios } }
+        ensures delivered { self.new ≡ record self.old { bios = change_number bio (delivered place errno) self.old.bios } }
+        ensures in_order { AreInOrder self.new }
     {
         let number = bio.number();
         let held = delivery(&self.bios, number, place, errno);
@@ -214,6 +222,7 @@ impl BioTable {
         ensures bios_stay { OnErr result (self.new.bios ≡ self.old.bios) }
         ensures next_stays { self.new.next ≡ self.old.next }
         ensures room_stays { self.new.spare ≡ self.old.spare }
+        ensures in_order { AreInOrder self.new }
     {
         let number = bio.number();
         let owner = match self.bios.get(number) {

@@ -17,16 +17,16 @@ returns-clause-rows c =
     let count : c.len-count.result ≡ length c.args.children.items =
     omega (arith, c.len-count.ensures, c.args.children.ok) in
     let after = split_after _ c.wait_for.new.bios _ _ _ c.args.number
-    (waiting c.len-count.result (c.insert_all-last.result - (c.len-count.result - 1))) all c.wait_for.ensures in
+    (waiting c.len-count.result (c.insert_all-last.result - (c.len-count.result - 1))) all c.wait_for.ensures.waits in
     rw (first, count) at after
 
 -- Here and below: that the bio waits changes neither the next number nor the room
 pub returns-clause-next : goal.returns-clause-next
 returns-clause-next c =
     let all = c.insert_all-last.ensures.inserted ∙ with_all-numbered c.args.bios.now c.args.children.items in
-    split_next _ c.wait_for.new.bios _ _ _ c.args.number _ all c.wait_for.ensures
+    split_next _ c.wait_for.new.bios _ _ _ c.args.number _ all c.wait_for.ensures.waits
 
 pub returns-clause-room : goal.returns-clause-room
 returns-clause-room c =
     let all = c.insert_all-last.ensures.inserted ∙ with_all-numbered c.args.bios.now c.args.children.items in
-    split_spare _ c.wait_for.new.bios _ _ _ c.args.number _ all c.wait_for.ensures
+    split_spare _ c.wait_for.new.bios _ _ _ c.args.number _ all c.wait_for.ensures.waits

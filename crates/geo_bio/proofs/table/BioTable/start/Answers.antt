@@ -3,6 +3,7 @@ use Rattle.std.specs.Option.{option_copied}
 use Rattle.geo_model.specs.World.{is_down}
 use Rattle.geo_bio.proofs.ChangeLemmas.{never_none}
 use Rattle.geo_bio.proofs.SplitLemmas.{room_left, children_counted, started}
+use Rattle.geo_bio.proofs.OrderLemmas.{in_order}
 use Rattle.geo_bio.proofs.table.BioTable.start.Goals as goal
 
 -- the bio is down, so it is there
@@ -55,4 +56,7 @@ returns c =
       bios_stay = tt;
       next_stays = tt;
       room_stays = tt;
+      in_order =
+          in_order c.split_bio.new.bios.rows c.split_bio.new.bios.next c.split_bio.new.bios.spare after.table.rising;
+      bound = c.split_bio.ensures.bound;
     }
