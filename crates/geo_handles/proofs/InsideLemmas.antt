@@ -15,7 +15,7 @@ use Rattle.geo_handles.specs.declared.key.Key.{Key}
 use Rattle.geo_handles.specs.declared.records.HandleRec.{HandleRec}
 use Rattle.geo_handles.specs.declared.handles.Inside.{Inside}
 use Rattle.geo_handles.specs.Keys.{key_named, same_key, is_key, name_key, consumer_key, number_of_key, number_of_consumer, IsFinder}
-use Rattle.geo_handles.specs.Handles.{HandlesView, handle_at, named_handle, holding_handle, closed, is_at, HoldsAlone}
+use Rattle.geo_handles.specs.Handles.{HandlesView, handle_at, named_handle, holding_handle, closed, is_at, HoldsAlone, AreApart}
 use Rattle.geo_handles.specs.Inside.{handle_row, handle_key, ready_row, handles_of, IsInside}
 use Rattle.geo_handles.proofs.FinderLemmas.{keys-test, consumers-test, finds, finder-same, finder-add, finder-drop}
 use Rattle.geo_handles.proofs.NumberLemmas.{ready-without}
@@ -107,6 +107,13 @@ module _ (n : Inside) (is : IsInside n) where
   held-alone c =
       all-items handle_row (λ h. names_number h.consumer c ≡ is_at (number_of_consumer n.consumers c) h.number)
       n.table.rows (held-all c)
+
+  -- so no two handles have one consumer
+  pub held-apart : AreApart (map handle_row n.table.rows)
+  held-apart c =
+      subst (HoldsAlone (map handle_row n.table.rows) c)
+      (found-number n.table.rows (λ h. names_number h.consumer c) (number_of_consumer n.consumers c) (held-all c)
+      (held-there c)) (held-alone c)
 
   -- no number without a handle
   none : {o : Option ℕ} {h : Option Handle} → o ≡ option_map (λ (h : Handle). h.number) h → h ≡ None → o ≡ None

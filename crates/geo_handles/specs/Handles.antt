@@ -44,6 +44,10 @@ is_at (Some n) m = m == n
 abbrev pub HoldsAlone : List Handle → ℕ → Option ℕ → Type 0
 HoldsAlone handles c o = AllByRecursion (λ h. names_number h.consumer c ≡ is_at o h.number) handles
 
+-- no two handles have one consumer
+abbrev pub AreApart : List Handle → Type 0
+AreApart handles = (c : ℕ) → HoldsAlone handles c (option_map (λ h. h.number) (holding_handle handles c))
+
 -- with the next handle, of this actor, name, consumer and grant, which isn't dead and can't be reaped
 abbrev pub with_opened : HandlesView → ℕ → List ℕ → ℕ → Counts → HandlesView
 with_opened v actor name c grant = record v {

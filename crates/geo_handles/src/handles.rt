@@ -2,7 +2,7 @@
 ghost use Rattle.std.specs.Prelude.{◌≡◌, ◌≤◌, ◌+◌, None, length, IsOk, OnOk, IfOk, IsSome, option_map, option_copied};
 ghost use Rattle.std.specs.Option.{option_and_then};
 ghost use Rattle.geo_slots.specs.Slots.{with_value, without};
-ghost use Rattle.geo_handles.specs.Handles.{no_handles, handle_seen, handle_at, named_handle, holding_handle, HoldsAlone, with_opened, killed, released, closed, first_ready};
+ghost use Rattle.geo_handles.specs.Handles.{no_handles, handle_seen, handle_at, named_handle, holding_handle, HoldsAlone, AreApart, with_opened, killed, released, closed, first_ready};
 
 use crate::key::Key;
 use crate::parts;
@@ -90,9 +90,10 @@ impl Handles {
         self.inside.live
     }
 
-    /// The handle of a number.
+    /// The handle of a number. No two handles have one consumer.
     pub fn get(&self, id: HandleId) -> Option<&HandleRec>
-        ensures { handle_at self.now.handles id ≡ option_map (handle_seen id) (option_copied result) }
+        ensures found { handle_at self.now.handles id ≡ option_map (handle_seen id) (option_copied result) }
+        ensures apart { AreApart self.now.handles }
     {
         self.inside.table.get(id.number())
     }
@@ -141,9 +142,10 @@ impl Handles {
         HandleId::new(number)
     }
 
-    /// The handle of the consumer, if there is one, becomes dead.
+    /// The handle of the consumer, if there is one, becomes dead. No two handles had one consumer.
     pub fn kill(&mut self, consumer: ConsId)
-        ensures { self.new ≡ record self.old { handles = killed self.old.handles consumer } }
+        ensures killed { self.new ≡ record self.old { handles = killed self.old.handles consumer } }
+        ensures apart { AreApart self.old.handles }
     {
         if let Some(id) = parts::number_held(&self.inside.consumers, consumer) {
             parts::mark_dead(&mut self.inside.table, id.number());
