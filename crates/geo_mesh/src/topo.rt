@@ -105,6 +105,7 @@ impl<C: Drop> Topo<C> {
         ensures room { self.old.room.geoms ≤ self.new.room.geoms + 1 }
         ensures other_room { self.new.room ≡ record self.old.room { geoms = self.new.room.geoms } }
         ensures had_room { 1 ≤ self.old.room.geoms → IsOk result }
+        ensures sound { IsSoundGraph self.old.topology }
     {
         if MOST_GEOMS <= self.tables.live {
             return Err(NoMemory);
@@ -212,6 +213,7 @@ impl<C> Topo<C> {
         ensures room { self.old.room.consumers ≤ self.new.room.consumers + 1 }
         ensures other_room { self.new.room ≡ record self.old.room { consumers = self.new.room.consumers } }
         ensures had_room { 1 ≤ self.old.room.consumers → IsOk result }
+        ensures sound { IsSoundGraph self.old.topology }
     {
         self.tables.reserve(0, 0, 1)?;
         let number = self.tables.edges.consumers.insert(ConsCell {
@@ -413,7 +415,8 @@ impl<C> Topo<C> {
 
     /// The provider of the name that carries no error, else the one of the name with the greatest number.
     pub fn find(&self, name: &Name) -> Option<ProvId>
-        ensures { result ≡ find_provider self.now.topology name.now }
+        ensures found { result ≡ find_provider self.now.topology name.now }
+        ensures sound { IsSoundGraph self.now.topology }
     {
         match self.tables.names.sound(name) {
             Some(number) => Some(ProvId::new(number)),

@@ -1,10 +1,11 @@
 use Rattle.std.proofs.Common.{refl, rules}
+use Rattle.geo_mesh.proofs.GraphLemmas.{sound-graph}
 use Rattle.geo_mesh.proofs.ViewLemmas.{find-names}
 use Rattle.geo_mesh.proofs.topo.Topo.find.Goals as goal
 
 -- the names keep the one provider of the name without an error, which is what the model finds
-pub returns-in-Some : goal.returns-in-Some
-returns-in-Some g c =
+pub returns-in-Some-clause-found : goal.returns-in-Some-clause-found
+returns-in-Some-clause-found g c =
     rw (
       ← c.self.view_is,
       c.new.ensures,
@@ -14,8 +15,8 @@ returns-in-Some g c =
     ) refl
 
 -- no provider of the name is without an error, so the model takes the youngest of the name, as the names do
-pub returns-in-None : goal.returns-in-None
-returns-in-None g c =
+pub returns-in-None-clause-found : goal.returns-in-None-clause-found
+returns-in-None-clause-found g c =
     rw (
       ← c.self.view_is,
       find-names c.self.inside.tables c.self.inside.tables.names c.self.invariant.tables.names_are
@@ -23,3 +24,9 @@ returns-in-None g c =
       ← c.in-None.ensures,
       ← c.newest.ensures,
     ) (search rules)
+
+pub returns-in-Some-clause-sound : goal.returns-in-Some-clause-sound
+returns-in-Some-clause-sound g c = rw (← c.self.view_is) (sound-graph c.self.inside.tables c.self.invariant)
+
+pub returns-in-None-clause-sound : goal.returns-in-None-clause-sound
+returns-in-None-clause-sound g c = rw (← c.self.view_is) (sound-graph c.self.inside.tables c.self.invariant)

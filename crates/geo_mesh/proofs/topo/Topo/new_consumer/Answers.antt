@@ -2,6 +2,7 @@ use Rattle.std.proofs.Common.{◌≡◌, ◌-◌, refl, sym, ap, subst, ◌∙�
 use Rattle.geo_model.specs.Topology.{geom_at}
 use Rattle.geo_mesh.specs.Topo.{Room, IsButForRoom, with_consumer}
 use Rattle.geo_mesh.specs.Cells.{graph, topo_view}
+use Rattle.geo_mesh.proofs.GraphLemmas.{sound-graph}
 use Rattle.geo_mesh.proofs.IndexLemmas.{owned_parent}
 use Rattle.geo_mesh.proofs.ViewLemmas.{with_consumer-view, roomier-view, roomier-graph, room-consumers}
 use Rattle.geo_mesh.proofs.WholeParts.{whole-new_consumer}
@@ -49,3 +50,9 @@ returns-clause-added g c =
           record (topo_view c.reserve.new.self).room { consumers = c.reserve.new.self.edges.consumers.spare - 1 };
     })
     (roomier-view c.self.inside.tables c.reserve.new.self c.reserve.ensures.same)))
+
+pub returns-in_err-reserve-clause-sound : goal.returns-in_err-reserve-clause-sound
+returns-in_err-reserve-clause-sound g c = rw (← c.self.view_is) (sound-graph c.self.inside.tables c.self.invariant)
+
+pub returns-clause-sound : goal.returns-clause-sound
+returns-clause-sound g c = rw (← c.self.view_is) (sound-graph c.self.inside.tables c.self.invariant)

@@ -1,5 +1,6 @@
 use Rattle.std.proofs.Common.{refl, arith}
 use Rattle.geo_mesh.specs.Cells.{made_cell}
+use Rattle.geo_mesh.proofs.GraphLemmas.{sound-graph}
 use Rattle.geo_mesh.proofs.ViewLemmas.{room-geoms}
 use Rattle.geo_mesh.proofs.WholeParts.{whole-new_geom}
 use Rattle.geo_mesh.proofs.topo.Topo.new_geom.Goals as goal
@@ -24,3 +25,12 @@ invariant_of-self-2 g c =
     c.insert-number.ensures.rising (omega (arith, c.reserve.ensures.same.live, c.if-self-ge-MOST_GEOMS.false))
     (rw c.insert-number.ensures.inserted at c.insert-number.ensures.bound)
     c.add-2.ensures.added c.add-2.ensures.room)
+
+pub returns-then-self-ge-MOST_GEOMS-clause-sound : goal.returns-then-self-ge-MOST_GEOMS-clause-sound
+returns-then-self-ge-MOST_GEOMS-clause-sound g c = rw (← c.self.view_is) (sound-graph c.self.inside.tables c.self.invariant)
+
+pub returns-in_err-reserve-clause-sound : goal.returns-in_err-reserve-clause-sound
+returns-in_err-reserve-clause-sound g c = rw (← c.self.view_is) (sound-graph c.self.inside.tables c.self.invariant)
+
+pub returns-clause-sound : goal.returns-clause-sound
+returns-clause-sound g c = rw (← c.self.view_is) (sound-graph c.self.inside.tables c.self.invariant)
