@@ -1,7 +1,7 @@
 -- The parents and the children that the rows stand for, after each change.
 use Rattle.std.proofs.Common.{◌≡◌, ℕ, ◌+◌, ◌==◌, List, [], ◌∷◌, ◌++◌, map, Bool, true, false, Some, None, Option, IsSome, sym, refl, ap, ◌∙◌, inl, inr, arith, not, filter}
 use Rattle.std.proofs.lemmas.Bool.{cases_eq, eq-eqb, ne_eqb}
-use Rattle.std.specs.Prelude.{◌||◌}
+use Rattle.std.specs.Prelude.{◌||◌, if◌then◌else◌}
 use Rattle.std.specs.Option.{option_map, option_and_then}
 use Rattle.geo_slots.specs.Slots.{IsRising, value_at, with_value, without}
 use Rattle.geo_slots.proofs.RowLemmas.{value_at_below, IsRising_ends}
@@ -230,3 +230,35 @@ module _ {T : Type 0} (n : ℕ) where
       let below = IsRising_ends (row.0 + 1) rows n rising.1 in
       rw (ne_eqb row.0 n (λ same. omega (arith, same, below)))
       (ap (λ xs. row ∷ xs) (with_value-push v w (row.0 + 1) rows rising.1))
+
+-- Numbers still rise where values change
+
+rising-changed : {T : Type 0} (change : T → T) (n low high : ℕ) (rows : List (ℕ × T)) → IsRising low rows high
+    → IsRising low (change_at change rows n) high
+rising-changed change n low high [] rising = rising
+rising-changed {T} change n low high (row ∷ rows) rising =
+    at (row.0 == n) (rising-changed change n (row.0 + 1) high rows rising.1)
+  where
+    at : (b : Bool) → IsRising (row.0 + 1) (change_at change rows n) high
+        → IsRising low ((if b then (row.0, change row.1) else row) ∷ change_at change rows n) high
+    at true rest = (rising.0, rest)
+    at false rest = (rising.0, rest)
+
+rising-after : (child to : Option ℕ) (high : ℕ) (links : List (ℕ × Link)) → IsRising 1 links high
+    → IsRising 1 (with_after child to links) high
+rising-after None to high links rising = rising
+rising-after (Some n) to high links rising = rising-changed (λ l. record l { after = to }) n 1 high links rising
+
+rising-before : (child to : Option ℕ) (high : ℕ) (links : List (ℕ × Link)) → IsRising 1 links high
+    → IsRising 1 (with_before child to links) high
+rising-before None to high links rising = rising
+rising-before (Some n) to high links rising = rising-changed (λ l. record l { before = to }) n 1 high links rising
+
+-- so they do where a child gets another link, and its neighbours hear of it
+pub rising-relinked : (child : ℕ) (link : Link) (before after to from_child : Option ℕ) (high : ℕ)
+    (links : List (ℕ × Link)) → IsRising 1 links high
+    → IsRising 1 (with_child_link child link (with_before after to (with_after before from_child links))) high
+rising-relinked child link before after to from_child high links rising =
+    rising-changed (λ _. link) child 1 high (with_before after to (with_after before from_child links))
+    (rising-before after to high (with_after before from_child links)
+    (rising-after before from_child high links rising))

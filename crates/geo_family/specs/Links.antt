@@ -1,7 +1,7 @@
 -- How a family keeps its order: each child knows its neighbours, and each parent its first and its last child.
 use Rattle.std.specs.Prelude.{ℕ, ◌==◌, List, Option, Some, None, map, if◌then◌else◌}
 use Rattle.std.specs.Option.{option_and_then}
-use Rattle.geo_slots.specs.Slots.{value_at}
+use Rattle.geo_slots.specs.Slots.{IsRising, value_at}
 use Rattle.geo_family.specs.declared.family.Link.{Link}
 use Rattle.geo_family.specs.declared.family.Ends.{Ends}
 use Rattle.geo_family.specs.Nearest.{NextIsNearest, IsFirst, Up, Down}
@@ -46,6 +46,11 @@ pub record IsFamily (links : List (ℕ × Link)) (ends : List (ℕ × Ends)) : T
   pub befores : NextIsNearest Down (part_at parent_of links) (part_at before_of links)
   pub firsts : IsFirst Up (part_at parent_of links) (part_at first_in_ends ends)
   pub lasts : IsFirst Down (part_at parent_of links) (part_at last_in_ends ends)
+
+-- and the children stand in order of their numbers, below the next one
+pub record IsOrderly (links : List (ℕ × Link)) (next : ℕ) (ends : List (ℕ × Ends)) : Type 0 where
+  pub family : IsFamily links ends
+  pub rising : IsRising 1 links next
 
 -- with another number after a child
 abbrev pub with_after : Option ℕ → Option ℕ → List (ℕ × Link) → List (ℕ × Link)

@@ -50,7 +50,7 @@ pub struct Family {
 impl Model for Family {
     ghost use Rattle.std.specs.Prelude.{map};
     ghost use Rattle.geo_family.specs.Family.{FamilyView};
-    ghost use Rattle.geo_family.specs.Links.{IsFamily, child_rows};
+    ghost use Rattle.geo_family.specs.Links.{IsOrderly, child_rows};
 
     ghost Value = { FamilyView };
 
@@ -63,7 +63,7 @@ impl Model for Family {
       child_room = t.links.spare;
     } };
 
-    ghost invariant = { λ t. IsFamily t.links.rows t.ends.rows };
+    ghost invariant = { λ t. IsOrderly t.links.rows t.links.next t.ends.rows };
 }
 
 impl Family {

@@ -3,7 +3,7 @@ ghost use Rattle.std.specs.Prelude.{◌≡◌, ◌<◌, ◌+◌, IfSome, None, S
 ghost use Rattle.geo_slots.specs.Slots.{IsRising};
 ghost use Rattle.geo_family.specs.Nearest.{IsNearest, Down, IsOnWayUp};
 ghost use Rattle.geo_family.specs.Family.{first_child, last_child};
-ghost use Rattle.geo_family.specs.Links.{part_at, parent_of, before_of, after_of, first_in_ends, last_in_ends, with_after, with_before, with_first, with_last_child, with_child_link, child_after, previous_of, IsFamily, child_rows};
+ghost use Rattle.geo_family.specs.Links.{part_at, parent_of, before_of, after_of, first_in_ends, last_in_ends, with_after, with_before, with_first, with_last_child, with_child_link, child_after, previous_of, IsFamily, IsOrderly, child_rows};
 
 use crate::family::{Ends, Link};
 use geo_slots::Slots;
@@ -190,10 +190,8 @@ pub fn first_from(links: &Slots<Link>, ends: &Slots<Ends>, parent: u64, number: 
 
 /// The greatest child of a parent.
 pub fn last(links: &Slots<Link>, ends: &Slots<Ends>, parent: u64) -> Option<u64>
-    requires { IsFamily links.now.rows ends.now.rows }
+    requires { IsOrderly links.now.rows links.now.next ends.now.rows }
     ensures { result ≡ last_child (child_rows links.now.rows) parent }
 {
-    // The numbers of the children rise, which the table says where it is read.
-    let _ = links.first_from(0);
     last_at(ends, parent)
 }

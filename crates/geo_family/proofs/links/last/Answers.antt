@@ -8,5 +8,5 @@ pub returns : goal.returns
 returns c =
     c.last_at.ensures
     ∙ sym (last_child_is c.args.parent 1 c.args.links.now.next c.args.links.now.rows
-    (part_at last_in_ends c.args.ends.now.rows c.args.parent) c.first_from.ensures.rising
-    (c.requires.lasts c.args.parent))
+    (part_at last_in_ends c.args.ends.now.rows c.args.parent) c.requires.rising
+    (c.requires.family.lasts c.args.parent))

@@ -1,7 +1,7 @@
 use Rattle.std.proofs.Common.{Some, refl, ap, ◌∙◌}
 use Rattle.geo_slots.specs.Slots.{value_at}
 use Rattle.geo_family.specs.Family.{is_parent}
-use Rattle.geo_family.proofs.ViewLemmas.{free_child, parent_stands, children-relinked, numbers-with_first, numbers-with_last}
+use Rattle.geo_family.proofs.ViewLemmas.{free_child, parent_stands, children-relinked, numbers-with_first, numbers-with_last, rising-relinked}
 use Rattle.geo_family.proofs.FamilyLemmas.{family-link}
 use Rattle.geo_family.proofs.family.Family.link.Goals as goal
 
@@ -19,9 +19,17 @@ invariant_of-self c =
     parent_stands c.args.parent c.self.inside.ends.rows
     (ap (λ v. is_parent v.parents c.args.parent) c.self.view_is ∙ c.requires.parent) in
     rw (c.set_link.ensures, c.set_last.ensures, c.set_before.ensures, c.set_first.ensures, c.set_after.ensures)
-    (family-link c.self.inside.links.rows c.self.inside.ends.rows c.self.invariant c.args.child c.args.parent
-    stands free.0 free.1 c.last_below-before.result c.last_below-before.ensures c.behind-after.result
-    c.behind-after.ensures)
+    (record {
+      family = family-link c.self.inside.links.rows c.self.inside.ends.rows c.self.invariant.family c.args.child
+          c.args.parent stands free.0 free.1 c.last_below-before.result c.last_below-before.ensures
+          c.behind-after.result c.behind-after.ensures;
+      rising = rising-relinked c.args.child (record {
+        parent = Some c.args.parent;
+        before = c.last_below-before.result;
+        after = c.behind-after.result;
+      }) c.last_below-before.result c.behind-after.result (Some c.args.child) (Some c.args.child)
+          c.self.inside.links.next c.self.inside.links.rows c.self.invariant.rising;
+    })
 
 -- neighbours and ends don't show, so what shows is the child's new parent alone
 pub returns : goal.returns

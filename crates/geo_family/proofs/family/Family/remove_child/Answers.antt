@@ -1,5 +1,6 @@
 use Rattle.std.proofs.Common.{ap, None, ◌∙◌}
 use Rattle.geo_slots.specs.Slots.{without}
+use Rattle.geo_slots.proofs.RowLemmas.{IsRising-without}
 use Rattle.geo_family.proofs.FamilyLemmas.{family-without_link}
 use Rattle.geo_family.proofs.ViewLemmas.{value_at-with_none, children-without, without-with_value}
 use Rattle.geo_family.proofs.family.Family.remove_child.Goals as goal
@@ -8,9 +9,13 @@ use Rattle.geo_family.proofs.family.Family.remove_child.Goals as goal
 pub invariant_of-self : goal.invariant_of-self
 invariant_of-self c =
     let children = ap (λ v. v.children) (c.self.view_is ∙ c.unlink.ensures) in
-    rw c.remove.ensures.removed
-    (family-without_link c.self.inside.links.rows c.self.inside.ends.rows c.self.invariant c.args.child
-    (value_at-with_none c.args.child c.args.self.now.children c.self.inside.links.rows children))
+    rw c.remove.ensures.removed (record {
+      family = family-without_link c.self.inside.links.rows c.self.inside.ends.rows c.self.invariant.family
+          c.args.child
+          (value_at-with_none c.args.child c.args.self.now.children c.self.inside.links.rows children);
+      rising = IsRising-without c.args.child 1 c.self.inside.links.rows c.self.inside.links.next
+          c.self.invariant.rising;
+    })
 
 -- that the child was unlinked first doesn't show once it is gone
 pub returns : goal.returns
