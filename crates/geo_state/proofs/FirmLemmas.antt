@@ -11,7 +11,7 @@ use Rattle.geo_model.specs.declared.command.LineCommand.{LineCommand}
 use Rattle.geo_model.specs.declared.step.Entry.{Entry}
 use Rattle.geo_model.specs.declared.step.Owner.{Owner}
 use Rattle.geo_model.specs.declared.step.Owner.TheVariants as owners
-use Rattle.geo_model.specs.Graph.{AreNumbers}
+use Rattle.geo_model.specs.Graph.{AreNumbers, IsInOrder}
 use Rattle.geo_model.specs.Topology.{Topology, Consumer, consumer_at, provider_at}
 use Rattle.geo_model.specs.World.{Bio, BioOf, Config, Handle, is_root, is_of_handle, granted_of}
 use Rattle.geo_model.specs.Fitting.{Firm}
@@ -204,3 +204,9 @@ module _ (t : Topology Config) (handles : List Handle) (xs : List Trip) where
           ap (λ w. is_of_handle w n) is ∙ on x hd line is way none (hd == n) refl
       of x owners.Taste is way none = ap (λ w. is_of_handle w n) is
       of x (owners.Child parent index) is way none = ap (λ w. is_of_handle w n) is
+
+-- the graph is in order
+pub firm-order : (log : List Entry) (s : State) → StandsFirm log s → IsInOrder s.topo.topology
+firm-order log s firm =
+    let numbers = firm.1.graph.numbers in
+    record { geoms = numbers.geoms; providers = numbers.providers; consumers = numbers.consumers }

@@ -15,7 +15,7 @@ use Rattle.geo_bio.specs.Split.{split_into}
 use Rattle.geo_bio.specs.Up.{after_up, told_of_up}
 use Rattle.geo_state.specs.declared.cursor.Cursor.{Cursor}
 use Rattle.geo_state.specs.Traffic.{count_in}
-use Rattle.geo_state.specs.Cursors.{IsCounted, IsCursor, family_size, gone_by, others, up_after, with_last}
+use Rattle.geo_state.specs.Cursors.{IsCounted, IsCursor, IsKept, family_size, gone_by, others, up_after, with_last}
 use Rattle.geo_state.proofs.OrderLemmas.{bio_in, fewer_than_next, number_below, stands_at, table_rises}
 use Rattle.geo_state.proofs.CursorLemmas.{reached_above, reached_there}
 use Rattle.geo_state.proofs.CountLemmas.{down_come, from_down_waiting, split_down, split_first, split_length, up_is}
@@ -26,6 +26,23 @@ pub bio_seen : (test : Phase → Bool) (t : BioTableView) {v : BioTableView} →
     → has_phase test v.bios n ≡ true → (x : BioOf Held) × (bio_among t.bios n ≡ Some x) × (test x.phase ≡ true)
 bio_seen test t view n is =
     bio_in test t.bios n (subst (λ (w : BioTableView). has_phase test w.bios n ≡ true) (sym view) is)
+
+-- where the bios and the next number stay, all is kept
+module _ (t u : BioTableView) (bios : u.bios ≡ t.bios) (next : u.next ≡ t.next) where
+  order_same : AreInOrder t → AreInOrder u
+  order_same order = record {
+    numbers = rw (bios, next) order.numbers;
+    from_one = rw bios order.from_one;
+    next = rw next order.next;
+  }
+
+  pub kept_same : {down sent up : Cursor} {busy live : ℕ} → IsKept t down sent up busy live
+      → IsKept u down sent up busy live
+  kept_same kept = record {
+    in_order = order_same kept.in_order;
+    bound = rw next kept.bound;
+    counted = rw bios kept.counted;
+  }
 
 -- with one bio more there are still fewer than numbers
 pub fewer_with_one : (bios : List (BioOf Held)) (x : BioOf Held) (u : BioTableView) → AreInOrder u

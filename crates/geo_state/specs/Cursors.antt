@@ -1,5 +1,5 @@
 -- What is kept beside the bios, so that nothing has to be searched.
-use Rattle.std.specs.Prelude.{◌≡◌, ℕ, ◌+◌, ◌==◌, nat_le, min, Bool, true, false, not, ◌&&◌, List, length, filter, find, Option, Some}
+use Rattle.std.specs.Prelude.{◌≡◌, ℕ, ◌+◌, ◌<◌, ◌^◌, ◌==◌, nat_le, min, Bool, true, false, not, ◌&&◌, List, length, filter, find, Option, Some}
 use Rattle.std.specs.Option.{option_map, option_map_or}
 use Rattle.geo_model.specs.declared.step.Phase.{Phase}
 use Rattle.geo_model.specs.declared.step.Owner.{Owner}
@@ -8,6 +8,7 @@ use Rattle.geo_model.specs.World.{BioOf, children_among, is_down, is_sent, is_bu
 use Rattle.geo_bio.specs.declared.bio.Held.{Held}
 use Rattle.geo_bio.specs.declared.bio.Risen.{Risen}
 use Rattle.geo_bio.specs.declared.bio.Risen.TheVariants as risen
+use Rattle.geo_bio.specs.BioTable.{BioTableView, AreInOrder}
 use Rattle.geo_state.specs.declared.cursor.Cursor.{Cursor}
 use Rattle.geo_state.specs.declared.cursor.Due.{Due}
 use Rattle.geo_state.specs.declared.cursor.Due.TheVariants as dues
@@ -64,3 +65,9 @@ pub record IsCounted (bios : List (BioOf Held)) (down sent up : Cursor) (busy li
   pub ups : IsCursor is_up bios up
   pub taken : busy ≡ count_in is_busy bios
   pub all : live ≡ length bios
+
+-- the bios of a table stand in order, below a next number of 64 bits, and are counted so
+pub record IsKept (t : BioTableView) (down sent up : Cursor) (busy live : ℕ) : Type 0 where
+  pub in_order : AreInOrder t
+  pub bound : t.next < 2 ^ 64
+  pub counted : IsCounted t.bios down sent up busy live

@@ -13,7 +13,6 @@ ghost use Rattle.geo_mesh.specs.Topo.{with_active};
 ghost use Rattle.geo_state.specs.Holds.{Holds};
 ghost use Rattle.geo_state.specs.Bios.{OnlyBios, GoesTo, IsFree, IsAloneAt, IsAsking, IsNoHandles};
 
-use crate::handles::is_alone;
 use crate::own::enter;
 use crate::seats::set_busy;
 use crate::state::{OwnBios, State};
@@ -60,7 +59,6 @@ pub fn submit_line(
         return Err(NoMemory);
     };
     let actor = found.actor;
-    is_alone(&state.handles, bio.from);
     if !has_count(&state.topo, bio.from) || !has_own_count(&state.own, actor) {
         return Err(NoMemory);
     }
@@ -109,7 +107,6 @@ pub fn bounce(state: &mut State, bio: BioId, errno: Errno)
     } }
     ensures kept { Holds state.new }
 {
-    let _ = state.traffic.get(bio);
     state.traffic.bounce(bio, errno);
 }
 
@@ -124,7 +121,6 @@ pub fn send(state: &mut State, bio: BioId)
     } }
     ensures kept { Holds state.new }
 {
-    let _ = state.traffic.get(bio);
     state.traffic.send(bio);
 }
 
@@ -140,7 +136,6 @@ pub fn take(state: &mut State, disk: u32, bio: BioId, seat: u32)
     ensures only { OnlyBios state.old state.new }
     ensures kept { Holds state.new }
 {
-    let _ = state.traffic.get(bio);
     state.traffic.take(bio, seat);
     set_busy(state, disk, Some(bio));
 }
@@ -158,7 +153,6 @@ pub fn deliver(state: &mut State, disk: u32, bio: BioId, place: u64, errno: Opti
     ensures only { OnlyBios state.old state.new }
     ensures kept { Holds state.new }
 {
-    let _ = state.traffic.get(bio);
     state.traffic.deliver(bio, place, errno);
     set_busy(state, disk, None);
 }

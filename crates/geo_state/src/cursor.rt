@@ -90,14 +90,12 @@ pub fn with_last(cursor: Cursor, number: u64, count: u64) -> Cursor
 /// The cursor without a bio that waits for this step. Where it was the first, the next one is looked for, unless
 /// there is none.
 pub fn without_one(cursor: Cursor, bios: &BioTable, due: Due, bio: BioId) -> Cursor
+    requires in_order { AreInOrder bios.now }
+    requires bound { bios.now.next < 2 ^ 64 }
     requires cursor { IsCursor (is_due due) bios.now.bios cursor }
     requires waits { IsTrue (has_phase (is_due due) bios.now.bios bio) }
-    ensures cursor { IsCursor (is_due due) (others bio bios.now.bios) result }
-    ensures in_order { AreInOrder bios.now }
-    ensures bound { bios.now.next < 2 ^ 64 }
+    ensures { IsCursor (is_due due) (others bio bios.now.bios) result }
 {
-    // A look-up says that the bios stand in order.
-    let _ = bios.get(bio);
     let number = bio.number();
     let count = cursor.count - 1;
     if cursor.first != Some(number) {

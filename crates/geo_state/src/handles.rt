@@ -11,17 +11,11 @@ use geo_class::Config;
 use geo_handles::Handles;
 use geo_mesh::Topo;
 
-/// No two handles have one consumer.
-pub fn is_alone(handles: &Handles, cons: ConsId)
-    ensures { HoldsAlone handles.now.handles cons
-        (option_map (λ h. h.number) (holding_handle handles.now.handles cons)) }
-{
-    let _ = handles.of_consumer(cons);
-}
-
 /// Notes anew whether the handle of a consumer, if there is one, can be reaped.
 pub fn refresh(handles: &mut Handles, topo: &Topo<Config>, cons: ConsId)
-    ensures { handles.new ≡ record handles.old { ready = refreshed handles.old topo.now cons } }
+    ensures refreshed { handles.new ≡ record handles.old { ready = refreshed handles.old topo.now cons } }
+    ensures alone { HoldsAlone handles.old.handles cons
+        (option_map (λ h. h.number) (holding_handle handles.old.handles cons)) }
 {
     let Some(id) = handles.of_consumer(cons) else {
         return;
@@ -49,7 +43,6 @@ pub fn kill(state: &mut State, cons: ConsId)
     } }
     ensures kept { Holds state.new }
 {
-    is_alone(&state.handles, cons);
     state.handles.kill(cons);
     refresh(&mut state.handles, &state.topo, cons);
 }

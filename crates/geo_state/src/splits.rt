@@ -48,8 +48,6 @@ pub fn split(
     if !have_counts(&state.topo, pairs) {
         return Err(NoMemory);
     }
-    // A look-up says that the bios stand in order.
-    let _ = state.traffic.get(bio);
     let first = state.traffic.start(alloc, bio, pieces, targets)?;
     note_all(&mut state.topo, pairs);
     Ok(first)

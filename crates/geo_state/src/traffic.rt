@@ -41,11 +41,11 @@ impl Model for Traffic {
 
     ghost Value = { TrafficView };
 
-    ghost use Rattle.geo_state.specs.Cursors.{IsCounted};
+    ghost use Rattle.geo_state.specs.Cursors.{IsKept};
 
     ghost view = { λ t. t.bios };
 
-    ghost invariant = { λ t. IsCounted t.bios.bios t.down t.sent t.up t.busy t.live };
+    ghost invariant = { λ t. IsKept t.bios t.down t.sent t.up t.busy t.live };
 }
 
 const NOTHING: Cursor = Cursor {
@@ -167,8 +167,6 @@ impl Traffic {
         ensures had_room { 1 ≤ self.old.spare → IsOk result }
     {
         let bio = self.bios.submit(cmd, span, bytes, from, to, owner)?;
-        // A look-up says that there are fewer bios than numbers.
-        let _ = self.bios.get(bio);
         self.down = with_last(self.down, bio.number(), 1);
         self.live += 1;
         Ok(bio)
@@ -197,11 +195,10 @@ impl Traffic {
         ensures bios_stay { OnErr result (self.new.bios ≡ self.old.bios) }
         ensures next_stays { OnErr result (self.new.next ≡ self.old.next) }
         ensures room_stays { OnErr result (self.old.spare ≤ self.new.spare) }
+        ensures in_order { AreInOrder self.old }
     {
         let down = without_one(self.down, &self.bios, Due::Start, bio);
         let first = self.bios.start(alloc, bio, pieces, targets)?;
-        // A look-up says that there are fewer bios than numbers.
-        let _ = self.bios.get(bio);
         let count = pieces.items().len() as u64;
         self.down = with_last(down, first.number(), count);
         self.live += count;
@@ -211,7 +208,10 @@ impl Traffic {
     /// A bio that isn't let down: it goes up with an error.
     pub fn bounce(&mut self, bio: BioId, errno: Errno)
         requires { IsTrue (has_phase is_down self.old.bios bio) }
-        ensures { self.new ≡ record self.old { bios = change_number bio (up_with (Held.Failed errno)) self.old.bios } }
+        ensures bounced { self.new ≡ record self.old {
+          bios = change_number bio (up_with (Held.Failed errno)) self.old.bios;
+        } }
+        ensures in_order { AreInOrder self.old }
     {
         self.down = without_one(self.down, &self.bios, Due::Start, bio);
         self.bios.bounce(bio, errno);
@@ -221,7 +221,8 @@ impl Traffic {
     /// A bio goes to its disk.
     pub fn send(&mut self, bio: BioId)
         requires { IsTrue (has_phase is_down self.old.bios bio) }
-        ensures { self.new ≡ record self.old { bios = change_number bio (with_phase Phase.Sent) self.old.bios } }
+        ensures sent { self.new ≡ record self.old { bios = change_number bio (with_phase Phase.Sent) self.old.bios } }
+        ensures in_order { AreInOrder self.old }
     {
         self.down = without_one(self.down, &self.bios, Due::Start, bio);
         self.bios.send(bio);
@@ -231,7 +232,10 @@ impl Traffic {
     /// A seat takes a bio for its disk.
     pub fn take(&mut self, bio: BioId, seat: u32)
         requires { IsTrue (has_phase is_sent self.old.bios bio) }
-        ensures { self.new ≡ record self.old { bios = change_number bio (with_phase (Phase.Busy seat)) self.old.bios } }
+        ensures taken { self.new ≡ record self.old {
+          bios = change_number bio (with_phase (Phase.Busy seat)) self.old.bios;
+        } }
+        ensures in_order { AreInOrder self.old }
     {
         self.sent = without_one(self.sent, &self.bios, Due::Take, bio);
         self.bios.take(bio, seat);
@@ -241,10 +245,11 @@ impl Traffic {
     /// A bio's disk has answered: it goes up with the bytes at this place of the log, with success or with an error.
     pub fn deliver(&mut self, bio: BioId, place: u64, errno: Option<Errno>)
         requires { IsTrue (has_phase is_busy self.old.bios bio) }
-        ensures { self.new ≡ record self.old { bios = change_number bio (delivered place errno) self.old.bios } }
+        ensures delivered { self.new ≡ record self.old {
+          bios = change_number bio (delivered place errno) self.old.bios;
+        } }
+        ensures in_order { AreInOrder self.old }
     {
-        // A look-up says that the bios stand in order.
-        let _ = self.bios.get(bio);
         self.bios.deliver(bio, place, errno);
         self.busy -= 1;
         self.up = with_one(self.up, bio.number());

@@ -11,7 +11,7 @@ ghost use Rattle.geo_state.specs.Holds.{Holds};
 ghost use Rattle.geo_state.specs.Ready.{refreshed};
 ghost use Rattle.geo_state.specs.Bios.{OnlyBios, CameThrough, CanLeave, own_left, own_after, taste_read_after};
 
-use crate::handles::{is_alone, refresh};
+use crate::handles::refresh;
 use crate::own::leave;
 use crate::state::State;
 use crate::{LogBytes, Risen};
@@ -70,7 +70,6 @@ fn come_back(state: &mut State, from: ConsId, owner: Owner)
 {
     leave_owner(state, owner);
     state.topo.note_back(from);
-    is_alone(&state.handles, from);
     refresh(&mut state.handles, &state.topo, from);
 }
 

@@ -11,6 +11,6 @@ pub returns-clause-kept : goal.returns-clause-kept
 returns-clause-kept c =
     holds-turned c.args.state.now (record c.args.state.now { traffic = c.bounce.new.self })
     c.args.state.now.traffic.next
-    c.args.bio is_down (up_with (held.Failed c.args.errno)) c.get.ensures.in_order.numbers c.requires.down
+    c.args.bio is_down (up_with (held.Failed c.args.errno)) c.bounce.ensures.in_order.numbers c.requires.down
     (bounce-unseen c.args.errno) refl
-    (ap (λ (v : BioTableView). v.bios) c.bounce.ensures) c.requires.kept
+    (ap (λ (v : BioTableView). v.bios) c.bounce.ensures.bounced) c.requires.kept

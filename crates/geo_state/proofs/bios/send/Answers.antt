@@ -9,5 +9,5 @@ use Rattle.geo_state.proofs.bios.send.Goals as goal
 pub returns-clause-kept : goal.returns-clause-kept
 returns-clause-kept c =
     holds-turned c.args.state.now (record c.args.state.now { traffic = c.send.new.self }) c.args.state.now.traffic.next
-    c.args.bio is_down (with_phase phases.Sent) c.get.ensures.in_order.numbers c.requires.down send-unseen refl
-    (ap (λ (v : BioTableView). v.bios) c.send.ensures) c.requires.kept
+    c.args.bio is_down (with_phase phases.Sent) c.send.ensures.in_order.numbers c.requires.down send-unseen refl
+    (ap (λ (v : BioTableView). v.bios) c.send.ensures.sent) c.requires.kept

@@ -19,7 +19,7 @@ returns-clause-kept c =
     let k : Handle = handle_seen c.args.handle c.in-Some.found.now in
     let x : BioOf Held = new_bio s.traffic.next c.args.bio.cmd c.args.bio.span.offset c.args.bio.span.len
     c.args.bio.bytes c.args.bio.from c.args.bio.to (owners.Line c.args.handle c.args.line) in
-    let found : handle_at s.handles.handles c.args.handle ≡ Some k = c.in-Some.ensures in
+    let found : handle_at s.handles.handles c.args.handle ≡ Some k = c.in-Some.ensures.found in
     let asks = at-some (handle_at s.handles.handles c.args.handle)
     (λ (h : Handle). (h.consumer ≡ Some c.args.bio.from) × (h.dead ≡ false)) k found c.requires.asking.holds in
     let numbered = c.number.ensures ∙ c.in_ok-number.ensures.number in
@@ -28,7 +28,7 @@ returns-clause-kept c =
     (new-bio s.traffic.next c.args.bio.cmd c.args.bio.span.offset c.args.bio.span.len c.args.bio.bytes
     c.args.bio.from c.args.bio.to (owners.Line c.args.handle c.args.line)) c.requires.kept
     c.args.handle c.args.line k refl
-    c.is_alone.ensures found asks.0 asks.1
+    (c.get.ensures.apart c.args.bio.from) found asks.0 asks.1
     (c.enter.ensures ∙ ap (λ items. entered items k.actor c.number.result) was
     ∙ ap (λ n. entered s.own.items k.actor n) numbered)
     (ap (λ (z : State). let u : State = record z { own = c.enter.new.own } in u) c.in_ok-number.ensures.one)

@@ -9,26 +9,26 @@ pub overflow_sub-count : goal.overflow_sub-count
 overflow_sub-count c =
     let t = c.args.bios.now in
     let x = bio_in (is_due c.args.due) t.bios c.args.bio c.requires.waits in
-    let less = count_left (is_due c.args.due) t.bios c.args.bio x.0 (table_rises t c.get.ensures.in_order)
+    let less = count_left (is_due c.args.due) t.bios c.args.bio x.0 (table_rises t c.requires.in_order)
     x.1 x.2 c.args.cursor c.requires.cursor in
     omega (arith, less)
 
 -- another bio was the first, so it is still
-pub returns-then-ne-clause-cursor : goal.returns-then-ne-clause-cursor
-returns-then-ne-clause-cursor c =
+pub returns-then-ne : goal.returns-then-ne
+returns-then-ne c =
     let t = c.args.bios.now in
     let x = bio_in (is_due c.args.due) t.bios c.args.bio c.requires.waits in
-    left_other (is_due c.args.due) t.bios c.args.bio x.0 (table_rises t c.get.ensures.in_order) x.1 x.2
+    left_other (is_due c.args.due) t.bios c.args.bio x.0 (table_rises t c.requires.in_order) x.1 x.2
     c.args.cursor c.requires.cursor
     (is_other c.args.cursor.first c.number-number.result c.args.bio c.number-number.ensures
     (sym c.ne.ensures ∙ c.if-ne.true))
 
 -- none is left, so there is no first one
-pub returns-then-count-eq0-clause-cursor : goal.returns-then-count-eq0-clause-cursor
-returns-then-count-eq0-clause-cursor c =
+pub returns-then-count-eq0 : goal.returns-then-count-eq0
+returns-then-count-eq0 c =
     let t = c.args.bios.now in
     let x = bio_in (is_due c.args.due) t.bios c.args.bio c.requires.waits in
-    left_none (is_due c.args.due) t.bios c.args.bio x.0 (table_rises t c.get.ensures.in_order) x.1 x.2
+    left_none (is_due c.args.due) t.bios c.args.bio x.0 (table_rises t c.requires.in_order) x.1 x.2
     c.args.cursor c.requires.cursor
     c.if-count-eq0.true
 
@@ -36,15 +36,15 @@ pub overflow_add-number : goal.overflow_add-number
 overflow_add-number c =
     let t = c.args.bios.now in
     let x = bio_in (is_due c.args.due) t.bios c.args.bio c.requires.waits in
-    let below = number_below t c.get.ensures.in_order c.args.bio x.0 x.1 in
-    omega (arith, below, c.get.ensures.bound, c.number-number.ensures)
+    let below = number_below t c.requires.in_order c.args.bio x.0 x.1 in
+    omega (arith, below, c.requires.bound, c.number-number.ensures)
 
 -- it was the first, so the next that waits is the least behind it
-pub returns-clause-cursor : goal.returns-clause-cursor
-returns-clause-cursor c =
+pub returns : goal.returns
+returns c =
     let t = c.args.bios.now in
     let x = bio_in (is_due c.args.due) t.bios c.args.bio c.requires.waits in
-    let left = left_first (is_due c.args.due) t.bios c.args.bio x.0 (table_rises t c.get.ensures.in_order)
+    let left = left_first (is_due c.args.due) t.bios c.args.bio x.0 (table_rises t c.requires.in_order)
     x.1 x.2 c.args.cursor c.requires.cursor
     (is_same c.args.cursor.first c.number-number.result c.args.bio c.number-number.ensures
     (sym c.ne.ensures ∙ c.if-ne.false)) in

@@ -10,8 +10,8 @@ pub returns-clause-kept : goal.returns-clause-kept
 returns-clause-kept c =
     let s : State = c.args.state.now in
     let new : State = record s { handles = c.refresh.new.handles } in
-    holds-killed s new c.args.cons c.requires.lives c.is_alone.ensures
+    holds-killed s new c.args.cons c.requires.lives (c.kill.ensures.apart c.args.cons)
     (ap (λ (v : HandlesView). let z : State = record s { handles = v } in z)
-    (c.refresh.ensures
+    (c.refresh.ensures.refreshed
     ∙ ap (λ (v : HandlesView). let u : HandlesView = record v { ready = refreshed v s.topo c.args.cons } in u)
-    c.kill.ensures)) c.requires.kept
+    c.kill.ensures.killed)) c.requires.kept

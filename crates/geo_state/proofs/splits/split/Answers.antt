@@ -22,12 +22,12 @@ note_all-requires c =
 pub returns-clause-only : goal.returns-clause-only
 returns-clause-only c =
     split-only c.args.state.now c.start.new.self c.note_all.new.topo c.args.bio c.args.pieces.now.items
-    c.args.targets.now.items c.get.ensures.in_order.numbers c.requires.down c.requires.same_number c.requires.through
+    c.args.targets.now.items c.start.ensures.in_order.numbers c.requires.down c.requires.same_number c.requires.through
     c.in_ok-first.ensures.split c.note_all.ensures c.items-pairs.ensures
 
 -- the bio went to no disk and its children go through consumers that no handle has, so no actor has one more out
 pub returns-clause-kept : goal.returns-clause-kept
 returns-clause-kept c =
     split-kept c.args.state.now c.start.new.self c.note_all.new.topo c.args.bio c.args.pieces.now.items
-    c.args.targets.now.items c.get.ensures.in_order.numbers c.requires.down c.requires.same_number c.requires.through
+    c.args.targets.now.items c.start.ensures.in_order.numbers c.requires.down c.requires.same_number c.requires.through
     c.in_ok-first.ensures.split c.note_all.ensures c.items-pairs.ensures c.requires.kept

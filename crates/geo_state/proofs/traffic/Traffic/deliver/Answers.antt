@@ -13,26 +13,30 @@ pub overflow_sub-self : goal.overflow_sub-self
 overflow_sub-self c =
     let now = c.self.inside in
     let x = bio_seen is_busy now.bios c.self.view_is c.args.bio c.requires in
-    some_busy now.bios.bios c.args.bio x.0 (table_rises now.bios c.get.ensures.in_order) x.1 now.down now.sent now.up
-    now.busy now.live c.self.invariant (delivered c.args.place c.args.errno) refl x.2 refl
+    some_busy now.bios.bios c.args.bio x.0 (table_rises now.bios c.self.invariant.in_order) x.1 now.down now.sent now.up
+    now.busy now.live c.self.invariant.counted (delivered c.args.place c.args.errno) refl x.2 refl
 
 -- this bio isn't Up yet, so those Up with it are no more than all, and these fewer than the numbers
 pub with_one-self-inside-requires : goal.with_one-self-inside-requires
 with_one-self-inside-requires c =
     let old = c.self.inside.bios in
     let x = bio_seen is_busy old c.self.view_is c.args.bio c.requires in
-    let order = c.get.ensures.in_order in
+    let order = c.self.invariant.in_order in
     let room = room_for_one is_up old.bios c.args.bio x.0 (table_rises old order) x.1 (busy_is x.0.phase x.2).up in
     let few = fewer_than_next old order in
-    omega (arith, room, few, c.get.ensures.bound, c.self.invariant.ups.count)
+    omega (arith, room, few, c.self.invariant.bound, c.self.invariant.counted.ups.count)
 
 -- from Busy to Up: one less Busy and one more Up, and the other counts stay
 pub invariant_of-self : goal.invariant_of-self
 invariant_of-self c =
     let now = c.self.inside in
     let x = bio_seen is_busy now.bios c.self.view_is c.args.bio c.requires in
-    let counted = from_busy_up now.bios.bios c.args.bio x.0 (table_rises now.bios c.get.ensures.in_order) x.1 now.down
-    now.sent now.up now.busy now.live c.self.invariant (delivered c.args.place c.args.errno) refl x.2 refl in
-    let bios = ap (λ (t : BioTableView). t.bios) c.deliver.ensures in
+    let counted = from_busy_up now.bios.bios c.args.bio x.0 (table_rises now.bios c.self.invariant.in_order) x.1
+    now.down now.sent now.up now.busy now.live c.self.invariant.counted (delivered c.args.place c.args.errno) refl x.2 refl in
+    let bios = ap (λ (t : BioTableView). t.bios) c.deliver.ensures.delivered in
     let up = c.with_one-self-inside.ensures ∙ ap (with_one now.up) c.number.ensures in
-    rw (bios, up) counted
+    record {
+      in_order = c.deliver.ensures.in_order;
+      bound = omega (arith, c.self.invariant.bound, ap (λ (t : BioTableView). t.next) c.deliver.ensures.delivered);
+      counted = rw (bios, up) counted;
+    }

@@ -15,11 +15,11 @@ with_one-self-inside-requires c =
     let old = c.self.inside.bios in
     let x = bio_in is_down old.bios c.args.bio
     (subst (λ (v : BioTableView). has_phase is_down v.bios c.args.bio ≡ true) (sym c.self.view_is) c.requires) in
-    let order = c.without_one-self-inside.ensures.in_order in
+    let order = c.self.invariant.in_order in
     let room = room_for_one is_sent old.bios c.args.bio x.0 (table_rises old order) x.1
     (ap is_sent (phase_down x.0.phase x.2)) in
     let few = fewer_than_next old order in
-    omega (arith, room, few, c.without_one-self-inside.ensures.bound, c.self.invariant.takes.count)
+    omega (arith, room, few, c.self.invariant.bound, c.self.invariant.counted.takes.count)
 
 -- from Down to Sent: one less Down and one more Sent, and the other counts stay
 pub invariant_of-self : goal.invariant_of-self
@@ -27,10 +27,14 @@ invariant_of-self c =
     let now = c.self.inside in
     let x = bio_in is_down now.bios.bios c.args.bio
     (subst (λ (v : BioTableView). has_phase is_down v.bios c.args.bio ≡ true) (sym c.self.view_is) c.requires) in
-    let order = c.without_one-self-inside.ensures.in_order in
+    let order = c.self.invariant.in_order in
     let counted = from_down_sent now.bios.bios c.args.bio x.0 (table_rises now.bios order) x.1 now.down now.sent now.up
-    now.busy now.live c.self.invariant (with_phase phases.Sent) refl c.without_one-self-inside.result
-    (phase_down x.0.phase x.2) refl c.without_one-self-inside.ensures.cursor in
-    let bios = ap (λ (t : BioTableView). t.bios) c.send.ensures in
+    now.busy now.live c.self.invariant.counted (with_phase phases.Sent) refl c.without_one-self-inside.result
+    (phase_down x.0.phase x.2) refl c.without_one-self-inside.ensures in
+    let bios = ap (λ (t : BioTableView). t.bios) c.send.ensures.sent in
     let sent = c.with_one-self-inside.ensures ∙ ap (with_one now.sent) c.number.ensures in
-    rw (bios, sent) counted
+    record {
+      in_order = c.send.ensures.in_order;
+      bound = omega (arith, c.self.invariant.bound, ap (λ (t : BioTableView). t.next) c.send.ensures.sent);
+      counted = rw (bios, sent) counted;
+    }
