@@ -1,9 +1,10 @@
 -- What stays beside the graph and the events, over several changes.
-use Rattle.std.specs.Prelude.{◌≡◌, ℕ, ◌+◌, ◌-◌, ◌≤◌, List, [], ◌∷◌, ◌++◌, length}
-use Rattle.std.proofs.Common.{refl, sym, ap, ◌∙◌, arith}
+use Rattle.std.specs.Prelude.{◌≡◌, ◌⊎◌, ℕ, ◌+◌, ◌-◌, ◌≤◌, List, [], ◌∷◌, ◌++◌, length}
+use Rattle.std.proofs.Common.{refl, sym, ap, ◌∙◌, subst, inl, inr, arith}
 use Rattle.std.proofs.lemmas.List.{length-append}
 use Rattle.geo_model.specs.Topology.{Topology}
 use Rattle.geo_event.specs.EventQueue.{Queued}
+use Rattle.geo_mesh.specs.Graph.{IsSoundGraph}
 use Rattle.geo_mesh.specs.Topo.{TopoView, with_topology}
 use Rattle.geo_life.specs.Life.{RestStays}
 
@@ -11,6 +12,15 @@ module _ {C : Type 0} where
   -- a mesh with another graph is one with its own graph
   pub mesh_self : (t new : TopoView C) (u : Topology C) → new ≡ with_topology t u → new ≡ with_topology t new.topology
   mesh_self t new u is = is ∙ ap (λ (v : TopoView C). with_topology t v.topology) (sym is)
+
+  -- the mesh is still the first one, or that one is known to be sound
+  abbrev pub IsKnown : TopoView C → TopoView C → Type 0
+  IsKnown t now = (now ≡ t) ⊎ IsSoundGraph t.topology
+
+  -- so once a look-up told of it, the first one is
+  pub sound_known : (t now : TopoView C) → IsKnown t now → IsSoundGraph now.topology → IsSoundGraph t.topology
+  sound_known t now (inl same) sound = subst (λ (v : TopoView C). IsSoundGraph v.topology) same sound
+  sound_known t now (inr known) sound = known
 
   -- where nothing is done
   pub rest_none : (t : TopoView C) (q : Queued) → RestStays t q t q

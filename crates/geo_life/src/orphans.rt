@@ -6,7 +6,7 @@ ghost use Rattle.geo_mesh.specs.Cells.{consumer_seen};
 ghost use Rattle.geo_laws_graph.specs.LookupLaws.{left_from};
 ghost use Rattle.geo_life.specs.Life.{queued, sound_providers, RestStays, CountsStay};
 
-use crate::above::{consumer_above, look};
+use crate::above::consumer_above;
 use crate::withers::wither_unless_withering;
 use geo_access::consumer_at;
 use geo_base::{ConsId, Kind, ProvId};
@@ -24,7 +24,6 @@ pub fn orphan<C>(topo: &mut Topo<C>, queue: &mut EventQueue, prov: ProvId)
         ≡ queue.old.spare + sound_providers topo.new.topology }
     ensures kept { CountsStay topo.old topo.new }
 {
-    look(topo);
     let mut from = 0;
     while let Some((id, cons)) = consumer_above(topo, prov, from) {
         orphan_consumer(topo, queue, &cons);

@@ -10,7 +10,7 @@ ghost use Rattle.geo_mesh.specs.Cells.{consumer_seen};
 ghost use Rattle.geo_mesh.specs.Topo.{with_topology};
 ghost use Rattle.geo_life.specs.Life.{queued, sound_providers, IsDevMade, AreHandlesUnmarked, RestStays, AreStored, CountsStay};
 
-use crate::above::{consumer_above, look};
+use crate::above::consumer_above;
 use crate::withers::wither_unless_withering;
 use geo_base::{ConsId, Kind, ProvId};
 use geo_event::{Event, EventQueue};
@@ -26,7 +26,6 @@ pub fn mark_spoiled<C>(topo: &mut Topo<C>, prov: ProvId)
     ensures mesh { topo.new ≡ with_topology topo.old topo.new.topology }
     ensures kept { CountsStay topo.old topo.new }
 {
-    look(topo);
     let mut from = 0;
     while let Some((id, cons)) = consumer_above(topo, prov, from) {
         mark_if_due(topo, id, &cons);

@@ -1,8 +1,8 @@
-use Rattle.std.proofs.Common.{refl, sym, arith, ◌∙◌}
+use Rattle.std.proofs.Common.{refl, sym, arith, ◌∙◌, inl, inr}
 use Rattle.geo_model.specs.Events.{orphan, orphan_consumer}
 use Rattle.geo_life.specs.Life.{queued}
 use Rattle.geo_life.proofs.Uppers.{orphan_above}
-use Rattle.geo_life.proofs.Rest.{rest_none, rest_more}
+use Rattle.geo_life.proofs.Rest.{rest_none, rest_more, sound_known}
 use Rattle.geo_life.proofs.Seen.{seen_kept, seen_orphan}
 use Rattle.geo_life.proofs.Spoiling.{hear_begin, hear_step, hear_end, orphan_leaves}
 use Rattle.geo_life.proofs.orphans.orphan.Goals as goal
@@ -10,9 +10,10 @@ use Rattle.geo_life.proofs.orphans.orphan.Goals as goal
 -- nothing is done yet; consumers of DEV hear nothing, so those above that aren't DEV's are enough
 pub loop-id-init : goal.loop-id-init
 loop-id-init g c = record {
-  orphaned =
+  orphaned = λ sound.
       hear_begin c.args.prov orphan_consumer orphan_leaves (queued c.args.topo.now c.args.queue.now)
-      ∙ orphan_above (queued c.args.topo.now c.args.queue.now) c.args.prov c.look.ensures.sound;
+      ∙ orphan_above (queued c.args.topo.now c.args.queue.now) c.args.prov sound;
+  known = inl refl;
   rest = rest_none c.args.topo.now c.args.queue.now;
   owed = refl;
   room = c.requires.room;
@@ -21,13 +22,14 @@ loop-id-init g c = record {
 -- the consumer heard of it as the model has it next, and no consumer came or went, so the others are left
 pub loop-id-preserved : goal.loop-id-preserved
 loop-id-preserved g c = record {
-  orphaned =
+  orphaned = λ sound.
       rw c.number-from.ensures
       (hear_step c.args.prov orphan_consumer orphan_leaves (queued c.loop-id.topo c.loop-id.queue)
       (queued c.orphan_consumer.new.topo c.orphan_consumer.new.queue) c.loop-id.from
       _ c.in-Some.ensures.next.left
       (c.orphan_consumer.ensures.orphaned c.in-Some.id)
-      ∙ c.loop-id.invariant.orphaned);
+      ∙ c.loop-id.invariant.orphaned sound);
+  known = inr (sound_known c.args.topo.now c.loop-id.topo c.loop-id.invariant.known c.in-Some.ensures.sound);
   rest =
       rest_more c.args.topo.now c.args.queue.now c.loop-id.topo c.loop-id.queue c.orphan_consumer.new.topo
       c.orphan_consumer.new.queue c.loop-id.invariant.rest c.orphan_consumer.ensures.rest;
@@ -35,13 +37,21 @@ loop-id-preserved g c = record {
   room = omega (arith, c.loop-id.invariant.room, c.orphan_consumer.ensures.owed);
 }
 
+pub returns-clause-orphaned : goal.returns-clause-orphaned
+returns-clause-orphaned g c =
+    sym (hear_end c.args.prov orphan_consumer orphan_leaves (queued c.loop-id.topo c.loop-id.queue) c.loop-id.from
+    c.in_default.ensures.next)
+    ∙ c.loop-id.invariant.orphaned
+    (sound_known c.args.topo.now c.loop-id.topo c.loop-id.invariant.known c.in_default.ensures.sound)
+
 pub returns-clause-kept : goal.returns-clause-kept
 returns-clause-kept g c =
     seen_kept c.args.topo.now c.args.queue.now c.loop-id.topo c.loop-id.queue
     (orphan (queued c.args.topo.now c.args.queue.now) c.args.prov) c.loop-id.invariant.rest
     (sym (hear_end c.args.prov orphan_consumer orphan_leaves (queued c.loop-id.topo c.loop-id.queue) c.loop-id.from
     c.in_default.ensures.next)
-    ∙ c.loop-id.invariant.orphaned)
+    ∙ c.loop-id.invariant.orphaned
+    (sound_known c.args.topo.now c.loop-id.topo c.loop-id.invariant.known c.in_default.ensures.sound))
     (seen_orphan (queued c.args.topo.now c.args.queue.now) c.args.prov)
 
 pub loop-id-smaller : goal.loop-id-smaller
