@@ -6,6 +6,7 @@ use Rattle.geo_base.proofs.Options.{at-found, if-with}
 use Rattle.geo_base.specs.declared.request.Counts.{Counts}
 use Rattle.geo_base.specs.declared.errno.Errno.{Errno}
 use Rattle.geo_base.specs.declared.block.NoMemory.{NoMemory}
+use Rattle.geo_model.specs.Graph.{IsInOrder}
 use Rattle.geo_model.specs.declared.command.LineCommand.{LineCommand}
 use Rattle.geo_model.specs.declared.step.Entry.{Entry}
 use Rattle.geo_model.specs.declared.step.Outcome.{Outcome}
@@ -19,7 +20,6 @@ use Rattle.geo_model.specs.HandleCommands.{do_open, with_handle, without_number}
 use Rattle.geo_event.specs.EventQueue.{Queued}
 use Rattle.geo_slots.specs.Slots.{value_at}
 use Rattle.geo_mesh.specs.Topo.{TopoView, IsButForRoom}
-use Rattle.geo_mesh.specs.Graph.{IsSoundGraph}
 use Rattle.geo_handles.specs.Handles.{HandlesView, named_handle, with_opened}
 use Rattle.geo_access.specs.GoneLaws.{HasUsedNumber}
 use Rattle.geo_state.specs.declared.state.State.{State}
@@ -30,7 +30,7 @@ use Rattle.geo_state.specs.Steps.{IsFirm, SameWorld}
 use Rattle.geo_state.specs.Changes.{KeptWithHandles}
 use Rattle.geo_opens.specs.Holders.{grants_with, holding_mesh, HasCome}
 use Rattle.geo_opens.specs.Handles.{IsOpenRefusal, IsRoomed, HasRoom, refused_world, refusal_in}
-use Rattle.geo_opens.proofs.Grants.{none_before, none_stored}
+use Rattle.geo_opens.proofs.Grants.{next_free, none_stored}
 use Rattle.geo_opens.proofs.Settling.{comer-of, come-settled, roomed-world, roomed-kept}
 use Rattle.geo_opens.proofs.Opening.{IsFree, free-open, refused-open, nobodys-next, opened-world}
 
@@ -38,11 +38,11 @@ use Rattle.geo_opens.proofs.Opening.{IsFree, free-open, refused-open, nobodys-ne
 
 module _ (s : State) (kept : Holds s) where
   -- nothing is kept of the next number
-  pub next-unknown : IsSoundGraph s.topo.topology → value_at s.topo.active s.topo.topology.next_consumer ≡ None
-  next-unknown sound =
+  pub next-unknown : IsInOrder s.topo.topology → value_at s.topo.active s.topo.topology.next_consumer ≡ None
+  next-unknown in_order =
       ap (λ rows. value_at rows s.topo.topology.next_consumer) kept.active
       ∙ none_stored (λ (c : Consumer). out_through (trips s.traffic.bios) c.number) s.topo.topology.next_consumer
-      s.topo.topology.consumers (none_before s.topo sound kept.counted 0 s.topo.room)
+      s.topo.topology.consumers (next_free s.topo.topology in_order)
 
   module _ (actor : ℕ) (name prov : List ℕ) where
     -- where there is a handle of the name, or no provider, the world stays
@@ -102,7 +102,7 @@ mesh-roomed s u q room same = record {
 
 -- An open that nothing refuses
 
-module _ (s : State) (kept : Holds s) (firm : IsFirm s) (sound : IsSoundGraph s.topo.topology) where
+module _ (s : State) (kept : Holds s) (firm : IsFirm s) where
   module _ (actor : ℕ) (name : List ℕ) (p : ℕ) (grant : Counts) (room : HasRoom s) (u : TopoView Config) (q : Queued)
       (v : HandlesView)
       (come : HasCome s.topo s.queue p grant u q) (cons : ℕ) (number : cons ≡ s.topo.topology.next_consumer)
@@ -115,7 +115,7 @@ module _ (s : State) (kept : Holds s) (firm : IsFirm s) (sound : IsSoundGraph s.
         → world actors log (record s { topo = u; queue = q; handles = v })
         ≡ after_open (world actors log s) (with_handle (world actors log s) actor name p grant)
     admit-made actors log =
-        opened-world s kept sound (nobodys-next s kept sound firm.0 firm.1) actor name p grant actors log u q v come
+        opened-world s kept (nobodys-next s kept firm.0 firm.1) actor name p grant actors log u q v come
         opened
 
     pub admit-kept : KeptWithHandles → Holds (record s { topo = u; queue = q; handles = v })

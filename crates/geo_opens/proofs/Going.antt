@@ -9,6 +9,7 @@ use Rattle.geo_base.specs.declared.request.Counts.{Counts}
 use Rattle.geo_model.specs.declared.command.LineCommand.{LineCommand}
 use Rattle.geo_model.specs.declared.step.Entry.{Entry}
 use Rattle.geo_model.specs.Words.{names_number}
+use Rattle.geo_model.specs.Graph.{IsInOrder}
 use Rattle.geo_model.specs.Topology.{Topology, Provider, Consumer, provider_at, consumer_at, remove_consumer}
 use Rattle.geo_model.specs.Demand.{no_counts, have, fallen}
 use Rattle.geo_model.specs.Opens.{with_grant}
@@ -22,7 +23,6 @@ use Rattle.geo_model.specs.Fitting.{Firm}
 use Rattle.geo_model.proofs.DemandLemmas.{all_weaker, names_some}
 use Rattle.geo_event.specs.EventQueue.{Queued}
 use Rattle.geo_mesh.specs.Topo.{TopoView}
-use Rattle.geo_mesh.specs.Graph.{IsSoundGraph}
 use Rattle.geo_laws_graph.proofs.Members.{find-Contains, All-from_contained}
 use Rattle.geo_laws_graph.proofs.Numbered.{number_found, unique}
 use Rattle.geo_laws_graph.proofs.Spared.{IsSpared, find-spared, IsUntouched, find-untouched}
@@ -34,8 +34,9 @@ use Rattle.geo_access.specs.Access.{granted_by, IsPlaced, IsHolder}
 use Rattle.geo_state.specs.declared.state.State.{State}
 use Rattle.geo_state.specs.Holds.{Holds}
 use Rattle.geo_state.specs.World.{world, StandsFirm}
+use Rattle.geo_state.proofs.FirmLemmas.{firm-order}
+use Rattle.geo_state.proofs.HolderFacts.{dev-holds}
 use Rattle.geo_opens.specs.Holders.{written, HasGone}
-use Rattle.geo_opens.proofs.Coming.{dev_holds}
 
 -- no write count comes to zero where all stay
 none_falls : {X : Type 0} (test : X → Bool) (xs : List X) → filter (λ x. not (test x) && test x) xs ≡ []
@@ -62,8 +63,8 @@ module _ (s : State) (kept : Holds s) where
 
   -- A consumer that goes
 
-  module _ (sound : IsSoundGraph t) (c : ℕ) (one : Consumer) (found : consumer_at t c ≡ Some one) (dev : one.geom ≡ 1)
-      (ks : List Handle)
+  module _ (order : IsInOrder t) (holds : HoldsGrants t 1) (c : ℕ) (one : Consumer)
+      (found : consumer_at t c ≡ Some one) (dev : one.geom ≡ 1) (ks : List Handle)
       (others : (n : ℕ) → n ≢ c → find (λ h. names_number h.consumer n) ks ≡ find (λ h. names_number h.consumer n) hs)
       (actors : List (List LineCommand)) (log : List Entry) where
     -- the world before, and without it and with these handles
@@ -97,9 +98,9 @@ module _ (s : State) (kept : Holds s) where
         (Contains (remove_consumer t one.number).consumers)
     quiet =
         went_quietly left (granted_in v) t one
-        (number_is_only t sound.orderly.order.consumers.0 one
+        (number_is_only t order.consumers.0 one
         (find-Contains (λ (x : Consumer). x.number == c) t.consumers one found))
-        (subst (HoldsGrants t) (sym dev) (dev_holds t sound))
+        (subst (HoldsGrants t) (sym dev) holds)
         (λ n apart. agree n (λ same. apart (same ∙ sym number)))
         (ap left number ∙ none)
 
@@ -175,10 +176,10 @@ module _ (s : State) (kept : Holds s) where
         there (Some p) lives = refl
 
     -- it holds grants
-    pub held-holder : IsSoundGraph t → (c : ℕ) → IsHeld c → IsHolder t c
-    held-holder sound c is = record {
+    pub held-holder : (c : ℕ) → IsHeld c → IsHolder t c
+    held-holder c is = record {
       kind = subst (λ o. IsSomeAnd o (λ (x : Consumer). HoldsGrants t x.geom)) (sym is.found)
-          (subst (HoldsGrants t) (sym is.dev) (dev_holds t sound));
+          (subst (HoldsGrants t) (sym is.dev) (dev-holds log s stands));
       attached = subst (λ o. IsSomeAnd o (λ (x : Consumer). IsSome x.provider)) (sym is.found) is.attached;
     }
 
@@ -211,7 +212,7 @@ module _ (s : State) (kept : Holds s) where
             (ap (λ o. names_number o n) names ∙ ne_eqb c n (λ same. apart (sym same)))
 
         -- the world after it
-        pub closed-world : IsSoundGraph t → (actors : List (List LineCommand)) (any : List Entry)
+        pub closed-world : (actors : List (List LineCommand)) (any : List Entry)
             (u : TopoView Config) (q : Queued) (v : HandlesView) → HasGone s.topo s.queue c u q
             → v.handles ≡ closed hs h.number → v.next ≡ s.handles.next
             → record (world actors any s) {
@@ -221,7 +222,7 @@ module _ (s : State) (kept : Holds s) where
               next_handle = v.next;
             }
             ≡ after_close (world actors any s) (without_handle (world actors any s) h)
-        closed-world sound actors any u q v gone handles next =
+        closed-world actors any u q v gone handles next =
             let is = held h c closing-here names in
             let was : World = world actors any s in
             let same :
@@ -234,7 +235,8 @@ module _ (s : State) (kept : Holds s) where
               next_handle = next i;
             } in
             same
-            ∙ gone-world sound c is.one is.found is.dev (closed hs h.number) closed_others actors any u q gone
+            ∙ gone-world (firm-order log s stands) (dev-holds log s stands)
+            c is.one is.found is.dev (closed hs h.number) closed_others actors any u q gone
             ∙ ap (λ o. after_close was (record was {
               topology = option_map_or (remove_consumer t) o t;
               handles = closed hs h.number;
@@ -285,7 +287,7 @@ module _ (s : State) (kept : Holds s) where
             (λ y. record y { consumer = None })) hs (λ x here. not_touched n apart x))
 
         -- the world after it
-        pub reaped-world : IsSoundGraph t → (actors : List (List LineCommand)) (any : List Entry)
+        pub reaped-world : (actors : List (List LineCommand)) (any : List Entry)
             (u : TopoView Config) (q : Queued) (v : HandlesView) → HasGone s.topo s.queue c u q
             → v.handles ≡ released hs c → v.next ≡ s.handles.next
             → record (world actors any s) {
@@ -296,7 +298,7 @@ module _ (s : State) (kept : Holds s) where
             }
             ≡ reap (world actors any s) h
         unfolding reap
-        reaped-world sound actors any u q v gone handles next =
+        reaped-world actors any u q v gone handles next =
             let is = held h c closing-here names in
             let was : World = world actors any s in
             let same :
@@ -309,5 +311,6 @@ module _ (s : State) (kept : Holds s) where
               next_handle = next i;
             } in
             same
-            ∙ gone-world sound c is.one is.found is.dev (released hs c) reaped_others actors any u q gone
+            ∙ gone-world (firm-order log s stands) (dev-holds log s stands)
+            c is.one is.found is.dev (released hs c) reaped_others actors any u q gone
             ∙ ap (Rattle.geo_model.specs.Freeing.reap_handle was) (sym names)

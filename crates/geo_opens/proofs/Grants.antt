@@ -5,6 +5,7 @@ use Rattle.std.proofs.Common.{refl, sym, ◌∙◌, ap, subst, arith, inl, inr}
 use Rattle.std.proofs.lemmas.Bool.{cases_eq, eqb-true}
 use Rattle.geo_base.specs.declared.request.Counts.{Counts}
 use Rattle.geo_model.specs.Words.{is_granted_kind}
+use Rattle.geo_model.specs.Graph.{IsInOrder}
 use Rattle.geo_model.specs.Topology.{Topology, Geom, Consumer, geom_at, consumer_at}
 use Rattle.geo_model.specs.Demand.{no_counts, want}
 use Rattle.geo_model.proofs.DemandLemmas.{find_passes}
@@ -51,6 +52,11 @@ none_stored {V} f n (x ∷ xs) none = at (x.number == n) refl none (none_stored 
         → value_at (map (λ (c : Consumer). let row : ℕ × V = (c.number, f c) in row) (x ∷ xs)) n ≡ None
     at true e none so = let never : Some x ≡ None = rw e at none in absurd (cc)
     at false e none so = rw e (so (rw e at none))
+
+-- no consumer has the next number
+pub next_free : {C : Type 0} (t : Topology C) → IsInOrder t → consumer_at t t.next_consumer ≡ None
+next_free t order =
+    found_fresh (λ (c : Consumer). c.number) t.next_consumer t.next_consumer t.consumers order.consumers (omega arith)
 
 module _ {C : Type 0} (t : TopoView C) where
   -- what a consumer of a number is granted, from what is found and stored
@@ -126,9 +132,8 @@ module _ {C : Type 0} (t : TopoView C) where
     opened = opened_mesh t p room
 
     -- none had its number
-    pub none_before : consumer_at t.topology next ≡ None
-    none_before = found_fresh (λ (c : Consumer). c.number) next next t.topology.consumers
-        sound.orderly.order.consumers (omega arith)
+    none_before : consumer_at t.topology next ≡ None
+    none_before = next_free t.topology sound.orderly.order
 
     -- so nothing was granted to it
     pub none_granted : granted_by t next ≡ no_counts

@@ -33,8 +33,9 @@ use Rattle.geo_state.specs.Holds.{Holds}
 use Rattle.geo_state.specs.World.{world, StandsFirm}
 use Rattle.geo_opens.specs.Holders.{grants_with, HasCome}
 use Rattle.geo_opens.specs.Handles.{refusal_in, refused_world}
+use Rattle.geo_state.proofs.FirmLemmas.{firm-order}
 use Rattle.geo_opens.proofs.Going.{held}
-use Rattle.geo_opens.proofs.Grants.{none_before}
+use Rattle.geo_opens.proofs.Grants.{next_free}
 
 -- What an open does, by what refuses it
 
@@ -168,7 +169,7 @@ found-there {C} t name p sound found =
 
 -- The world after it
 
-module _ (s : State) (kept : Holds s) (sound : IsSoundGraph s.topo.topology) where
+module _ (s : State) (kept : Holds s) where
   -- no handle has the next consumer
   pub nobodys-next : (log : List Entry) → StandsFirm log s
       → holding_handle s.handles.handles s.topo.topology.next_consumer ≡ None
@@ -184,7 +185,7 @@ module _ (s : State) (kept : Holds s) (sound : IsSoundGraph s.topo.topology) whe
           (find_passes (λ (x : Handle). names_number x.consumer n) s.handles.handles h is) in
           let one = held s kept log stands h n
           (find-Contains (λ (x : Handle). names_number x.consumer n) s.handles.handles h is) names in
-          let two : None ≡ Some one.one = sym (none_before s.topo sound kept.counted 0 s.topo.room) ∙ one.found in
+          let two : None ≡ Some one.one = sym (next_free s.topo.topology (firm-order log s stands)) ∙ one.found in
           absurd (cc)
 
   module _ (nobodys : holding_handle s.handles.handles s.topo.topology.next_consumer ≡ None) (actor : ℕ)

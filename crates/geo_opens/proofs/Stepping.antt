@@ -20,7 +20,6 @@ use Rattle.geo_model.specs.Step.{reap_next}
 use Rattle.geo_event.specs.EventQueue.{Queued}
 use Rattle.geo_slots.specs.Slots.{value_at, with_value, without}
 use Rattle.geo_mesh.specs.Topo.{TopoView}
-use Rattle.geo_mesh.specs.Graph.{IsSoundGraph}
 use Rattle.geo_laws_graph.proofs.Members.{find-Contains}
 use Rattle.geo_laws_graph.proofs.Lists.{find-changed}
 use Rattle.geo_laws_graph.proofs.Numbered.{number_found}
@@ -77,9 +76,9 @@ module _ (s : State) (kept : Holds s) (firm : IsFirm s) where
     here = find-Contains (λ (x : Handle). x.number == id) hs h its.1
 
     -- its consumer
-    pub step-holder : IsSoundGraph t → IsHolder t cons
-    step-holder sound =
-        held-holder s kept firm.0 firm.1 sound cons (held s kept firm.0 firm.1 h cons here its.2.0)
+    pub step-holder : IsHolder t cons
+    step-holder =
+        held-holder s kept firm.0 firm.1 cons (held s kept firm.0 firm.1 h cons here its.2.0)
 
     -- nothing is out through it
     pub step-idle : value_at s.topo.active cons ≡ Some 0
@@ -93,7 +92,7 @@ module _ (s : State) (kept : Holds s) (firm : IsFirm s) where
         (λ x. x.number == id) (λ x e. refl) hs
         ∙ ap (option_map _) its.1)) refl
 
-    module _ (sound : IsSoundGraph t) (u : TopoView Config) (q : Queued) (v : HandlesView)
+    module _ (u : TopoView Config) (q : Queued) (v : HandlesView)
         (gone : HasGone s.topo s.queue cons u q) where
       -- a close
       module _ (is : v ≡ record s.handles {
@@ -123,7 +122,7 @@ module _ (s : State) (kept : Holds s) (firm : IsFirm s) where
             (actors : List (List LineCommand)) (log : List Entry)
             → world actors log (record s { topo = u; queue = q; handles = v })
             ≡ after_close (world actors log s) (without_handle (world actors log s) k)) h its.1
-            (λ actors log. closed-world s kept firm.0 firm.1 h there cons its.2.0 sound actors log u q v gone
+            (λ actors log. closed-world s kept firm.0 firm.1 h there cons its.2.0 actors log u q v gone
             (ap (λ (x : HandlesView). x.handles) by_number) (ap (λ (x : HandlesView). x.next) by_number))
 
         pub close-kept : KeptWithHandles → Holds (record s { topo = u; queue = q; handles = v })
@@ -157,7 +156,7 @@ module _ (s : State) (kept : Holds s) (firm : IsFirm s) where
             if-with (handle_at hs id) (λ (k : Handle).
             (actors : List (List LineCommand)) (log : List Entry)
             → world actors log (record s { topo = u; queue = q; handles = v }) ≡ reap (world actors log s) k) h its.1
-            (λ actors log. reaped-world s kept firm.0 firm.1 h there cons its.2.0 sound actors log u q v gone
+            (λ actors log. reaped-world s kept firm.0 firm.1 h there cons its.2.0 actors log u q v gone
             (ap (λ (x : HandlesView). x.handles) is) (ap (λ (x : HandlesView). x.next) is))
 
         pub reap-kept : KeptWithHandles → Holds (record s { topo = u; queue = q; handles = v })

@@ -14,7 +14,7 @@ ghost use Rattle.geo_state.specs.Holds.{Holds};
 ghost use Rattle.geo_state.specs.Steps.{IsFirm, Does};
 ghost use Rattle.geo_opens.specs.Handles.{IsIdle, counts_computed};
 
-use crate::handle::{consumer_of, is_out, look};
+use crate::handle::{consumer_of, is_out};
 use crate::holders::give_back;
 use crate::reply::{done, refused};
 use geo_access::Steps;
@@ -90,7 +90,6 @@ fn forget_held<L: Ledger>(state: &mut State, id: HandleId, cons: ConsId, steps: 
     ensures bound { steps.new ≤ steps.old
         + consumers_below state.old.topo.topology (place_of state.old.topo.topology cons) }
 {
-    look(&state.topo);
     state.handles.remove(id);
     give_back(&mut state.topo, &mut state.queue, cons, steps);
 }

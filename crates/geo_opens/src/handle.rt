@@ -1,7 +1,6 @@
 //! What is looked up of a handle and of its consumer.
 ghost use Rattle.std.specs.Prelude.{◌≡◌, false};
 ghost use Rattle.std.specs.Option.{option_and_then, option_map_or};
-ghost use Rattle.geo_mesh.specs.Graph.{IsSoundGraph};
 ghost use Rattle.geo_handles.specs.Handles.{handle_at};
 ghost use Rattle.geo_life.specs.Life.{is_out};
 
@@ -30,11 +29,4 @@ pub fn is_out<C>(topo: &Topo<C>, consumer: &Option<ConsId>) -> bool
         Some(found) => found.active != 0,
         None => false,
     }
-}
-
-/// What each look-up tells of the mesh.
-pub fn look<C>(topo: &Topo<C>)
-    ensures sound { IsSoundGraph topo.now.topology }
-{
-    let _next = topo.coming_consumer();
 }

@@ -1,6 +1,6 @@
 //! Consumers of handles in the mesh: one that goes with what it was granted, and one that comes with a grant.
 ghost use Rattle.std.specs.Prelude.{◌≡◌, ◌+◌, ◌≤◌, length, Some, None, false, IfOk, OnOk, OnErr, IsSome};
-ghost use Rattle.geo_model.specs.Topology.{provider_at};
+ghost use Rattle.geo_model.specs.Topology.{geom_at, provider_at};
 ghost use Rattle.geo_model.specs.Demand.{is_zero};
 ghost use Rattle.geo_model.specs.Opens.{grant_refusal, with_opener};
 ghost use Rattle.geo_slots.specs.Slots.{value_at};
@@ -11,7 +11,6 @@ ghost use Rattle.geo_access.specs.GoneLaws.{HasUsedNumber};
 ghost use Rattle.geo_opens.specs.Holders.{HasGone, HasCome, grants_with, written, opened_mesh};
 ghost use Rattle.geo_life.specs.Life.{IsDevMade};
 
-use crate::handle::look;
 use geo_access::{Steps, grant, release};
 use geo_base::{ConsId, Counts, GeomId, NoMemory, ProvId};
 use geo_event::EventQueue;
@@ -40,7 +39,6 @@ pub fn give_back<C, L: Ledger>(
     ensures gone { HasGone topo.old queue.old cons topo.new queue.new }
     ensures bound { steps.new ≤ steps.old + consumers_below topo.old.topology (place_of topo.old.topology cons) }
 {
-    look(topo);
     release(topo, cons, steps);
     drop_consumer(topo, cons);
     announce_fallen(topo, queue);
@@ -83,6 +81,7 @@ pub fn take_in<C, L: Ledger>(
 // A new consumer of DEV is attached to the provider. It holds nothing yet.
 fn attach_new<C>(topo: &mut Topo<C>, prov: ProvId, add: Counts) -> Result<ConsId, NoMemory>
     requires counted { IsCounted topo.old }
+    requires dev { IsSome (geom_at topo.old.topology 1) }
     requires lives { IsSome (provider_at topo.old.topology prov) }
     requires allowed { grant_refusal (grants_with topo.old add) (with_opener topo.old.topology prov) prov ≡ None }
     ensures number { IfOk result (λ cons. cons ≡ topo.old.topology.next_consumer) }
@@ -90,7 +89,6 @@ fn attach_new<C>(topo: &mut Topo<C>, prov: ProvId, add: Counts) -> Result<ConsId
     ensures same { OnErr result (IsButForRoom topo.new topo.old) }
     ensures sound { IsSoundGraph topo.old.topology }
 {
-    look(topo);
     let cons = topo.new_consumer(GeomId::new(DEV))?;
     match topo.attach(cons, prov) {
         Ok(()) => Ok(cons),
@@ -101,11 +99,11 @@ fn attach_new<C>(topo: &mut Topo<C>, prov: ProvId, add: Counts) -> Result<ConsId
 /// An open that is refused after its provider was found uses up one consumer number. After `NoMemory` nothing changed.
 pub fn use_number<C>(topo: &mut Topo<C>) -> Result<(), NoMemory>
     requires counted { IsCounted topo.old }
+    requires dev { IsSome (geom_at topo.old.topology 1) }
     requires unknown { value_at topo.old.active topo.old.topology.next_consumer ≡ None }
     ensures used { OnOk result (HasUsedNumber topo.old topo.new) }
     ensures same { OnErr result (IsButForRoom topo.new topo.old) }
 {
-    look(topo);
     let cons = topo.new_consumer(GeomId::new(DEV))?;
     topo.destroy_consumer(cons);
     Ok(())

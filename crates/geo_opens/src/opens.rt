@@ -16,7 +16,6 @@ ghost use Rattle.geo_state.specs.Steps.{IsFirm, Does, SameWorld};
 ghost use Rattle.geo_opens.specs.Holders.{grants_with};
 ghost use Rattle.geo_opens.specs.Handles.{IsOpenRefusal, HasRoom, IsRoomed, refused_world};
 
-use crate::handle::look;
 use crate::holders::{take_in, use_number};
 use crate::reply::{done, refused};
 use geo_access::{Steps, could_grant};
@@ -47,7 +46,6 @@ pub fn open_refusal<L: Ledger>(
     if state.handles.by_name(actor, name).is_some() {
         return Some(Errno::EEXIST);
     }
-    look(&state.topo);
     let Some(found) = state.topo.find(prov) else {
         return Some(Errno::ENOENT);
     };
@@ -103,7 +101,6 @@ fn refuse(state: &mut State, actor: u32, name: &Name, prov: &Name) -> Result<(),
     if state.handles.by_name(actor, name).is_some() || state.topo.find(prov).is_none() {
         return Ok(());
     }
-    look(&state.topo);
     use_number(&mut state.topo)
 }
 
@@ -130,7 +127,6 @@ fn admit<L: Ledger>(
         (find_provider state.old.topo.topology prov.now) 0 }
 {
     make_room(state)?;
-    look(&state.topo);
     let Some(found) = state.topo.find(prov) else {
         unreachable!();
     };
@@ -177,7 +173,6 @@ fn open_at<L: Ledger>(
     ensures traffic { state.new.traffic ≡ state.old.traffic }
     ensures bound { steps.new ≤ steps.old + consumers_below state.old.topo.topology prov }
 {
-    look(&state.topo);
     let cons = take_in(&mut state.topo, &mut state.queue, prov, grant, steps)?;
     state.handles.open(actor, name, cons, grant);
     Ok(())

@@ -12,7 +12,7 @@ ghost use Rattle.geo_state.specs.Holds.{Holds};
 ghost use Rattle.geo_state.specs.Steps.{IsFirm, IsAgainst, Makes};
 ghost use Rattle.geo_opens.specs.Handles.{IsIdle, counts_computed};
 
-use crate::handle::{consumer_of, look};
+use crate::handle::consumer_of;
 use crate::holders::give_back;
 use geo_access::Steps;
 use geo_base::{ConsId, HandleId};
@@ -87,7 +87,6 @@ fn let_go<L: Ledger>(state: &mut State, id: HandleId, cons: ConsId, steps: &mut 
     ensures bound { steps.new ≤ steps.old
         + consumers_below state.old.topo.topology (place_of state.old.topo.topology cons) }
 {
-    look(&state.topo);
     state.handles.release(cons);
     state.handles.set_ready(id, false);
     give_back(&mut state.topo, &mut state.queue, cons, steps);

@@ -10,7 +10,6 @@ give_back-requires-clause-placed g c = step-placed c.args.state.now c.requires.k
 pub give_back-requires-clause-holder : goal.give_back-requires-clause-holder
 give_back-requires-clause-holder g c =
     step-holder c.args.state.now c.requires.kept c.requires.firm c.args.id c.args.cons c.requires.idle
-    c.look.ensures.sound
 
 pub give_back-requires-clause-idle : goal.give_back-requires-clause-idle
 give_back-requires-clause-idle g c =
@@ -23,13 +22,11 @@ give_back-requires-clause-room g c = written-room c.args.state.now c.requires.ke
 pub returns-clause-made : goal.returns-clause-made
 returns-clause-made g c =
     close-made c.args.state.now c.requires.kept c.requires.firm c.args.id c.args.cons c.requires.idle
-    c.look.ensures.sound
     c.give_back.new.topo c.give_back.new.queue c.remove.new.self c.give_back.ensures.gone c.remove.ensures.removed
 
 -- the consumer held no request, so nothing that is kept of requests and handles refers to it any more
 pub returns-clause-kept : goal.returns-clause-kept
 returns-clause-kept g c =
     close-kept c.args.state.now c.requires.kept c.requires.firm c.args.id c.args.cons c.requires.idle
-    c.look.ensures.sound
     c.give_back.new.topo c.give_back.new.queue c.remove.new.self c.give_back.ensures.gone c.remove.ensures.removed
     kept_with_handles

@@ -6,7 +6,7 @@ use Rattle.geo_opens.proofs.holders.attach_new.Goals as goal
 
 pub attach-requires-clause-consumer : goal.attach-requires-clause-consumer
 attach-requires-clause-consumer g c =
-    made_loose c.args.topo.now c.new_consumer.new.self c.look.ensures.sound
+    made_loose c.args.topo.now c.new_consumer.new.self c.in_ok-cons.ensures.sound
     (c.in_ok-cons.ensures.added
     ∙ ap (λ n. record (with_consumer c.args.topo.now n) { room = c.new_consumer.new.self.room }) c.new.ensures)
     c.in_ok-cons.cons c.in_ok-cons.ensures.number
@@ -14,7 +14,7 @@ attach-requires-clause-consumer g c =
 -- counts that nothing refuses mean no error below; a consumer of DEV closes no loop and is never too deep
 pub unreachable-requires : goal.unreachable-requires
 unreachable-requires g c =
-    let none = attach_goes c.args.topo.now c.new_consumer.new.self c.look.ensures.sound
+    let none = attach_goes c.args.topo.now c.new_consumer.new.self c.in_ok-cons.ensures.sound
     (c.in_ok-cons.ensures.added
     ∙ ap (λ n. record (with_consumer c.args.topo.now n) { room = c.new_consumer.new.self.room }) c.new.ensures)
     c.in_ok-cons.cons c.in_ok-cons.ensures.number c.args.prov c.requires.lives
@@ -24,7 +24,7 @@ unreachable-requires g c =
 
 pub returns-clause-attached : goal.returns-clause-attached
 returns-clause-attached g c =
-    attached_is c.args.topo.now c.new_consumer.new.self c.look.ensures.sound
+    attached_is c.args.topo.now c.new_consumer.new.self c.in_ok-cons.ensures.sound
     (c.in_ok-cons.ensures.added
     ∙ ap (λ n. record (with_consumer c.args.topo.now n) { room = c.new_consumer.new.self.room }) c.new.ensures)
     c.in_ok-cons.cons c.in_ok-cons.ensures.number c.args.prov c.attach.new.self c.in-Ok.ensures.attached

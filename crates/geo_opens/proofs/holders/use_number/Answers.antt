@@ -5,7 +5,7 @@ use Rattle.geo_opens.proofs.holders.use_number.Goals as goal
 
 pub destroy_consumer-requires : goal.destroy_consumer-requires
 destroy_consumer-requires g c =
-    made_free c.args.topo.now c.new_consumer.new.self c.look.ensures.sound
+    made_free c.args.topo.now c.new_consumer.new.self c.in_ok-cons.ensures.sound
     (c.in_ok-cons.ensures.added
     ∙ ap (λ n. record (with_consumer c.args.topo.now n) { room = c.new_consumer.new.self.room }) c.new.ensures)
     c.in_ok-cons.cons c.in_ok-cons.ensures.number
@@ -13,7 +13,7 @@ destroy_consumer-requires g c =
 -- a consumer made and destroyed at once leaves only its number used up
 pub returns-clause-used : goal.returns-clause-used
 returns-clause-used g c =
-    made_gone c.args.topo.now c.new_consumer.new.self c.look.ensures.sound
+    made_gone c.args.topo.now c.new_consumer.new.self c.in_ok-cons.ensures.sound
     (c.in_ok-cons.ensures.added
     ∙ ap (λ n. record (with_consumer c.args.topo.now n) { room = c.new_consumer.new.self.room }) c.new.ensures)
     c.in_ok-cons.cons c.in_ok-cons.ensures.number c.requires.counted c.requires.unknown c.destroy_consumer.new.self

@@ -8,7 +8,7 @@ use Rattle.geo_opens.proofs.opens.admit.Goals as goal
 pub unreachable-requires : goal.unreachable-requires
 unreachable-requires g c =
     free-found c.args.state.now c.make_room.new.state c.make_room.ensures.rest c.make_room.ensures.kept c.args.actor
-    c.args.name.now c.args.prov.now c.args.grant c.requires.decided (sym c.find.ensures ∙ c.in_default.is)
+    c.args.name.now c.args.prov.now c.args.grant c.requires.decided (sym c.find.ensures.found ∙ c.in_default.is)
 
 -- for each condition: room that is made changes nothing of the world, where nothing refuses the open
 pub open_at-requires-clause-firm : goal.open_at-requires-clause-firm
@@ -24,19 +24,20 @@ open_at-requires-clause-free g c =
 
 pub open_at-requires-clause-lives : goal.open_at-requires-clause-lives
 open_at-requires-clause-lives g c =
-    found-there c.make_room.new.state.topo.topology c.args.prov.now c.in-Some.found c.look.ensures.sound
-    (sym c.find.ensures ∙ c.in-Some.is)
+    found-there c.make_room.new.state.topo.topology c.args.prov.now c.in-Some.found c.find.ensures.sound
+    (sym c.find.ensures.found ∙ c.in-Some.is)
 
 pub open_at-requires-clause-allowed : goal.open_at-requires-clause-allowed
 open_at-requires-clause-allowed g c =
     free-allowed c.args.state.now c.make_room.new.state c.make_room.ensures.rest c.make_room.ensures.kept c.args.actor
-    c.args.name.now c.args.prov.now c.args.grant c.requires.decided c.in-Some.found (sym c.find.ensures ∙ c.in-Some.is)
+    c.args.name.now c.args.prov.now c.args.grant c.requires.decided c.in-Some.found
+    (sym c.find.ensures.found ∙ c.in-Some.is)
 
 -- the world with more room is the same world, and the provider that was found is the model's
 pub returns-clause-made : goal.returns-clause-made
 returns-clause-made g c =
     made-then c.open_at.result c.args.state.now c.make_room.new.state c.open_at.new.state c.make_room.ensures.rest
-    c.args.actor c.args.name.now c.args.prov.now c.args.grant c.in-Some.found (sym c.find.ensures ∙ c.in-Some.is)
+    c.args.actor c.args.name.now c.args.prov.now c.args.grant c.in-Some.found (sym c.find.ensures.found ∙ c.in-Some.is)
     c.open_at.ensures.made
 
 pub returns-clause-same : goal.returns-clause-same

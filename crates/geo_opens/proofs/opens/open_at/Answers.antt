@@ -3,6 +3,7 @@ use Rattle.geo_model.proofs.FirmLemmas.{sound_of, steady_of}
 use Rattle.geo_life.proofs.Spared.{handles_are_spared}
 use Rattle.geo_state.specs.World.{world}
 use Rattle.geo_handles.specs.Handles.{holding_handle}
+use Rattle.geo_state.proofs.FirmLemmas.{firm-order}
 use Rattle.geo_opens.proofs.Settling.{roomed-kept}
 use Rattle.geo_opens.proofs.Opening.{nobodys-next}
 use Rattle.geo_opens.proofs.Stepping.{step-placed}
@@ -16,13 +17,15 @@ take_in-requires-clause-placed g c = step-placed c.args.state.now c.requires.kep
 
 -- the next number was given to no consumer yet, so no request is counted through it
 pub take_in-requires-clause-unknown : goal.take_in-requires-clause-unknown
-take_in-requires-clause-unknown g c = next-unknown c.args.state.now c.requires.kept c.look.ensures.sound
+take_in-requires-clause-unknown g c =
+    next-unknown c.args.state.now c.requires.kept
+    (firm-order c.requires.firm.0 c.args.state.now c.requires.firm.1)
 
 -- a handle's consumer stands in a firm world, and the next number has no consumer yet
 pub open-requires-clause-nobodys : goal.open-requires-clause-nobodys
 open-requires-clause-nobodys g c =
     ap (holding_handle c.args.state.now.handles.handles) c.in_ok-cons.ensures.number
-    ∙ nobodys-next c.args.state.now c.requires.kept c.look.ensures.sound c.requires.firm.0 c.requires.firm.1
+    ∙ nobodys-next c.args.state.now c.requires.kept c.requires.firm.0 c.requires.firm.1
 
 pub returns-in_err-cons-clause-kept : goal.returns-in_err-cons-clause-kept
 returns-in_err-cons-clause-kept g c =
@@ -34,14 +37,14 @@ returns-in_err-cons-clause-kept g c =
 -- the consumer that came has the number that was next, as in the model, and the new handle has it
 pub returns-clause-made : goal.returns-clause-made
 returns-clause-made g c =
-    admit-made c.args.state.now c.requires.kept c.requires.firm c.look.ensures.sound c.args.actor c.args.name.now
+    admit-made c.args.state.now c.requires.kept c.requires.firm c.args.actor c.args.name.now
     c.args.prov c.args.grant c.requires.room c.take_in.new.topo c.take_in.new.queue c.open.new.self
     c.in_ok-cons.ensures.came c.in_ok-cons.cons c.in_ok-cons.ensures.number c.open.ensures.opened
 
 -- the handle is new, and so is its consumer, through which nothing is out
 pub returns-clause-kept : goal.returns-clause-kept
 returns-clause-kept g c =
-    admit-kept c.args.state.now c.requires.kept c.requires.firm c.look.ensures.sound c.args.actor c.args.name.now
+    admit-kept c.args.state.now c.requires.kept c.requires.firm c.args.actor c.args.name.now
     c.args.prov c.args.grant c.requires.room c.take_in.new.topo c.take_in.new.queue c.open.new.self
     c.in_ok-cons.ensures.came c.in_ok-cons.cons c.in_ok-cons.ensures.number c.open.ensures.opened kept_with_handles
 

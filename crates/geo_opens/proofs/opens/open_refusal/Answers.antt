@@ -6,8 +6,8 @@ use Rattle.geo_opens.proofs.opens.open_refusal.Goals as goal
 
 pub could_grant-requires-clause-lives : goal.could_grant-requires-clause-lives
 could_grant-requires-clause-lives g c =
-    found-there c.args.state.now.topo.topology c.args.prov.now c.in-Some.found c.look.ensures.sound
-    (sym c.find.ensures ∙ c.in-Some.is)
+    found-there c.args.state.now.topo.topology c.args.prov.now c.in-Some.found c.find.ensures.sound
+    (sym c.find.ensures.found ∙ c.in-Some.is)
 
 -- for both answers: the name is free and the provider found, so what refuses the counts refuses the open
 pub returns-in-Ok-clause-answer : goal.returns-in-Ok-clause-answer
@@ -16,7 +16,7 @@ returns-in-Ok-clause-answer g c actors log =
     c.by_name.ensures.number c.is_some.ensures c.if-is_some.false in
     none-told _ c.could_grant.result _ c.could_grant.ensures.answer c.in-Ok.is
     ∙ counts-refuse c.args.state.now actors log c.args.actor c.args.name.now c.args.prov.now c.args.grant
-    c.requires.kept free c.in-Some.found (sym c.find.ensures ∙ c.in-Some.is)
+    c.requires.kept free c.in-Some.found (sym c.find.ensures.found ∙ c.in-Some.is)
 
 pub returns-in-Err-clause-answer : goal.returns-in-Err-clause-answer
 returns-in-Err-clause-answer g c actors log =
@@ -24,4 +24,4 @@ returns-in-Err-clause-answer g c actors log =
     c.by_name.ensures.number c.is_some.ensures c.if-is_some.false in
     refusal-told _ c.could_grant.result c.in-Err.errno c.could_grant.ensures.answer c.in-Err.is
     ∙ counts-refuse c.args.state.now actors log c.args.actor c.args.name.now c.args.prov.now c.args.grant
-    c.requires.kept free c.in-Some.found (sym c.find.ensures ∙ c.in-Some.is)
+    c.requires.kept free c.in-Some.found (sym c.find.ensures.found ∙ c.in-Some.is)

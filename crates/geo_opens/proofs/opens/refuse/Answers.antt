@@ -1,9 +1,14 @@
+use Rattle.geo_opens.proofs.Coming.{dev_stands}
 use Rattle.geo_opens.proofs.Admitting.{next-unknown, refuse-kept}
 use Rattle.geo_state.proofs.KeptLemmas.{kept_with_handles}
 use Rattle.geo_opens.proofs.opens.refuse.Goals as goal
 
 pub use_number-requires-clause-unknown : goal.use_number-requires-clause-unknown
-use_number-requires-clause-unknown c = next-unknown c.args.state.now c.requires.kept c.look.ensures.sound
+use_number-requires-clause-unknown c = next-unknown c.args.state.now c.requires.kept
+    c.find.ensures.sound.orderly.order
+
+pub use_number-requires-clause-dev : goal.use_number-requires-clause-dev
+use_number-requires-clause-dev c = dev_stands c.args.state.now.topo.topology c.find.ensures.sound
 
 -- a number that is used up is no part of what is kept
 pub returns-clause-kept : goal.returns-clause-kept
