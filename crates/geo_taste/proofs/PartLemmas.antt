@@ -22,7 +22,7 @@ use Rattle.geo_laws_making.proofs.NewSlices.{new-differ, slice-tells, logical-te
 use Rattle.geo_taste.specs.Making.{QueuedMesh, with_offer}
 use Rattle.geo_taste.specs.Accepting.{with_slices_of}
 use Rattle.geo_taste.specs.Accepts.{HaveSizes}
-use Rattle.geo_taste.specs.Parts.{are_names, CanAddPart, is_addable, PartsDiffer}
+use Rattle.geo_taste.specs.Parts.{are_names, ArePartsApart, CanAddPart, is_addable, PartsDiffer}
 use Rattle.geo_taste.specs.Standing.{MayOffer}
 use Rattle.geo_taste.proofs.Following.{CarriesRoom}
 
@@ -133,17 +133,24 @@ free_addable t (x ∷ xs) sizes free =
     let parts = and_parts (is_name x.name) (not (is_name_taken t x.name)) first.0 in
     rw (parts.1, sizes.0, free_addable t xs sizes.1 first.1) refl
 
+-- parts that differ two by two
+apart_by_pairs : (xs : List NewSlice) → PairsByRecursion PartsDiffer xs → ArePartsApart xs
+apart_by_pairs [] apart = tt
+apart_by_pairs (x ∷ xs) apart = (apart.0, apart_by_pairs xs apart.1)
+
 -- slices differ in name
-pub slices_differ : (below : List ℕ) (xs : List (Option Slice)) → PairsByRecursion PartsDiffer (new_slices below xs)
+pub slices_differ : (below : List ℕ) (xs : List (Option Slice)) → ArePartsApart (new_slices below xs)
 slices_differ below xs =
-    new-differ (slice_name below) (λ (y : Slice). y.count) slice_place (length xs)
-    (λ i less. slice-tells below i) 0 xs (omega arith)
+    apart_by_pairs (new_slices below xs)
+    (new-differ (slice_name below) (λ (y : Slice). y.count) slice_place (length xs)
+    (λ i less. slice-tells below i) 0 xs (omega arith))
 
 -- and so do partitions
 pub partitions_differ : (below : List ℕ) (xs : List (Option EbrPart)) → length xs ≤ MAX_LINKS
-    → PairsByRecursion PartsDiffer (new_parts below xs)
+    → ArePartsApart (new_parts below xs)
 partitions_differ below xs few =
-    new-differ (logical_name below) (λ (y : EbrPart). y.count) (λ name. end_number name - 1) (length xs)
+    apart_by_pairs (new_parts below xs)
+    (new-differ (logical_name below) (λ (y : EbrPart). y.count) (λ name. end_number name - 1) (length xs)
     (λ i less.
     let back : i + 1 - 1 ≡ i = omega arith in
-    ap (λ n. n - 1) (logical-tells below i (omega (arith, less, few))) ∙ back) 0 xs (omega arith)
+    ap (λ n. n - 1) (logical-tells below i (omega (arith, less, few))) ∙ back) 0 xs (omega arith))

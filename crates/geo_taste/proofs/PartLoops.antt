@@ -11,11 +11,10 @@ use Rattle.geo_model.specs.Acceptance.{NewSlice}
 use Rattle.geo_model.specs.World.{Config}
 use Rattle.geo_mesh.specs.Topo.{TopoView}
 use Rattle.geo_event.specs.EventQueue.{Queued}
-use Rattle.geo_laws_life.proofs.Standers.{PairsByRecursion}
 use Rattle.geo_laws_making.proofs.NewSlices.{new_of}
 use Rattle.geo_taste.specs.Making.{QueuedMesh, both, AreBoth, with_offer}
 use Rattle.geo_taste.specs.Accepting.{with_slices_of}
-use Rattle.geo_taste.specs.Parts.{are_names, named_all, IsPlacePushed, IsPushed, CanAddPart, PartsDiffer}
+use Rattle.geo_taste.specs.Parts.{are_names, named_all, IsPlacePushed, IsPushed, CanAddPart, ArePartsApart}
 use Rattle.geo_taste.specs.Standing.{MayOffer}
 use Rattle.geo_taste.proofs.Following.{with_room, both-are}
 use Rattle.geo_taste.proofs.PartLemmas.{add_more, may_more, offers_carry}
@@ -141,7 +140,7 @@ pub record OfferedSoFar (t u : TopoView Config) (q r : Queued) (geom : ℕ) (res
       ≡ with_room (with_slices_of (both t q) geom all) t.room
   pub may : MayOffer u.topology geom
   pub can : AllByRecursion (CanAddPart u.topology) rest
-  pub apart : PairsByRecursion PartsDiffer rest
+  pub apart : ArePartsApart rest
   pub room : length rest ≤ u.room.providers
   pub spare : length rest ≤ r.spare
   pub left : q.spare + length rest ≤ r.spare + length all

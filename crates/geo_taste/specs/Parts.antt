@@ -1,6 +1,6 @@
 -- Slices and partitions from a place on, and when they can be added.
 use Rattle.std.specs.Prelude.{◌≡◌, ℕ, ◌*◌, Bool, true, false, not, ◌&&◌, List, [], ◌∷◌, ◌++◌, Option, Some, None, if◌then◌else◌}
-use Rattle.std.specs.List.{list_all}
+use Rattle.std.specs.List.{AllByRecursion, list_all}
 use Rattle.geo_base.specs.Name.{is_name}
 use Rattle.geo_model.specs.Words.{same_name}
 use Rattle.geo_model.specs.Topology.{Topology, is_name_taken}
@@ -23,6 +23,11 @@ CanAddPart t x = (is_name_taken t x.name ≡ false) × (is_provider_size x.size 
 -- two parts differ in name
 abbrev pub PartsDiffer : NewSlice → NewSlice → Type 0
 PartsDiffer x y = same_name x.name y.name ≡ false
+
+-- each differs in name from all behind it
+abbrev pub ArePartsApart : List NewSlice → Type 0
+ArePartsApart [] = Unit {0}
+ArePartsApart (x ∷ xs) = AllByRecursion (PartsDiffer x) xs × ArePartsApart xs
 
 -- whether a provider can be made of a part
 abbrev pub is_addable : Topology Config → NewSlice → Bool

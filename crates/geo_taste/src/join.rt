@@ -32,7 +32,6 @@ fn raise_empty(topo: &mut Topo<Config>, member: Member) -> GeomId
     ensures other_room { topo.new.room ≡ record topo.old.room { geoms = topo.new.room.geoms } }
     ensures sound { IsSoundGraph topo.old.topology }
 {
-    let _ = topo.coming_consumer();
     let Ok(geom) = topo.new_geom(member.kind, member.geom_name, member.empty, true) else {
         unreachable!()
     };

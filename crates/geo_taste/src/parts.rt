@@ -4,10 +4,9 @@ ghost use Rattle.std.specs.List.{AllByRecursion, list_all};
 ghost use Rattle.geo_base.specs.Name.{name_of};
 ghost use Rattle.geo_model.specs.Acceptance.{new_slices, new_parts};
 ghost use Rattle.geo_model.specs.Names.{slice_name, logical_name};
-ghost use Rattle.geo_laws_life.proofs.Standers.{PairsByRecursion};
 ghost use Rattle.geo_taste.specs.Making.{both, AreBoth};
 ghost use Rattle.geo_taste.specs.Accepting.{with_slices_of};
-ghost use Rattle.geo_taste.specs.Parts.{named_all, IsPlacePushed, IsPushed, CanAddPart, PartsDiffer, is_addable};
+ghost use Rattle.geo_taste.specs.Parts.{named_all, IsPlacePushed, IsPushed, ArePartsApart, CanAddPart, is_addable};
 ghost use Rattle.geo_taste.specs.Standing.{MayOffer};
 
 use crate::names::{logical_name, slice_name};
@@ -159,7 +158,7 @@ pub fn offer_parts(topo: &mut Topo<Config>, queue: &mut EventQueue, geom: GeomId
     requires spare { length parts.now ≤ queue.old.spare }
     requires may { MayOffer topo.old.topology geom }
     requires parts { AllByRecursion (CanAddPart topo.old.topology) parts.now }
-    requires apart { PairsByRecursion PartsDiffer parts.now }
+    requires apart { ArePartsApart parts.now }
     ensures made { AreBoth topo.new queue.new (with_slices_of (both topo.old queue.old) geom parts.now) }
     ensures spare { queue.old.spare ≤ queue.new.spare + length parts.now }
 {

@@ -64,7 +64,6 @@ pub fn raise(topo: &mut Topo<Config>, geom: NewGeom, automatic: bool, provs: &[P
     ensures other_room { topo.new.room.providers ≡ topo.old.room.providers }
     ensures may { MayOffer topo.new.topology result }
 {
-    let _ = topo.coming_consumer();
     let Ok(id) = topo.new_geom(geom.kind, geom.name, geom.config, automatic) else {
         unreachable!()
     };

@@ -3,11 +3,10 @@ ghost use Rattle.std.specs.Prelude.{◌≡◌, ◌+◌, ◌≤◌, Some, true, l
 ghost use Rattle.geo_base.specs.declared.kind.Kind.TheVariants as kinds;
 ghost use Rattle.geo_model.specs.Acceptance.{new_slices, new_parts};
 ghost use Rattle.geo_model.specs.World.{Mbr, Ebr};
-ghost use Rattle.geo_laws_life.proofs.Standers.{PairsByRecursion};
 ghost use Rattle.geo_taste.specs.Making.{both, AreBoth};
 ghost use Rattle.geo_taste.specs.Accepting.{sliced, IsAccepted};
 ghost use Rattle.geo_taste.specs.Accepts.{MakesSizes};
-ghost use Rattle.geo_taste.specs.Parts.{are_names, PartsDiffer};
+ghost use Rattle.geo_taste.specs.Parts.{are_names, ArePartsApart};
 ghost use Rattle.geo_taste.specs.Standing.{CanStandOn};
 
 use crate::parts::{Part, are_addable, offer_parts, partition_parts, slice_parts};
@@ -31,7 +30,7 @@ fn accept_parts(
 ) -> Result<Accepted, NoMemory>
     requires stands { CanStandOn topo.old.topology prov }
     requires names { are_names parts.now ≡ true }
-    requires apart { PairsByRecursion PartsDiffer parts.now }
+    requires apart { ArePartsApart parts.now }
     ensures made { IfOk result (λ answer. IsAccepted answer topo.new queue.new (both topo.old queue.old)
         (sliced (both topo.old queue.old) prov geom.kind geom.name geom.config parts.now)
         (MakesSizes (sliced (both topo.old queue.old) prov geom.kind geom.name geom.config parts.now))) }

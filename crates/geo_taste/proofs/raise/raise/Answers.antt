@@ -10,18 +10,18 @@ pub attach_all-requires-clause-lives : goal.attach_all-requires-clause-lives
 attach_all-requires-clause-lives c =
     rw c.in-Ok.ensures.number
     (can_rise c.args.topo.now c.new_geom.new.self c.args.geom.kind c.args.geom.name c.args.geom.config
-    c.args.automatic c.in-Ok.ensures.added c.args.provs.now c.coming_consumer.ensures.sound c.requires.stand).lives
+    c.args.automatic c.in-Ok.ensures.added c.args.provs.now c.in-Ok.ensures.sound c.requires.stand).lives
 
 pub attach_all-requires-clause-bare : goal.attach_all-requires-clause-bare
 attach_all-requires-clause-bare c =
     rw c.in-Ok.ensures.number
     (can_rise c.args.topo.now c.new_geom.new.self c.args.geom.kind c.args.geom.name c.args.geom.config
-    c.args.automatic c.in-Ok.ensures.added c.args.provs.now c.coming_consumer.ensures.sound c.requires.stand).bare
+    c.args.automatic c.in-Ok.ensures.added c.args.provs.now c.in-Ok.ensures.sound c.requires.stand).bare
 
 pub attach_all-requires-clause-stand : goal.attach_all-requires-clause-stand
 attach_all-requires-clause-stand c =
     (can_rise c.args.topo.now c.new_geom.new.self c.args.geom.kind c.args.geom.name c.args.geom.config
-    c.args.automatic c.in-Ok.ensures.added c.args.provs.now c.coming_consumer.ensures.sound c.requires.stand).stand
+    c.args.automatic c.in-Ok.ensures.added c.args.provs.now c.in-Ok.ensures.sound c.requires.stand).stand
 
 pub returns-clause-raised : goal.returns-clause-raised
 returns-clause-raised c =
@@ -35,4 +35,4 @@ returns-clause-may c =
     still_may c.new_geom.new.self c.attach_all.new.topo c.in-Ok.id c.args.provs.now c.attach_all.ensures.attached
     (subst (MayOffer c.new_geom.new.self.topology) (sym c.in-Ok.ensures.number)
     (can_rise c.args.topo.now c.new_geom.new.self c.args.geom.kind c.args.geom.name c.args.geom.config
-    c.args.automatic c.in-Ok.ensures.added c.args.provs.now c.coming_consumer.ensures.sound c.requires.stand).may)
+    c.args.automatic c.in-Ok.ensures.added c.args.provs.now c.in-Ok.ensures.sound c.requires.stand).may)

@@ -4,8 +4,7 @@ use Rattle.geo_base.specs.declared.kind.Kind.TheVariants as kinds
 use Rattle.geo_model.specs.Acceptance.{NewSlice, new_parts}
 use Rattle.geo_model.specs.Names.{logical_name}
 use Rattle.geo_model.specs.World.{Ebr}
-use Rattle.geo_laws_life.proofs.Standers.{PairsByRecursion}
-use Rattle.geo_taste.specs.Parts.{are_names, PartsDiffer}
+use Rattle.geo_taste.specs.Parts.{are_names, ArePartsApart}
 use Rattle.geo_taste.proofs.PartLemmas.{partitions_differ}
 use Rattle.geo_taste.proofs.PartLoops.{mapped_none, mapped_some, named_nothing, named_some}
 use Rattle.geo_taste.proofs.TableLemmas.{sliced_as, table_unnamed, unchanged}
@@ -33,7 +32,7 @@ pub accept_parts-requires-clause-apart : goal.accept_parts-requires-clause-apart
 accept_parts-requires-clause-apart c =
     let n = named_some (new_parts c.args.name.now c.args.table.now.parts) c.in-Some.parts.items
     (mapped_some _ c.in_ok-parts.field-0 c.in-Some.parts _ c.in-Some.is c.in_ok-parts.ensures.named) in
-    subst (PairsByRecursion PartsDiffer) (sym (c.deref.ensures.value ∙ n.1)) (partitions_differ c.args.name.now
+    subst ArePartsApart (sym (c.deref.ensures.value ∙ n.1)) (partitions_differ c.args.name.now
     c.args.table.now.parts c.partition_parts.ensures.few)
 
 -- the geom's consumer is the one that comes next and the parts are the model's, so it is the model's table
