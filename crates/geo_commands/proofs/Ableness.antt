@@ -8,20 +8,19 @@ use Rattle.geo_model.specs.Acceptance.{add_place}
 use Rattle.geo_model.specs.Append.{is_growth_busy, is_invalid_append}
 use Rattle.geo_model.specs.World.{World, Config}
 use Rattle.geo_class.specs.Assembly.{CanGrow}
-use Rattle.geo_mesh.specs.Graph.{IsSoundGraph}
 use Rattle.geo_laws_life.proofs.Found.{one-found}
 use Rattle.geo_laws_making.proofs.Larger.{IsValid, valid_from}
 use Rattle.geo_state.specs.declared.state.State.{State}
 use Rattle.geo_state.specs.Steps.{IsFirm}
 use Rattle.geo_state.specs.World.{world}
+use Rattle.geo_state.proofs.FirmLemmas.{firm-order}
 use Rattle.geo_commands.specs.declared.below.Below.{Below}
 use Rattle.geo_commands.specs.declared.names.Growing.{Growing}
 use Rattle.geo_commands.specs.Appends.{IsAble}
 use Rattle.geo_commands.proofs.Growable.{can-grow}
 use Rattle.geo_commands.proofs.Testing.{named-geom, named-stands}
 
-module _ (s : State) (firm : IsFirm s) (sound : IsSoundGraph s.topo.topology) (g : Growing) (b : Below)
-    (able : IsAble s g b) where
+module _ (s : State) (firm : IsFirm s) (g : Growing) (b : Below) (able : IsAble s g b) where
   abbrev w : World
   w = world firm.1.0 firm.0 s
 
@@ -34,7 +33,7 @@ module _ (s : State) (firm : IsFirm s) (sound : IsSoundGraph s.topo.topology) (g
 
   -- the geom is found
   pub able-geom : geom_at s.topo.topology g.geom ≡ Some able.named.concat.geom
-  able-geom = named-geom sound.orderly.order able.named
+  able-geom = named-geom (firm-order firm.0 s firm.1) able.named
 
   pub able-found : geom_at s.topo.topology g.geom ≡ None → ⊥
   able-found none = let no : Some able.named.concat.geom ≡ None = sym able-geom ∙ none in absurd (cc)
@@ -51,7 +50,7 @@ module _ (s : State) (firm : IsFirm s) (sound : IsSoundGraph s.topo.topology) (g
       let valid = able-valid in
       subst (λ k. CanGrow k b.size) (sym (able-config y found))
       (subst (CanGrow able.named.concat.geom.config) (sym (ap (λ (x : Below). x.size) able.named.below_is))
-      (can-grow w able.named.concat firm.1.1 (named-stands sound.orderly.order able.named)
+      (can-grow w able.named.concat firm.1.1 (named-stands (firm-order firm.0 s firm.1) able.named)
       able.named.provider.size valid.few valid.limited))
 
   -- and gets it
@@ -66,12 +65,12 @@ module _ (s : State) (firm : IsFirm s) (sound : IsSoundGraph s.topo.topology) (g
       able.named.below_is
 
 -- so whatever memory there is
-pub all-longer : {E : Type 0} (s : State) (firm : IsFirm s) (sound : IsSoundGraph s.topo.topology) (g : Growing)
-    (b : Below) (y : Geom Config) → geom_at s.topo.topology g.geom ≡ Some y → (c : ℕ)
+pub all-longer : {E : Type 0} (s : State) (firm : IsFirm s) (g : Growing) (b : Below)
+    (y : Geom Config) → geom_at s.topo.topology g.geom ≡ Some y → (c : ℕ)
     → c ≡ s.topo.topology.next_consumer
     → (r : Result Config E) → IfOk r (λ config. config ≡ add_place y.config c b.size)
     → IfOk r (λ config. (able : IsAble s g b)
     → config ≡ add_place able.named.concat.geom.config s.topo.topology.next_consumer able.named.provider.size)
-all-longer s firm sound g b y found c number (Ok config) is =
-    λ able. able-longer s firm sound g b able y found c config number is
-all-longer s firm sound g b y found c number (Err e) nothing = tt
+all-longer s firm g b y found c number (Ok config) is =
+    λ able. able-longer s firm g b able y found c config number is
+all-longer s firm g b y found c number (Err e) nothing = tt

@@ -3,12 +3,12 @@ use Rattle.std.specs.Prelude.{◌≡◌, ℕ, ◌==◌, Bool, true, false, List,
 use Rattle.std.specs.Option.{option_map_or}
 use Rattle.std.proofs.Common.{refl, ◌∙◌, ap}
 use Rattle.geo_base.specs.declared.request.Counts.{Counts}
+use Rattle.geo_model.specs.Graph.{IsInOrder}
 use Rattle.geo_model.specs.Topology.{Consumer, add_consumer}
 use Rattle.geo_model.specs.Demand.{no_counts}
 use Rattle.geo_model.specs.Opens.{join_refusal}
 use Rattle.geo_model.specs.World.{Config}
 use Rattle.geo_slots.specs.Slots.{value_at}
-use Rattle.geo_mesh.specs.Graph.{IsSoundGraph}
 use Rattle.geo_mesh.specs.Topo.{TopoView, with_consumer}
 use Rattle.geo_access.specs.Access.{IsCounted, granted_by, holds_grants}
 use Rattle.geo_requests.proofs.Adding.{no_consumer}
@@ -41,7 +41,7 @@ same_last f n (y ∷ ys) number geom to other = by (y.number == n) _ _ (same_las
     by true o p rest = refl
     by false o p rest = rest
 
-module _ (t : TopoView Config) (sound : IsSoundGraph t.topology) (counted : IsCounted t) (geom : ℕ) where
+module _ (t : TopoView Config) (order : IsInOrder t.topology) (counted : IsCounted t) (geom : ℕ) where
   -- one that is attached to nothing holds nothing either
   loose-granted : (n : ℕ) → grants_at t geom n ≡ granted_by t n
   loose-granted n =
@@ -49,7 +49,7 @@ module _ (t : TopoView Config) (sound : IsSoundGraph t.topology) (counted : IsCo
       (λ g. if holds_grants t.topology g
       then unwrap_or (value_at (with_consumer t geom).wants n) no_counts else no_counts) n t.topology.consumers
       t.topology.next_consumer geom None (Some 0)
-      ∙ comers_hold_nothing t geom 0 counted (no_consumer t counted sound.orderly.order t.room) n
+      ∙ comers_hold_nothing t geom 0 counted (no_consumer t counted order t.room) n
 
   -- so all grants are the same
   pub loose-grants : grants_at t geom ≡ granted_by t

@@ -16,7 +16,6 @@ use Rattle.geo_model.specs.World.{Config}
 use Rattle.geo_model.specs.WorldEvents.{with_queued}
 use Rattle.geo_event.specs.EventQueue.{Queued}
 use Rattle.geo_slots.specs.Slots.{value_at}
-use Rattle.geo_mesh.specs.Graph.{IsSoundGraph}
 use Rattle.geo_mesh.specs.Topo.{TopoView}
 use Rattle.geo_laws_graph.proofs.Lists.{found_fresh}
 use Rattle.geo_access.specs.Access.{IsCounted}
@@ -36,7 +35,7 @@ use Rattle.geo_state.proofs.LawLemmas.{holds_after_effects}
 use Rattle.geo_state.proofs.OwedLemmas.{owed_are_few}
 use Rattle.geo_state.proofs.SiteLemmas.{kept_with_sites}
 use Rattle.geo_commands.specs.Makes.{HasGrown, built}
-use Rattle.geo_commands.proofs.Rising.{IsRisen, numbers_for, risen}
+use Rattle.geo_commands.proofs.Rising.{IsRisen, firm_shape, numbers_for, risen}
 
 -- Once room for events was reserved
 
@@ -72,17 +71,17 @@ module _ (s r : State) (rest : r ≡ record s { queue = r.queue }) (events : r.q
 -- Once a geom came
 
 -- nothing is kept yet of numbers from the next one on
-fresh-from : (s : State) → Holds s → IsSoundGraph s.topo.topology → (ps : List ℕ) (n : ℕ)
+fresh-from : (s : State) → Holds s → IsInOrder s.topo.topology → (ps : List ℕ) (n : ℕ)
     → s.topo.topology.next_consumer ≤ n → AreFresh s.topo (numbers_for n ps)
-fresh-from s kept sound [] n past = tt
-fresh-from s kept sound (p ∷ ps) n past = (
+fresh-from s kept order [] n past = tt
+fresh-from s kept order (p ∷ ps) n past = (
   ap (λ rows. value_at rows n) kept.active
       ∙ sym (under_read (λ (c : Consumer). c.number) (λ c. out_through (trips s.traffic.bios) c.number) n
       s.topo.topology.consumers)
       ∙ ap (option_map (λ (c : Consumer). out_through (trips s.traffic.bios) c.number))
       (found_fresh (λ (c : Consumer). c.number) s.topo.topology.next_consumer n s.topo.topology.consumers
-      sound.orderly.order.consumers past),
-  fresh-from s kept sound ps (n + 1) (omega arith),
+      order.consumers past),
+  fresh-from s kept order ps (n + 1) (omega arith),
 )
 
 -- what a new consumer can be attached to is there
@@ -114,13 +113,13 @@ module _ (s new : State) (geom : NewGeom) (below : List ℕ) (x : Offer) (grown 
         events = grown.made.events i;
       })
 
-  module _ (kept : Holds s) (sound : IsSoundGraph s.topo.topology) (kind : is_granted_kind geom.kind ≡ false)
+  module _ (kept : Holds s) (firm : IsFirm s) (kind : is_granted_kind geom.kind ≡ false)
       (stand : All (CanStandOn s.topo.topology) below) where
     -- what came
     pub grown-risen : IsRisen s.topo new.topo geom.config below
     grown-risen =
         subst (λ (v : TopoView Config). IsRisen s.topo v geom.config below) (sym grown.made.mesh)
-        (risen s.topo kept.counted kept.quiet sound geom.kind geom.name geom.config kind below
+        (risen s.topo kept.counted kept.quiet (firm_shape s firm) geom.kind geom.name geom.config kind below
         (all-there s.topo.topology below (recursion_from_All (CanStandOn s.topo.topology) below stand))
         x.name x.size x.sector new.topo.room)
 
@@ -142,8 +141,8 @@ module _ (s new : State) (geom : NewGeom) (below : List ℕ) (x : Offer) (grown 
     }
 
     -- all is kept, where the geom is of no disk
-    pub grown-kept : IsFirm s → disk_of geom.config ≡ None → Holds new
-    grown-kept firm none =
+    pub grown-kept : disk_of geom.config ≡ None → Holds new
+    grown-kept none =
         subst Holds (sym grown.rest)
         (kept_with_sites.comers firm.0 s new.topo new.queue s.taste
         (record {
@@ -152,7 +151,7 @@ module _ (s new : State) (geom : NewGeom) (below : List ℕ) (x : Offer) (grown 
           providers = (s.topo.topology.next_provider, s.topo.topology.next_geom) ∷ [];
         })
         kept firm.1 grown-risen.came
-        (fresh-from s kept sound below s.topo.topology.next_consumer (omega arith))
+        (fresh-from s kept (firm-order firm.0 s firm.1) below s.topo.topology.next_consumer (omega arith))
         (none, tt)
         (λ c. grown-risen.granted c ∙ ap (λ (G : ℕ → _). G c) kept.grants)
         grown-settled)

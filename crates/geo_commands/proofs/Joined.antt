@@ -13,7 +13,6 @@ use Rattle.geo_model.specs.Append.{component_refusal}
 use Rattle.geo_model.specs.HandleCommands.{without_number}
 use Rattle.geo_model.specs.World.{Config, granted_in}
 use Rattle.geo_slots.specs.Slots.{value_at}
-use Rattle.geo_mesh.specs.Graph.{IsSoundGraph}
 use Rattle.geo_mesh.specs.Topo.{TopoView, IsButForRoom}
 use Rattle.geo_laws_graph.proofs.Lists.{found_fresh}
 use Rattle.geo_access.specs.Access.{IsPlaced}
@@ -23,6 +22,7 @@ use Rattle.geo_state.specs.Holds.{Holds}
 use Rattle.geo_state.specs.Steps.{IsFirm, SameWorld}
 use Rattle.geo_state.specs.Trips.{trips, out_through}
 use Rattle.geo_state.specs.World.{world}
+use Rattle.geo_state.proofs.FirmLemmas.{firm-order}
 use Rattle.geo_state.proofs.Frames.{parts-self, under_read}
 use Rattle.geo_state.proofs.KeptLemmas.{kept_after_refusal}
 use Rattle.geo_state.proofs.LawLemmas.{holds_after_effects}
@@ -32,7 +32,7 @@ use Rattle.geo_commands.specs.Appends.{IsAble, new_refusal}
 use Rattle.geo_commands.proofs.Ableness.{able-geom}
 use Rattle.geo_commands.proofs.Granting.{refusal-is}
 
-module _ (s : State) (kept : Holds s) (firm : IsFirm s) (sound : IsSoundGraph s.topo.topology) where
+module _ (s : State) (kept : Holds s) (firm : IsFirm s) where
   abbrev t : Topology Config
   t = s.topo.topology
 
@@ -44,7 +44,7 @@ module _ (s : State) (kept : Holds s) (firm : IsFirm s) (sound : IsSoundGraph s.
       t.next_consumer t.consumers)
       ∙ ap (option_map (λ (c : Consumer). out_through (trips s.traffic.bios) c.number))
       (found_fresh (λ (c : Consumer). c.number) t.next_consumer t.next_consumer t.consumers
-      sound.orderly.order.consumers (omega arith))
+      (firm-order firm.0 s firm.1).consumers (omega arith))
 
   -- no consumer is left unattached
   pub all-placed : IsPlaced t
@@ -60,7 +60,7 @@ module _ (s : State) (kept : Holds s) (firm : IsFirm s) (sound : IsSoundGraph s.
   module _ (g : Growing) (b : Below) (able : IsAble s g b) where
     -- the geom and the provider are there
     pub able-stands : IsSome (geom_at t g.geom)
-    able-stands = some-there (geom_at t g.geom) able.named.concat.geom (able-geom s firm sound g b able)
+    able-stands = some-there (geom_at t g.geom) able.named.concat.geom (able-geom s firm g b able)
 
     pub able-lives : IsSome (provider_at t b.prov)
     able-lives =
@@ -71,7 +71,7 @@ module _ (s : State) (kept : Holds s) (firm : IsFirm s) (sound : IsSoundGraph s.
     pub able-refusal : (actors : List (List LineCommand)) (log : List Entry) → new_refusal s.topo g.geom b.prov
         ≡ component_refusal (world actors log s) able.named.concat able.named.provider
     able-refusal actors log =
-        refusal-is s.topo sound kept.counted g.geom b.prov
+        refusal-is s.topo (firm-order firm.0 s firm.1) kept.counted g.geom b.prov
         ∙ ap (λ (G : ℕ → Counts). join_refusal G (add_consumer t g.geom None) t.next_consumer b.prov) kept.grants
         ∙ ap (λ (x : Growing). join_refusal (granted_in (world actors log s)) (add_consumer t x.geom None)
         t.next_consumer b.prov) able.named.growing_is

@@ -27,7 +27,6 @@ use Rattle.geo_model.specs.Append.{Growing as GrowingConcat, append_tests, appen
 use Rattle.geo_model.specs.Sound.{IsMediaSize}
 use Rattle.geo_model.specs.Fitting.{Firm}
 use Rattle.geo_event.specs.EventQueue.{Queued}
-use Rattle.geo_mesh.specs.Graph.{IsSoundGraph}
 use Rattle.geo_mesh.specs.Topo.{TopoView, is_provider_size, with_consumer}
 use Rattle.geo_laws_graph.proofs.Lists.{found_itself, map-changed}
 use Rattle.geo_laws_graph.proofs.Members.{All-from_contained, find-Contains}
@@ -53,6 +52,7 @@ use Rattle.geo_state.specs.Parts.{SameParts, disk_row, owner_row}
 use Rattle.geo_state.specs.Sites.{HasComers}
 use Rattle.geo_state.specs.Steps.{IsFirm}
 use Rattle.geo_state.specs.World.{world}
+use Rattle.geo_state.proofs.FirmLemmas.{firm-order}
 use Rattle.geo_state.proofs.Frames.{parts-config, parts-count, parts-risen, parts-size, parts-trans}
 use Rattle.geo_state.proofs.OwedLemmas.{owed_are_few}
 use Rattle.geo_state.proofs.SiteLemmas.{kept_with_sites}
@@ -76,7 +76,7 @@ pub record MayGrow (v : TopoView Config) (q : Queued) (g : Growing) (config : Co
   pub counted : IsCounted (larger_mesh v g config size)
   pub room : notes v.risen + 1 ≤ q.spare
 
-module _ (s : State) (kept : Holds s) (firm : IsFirm s) (sound : IsSoundGraph s.topo.topology) (x : GrowingConcat)
+module _ (s : State) (kept : Holds s) (firm : IsFirm s) (x : GrowingConcat)
     (q : Provider) (is : IsStanding s.topo.topology x) (there : provider_at s.topo.topology q.number ≡ Some q)
     (free : first_error (append_tests (world firm.1.0 firm.0 s) x q) ≡ None)
     (none : component_refusal (world firm.1.0 firm.0 s) x q ≡ None) where
@@ -115,7 +115,7 @@ module _ (s : State) (kept : Holds s) (firm : IsFirm s) (sound : IsSoundGraph s.
   u = grown w x q
 
   order : IsInOrder t
-  order = sound.orderly.order
+  order = firm-order firm.0 s firm.1
 
   -- the world with the component is firm
   grown_firm : Firm (with_component w x q)
@@ -176,13 +176,13 @@ module _ (s : State) (kept : Holds s) (firm : IsFirm s) (sound : IsSoundGraph s.
     grants_are k =
         ap (λ (z : TopoView Config). granted_by z k) joined.mesh
         ∙ joined_granted (with_consumer s.topo n) next q.number k
-        ∙ ap (λ (G : ℕ → Counts). G k) (loose-grants s.topo sound kept.counted n ∙ kept.grants)
+        ∙ ap (λ (G : ℕ → Counts). G k) (loose-grants s.topo order kept.counted n ∙ kept.grants)
 
     -- what is noted is what rises from the graph before to the one in the end
     rose : noted v.risen ≡ risen granted t granted u
     rose =
         joined.risen
-        ∙ ap (λ (G : ℕ → Counts). risen G bare G v.topology) (loose-grants s.topo sound kept.counted n ∙ kept.grants)
+        ∙ ap (λ (G : ℕ → Counts). risen G bare G v.topology) (loose-grants s.topo order kept.counted n ∙ kept.grants)
         ∙ ap (risen granted bare granted) graph_is
         ∙ ap (λ (f : ℕ → Counts). map (λ (y : Provider). y.number)
         (filter (λ (y : Provider). ((f y.number).w == 0) && not ((have granted added y.number).w == 0)) t.providers))
@@ -316,14 +316,14 @@ module _ (s : State) (kept : Holds s) (firm : IsFirm s) (sound : IsSoundGraph s.
               subst (λ k. Holds (record s { topo = new; queue = queue; providers = k })) same
               (kept_with_sites.comers firm.0 s new queue s.taste
               (record { consumers = next ∷ []; geoms = []; providers = [] })
-              kept firm.1 comer_came (next-unknown s kept firm sound, tt) tt
+              kept firm.1 comer_came (next-unknown s kept firm, tt) tt
               (λ k.
               grew.kept.granted k ∙ larger_granted v joined.counted joined_order g config size k ∙ grants_are k)
               (settled room))
 
 -- An append that no test is against, once its consumer has joined
 
-module _ (s : State) (kept : Holds s) (firm : IsFirm s) (sound : IsSoundGraph s.topo.topology) (g : Growing) (b : Below)
+module _ (s : State) (kept : Holds s) (firm : IsFirm s) (g : Growing) (b : Below)
     (able : IsAble s g b) (j : State) (rest : j ≡ record s { topo = j.topo })
     (none : (actors : List (List LineCommand)) (log : List Entry)
     → None ≡ component_refusal (world actors log s) able.named.concat able.named.provider)
@@ -333,7 +333,7 @@ module _ (s : State) (kept : Holds s) (firm : IsFirm s) (sound : IsSoundGraph s.
     (size_is : size ≡ able.named.concat.provider.size + able.named.provider.size) where
   -- the concat stands
   standing : IsStanding s.topo.topology able.named.concat
-  standing = named-stands sound.orderly.order able.named
+  standing = named-stands (firm-order firm.0 s firm.1) able.named
 
   -- its consumer joined the provider
   joined_so : HasJoined s.topo able.named.concat.geom.number able.named.provider.number j.topo
@@ -351,7 +351,7 @@ module _ (s : State) (kept : Holds s) (firm : IsFirm s) (sound : IsSoundGraph s.
   able_grows room =
       subst (λ (z : Queued). MayGrow j.topo z g config size) (sym queue_is)
       (subst (λ (k : Growing). MayGrow j.topo s.queue k config size) (sym able.named.growing_is)
-      (may_grow s kept firm sound able.named.concat able.named.provider standing able.named.found
+      (may_grow s kept firm able.named.concat able.named.provider standing able.named.found
       (able.free firm.1.0 firm.0) (sym (none firm.1.0 firm.0)) j.topo joined_so config config_is size size_is room))
 
   module _ (new : TopoView Config) (queue : Queued) (grew : IsLarger j.topo j.queue g config size new queue) where
@@ -373,7 +373,7 @@ module _ (s : State) (kept : Holds s) (firm : IsFirm s) (sound : IsSoundGraph s.
       refused = none actors log;
       made = λ line.
           ap (world actors log) end_is
-          ∙ lengthened_world s kept firm sound able.named.concat able.named.provider standing able.named.found
+          ∙ lengthened_world s kept firm able.named.concat able.named.provider standing able.named.found
           (able.free firm.1.0 firm.0) (sym (none firm.1.0 firm.0)) j.topo joined_so config config_is size size_is new
           queue grew_so actors log;
     }
@@ -383,6 +383,6 @@ module _ (s : State) (kept : Holds s) (firm : IsFirm s) (sound : IsSoundGraph s.
         → Holds (record j { topo = new; queue = queue })
     able_kept room =
         subst Holds (sym end_is)
-        (lengthened_kept s kept firm sound able.named.concat able.named.provider standing able.named.found
+        (lengthened_kept s kept firm able.named.concat able.named.provider standing able.named.found
         (able.free firm.1.0 firm.0) (sym (none firm.1.0 firm.0)) j.topo joined_so config config_is size size_is new
         queue grew_so room)

@@ -208,6 +208,21 @@ users-next t cs ns now low after x left is =
     ∙ sym (fold-behind (offers_of t x.geom) rest ns)
     ∙ sym (ap (λ (ds : List Consumer). fold with_number ns (flat_map (λ (d : Consumer). offers_of t d.geom) ds)) left)
 
+-- What is known of the graph
+
+-- the walk is still at its beginning, or the graph is known to be sound
+abbrev pub IsToldOf : Topology Config → ℕ → List ℕ → ℕ → Type 0
+IsToldOf t prov above next = ((above ≡ prov ∷ []) × (next ≡ 0)) ⊎ IsSoundGraph t
+
+-- at its end it is
+pub told-at_end : (t : Topology Config) (prov : ℕ) (above : List ℕ) (next : ℕ) → IsToldOf t prov above next
+    → length above ≤ next → IsSoundGraph t
+told-at_end t prov above next (inl start) past =
+    let one : length above ≡ 1 = ap length start.0 in
+    let zero_is = start.1 in
+    absurd (omega (arith, one, zero_is, past))
+told-at_end t prov above next (inr sound) past = sound
+
 -- What is reached downwards
 
 module _ (t : Topology Config) (sound : IsSoundGraph t) where

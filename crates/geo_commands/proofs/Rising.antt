@@ -13,22 +13,26 @@ use Rattle.geo_base.specs.declared.request.Counts.{Counts}
 use Rattle.geo_base.specs.declared.kind.Kind.{Kind}
 use Rattle.geo_model.specs.Words.{is_granted_kind}
 use Rattle.geo_model.specs.Topology.{Topology, Geom, Provider, Consumer, geom_at, provider_at, consumer_at, providers_of, add_provider}
-use Rattle.geo_model.specs.Graph.{IsInOrder, ProvidersLive}
+use Rattle.geo_model.specs.Graph.{IsInOrder, PartsLive, ProvidersLive}
+use Rattle.geo_model.specs.Rank.{Ranked}
 use Rattle.geo_model.specs.Demand.{no_counts, have, want}
 use Rattle.geo_model.specs.Place.{disk_of}
 use Rattle.geo_model.specs.World.{Config}
 use Rattle.geo_slots.specs.Slots.{value_at}
-use Rattle.geo_mesh.specs.Graph.{IsSoundGraph}
 use Rattle.geo_mesh.specs.Topo.{TopoView, Room, with_geom, with_provider}
 use Rattle.geo_laws_graph.specs.LookupLaws.{new_geom, new_provider, new_consumer}
+use Rattle.geo_laws_graph.proofs.Living.{steady-parts}
 use Rattle.geo_laws_graph.proofs.Found.{added-geom, added-provider, added-consumer}
 use Rattle.geo_laws_counts.proofs.Counters.{nothing_above}
 use Rattle.geo_access.specs.Access.{granted_by, holds_grants, IsCounted, IsQuiet}
 use Rattle.geo_requests.specs.Making.{with_all_attached, with_attached, with_geom_on}
 use Rattle.geo_requests.proofs.Adding.{consumer_kept, geom_kept, no_consumer, no_geom, provider_kept}
 use Rattle.geo_requests.proofs.Kept.{kept_counted}
+use Rattle.geo_state.specs.declared.state.State.{State}
+use Rattle.geo_state.specs.Steps.{IsFirm}
 use Rattle.geo_state.specs.Parts.{disk_row, owner_row}
 use Rattle.geo_state.specs.Sites.{HasComers, no_row}
+use Rattle.geo_state.proofs.FirmLemmas.{firm-order}
 use Rattle.geo_state.proofs.GrantLaws.{comers_hold_nothing}
 
 -- as many numbers from one on as there are providers
@@ -51,6 +55,22 @@ bare_quiet granted t geom p is =
     (subst (λ ps. All (λ (y : Provider). have granted t y.number ≡ no_counts) ps) (sym is.none)
     (All-from_recursion (λ (y : Provider). have granted t y.number ≡ no_counts) [] tt))
 
+-- What is asked of the graph
+
+-- its numbers are in order, there is no loop, and what its parts name lives
+pub record HasShape (t : Topology Config) : Type 0 where
+  pub order : IsInOrder t
+  pub ranked : Ranked t
+  pub parts : PartsLive t
+
+-- so it is where a state stands for a firm world
+pub firm_shape : (s : State) → IsFirm s → HasShape s.topo.topology
+firm_shape s firm = record {
+  order = firm-order firm.0 s firm.1;
+  ranked = firm.1.1.graph.ranks.ranked;
+  parts = steady-parts s.topo.topology firm.1.1.graph.parts firm.1.1.graph.attached;
+}
+
 -- What stays from one mesh to the other, but for what comes
 
 -- the second mesh has all counts of the first, no note is set, and these consumers came
@@ -64,7 +84,7 @@ pub record IsMore (t m : TopoView Config) (cs : List ℕ) : Type 0 where
       ≡ map (λ (x : Consumer). x.number) t.topology.consumers ++ cs
   pub active : m.active ≡ t.active ++ map no_row cs
 
-module _ (t : TopoView Config) (counted : IsCounted t) (quiet : IsQuiet t) (sound : IsSoundGraph t.topology) where
+module _ (t : TopoView Config) (counted : IsCounted t) (quiet : IsQuiet t) (shape : HasShape t.topology) where
   -- A geom
 
   module _ (kind : Kind) (name : List ℕ) (config : Config) (automatic : Bool)
@@ -80,10 +100,10 @@ module _ (t : TopoView Config) (counted : IsCounted t) (quiet : IsQuiet t) (soun
           | inl same ↦
               subst (λ n. holds_grants raised.topology n ≡ holds_grants t.topology n) (sym same)
               (ap (λ o. option_map_or (λ (x : Geom Config). is_granted_kind x.kind) o false)
-              (added-geom.new t.topology kind name config automatic sound.orderly.order)
+              (added-geom.new t.topology kind name config automatic shape.order)
               ∙ other
               ∙ sym (ap (λ o. option_map_or (λ (x : Geom Config). is_granted_kind x.kind) o false)
-              (no_geom t counted sound.orderly.order t.room)))
+              (no_geom t counted shape.order t.room)))
           | inr apart ↦
               ap (λ o. option_map_or (λ (x : Geom Config). is_granted_kind x.kind) o false)
               (added-geom.others t.topology kind name config automatic g apart)
@@ -105,11 +125,11 @@ module _ (t : TopoView Config) (counted : IsCounted t) (quiet : IsQuiet t) (soun
     pub geom-more : IsMore t raised []
     geom-more = record {
       counted = kept_counted t raised counted
-          (geom_kept t counted sound.orderly.order t.room kind name config automatic other sound.ranked
-          sound.orderly.parts);
+          (geom_kept t counted shape.order t.room kind name config automatic other shape.ranked
+          shape.parts);
       quiet = record { risen = quiet.risen; fallen = quiet.fallen };
-      order = added-geom.order t.topology kind name config automatic sound.orderly.order;
-      live = sound.orderly.parts.providers;
+      order = added-geom.order t.topology kind name config automatic shape.order;
+      live = shape.parts.providers;
       granted = geom-granted;
       consumers = sym (append-nil (map (λ (x : Consumer). x.number) t.topology.consumers));
       active = sym (append-nil t.active);
@@ -119,14 +139,14 @@ module _ (t : TopoView Config) (counted : IsCounted t) (quiet : IsQuiet t) (soun
     pub geom-bare : IsBare raised.topology t.topology.next_geom
     geom-bare = record {
       item = new_geom t.topology kind name config automatic;
-      found = added-geom.new t.topology kind name config automatic sound.orderly.order;
+      found = added-geom.new t.topology kind name config automatic shape.order;
       kind = other;
       none = bare_of t.topology.providers t.topology.next_geom
           (λ y here same.
-          none-there (geom_at t.topology t.topology.next_geom) (no_geom t counted sound.orderly.order t.room)
+          none-there (geom_at t.topology t.topology.next_geom) (no_geom t counted shape.order t.room)
           (subst (λ n. IsSome (geom_at t.topology n)) same
           (All-contains (λ (x : Provider). IsSome (geom_at t.topology x.geom)) t.topology.providers y
-          sound.orderly.parts.offerers here)));
+          shape.parts.offerers here)));
     }
 
 -- A consumer of a bare geom
@@ -241,7 +261,7 @@ pub record IsRisen (t u : TopoView Config) (config : Config) (provs : List ℕ) 
     providers = (t.topology.next_provider, t.topology.next_geom) ∷ [];
   })
 
-module _ (t : TopoView Config) (counted : IsCounted t) (quiet : IsQuiet t) (sound : IsSoundGraph t.topology)
+module _ (t : TopoView Config) (counted : IsCounted t) (quiet : IsQuiet t) (shape : HasShape t.topology)
     (kind : Kind) (name : List ℕ) (config : Config) (other : is_granted_kind kind ≡ false) (provs : List ℕ)
     (live : AllByRecursion (λ p. IsSome (provider_at t.topology p)) provs) (offered : List ℕ) (size sector : ℕ)
     (room : Room) where
@@ -259,8 +279,8 @@ module _ (t : TopoView Config) (counted : IsCounted t) (quiet : IsQuiet t) (soun
   more =
       provider-more t over (numbers_for t.topology.next_consumer provs)
       (all-more t g provs (with_geom t kind name config false) []
-      (geom-more t counted quiet sound kind name config false other)
-      (geom-bare t counted quiet sound kind name config false other) live)
+      (geom-more t counted quiet shape kind name config false other)
+      (geom-bare t counted quiet shape kind name config false other) live)
       g offered size sector
 
   pub risen : IsRisen t (record last { room = room }) config provs

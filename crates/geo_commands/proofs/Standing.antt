@@ -18,7 +18,6 @@ use Rattle.geo_model.specs.Fitting.{IsHeaderDisk}
 use Rattle.geo_model.specs.World.{Config, Disk}
 use Rattle.geo_model.specs.WorldEvents.{with_queued}
 use Rattle.geo_event.specs.EventQueue.{Queued}
-use Rattle.geo_mesh.specs.Graph.{IsSoundGraph}
 use Rattle.geo_mesh.specs.Topo.{TopoView, is_provider_size}
 use Rattle.geo_access.specs.Access.{granted_by}
 use Rattle.geo_laws_graph.proofs.Members.{Contains-map}
@@ -135,13 +134,13 @@ module _ (s : State) (disk : ℕ) (seat : DiskSeat) (at : slice_get s.disks.item
         (sym at) (stood-world actors log)
 
     -- and all is kept
-    pub stood-kept : Holds s → IsFirm s → IsSoundGraph s.topo.topology → geom_of_disk s.topo.topology disk ≡ None
+    pub stood-kept : Holds s → IsFirm s → geom_of_disk s.topo.topology disk ≡ None
         → Holds new
-    stood-kept kept firm sound absent =
+    stood-kept kept firm absent =
         let none : All (CanStandOn s.topo.topology) [] =
         All-from_recursion (CanStandOn s.topo.topology) [] tt in
-        let came = grown-risen s g geom [] offer grown kept sound refl none in
-        let settled = grown-settled s g geom [] offer grown kept sound refl none in
+        let came = grown-risen s g geom [] offer grown kept firm refl none in
+        let settled = grown-settled s g geom [] offer grown kept firm refl none in
         let topo : new.topo ≡ g.topo = ap (λ (z : State). z.topo) rest in
         let queue : new.queue ≡ g.queue = ap (λ (z : State). z.queue) rest in
         kept_with_sites.inserted firm.0 s new disk s.topo.topology.next_geom s.topo.topology.next_provider kept firm.1

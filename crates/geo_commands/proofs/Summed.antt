@@ -3,21 +3,20 @@ use Rattle.std.specs.Prelude.{◌≡◌, ◌+◌, ◌≤◌, Some, None}
 use Rattle.std.proofs.Common.{sym, ◌∙◌, ap, subst}
 use Rattle.geo_base.specs.declared.limits.TheConstants.{MAX_MEDIA_BYTES}
 use Rattle.geo_model.specs.Topology.{Provider, provider_at}
-use Rattle.geo_mesh.specs.Graph.{IsSoundGraph}
 use Rattle.geo_laws_life.proofs.Found.{one-found}
 use Rattle.geo_state.specs.declared.state.State.{State}
 use Rattle.geo_state.specs.Steps.{IsFirm}
+use Rattle.geo_state.proofs.FirmLemmas.{firm-order}
 use Rattle.geo_commands.specs.declared.below.Below.{Below}
 use Rattle.geo_commands.specs.declared.names.Growing.{Growing}
 use Rattle.geo_commands.specs.Appends.{IsAble}
 use Rattle.geo_commands.proofs.Ableness.{able-valid}
 use Rattle.geo_commands.proofs.Testing.{named-offer}
 
-module _ (s : State) (firm : IsFirm s) (sound : IsSoundGraph s.topo.topology) (g : Growing) (b : Below)
-    (able : IsAble s g b) where
+module _ (s : State) (firm : IsFirm s) (g : Growing) (b : Below) (able : IsAble s g b) where
   -- the provider is found
   offer_found : provider_at s.topo.topology g.prov ≡ Some able.named.concat.provider
-  offer_found = named-offer sound.orderly.order able.named
+  offer_found = named-offer (firm-order firm.0 s firm.1) able.named
 
   pub offer_there : provider_at s.topo.topology g.prov ≡ None → ⊥
   offer_there none =
@@ -34,4 +33,4 @@ module _ (s : State) (firm : IsFirm s) (sound : IsSoundGraph s.topo.topology) (g
     -- which is no more than a provider may have
     pub sum_fits : y.size + b.size ≤ MAX_MEDIA_BYTES
     sum_fits =
-        let valid = able-valid s firm sound g b able in subst (λ n. n ≤ MAX_MEDIA_BYTES) (sym sum_is) valid.limited
+        let valid = able-valid s firm g b able in subst (λ n. n ≤ MAX_MEDIA_BYTES) (sym sum_is) valid.limited

@@ -1,6 +1,7 @@
 -- A geom that withers by a command: what the state stands for then, and that all is kept.
-use Rattle.std.specs.Prelude.{◌≡◌, ℕ, ◌+◌, ◌≤◌, ◌==◌, Bool, true, false, not, ◌&&◌, List, map, find, count_by, Option, Some, None, IsSome, option_map, if◌then◌else◌}
+use Rattle.std.specs.Prelude.{◌≡◌, ℕ, ◌+◌, ◌≤◌, ◌==◌, Bool, true, false, not, ◌&&◌, List, [], ◌∷◌, find, count_by, Option, Some, None, IsSome, option_map, if◌then◌else◌}
 use Rattle.std.proofs.Common.{refl, sym, ◌∙◌, ap, subst, arith}
+use Rattle.std.proofs.lemmas.Bool.{eq-eqb}
 use Rattle.std.proofs.lemmas.List.Sums.{length-filter}
 use Rattle.geo_base.specs.declared.errno.Errno.TheVariants.{ENOENT, ENXIO, EBUSY}
 use Rattle.geo_base.specs.declared.kind.Kind.{Kind}
@@ -10,7 +11,6 @@ use Rattle.geo_model.specs.declared.step.Entry.{Entry}
 use Rattle.geo_model.specs.declared.step.Outcome.{Outcome}
 use Rattle.geo_model.specs.declared.step.Outcome.TheVariants as outcomes
 use Rattle.geo_model.specs.declared.step.Reply.TheVariants as replies
-use Rattle.geo_model.specs.Graph.{AreNumbers}
 use Rattle.geo_model.specs.HandleCommands.{answer}
 use Rattle.geo_model.specs.Topology.{Topology, Geom, Provider, geom_at}
 use Rattle.geo_model.specs.Events.{QueuedTopology, wither}
@@ -19,8 +19,6 @@ use Rattle.geo_model.specs.World.{World, Config, HeaderDisk, granted_in}
 use Rattle.geo_model.specs.WorldEvents.{queued_of, with_queued}
 use Rattle.geo_event.specs.EventQueue.{Queued}
 use Rattle.geo_mesh.specs.Topo.{TopoView}
-use Rattle.geo_laws_graph.proofs.Lists.{found_itself}
-use Rattle.geo_laws_graph.proofs.Members.{find-Contains}
 use Rattle.geo_access.specs.Access.{granted_by}
 use Rattle.geo_life.specs.Life.{CountsStay, RestStays, queued, sound_providers}
 use Rattle.geo_state.specs.declared.state.State.{State}
@@ -93,13 +91,30 @@ none-of None is = refl
 none-of (Some g) never = absurd (cc)
 
 -- a geom that is found by a test lives
-pub found-lives : (t : Topology Config) → AreNumbers (map (λ (g : Geom Config). g.number) t.geoms) t.next_geom
-    → (test : Geom Config → Bool) (n : ℕ) → IsNumberOf (find test t.geoms) n → IsSome (geom_at t n)
-found-lives t numbers test n is =
-    subst (λ m. IsSome (geom_at t m)) is.number
-    (subst (λ o. IsSome o)
-    (sym (found_itself (λ (x : Geom Config). x.number) t.next_geom t.geoms is.geom numbers
-    (find-Contains test t.geoms is.geom is.is))) refl)
+pub found-lives : (t : Topology Config) (test : Geom Config → Bool) (n : ℕ) → IsNumberOf (find test t.geoms) n
+    → IsSome (geom_at t n)
+found-lives t test n is = subst (λ m. IsSome (geom_at t m)) is.number (from t.geoms is.geom is.is)
+  where
+    -- a geom that is found is under its number
+    from : (gs : List (Geom Config)) (g : Geom Config) → find test gs ≡ Some g
+        → IsSome (find (λ (x : Geom Config). x.number == g.number) gs)
+    from [] g never = absurd (cc)
+    from (x ∷ xs) g found = at (test x) refl found (from xs g)
+      where
+        behind : (b : Bool) → (x.number == g.number) ≡ b
+            → IsSome (find (λ (y : Geom Config). y.number == g.number) xs)
+            → IsSome (find (λ (y : Geom Config). y.number == g.number) (x ∷ xs))
+        behind true e rest = rw e refl
+        behind false e rest = rw e rest
+
+        at : (b : Bool) → test x ≡ b → find test (x ∷ xs) ≡ Some g
+            → (find test xs ≡ Some g → IsSome (find (λ (y : Geom Config). y.number == g.number) xs))
+            → IsSome (find (λ (y : Geom Config). y.number == g.number) (x ∷ xs))
+        at true e here rest =
+            let same : Some x ≡ Some g = rw e at here in
+            let number : x.number ≡ g.number = ap (λ (y : Geom Config). y.number) (let is_it : x ≡ g = cc in is_it) in
+            rw (eq-eqb x.number g.number number) refl
+        at false e there rest = behind (x.number == g.number) refl (rest (rw e at there))
 
 module _ (s new : State) (line : ℕ) (o : Outcome) (actors : List (List LineCommand)) (log : List Entry) where
   abbrev w : World

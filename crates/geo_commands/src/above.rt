@@ -14,7 +14,6 @@ ghost use Rattle.geo_access.specs.Views.{IsNextConsumer};
 ghost use Rattle.geo_life.specs.Life.{consumers_above};
 ghost use Rattle.geo_commands.specs.Above.{has_number, offers_of, users_of, with_number};
 
-use crate::names::look;
 use geo_access::provider_of;
 use geo_base::{BioId, ConsId, GeomId, NoMemory, ProvId};
 use geo_class::{Config, Taste};
@@ -51,7 +50,6 @@ fn providers_above(
 ) -> Result<Vec<ProvId>, NoMemory>
     ensures { IfOk result (λ above. (p : ℕ) → has_number above.items p ≡ is_below topo.now.topology prov p) }
 {
-    look(topo);
     let mut above = Vec::new(alloc);
     above.push(prov)?;
     let mut next = 0;
@@ -71,7 +69,9 @@ fn at(list: &[ProvId], place: usize) -> Option<ProvId>
 
 // Puts those right above the provider behind the others, unless they are among them.
 fn push_users(topo: &Topo<Config>, prov: ProvId, above: &mut Vec<ProvId>) -> Result<(), NoMemory>
-    ensures { OnOk result (above.new.items ≡ fold with_number above.old.items (users_of topo.now.topology prov)) }
+    ensures pushed { OnOk result (above.new.items
+        ≡ fold with_number above.old.items (users_of topo.now.topology prov)) }
+    ensures sound { IsSoundGraph topo.now.topology }
 {
     let mut from = 0;
     while let Some((id, cons)) = consumer_above(topo, prov, from) {
@@ -113,8 +113,9 @@ fn is_among(above: &[ProvId], prov: ProvId) -> bool
 
 // The first consumer at the provider from a number on that isn't DEV's.
 fn consumer_above(topo: &Topo<Config>, prov: ProvId, from: u64) -> Option<(ConsId, ConsRec)>
-    ensures { MatchOption result (left_from (λ y. y.number) from (consumers_above topo.now.topology prov) ≡ [])
+    ensures next { MatchOption result (left_from (λ y. y.number) from (consumers_above topo.now.topology prov) ≡ [])
         (λ m. IsNextConsumer topo.now.topology (consumers_above topo.now.topology prov) from m.0 m.1) }
+    ensures sound { IsSoundGraph topo.now.topology }
 {
     let id = topo.above(prov, from)?;
     let cons = topo.consumer(id)?;

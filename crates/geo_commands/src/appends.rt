@@ -16,7 +16,7 @@ ghost use Rattle.geo_commands.specs.Appends.{HasJoined, IsAble, IsAppended};
 
 use crate::below::{Below, below_named};
 use crate::growths::{append_refusal, grow_provider, join_new};
-use crate::names::{Growing, growing_concat, look};
+use crate::names::{Growing, growing_concat};
 use crate::reply::{done, refused};
 use geo_access::Steps;
 use geo_base::{Errno, Name, NoMemory};
@@ -39,7 +39,6 @@ pub fn longer(
         → config ≡ add_place able.named.concat.geom.config state.now.topo.topology.next_consumer
         able.named.provider.size) }
 {
-    look(&state.topo);
     let Some(geom) = state.topo.geom(growing.geom) else {
         unreachable!()
     };
@@ -73,7 +72,6 @@ pub fn join_component<L: Ledger>(
     ensures bound { steps.new ≤ steps.old
         + (consumers_below state.old.topo.topology below.now.prov + 2) }
 {
-    look(&state.topo);
     join_new(&mut state.topo, growing.geom, below.prov, steps)
 }
 
@@ -164,7 +162,6 @@ fn add_with_room<L: Ledger>(
     ensures traffic { state.new.traffic ≡ state.old.traffic }
     ensures bound { steps.new ≤ steps.old + (consumers_below state.old.topo.topology below.now.prov + 2) }
 {
-    look(&state.topo);
     let config = longer(alloc, state, growing, below)?;
     let size = larger_size(state, growing, below);
     if let Some(errno) = join_component(state, growing, below, steps)? {
@@ -181,7 +178,6 @@ fn larger_size(state: &State, growing: &Growing, below: &Below) -> u64
     ensures { (able : IsAble state.now growing.now below.now)
         → result ≡ able.named.concat.provider.size + able.named.provider.size }
 {
-    look(&state.topo);
     let Some(grows) = state.topo.provider(growing.prov) else {
         unreachable!()
     };

@@ -11,7 +11,7 @@ ghost use Rattle.geo_state.specs.Steps.{Does, IsFirm};
 ghost use Rattle.geo_state.specs.World.{HasBytes, world};
 
 use crate::disks::{disk_named, standing_geom};
-use crate::names::{look, named_geom};
+use crate::names::named_geom;
 use crate::reply::{done, refused};
 use crate::uses::is_in_use;
 use geo_base::{Errno, GeomId, Kind, Name};
@@ -48,7 +48,6 @@ pub fn destroy(state: &mut State, line: u32, kind: Kind, name: &Name) -> Outcome
     ensures kept { Holds state.new }
     ensures logged { (log : List Entry) → HasBytes log state.old → HasBytes log state.new }
 {
-    look(&state.topo);
     let Some(geom) = named_geom(&state.topo, kind, name) else {
         return refused(line, Errno::ENOENT);
     };

@@ -8,6 +8,7 @@ ghost use Rattle.geo_model.specs.Words.{first_error};
 ghost use Rattle.geo_model.specs.Topology.{consumers_of, geom_at, provider_at};
 ghost use Rattle.geo_model.specs.Append.{append_tests, is_invalid_append};
 ghost use Rattle.geo_slots.specs.Slots.{value_at};
+ghost use Rattle.geo_mesh.specs.Graph.{IsSoundGraph};
 ghost use Rattle.geo_mesh.specs.Topo.{IsButForRoom, is_provider_size};
 ghost use Rattle.geo_access.specs.Access.{IsCounted, IsPlaced, IsQuiet, consumers_below};
 ghost use Rattle.geo_access.specs.GoneLaws.{HasUsedNumber};
@@ -18,7 +19,7 @@ ghost use Rattle.geo_commands.specs.Appends.{AreNamed, HasJoined, IsLarger, is_m
 
 use crate::above::is_growth_busy;
 use crate::below::Below;
-use crate::names::{Growing, look};
+use crate::names::Growing;
 use geo_access::{JoinRefusal, Steps, consumer_of, join};
 use geo_base::{Errno, GeomId, MAX_COMPONENTS, MAX_MEDIA_BYTES, NoMemory, ProvId};
 use geo_class::Config;
@@ -56,7 +57,6 @@ fn is_invalid(topo: &Topo<Config>, growing: &Growing, below: &Below) -> bool
     ensures { (n : AreNamed topo.now.topology growing.now below.now)
         → result ≡ is_invalid_append topo.now.topology n.concat n.provider }
 {
-    look(topo);
     let automatic = is_automatic(topo, growing.geom);
     let full = is_full(topo, growing.geom);
     let misfit = is_misfit(topo, growing.prov, below.sector, below.size);
@@ -65,7 +65,8 @@ fn is_invalid(topo: &Topo<Config>, growing: &Growing, below: &Below) -> bool
 
 // Whether a taste made the geom.
 fn is_automatic(topo: &Topo<Config>, geom: GeomId) -> bool
-    ensures { result ≡ option_map_or (λ g. g.automatic) (geom_at topo.now.topology geom) false }
+    ensures automatic { result ≡ option_map_or (λ g. g.automatic) (geom_at topo.now.topology geom) false }
+    ensures sound { IsSoundGraph topo.now.topology }
 {
     match topo.geom(geom) {
         Some(found) => found.automatic,
@@ -119,7 +120,6 @@ pub fn join_new<L: Ledger>(
     ensures same { OnErr result (IsButForRoom topo.new topo.old) }
     ensures bound { steps.new ≤ steps.old + (consumers_below topo.old.topology prov + 2) }
 {
-    look(topo);
     let cons = topo.new_consumer(geom)?;
     if let Err(why) = join(topo, cons, prov, steps) {
         topo.destroy_consumer(cons);

@@ -9,7 +9,6 @@ ghost use Rattle.geo_state.specs.Holds.{Holds};
 ghost use Rattle.geo_state.specs.Steps.{IsFirm, SameWorld};
 ghost use Rattle.geo_commands.specs.Makes.{HasGrown, IsBuilt};
 
-use crate::names::look;
 use geo_base::{GeomId, NoMemory, ProvId};
 use geo_requests::{NewGeom, Offer, build};
 use geo_state::{State, reserve_events};
@@ -63,7 +62,6 @@ pub fn make(
     ensures kept { Holds state.new }
     ensures traffic { state.new.traffic ≡ state.old.traffic }
 {
-    look(&state.topo);
     grow(state, geom, below, offer)?;
     Ok(())
 }

@@ -5,7 +5,6 @@ ghost use Rattle.geo_base.specs.declared.kind.Kind.TheVariants as kinds;
 ghost use Rattle.geo_model.specs.Words.{is_kind, same_name};
 ghost use Rattle.geo_model.specs.Topology.{find_provider, geom_at, provider_at, providers_of};
 ghost use Rattle.geo_model.specs.Append.{growing_concat};
-ghost use Rattle.geo_mesh.specs.Graph.{IsSoundGraph};
 ghost use Rattle.geo_mesh.specs.Topo.{first_provider};
 ghost use Rattle.geo_commands.specs.Names.{IsNextNamed, growing_seen, named_from, stands};
 
@@ -25,15 +24,7 @@ pub fn found_provider(topo: &Topo<Config>, name: &Name) -> Option<ProvId>
     ensures { result ≡ option_map (λ p. p.number)
         (option_and_then (provider_at topo.now.topology) (find_provider topo.now.topology name.now)) }
 {
-    look(topo);
     topo.find(name)
-}
-
-/// Each look-up tells that the graph is sound.
-pub fn look(topo: &Topo<Config>)
-    ensures { IsSoundGraph topo.now.topology }
-{
-    let _ = topo.coming_consumer();
 }
 
 // The next geom of the class and of the name, from a number on.

@@ -11,7 +11,6 @@ ghost use Rattle.geo_state.specs.World.{world};
 ghost use Rattle.geo_commands.specs.Disks.{item_at};
 
 use crate::makes::grow;
-use crate::names::look;
 use geo_base::{Kind, NoMemory};
 use geo_class::Config;
 use geo_requests::{NewGeom, Offer};
@@ -33,7 +32,6 @@ pub fn stand(state: &mut State, disk: u32) -> Result<(), NoMemory>
     ensures kept { Holds state.new }
     ensures traffic { state.new.traffic ≡ state.old.traffic }
 {
-    look(&state.topo);
     let seat = state.disks[disk as usize];
     let geom = NewGeom {
         kind: Kind::Disk,

@@ -19,15 +19,15 @@ pub loop-id-preserved : goal.loop-id-preserved
 loop-id-preserved c =
     let t = c.args.topo.now.topology in
     rw c.number-from.ensures
-    (users-next t (consumers_above t c.args.prov) _ _ _ _ _ c.in-Some.ensures.left c.in_ok-push_offers.ensures
+    (users-next t (consumers_above t c.args.prov) _ _ _ _ _ c.in-Some.ensures.next.left c.in_ok-push_offers.ensures
     ∙ c.loop-id.invariant)
 
-pub returns : goal.returns
-returns c =
+pub returns-clause-pushed : goal.returns-clause-pushed
+returns-clause-pushed c =
     sym (ap (λ (cs : List Consumer). fold with_number c.loop-id.above.items
-    (flat_map (λ (d : Consumer). offers_of c.args.topo.now.topology d.geom) cs)) c.in_default.ensures)
+    (flat_map (λ (d : Consumer). offers_of c.args.topo.now.topology d.geom) cs)) c.in_default.ensures.next)
     ∙ c.loop-id.invariant
 
 pub loop-id-smaller : goal.loop-id-smaller
 loop-id-smaller c =
-    omega (arith, c.in-Some.ensures.known, c.in-Some.ensures.past, c.number-from.ensures)
+    omega (arith, c.in-Some.ensures.next.known, c.in-Some.ensures.next.past, c.number-from.ensures)

@@ -14,7 +14,7 @@ returns-then-is_in_use-clause-does c = λ log actors.
 pub wither_geom-requires-clause-lives : goal.wither_geom-requires-clause-lives
 wither_geom-requires-clause-lives c =
     let s : State = c.args.state.now in
-    found-lives s.topo.topology c.look.ensures.orderly.order.geoms _ c.in-Some.geom
+    found-lives s.topo.topology _ c.in-Some.geom
     (number-of _ c.in-Some.geom (sym c.in-Some.is ∙ c.named_geom.ensures))
 
 -- no provider of the geom has a count, so it withers

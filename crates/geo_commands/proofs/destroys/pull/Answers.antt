@@ -22,7 +22,7 @@ returns-in_default-standing_geom-clause-does c = λ log actors.
 pub wither_geom-requires-clause-lives : goal.wither_geom-requires-clause-lives
 wither_geom-requires-clause-lives c =
     let s : State = c.args.state.now in
-    found-lives s.topo.topology c.requires.firm.1.1.graph.numbers.geoms _ c.in-Some-standing_geom.geom
+    found-lives s.topo.topology _ c.in-Some-standing_geom.geom
     (number-of _ c.in-Some-standing_geom.geom (sym c.in-Some-standing_geom.is ∙ c.standing_geom.ensures))
 
 -- the disk is the header's of the name, and the geom that withers is the one that stands for it

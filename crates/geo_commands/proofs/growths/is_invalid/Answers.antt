@@ -8,7 +8,8 @@ pub returns-then-automatic : goal.returns-then-automatic
 returns-then-automatic c = λ n.
     c.if-automatic.true
     ∙ sym (ap (λ z. z || (c.is_full-full.result || c.is_misfit-misfit.result)) c.if-automatic.true)
-    ∙ invalid-told c.look.ensures.orderly.order n c.is_automatic-automatic.ensures c.is_full-full.ensures
+    ∙ invalid-told c.is_automatic-automatic.ensures.sound.orderly.order n
+    c.is_automatic-automatic.ensures.automatic c.is_full-full.ensures
     c.is_misfit-misfit.ensures
 
 pub returns-then-full : goal.returns-then-full
@@ -16,12 +17,14 @@ returns-then-full c = λ n.
     c.if-full.true
     ∙ sym (ap (λ z. z || (c.is_full-full.result || c.is_misfit-misfit.result)) c.if-automatic.false
     ∙ ap (λ z. false || (z || c.is_misfit-misfit.result)) c.if-full.true)
-    ∙ invalid-told c.look.ensures.orderly.order n c.is_automatic-automatic.ensures c.is_full-full.ensures
+    ∙ invalid-told c.is_automatic-automatic.ensures.sound.orderly.order n
+    c.is_automatic-automatic.ensures.automatic c.is_full-full.ensures
     c.is_misfit-misfit.ensures
 
 pub returns-else-full : goal.returns-else-full
 returns-else-full c = λ n.
     sym (ap (λ z. z || (c.is_full-full.result || c.is_misfit-misfit.result)) c.if-automatic.false
     ∙ ap (λ z. false || (z || c.is_misfit-misfit.result)) c.if-full.false)
-    ∙ invalid-told c.look.ensures.orderly.order n c.is_automatic-automatic.ensures c.is_full-full.ensures
+    ∙ invalid-told c.is_automatic-automatic.ensures.sound.orderly.order n
+    c.is_automatic-automatic.ensures.automatic c.is_full-full.ensures
     c.is_misfit-misfit.ensures

@@ -37,4 +37,4 @@ returns-clause-kept c =
     (slice_get_read s.disks.items _ c.args.disk seat refl c.requires.there c.index-seat.ensures)
     c.grow.new.state c.set_geom.new.state c.disk.result c.disk.ensures c.in_ok-id.id c.in_ok-id.ensures.number
     c.in_ok-id.ensures.grown c.set_geom.ensures.seat c.set_geom.ensures.rest c.requires.kept c.requires.firm
-    c.look.ensures c.requires.absent
+    c.requires.absent
