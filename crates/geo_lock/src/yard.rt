@@ -239,7 +239,6 @@ impl<L: Logged> Yard<L> {
         ensures sure { IsOk result }
     {
         // The joins are loads, and the table only gives memory back, so nothing can be refused here.
-        let _ = rt;
         Ok(self.close_all(passes.into_passes()))
     }
 }
