@@ -73,7 +73,6 @@ impl Lane {
         ensures sure { IsOk result }
     {
         // A split is one load, so nothing can be refused here.
-        let _ = rt;
         let other = self.tickets.another::<Another>(&mut pass.pass);
         pass.split += 1;
         Ok(LanePass {
