@@ -119,7 +119,6 @@ impl Publisher {
         ensures stands { self.new.stands ≡ pass.now.seen }
         ensures sure { IsOk result }
     {
-        let _ = rt;
         let shared = &self.slots.shared;
         let shown = shown_at(pass, list);
         shared.exchange(&mut self.seat, self.back, Some(shown));
@@ -139,7 +138,6 @@ impl Publisher {
 
     /// Ends the publisher, without waiting. What it showed last stays to be looked at.
     pub fn end<R: AllocGlobal>(self, rt: &R) {
-        let _ = rt;
         let Self {
             slots: _slots,
             seat: _seat,
