@@ -1,18 +1,21 @@
 -- Edges and the geoms under a geom; a graph on which a function climbs is ranked.
-use Rattle.std.specs.Prelude.{◌≡◌, ℕ, zero, suc, ◌+◌, ◌<◌, ◌≤◌, ◌==◌, nat_le, Bool, true, false, List, [], ◌∷◌, length, map, filter, Option, Some, None, Contains, IfSome, IsSome, IsSomeAnd, option_map, option_and_then}
+use Rattle.std.specs.Prelude.{◌≡◌, ℕ, zero, suc, ◌+◌, ◌<◌, ◌≤◌, ◌==◌, nat_le, Bool, true, false, List, [], length, map, filter, Option, Some, None, Contains, IfSome, IsSome, IsSomeAnd, option_map, option_and_then, not}
 use Rattle.std.specs.List.{AllByRecursion}
-use Rattle.std.proofs.Common.{inl, inr, refl, sym, ◌∙◌, ap, arith}
-use Rattle.std.proofs.lemmas.Bool.{eqb-true, eq-eqb, le-leb, leb-true, lt-leb}
+use Rattle.std.proofs.Common.{refl, sym, ◌∙◌, ap, arith}
+use Rattle.std.proofs.lemmas.Bool.{eqb-true, eq-eqb, le-leb, leb-true, lt-leb, not_from_false}
 use Rattle.std.proofs.lemmas.List.Elements.{recursion_from_All, All-from_recursion}
+use Rattle.std.proofs.lemmas.List.Filters.{length-filter_both}
 use Rattle.geo_model.proofs.Options.{at-found, at-some, some-with}
 use Rattle.geo_model.specs.Words.{largest}
 use Rattle.geo_model.specs.Topology.{Topology, Geom, Provider, Consumer, geom_at, provider_at, consumers_of, providers_under}
 use Rattle.geo_model.specs.Rank.{rank, rank_within, geoms_under, Ranked}
 use Rattle.geo_model.proofs.DemandLemmas.{map_same, all_weaker, no_items, find_passes, rank_within-positive}
 use Rattle.geo_model.proofs.RankLemmas.{rank-largest}
+use Rattle.geo_model.proofs.FilterLists.{length-kept}
 use Rattle.geo_laws_graph.specs.Edges.{Below, Climbs, IsOneMoreThanBelow}
-use Rattle.geo_laws_graph.proofs.Members.{Has, has, find-Contains, All-from_contained, at_contained, Contains-cases, Contains-filter, filter-Contains, Contains-map, Contains-filter_map, filter_map-Contains, largest-above, nothing_in}
+use Rattle.geo_laws_graph.proofs.Members.{Has, has, find-Contains, All-from_contained, at_contained, Contains-filter, filter-Contains, Contains-map, Contains-filter_map, filter_map-Contains, largest-above}
 use Rattle.geo_model.specs.Graph.{GeomsLive, ProvidersLive}
+use Rattle.geo_laws_graph.proofs.Lists.{filter-kept}
 
 module _ {C : Type 0} (t : Topology C) where
   -- the geom of the provider, under the consumer of an edge
@@ -142,63 +145,19 @@ module _ {C : Type 0} (t : Topology C) where
       (λ h below. settles m so k h (omega (arith, below, low)))
       (geoms_under t g) (under_falls m so g)))
 
--- how many of a list pass a test
-abbrev passing : {X : Type 0} → (X → Bool) → List X → ℕ
-passing test xs = length (filter test xs)
-
--- one item more, which passes or not
-passing_step : {X : Type 0} (test : X → Bool) (x : X) (xs : List X) (b : Bool) → test x ≡ b
-    → passing test xs ≤ length xs → passing test (x ∷ xs) ≤ length (x ∷ xs)
-passing_step test x xs true e less = rw e (omega arith)
-passing_step test x xs false e less = rw e (omega arith)
-
--- no more pass than there are
-passing-length : {X : Type 0} (test : X → Bool) (xs : List X) → passing test xs ≤ length xs
-passing-length test [] = omega arith
-passing-length test (x ∷ xs) = passing_step test x xs (test x) refl (passing-length test xs)
-
-module _ {X : Type 0} (p q : X → Bool) (so : (x : X) → p x ≡ true → q x ≡ true) where
-  -- nothing passes the one test but not the other
-  no_pass : (x : X) → p x ≡ true → q x ≡ false → ⊥
-  no_pass x e f = let here : q x ≡ true = so x e in cc
-
-  -- one item more, which passes each test or not
-  more_step : (x : X) (xs : List X) (a b : Bool) → p x ≡ a → q x ≡ b → passing p xs ≤ passing q xs
-      → passing p (x ∷ xs) ≤ passing q (x ∷ xs)
-  more_step x xs true true e f less = rw (e, f) (omega arith)
-  more_step x xs true false e f less = absurd (no_pass x e f)
-  more_step x xs false true e f less = rw (e, f) (omega arith)
-  more_step x xs false false e f less = rw (e, f) less
-
-  -- no more pass the test that asks for more
-  more_pass : (xs : List X) → passing p xs ≤ passing q xs
-  more_pass [] = omega arith
-  more_pass (x ∷ xs) = more_step x xs (p x) (q x) refl refl (more_pass xs)
-
-  -- one item more, where fewer of the rest pass
-  less_step : (x : X) (xs : List X) (a b : Bool) → p x ≡ a → q x ≡ b → passing p xs < passing q xs
-      → passing p (x ∷ xs) < passing q (x ∷ xs)
-  less_step x xs true true e f less = rw (e, f) (omega arith)
-  less_step x xs true false e f less = absurd (no_pass x e f)
-  less_step x xs false true e f less = rw (e, f) (omega arith)
-  less_step x xs false false e f less = rw (e, f) less
-
-  -- fewer pass the test that asks for more, where one passes the other alone
-  fewer_pass : (xs : List X) (y : X) → Contains xs y → p y ≡ false → q y ≡ true → passing p xs < passing q xs
-  fewer_pass [] y c none some = absurd (nothing_in y c)
-  fewer_pass (x ∷ xs) y c none some =
-      elim (Contains-cases x y xs c) [
-        | inl same ↦
-            let e : p x ≡ false = rw same none in
-            let f : q x ≡ true = rw same some in
-            rw (e, f) (omega (arith, more_pass xs))
-        | inr rest ↦ less_step x xs (p x) (q x) refl refl (fewer_pass xs y rest none some)
-      ]
+-- fewer pass the test that asks for more, where one passes the other alone
+pub fewer_pass : {X : Type 0} (p q : X → Bool) → ((x : X) → p x ≡ true → q x ≡ true) → (xs : List X) (y : X)
+    → Contains xs y → p y ≡ false → q y ≡ true → length (filter p xs) < length (filter q xs)
+fewer_pass p q so xs y c none some =
+    let same = ap (λ ys. length ys) (filter-kept q p so xs) in
+    let gone =
+    Contains-filter (λ x. not (p x)) (filter q xs) y (Contains-filter q xs y c some) (not_from_false (p y) none) in
+    omega (arith, same, gone.1, length-filter_both p (λ x. not (p x)) (λ x. refl) (filter q xs))
 
 module _ {C : Type 0} (t : Topology C) (f : ℕ → ℕ) (so : (g h : ℕ) → Below t g h → f h < f g) (live : GeomsLive t) where
   -- how many geoms stand no higher than a geom, by the function
   low : ℕ → ℕ
-  low g = passing (λ (x : Geom C). nat_le (f x.number) (f g)) t.geoms
+  low g = length (filter (λ (x : Geom C). nat_le (f x.number) (f g)) t.geoms)
 
   -- they are fewer at the lower end of an edge than at its upper end
   low_falls : (g h : ℕ) → Below t g h → low h < low g
@@ -221,7 +180,7 @@ module _ {C : Type 0} (t : Topology C) (f : ℕ → ℕ) (so : (g h : ℕ) → B
   -- and no more than all geoms
   low-length : (g : ℕ) → low g ≤ length t.geoms
   unfolding low
-  low-length g = passing-length (λ (x : Geom C). nat_le (f x.number) (f g)) t.geoms
+  low-length g = length-kept (λ (x : Geom C). nat_le (f x.number) (f g)) t.geoms
 
   -- where a function climbs, the ranks are one more than those below
   pub ranks_settle : IsOneMoreThanBelow t (rank t)

@@ -2,29 +2,20 @@
 use Rattle.std.specs.Prelude.{◌≡◌, ℕ, ◌&&◌, nat_le, Bool, true, false, not, List, [], ◌∷◌, filter, find, Option, Some, None, IfSome, IsSome, IsSomeAnd}
 use Rattle.std.specs.List.{AllByRecursion, last_or}
 use Rattle.std.specs.Option.{option_map, option_or}
-use Rattle.std.proofs.Common.{refl, sym, ◌∙◌, ap, subst}
+use Rattle.std.proofs.Common.{refl, subst}
 use Rattle.std.proofs.lemmas.Bool.{and_parts}
 use Rattle.geo_model.specs.Words.{same_name}
 use Rattle.geo_model.specs.Topology.{Topology, Geom, Provider, Consumer, geom_at, provider_at, consumer_at}
+use Rattle.geo_model.proofs.FindLists.{found_in}
+use Rattle.geo_model.proofs.MemberLists.{at_contained}
 use Rattle.geo_laws_graph.specs.LookupLaws.{EachIsFound, WhatIsFoundLives}
 use Rattle.geo_laws_graph.proofs.Found.{each-found}
 
 module _ {X : Type 0} (P : X → Type 0) (test : X → Bool) where
-  -- one item more in front: it is what is found, or a later one is
-  found_step : (x y : X) (xs : List X) (b : Bool) → test x ≡ b → P x → find test (x ∷ xs) ≡ Some y
-      → (find test xs ≡ Some y → P y × (test y ≡ true))
-      → P y × (test y ≡ true)
-  found_step x y xs true e fact found so =
-      let here : Some x ≡ Some y = rw e at found in
-      let same : x ≡ y = cc in
-      (subst P same fact, sym (ap test same) ∙ e)
-  found_step x y xs false e fact found so = so (rw e at found)
-
   -- a fact of each item is one of what is found, which passes
   pub found_fact : (xs : List X) (y : X) → AllByRecursion P xs → find test xs ≡ Some y → P y × (test y ≡ true)
-  found_fact [] y facts never = absurd cc
-  found_fact (x ∷ xs) y facts found =
-      found_step x y xs (test x) refl facts.0 found (λ later. found_fact xs y facts.1 later)
+  found_fact xs y facts found =
+      let there = found_in test xs y found in (at_contained P xs y facts there.0, there.1)
 
   -- so of the last that passes
   last_fact : (xs : List X) (y : X) (o : Option X) → IfSome o (λ x. P x × (test x ≡ true)) → AllByRecursion P xs

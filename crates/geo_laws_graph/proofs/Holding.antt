@@ -1,6 +1,6 @@
 -- The changes of one thing that keep the ranks of a sound world.
 use Rattle.std.specs.Prelude.{◌+◌, option_map, ◌≡◌, ◌≢◌, ◌⊎◌, ℕ, ◌≤◌, ◌==◌, Bool, true, false, not, List, [], ◌∷◌, filter, Option, Some, None, All, IsSome, IsSomeAnd}
-use Rattle.std.proofs.Common.{inl, inr, refl, sym, ◌∙◌, ap, subst, arith}
+use Rattle.std.proofs.Common.{inl, inr, refl, sym, ◌∙◌, ap, subst, arith, le_of_eq}
 use Rattle.std.proofs.lemmas.List.Elements.{All-push, All-weaker, All-filter, recursion_from_All, All-from_recursion}
 use Rattle.std.proofs.lemmas.Bool.{cases_eq}
 use Rattle.geo_model.specs.Kind.{Kind}
@@ -35,10 +35,6 @@ shallower t u less xs low =
     All-weaker (IsShallow t) (IsShallow u) (λ x so apart other. let a = so apart other in let b =
     less x.number apart other in omega arith) xs low
 
--- a number is no greater than one that is the same
-same_le : (a b : ℕ) → a ≡ b → a ≤ b
-same_le a b e = omega arith
-
 -- a geom that stands without withering is there
 there : (o : Option (Geom Config)) → IsSomeAnd o (λ x. x.withering ≡ false) → IsSome o
 there None fact = absurd fact
@@ -61,7 +57,7 @@ opened t geom p x which hold live found = by which (bare which) where
       record {
         ranked = rise.0.ranked;
         not_deep = shallower t (add_consumer t geom (Some p))
-            (λ g apart other. same_le _ _ (rise.0.same g (λ same. elim which [
+            (λ g apart other. le_of_eq (rise.0.same g (λ same. elim which [
               | inl e ↦
                   apart (same ∙ e)
               | inr e ↦ other (same ∙ e)
@@ -151,7 +147,7 @@ geom_added t kind name config automatic hold live order =
     record {
       ranked = stay.ranked;
       not_deep = All-push (IsShallow (add_geom t kind name config automatic)) t.geoms _
-          (shallower t (add_geom t kind name config automatic) (λ g a b. same_le _ _ (stay.same g)) t.geoms
+          (shallower t (add_geom t kind name config automatic) (λ g a b. le_of_eq (stay.same g)) t.geoms
           hold.not_deep)
           (λ apart other. let one : rank (add_geom t kind name config automatic) t.next_geom ≡ 1 =
           stay.same t.next_geom ∙ rank-next t order hold.ranked live in omega arith);
@@ -240,7 +236,7 @@ module _ (t : Topology Config) (hit : Geom Config → Bool) (change : Geom Confi
   changed_hold stay hold =
       record {
         ranked = stay.ranked hold.ranked;
-        not_deep = shallower t after (λ h a b. same_le _ _ (stay.same h)) after.geoms
+        not_deep = shallower t after (λ h a b. le_of_eq (stay.same h)) after.geoms
             (All-from_recursion (IsShallow t) after.geoms
             (all-changed hit change (IsShallow t) (λ x e fact. subst (λ (n : ℕ). n ≢ 1 → n ≢ 2
             → rank t n ≤ MAX_RANK) (sym (same x e)) fact) t.geoms
@@ -266,7 +262,7 @@ sound-ranks = record {
       let stay = adding-stay.provider t geom name size sector hold.ranked live in
       record {
         ranked = stay.ranked;
-        not_deep = shallower t (add_provider t geom name size sector) (λ g a b. same_le _ _ (stay.same g)) t.geoms
+        not_deep = shallower t (add_provider t geom name size sector) (λ g a b. le_of_eq (stay.same g)) t.geoms
             hold.not_deep;
         dev = bare_with_provider t geom name size sector 1 (apart_from 1 geom other.0) hold.dev;
         taste = bare_with_provider t geom name size sector 2 (apart_from 2 geom other.1) hold.taste;
@@ -275,7 +271,7 @@ sound-ranks = record {
       let stay = removing-stay.provider t p hold.ranked live none in
       record {
         ranked = stay.ranked;
-        not_deep = shallower t (remove_provider t p) (λ g a b. same_le _ _ (stay.same g)) t.geoms hold.not_deep;
+        not_deep = shallower t (remove_provider t p) (λ g a b. le_of_eq (stay.same g)) t.geoms hold.not_deep;
         dev = bare_without_provider t p 1 hold.dev;
         taste = bare_without_provider t p 2 hold.taste;
       };
@@ -283,7 +279,7 @@ sound-ranks = record {
       let stay = removing-stay.geom t g hold.ranked live none in
       record {
         ranked = stay.ranked;
-        not_deep = shallower t (remove_geom t g) (λ h a b. same_le _ _ (stay.same h)) (remove_geom t g).geoms
+        not_deep = shallower t (remove_geom t g) (λ h a b. le_of_eq (stay.same h)) (remove_geom t g).geoms
             (All-filter (λ (x : Geom Config). not (x.number == g)) (IsShallow t) t.geoms hold.not_deep);
         dev = bare_without_geom t g 1 (apart_from 1 g other.0) hold.dev;
         taste = bare_without_geom t g 2 (apart_from 2 g other.1) hold.taste;
@@ -292,7 +288,7 @@ sound-ranks = record {
       let stay : AllRanksStay t (set_error t p) = plain-stay.error t p in
       record {
         ranked = stay.ranked hold.ranked;
-        not_deep = shallower t (set_error t p) (λ g a b. same_le _ _ (stay.same g)) t.geoms hold.not_deep;
+        not_deep = shallower t (set_error t p) (λ g a b. le_of_eq (stay.same g)) t.geoms hold.not_deep;
         dev = bare_with_error t p 1 hold.dev;
         taste = bare_with_error t p 2 hold.taste;
       };
@@ -300,7 +296,7 @@ sound-ranks = record {
       let stay : AllRanksStay t (set_size t p size) = plain-stay.size t p size in
       record {
         ranked = stay.ranked hold.ranked;
-        not_deep = shallower t (set_size t p size) (λ g a b. same_le _ _ (stay.same g)) t.geoms hold.not_deep;
+        not_deep = shallower t (set_size t p size) (λ g a b. le_of_eq (stay.same g)) t.geoms hold.not_deep;
         dev = bare_with_size t p size 1 hold.dev;
         taste = bare_with_size t p size 2 hold.taste;
       };
@@ -308,7 +304,7 @@ sound-ranks = record {
       let stay : AllRanksStay t (set_withering t g) = plain-stay.withering t g in
       record {
         ranked = stay.ranked hold.ranked;
-        not_deep = shallower t (set_withering t g) (λ h a b. same_le _ _ (stay.same h)) (set_withering t g).geoms
+        not_deep = shallower t (set_withering t g) (λ h a b. le_of_eq (stay.same h)) (set_withering t g).geoms
             (All-from_recursion (IsShallow t) (set_withering t g).geoms
             (all-changed (λ (x : Geom Config). x.number == g) (λ x. record x { withering = true }) (IsShallow t)
             (λ x e fact. fact) t.geoms
@@ -320,7 +316,7 @@ sound-ranks = record {
       let stay : AllRanksStay t (set_marks t test mark) = plain-stay.marks t test mark in
       record {
         ranked = stay.ranked hold.ranked;
-        not_deep = shallower t (set_marks t test mark) (λ g a b. same_le _ _ (stay.same g)) t.geoms hold.not_deep;
+        not_deep = shallower t (set_marks t test mark) (λ g a b. le_of_eq (stay.same g)) t.geoms hold.not_deep;
         dev = record { stands = hold.dev.stands; no_provider = hold.dev.no_provider };
         taste = record { stands = hold.taste.stands; no_provider = hold.taste.no_provider };
       };
@@ -330,7 +326,7 @@ sound-ranks = record {
       let stay = adding-stay.consumer t geom hold.ranked live lives in
       record {
         ranked = stay.ranked;
-        not_deep = shallower t (add_consumer t geom None) (λ g a b. same_le _ _ (stay.same g)) t.geoms hold.not_deep;
+        not_deep = shallower t (add_consumer t geom None) (λ g a b. le_of_eq (stay.same g)) t.geoms hold.not_deep;
         dev = record { stands = hold.dev.stands; no_provider = hold.dev.no_provider };
         taste = record { stands = hold.taste.stands; no_provider = hold.taste.no_provider };
       };

@@ -1,13 +1,15 @@
 -- Lists after a change of some items, after some are gone, and after one more: what is found, kept and counted there.
-use Rattle.std.specs.Prelude.{◌≡◌, ◌⊎◌, ℕ, zero, suc, ◌+◌, ◌<◌, ◌≤◌, ◌==◌, Bool, true, false, List, [], ◌∷◌, ◌++◌, length, map, filter, filter_map, find, Option, Some, None, All, Contains, option_map, if◌then◌else◌}
+use Rattle.std.specs.Prelude.{◌≡◌, ◌⊎◌, ℕ, zero, suc, ◌+◌, ◌<◌, ◌≤◌, ◌==◌, Bool, true, false, List, [], ◌∷◌, ◌++◌, length, map, filter, filter_map, find, Option, Some, None, All, Contains, option_map, if◌then◌else◌, slice_get, not}
 use Rattle.std.specs.List.{AllByRecursion, list_any, last_or}
 use Rattle.std.specs.List.Sorted.{IsStrictlyIncreasing}
-use Rattle.std.proofs.Common.{inl, inr, refl, ◌∙◌, ap, arith}
+use Rattle.std.proofs.Common.{inl, inr, refl, ◌∙◌, ap, arith, sym}
 use Rattle.std.proofs.lemmas.Bool.{eqb-true, eq-eqb, ne_eqb}
 use Rattle.std.proofs.lemmas.List.Elements.{All-head, All-tail, All-cons, All-nil}
 use Rattle.geo_model.specs.Words.{change_where}
 use Rattle.geo_model.specs.Graph.{AreNumbers}
-use Rattle.geo_laws_graph.proofs.Members.{Contains-cases, nothing_in}
+use Rattle.geo_model.proofs.FindLists.{any-kept_some}
+use Rattle.geo_model.proofs.FilterLists.{keeps_all}
+use Rattle.geo_laws_graph.proofs.Members.{Contains-cases, nothing_in, All-from_contained, filter-Contains}
 pub use Rattle.geo_model.proofs.FilterLists.{filter-filter}
 
 module _ {X : Type 0} (hit : X → Bool) (change : X → X) where
@@ -104,20 +106,43 @@ module _ {X : Type 0} (hit : X → Bool) (change : X → X) where
   unhit [] none = refl
   unhit (x ∷ xs) none = unhit_step x xs none.0 (unhit xs none.1)
 
-module _ {X : Type 0} (keep test : X → Bool) where
-  -- one item more of the walk, where what passes stays
-  kept_step : (x : X) (xs : List X) (b c : Bool) → test x ≡ b → keep x ≡ c → (test x ≡ true → keep x ≡ true)
-      → find test (filter keep xs) ≡ find test xs
-      → find test (filter keep (x ∷ xs)) ≡ find test (x ∷ xs)
-  kept_step x xs true true e f so rest = rw (f, e) refl
-  kept_step x xs true false e f so rest = let stays : keep x ≡ true = so e in absurd cc
-  kept_step x xs false true e f so rest = rw (f, e) rest
-  kept_step x xs false false e f so rest = rw (f, e) rest
+-- one item more of what is found first
+first_step : {X : Type 0} (test : X → Bool) (x : X) (xs : List X) (b : Bool) → test x ≡ b
+    → find test xs ≡ slice_get (filter test xs) 0 → find test (x ∷ xs) ≡ slice_get (filter test (x ∷ xs)) 0
+first_step test x xs true e rest = rw e refl
+first_step test x xs false e rest = rw e rest
 
-  -- what passes stays: it is found as before
+-- what is found is the first of those that pass
+pub find-first : {X : Type 0} (test : X → Bool) (xs : List X) → find test xs ≡ slice_get (filter test xs) 0
+find-first test [] = refl
+find-first test (x ∷ xs) = first_step test x xs (test x) refl (find-first test xs)
+
+module _ {X : Type 0} (test : X → Bool) (xs ys : List X) (same : filter test xs ≡ filter test ys) where
+  -- where the same pass, the same is found
+  pub find-same : find test xs ≡ find test ys
+  find-same = find-first test xs ∙ ap (λ zs. slice_get zs 0) same ∙ sym (find-first test ys)
+
+  -- and some item passes of both or of none
+  pub any-same : list_any test xs ≡ list_any test ys
+  any-same = any-kept_some test xs ∙ ap (λ zs. not (length zs == 0)) same ∙ sym (any-kept_some test ys)
+
+module _ {X : Type 0} (keep test : X → Bool) where
+  -- what passes stays
+  pub filter-kept : ((x : X) → test x ≡ true → keep x ≡ true) → (xs : List X)
+      → filter test (filter keep xs) ≡ filter test xs
+  filter-kept so xs =
+      filter-filter keep test xs
+      ∙ keeps_all keep (filter test xs)
+      (All-from_contained (λ x. keep x ≡ true) (filter test xs) (λ x c. so x (filter-Contains test xs x c).1))
+
+  -- so it is found as before
   pub find-kept : ((x : X) → test x ≡ true → keep x ≡ true) → (xs : List X) → find test (filter keep xs) ≡ find test xs
-  find-kept so [] = refl
-  find-kept so (x ∷ xs) = kept_step x xs (test x) (keep x) refl refl (so x) (find-kept so xs)
+  find-kept so xs = find-same test (filter keep xs) xs (filter-kept so xs)
+
+  -- and some item passes just where one did
+  pub any-kept : ((x : X) → test x ≡ true → keep x ≡ true) → (xs : List X)
+      → list_any test (filter keep xs) ≡ list_any test xs
+  any-kept so xs = any-same test (filter keep xs) xs (filter-kept so xs)
 
   -- one item more of the walk, where what passes goes
   gone_step : (x : X) (xs : List X) (b c : Bool) → test x ≡ b → keep x ≡ c → (test x ≡ true → keep x ≡ false)
@@ -132,36 +157,6 @@ module _ {X : Type 0} (keep test : X → Bool) where
   pub find-gone : ((x : X) → test x ≡ true → keep x ≡ false) → (xs : List X) → find test (filter keep xs) ≡ None
   find-gone so [] = refl
   find-gone so (x ∷ xs) = gone_step x xs (test x) (keep x) refl refl (so x) (find-gone so xs)
-
-  -- one item more of those that pass, where they stay
-  still_step : (x : X) (xs : List X) (b c : Bool) → test x ≡ b → keep x ≡ c → (test x ≡ true → keep x ≡ true)
-      → filter test (filter keep xs) ≡ filter test xs
-      → filter test (filter keep (x ∷ xs)) ≡ filter test (x ∷ xs)
-  still_step x xs true true e f so rest = rw (f, e, rest) refl
-  still_step x xs true false e f so rest = let stays : keep x ≡ true = so e in absurd cc
-  still_step x xs false true e f so rest = rw (f, e) rest
-  still_step x xs false false e f so rest = rw (f, e) rest
-
-  -- what passes stays
-  pub filter-kept : ((x : X) → test x ≡ true → keep x ≡ true) → (xs : List X)
-      → filter test (filter keep xs) ≡ filter test xs
-  filter-kept so [] = refl
-  filter-kept so (x ∷ xs) = still_step x xs (test x) (keep x) refl refl (so x) (filter-kept so xs)
-
-  -- one item more of the question whether any passes, where they stay
-  any_step : (x : X) (xs : List X) (b c : Bool) → test x ≡ b → keep x ≡ c → (test x ≡ true → keep x ≡ true)
-      → list_any test (filter keep xs) ≡ list_any test xs
-      → list_any test (filter keep (x ∷ xs)) ≡ list_any test (x ∷ xs)
-  any_step x xs true true e f so rest = rw (f, e) refl
-  any_step x xs true false e f so rest = let stays : keep x ≡ true = so e in absurd cc
-  any_step x xs false true e f so rest = rw (f, e) rest
-  any_step x xs false false e f so rest = rw (f, e) rest
-
-  -- what passes stays: some item passes just where one did
-  pub any-kept : ((x : X) → test x ≡ true → keep x ≡ true) → (xs : List X)
-      → list_any test (filter keep xs) ≡ list_any test xs
-  any-kept so [] = refl
-  any-kept so (x ∷ xs) = any_step x xs (test x) (keep x) refl refl (so x) (any-kept so xs)
 
 -- Numbers that rise
 

@@ -8,21 +8,19 @@ use Rattle.geo_model.proofs.Tests.{same_tests}
 use Rattle.geo_model.specs.Topology.{Topology}
 use Rattle.geo_model.specs.Rank.{rank, geoms_under, geoms_reached_within, reaches, Ranked}
 use Rattle.geo_model.proofs.DemandLemmas.{rank_within-le, rank_within-positive}
+use Rattle.geo_model.proofs.FindLists.{some-passes, any-contained}
+use Rattle.geo_model.proofs.MemberLists.{in_flat_map}
 use Rattle.geo_laws_graph.specs.Edges.{Below, HasEdgesOf, IsPath, Path}
-use Rattle.geo_laws_graph.proofs.Members.{Origin, Contains-here, Contains-there, Contains-cases, nothing_in}
+use Rattle.geo_laws_graph.proofs.Members.{Origin, Contains-here, Contains-there}
 use Rattle.geo_laws_graph.proofs.Climbing.{under-from_below, below-from_under, rank-falls}
 
 module _ {X Y : Type 0} (test : Y → Bool) (f : X → List Y) where
   -- one list passes the test, so does all of them
   pub any-flat_map : (xs : List X) (x : X) → Contains xs x → list_any test (f x) ≡ true
       → list_any test (flat_map f xs) ≡ true
-  any-flat_map [] x c e = absurd (nothing_in x c)
-  any-flat_map (y ∷ xs) x c e =
-      list_any-append test (f y) (flat_map f xs)
-      ∙ elim (Contains-cases y x xs c) [
-        | inl same ↦ or_left (list_any test (f y)) (list_any test (flat_map f xs)) (rw same e)
-        | inr rest ↦ or_right (list_any test (f y)) (list_any test (flat_map f xs)) (any-flat_map xs x rest e)
-      ]
+  any-flat_map xs x c e =
+      let one = some-passes test (f x) e in
+      any-contained test (flat_map f xs) one.item (in_flat_map f xs x one.item c one.here) one.passes
 
   -- and where they pass it, one does
   pub flat_map-any : (xs : List X) → list_any test (flat_map f xs) ≡ true → Origin (λ x. list_any test (f x) ≡ true) xs

@@ -4,27 +4,13 @@ use Rattle.std.specs.List.{AllByRecursion, list_any}
 use Rattle.std.proofs.Common.{refl, ap}
 use Rattle.std.proofs.lemmas.Bool.{or_parts}
 use Rattle.geo_model.specs.Words.{change_where}
+use Rattle.geo_laws_graph.proofs.Lists.{find-same, any-same}
 
 module _ {X : Type 0} (hit test : X → Bool) where
   module _ (change : X → X) where
     -- where it is changed, an item passes neither before nor after
     abbrev pub IsUntouched : X → Type 0
     IsUntouched x = hit x ≡ true → (test x ≡ false) × (test (change x) ≡ false)
-
-    -- one item more of the walk that finds one
-    find_step : (x : X) (xs : List X) (a b : Bool) → hit x ≡ a → test x ≡ b → IsUntouched x
-        → find test (change_where hit change xs) ≡ find test xs
-        → find test (change_where hit change (x ∷ xs)) ≡ find test (x ∷ xs)
-    find_step x xs true b e f un rest = let both = un e in let before : test x ≡ false = both.0 in
-        let after : test (change x) ≡ false = both.1 in rw (e, after, before) rest
-    find_step x xs false true e f un rest = rw (e, f) refl
-    find_step x xs false false e f un rest = rw (e, f) rest
-
-    -- then what is found, kept and passes is as before
-    pub find-untouched : (xs : List X) → AllByRecursion IsUntouched xs
-        → find test (change_where hit change xs) ≡ find test xs
-    find-untouched [] un = refl
-    find-untouched (x ∷ xs) un = find_step x xs (hit x) (test x) refl refl un.0 (find-untouched xs un.1)
 
     -- one item more of those that are kept
     filter_step : (x : X) (xs : List X) (a b : Bool) → hit x ≡ a → test x ≡ b → IsUntouched x
@@ -41,20 +27,15 @@ module _ {X : Type 0} (hit test : X → Bool) where
     filter-untouched [] un = refl
     filter-untouched (x ∷ xs) un = filter_step x xs (hit x) (test x) refl refl un.0 (filter-untouched xs un.1)
 
-    -- one item more of the question whether any passes
-    any_step : (x : X) (xs : List X) (a b : Bool) → hit x ≡ a → test x ≡ b → IsUntouched x
-        → list_any test (change_where hit change xs) ≡ list_any test xs
-        → list_any test (change_where hit change (x ∷ xs)) ≡ list_any test (x ∷ xs)
-    any_step x xs true b e f un rest = let both = un e in let before : test x ≡ false = both.0 in
-        let after : test (change x) ≡ false = both.1 in rw (e, after, before) rest
-    any_step x xs false true e f un rest = rw (e, f) refl
-    any_step x xs false false e f un rest = rw (e, f) rest
+    -- so the same is found
+    pub find-untouched : (xs : List X) → AllByRecursion IsUntouched xs
+        → find test (change_where hit change xs) ≡ find test xs
+    find-untouched xs un = find-same test (change_where hit change xs) xs (filter-untouched xs un)
 
-    -- some item passes just where one did
+    -- and some item passes just where one did
     pub any-untouched : (xs : List X) → AllByRecursion IsUntouched xs
         → list_any test (change_where hit change xs) ≡ list_any test xs
-    any-untouched [] un = refl
-    any-untouched (x ∷ xs) un = any_step x xs (hit x) (test x) refl refl un.0 (any-untouched xs un.1)
+    any-untouched xs un = any-same test (change_where hit change xs) xs (filter-untouched xs un)
 
     -- one item more of those that are kept, where what is changed passes no more
     away_step : (x : X) (xs : List X) (a b : Bool) → hit x ≡ a → test x ≡ b → (hit x ≡ true → test (change x) ≡ false)
@@ -90,19 +71,6 @@ module _ {X : Type 0} (hit test : X → Bool) where
   abbrev pub IsSpared : X → Type 0
   IsSpared x = hit x ≡ true → test x ≡ false
 
-  -- one item more of the walk that finds one, where it stays or goes
-  found_step : (x : X) (xs : List X) (a b : Bool) → hit x ≡ a → test x ≡ b → IsSpared x
-      → find test (filter (λ y. not (hit y)) xs) ≡ find test xs
-      → find test (filter (λ y. not (hit y)) (x ∷ xs)) ≡ find test (x ∷ xs)
-  found_step x xs true b e f spared rest = let out : test x ≡ false = spared e in rw (e, out) rest
-  found_step x xs false true e f spared rest = rw (e, f) refl
-  found_step x xs false false e f spared rest = rw (e, f) rest
-
-  -- then what is found, kept and passes is as before
-  pub find-spared : (xs : List X) → AllByRecursion IsSpared xs → find test (filter (λ y. not (hit y)) xs) ≡ find test xs
-  find-spared [] spared = refl
-  find-spared (x ∷ xs) spared = found_step x xs (hit x) (test x) refl refl spared.0 (find-spared xs spared.1)
-
   -- one item more of those that are kept, where it stays or goes
   kept_step : (x : X) (xs : List X) (a b : Bool) → hit x ≡ a → test x ≡ b → IsSpared x
       → filter test (filter (λ y. not (hit y)) xs) ≡ filter test xs
@@ -117,16 +85,11 @@ module _ {X : Type 0} (hit test : X → Bool) where
   filter-spared [] spared = refl
   filter-spared (x ∷ xs) spared = kept_step x xs (hit x) (test x) refl refl spared.0 (filter-spared xs spared.1)
 
-  -- one item more of the question whether any passes, where it stays or goes
-  passes_step : (x : X) (xs : List X) (a b : Bool) → hit x ≡ a → test x ≡ b → IsSpared x
-      → list_any test (filter (λ y. not (hit y)) xs) ≡ list_any test xs
-      → list_any test (filter (λ y. not (hit y)) (x ∷ xs)) ≡ list_any test (x ∷ xs)
-  passes_step x xs true b e f spared rest = let out : test x ≡ false = spared e in rw (e, out) rest
-  passes_step x xs false true e f spared rest = rw (e, f) refl
-  passes_step x xs false false e f spared rest = rw (e, f) rest
+  -- so the same is found
+  pub find-spared : (xs : List X) → AllByRecursion IsSpared xs → find test (filter (λ y. not (hit y)) xs) ≡ find test xs
+  find-spared xs spared = find-same test (filter (λ y. not (hit y)) xs) xs (filter-spared xs spared)
 
-  -- some item passes just where one did
+  -- and some item passes just where one did
   pub any-spared : (xs : List X) → AllByRecursion IsSpared xs
       → list_any test (filter (λ y. not (hit y)) xs) ≡ list_any test xs
-  any-spared [] spared = refl
-  any-spared (x ∷ xs) spared = passes_step x xs (hit x) (test x) refl refl spared.0 (any-spared xs spared.1)
+  any-spared xs spared = any-same test (filter (λ y. not (hit y)) xs) xs (filter-spared xs spared)
