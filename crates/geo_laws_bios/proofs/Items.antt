@@ -8,7 +8,7 @@ use Rattle.geo_model.specs.Words.{change_where}
 use Rattle.geo_model.specs.Graph.{AreNumbers}
 use Rattle.geo_laws_graph.proofs.Numbered.{unique}
 pub use Rattle.geo_laws_counts.proofs.Levels.{of_each as each_of}
-pub use Rattle.geo_laws_counts.proofs.Members.{all_both as both_by_recursion}
+pub use Rattle.geo_model.proofs.AllLists.{two_facts as both_by_recursion}
 
 -- two facts of each item
 pub all_both : {X : Type 0} (P Q : X → Type 0) (xs : List X) → All P xs → All Q xs → All (λ x. P x × Q x) xs

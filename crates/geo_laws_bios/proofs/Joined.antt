@@ -3,6 +3,7 @@ use Rattle.std.specs.Prelude.{◌≡◌, ℕ, ◌+◌, Bool, true, false, List, 
 use Rattle.std.specs.List.{AllByRecursion, enumerate_from}
 use Rattle.std.proofs.Common.{refl, sym, ◌∙◌, ap, subst, arith, length-append}
 use Rattle.std.proofs.lemmas.Simd.{map-map}
+use Rattle.std.proofs.lemmas.List.Sums.{sum_by-cons}
 use Rattle.geo_model.proofs.BioLemmas.{read_moves}
 use Rattle.geo_model.specs.Errno.{Errno}
 use Rattle.geo_model.specs.declared.step.BioResult.{BioResult}
@@ -18,7 +19,7 @@ use Rattle.geo_model.specs.Fitting.{Firm}
 use Rattle.geo_laws_graph.proofs.Classes.{is_disk}
 use Rattle.geo_laws_graph.proofs.Members.{nothing_in}
 use Rattle.geo_laws_bios.proofs.Items.{both_by_recursion}
-use Rattle.geo_laws_bios.proofs.Pieces.{sum_cons, lengths}
+use Rattle.geo_laws_bios.proofs.Pieces.{lengths}
 use Rattle.geo_laws_bios.proofs.Turned.{AreItsPieces}
 
 -- numbers beside items don't change what is seen of them
@@ -64,7 +65,7 @@ joined_bytes y (c ∷ cs) read ended none =
     length-append (bytes_of_result (got c)) (flat_map bytes_of_result (map got cs))
     ∙ (let both : length (bytes_of_result (got c)) + length (flat_map bytes_of_result (map got cs)) ≡ sum
     (map (λ (v : Bio). v.len) (c ∷ cs)) =
-    omega (arith, first, rest, sum_cons c.len (map (λ (v : Bio). v.len) cs)) in both)
+    omega (arith, first, rest, sum_by-cons (λ m. m) c.len (map (λ (v : Bio). v.len) cs)) in both)
 
 -- what is seen the same of a list and of a constant
 constant : {X Y Z : Type 0} (see : X → Y) (v : Y) (xs : List X) (zs : List Z) → map see xs ≡ map (λ (z : Z). v) zs

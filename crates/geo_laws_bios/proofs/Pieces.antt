@@ -28,10 +28,6 @@ use Rattle.geo_laws_bios.proofs.Items.{both_by_recursion}
 use Rattle.geo_laws_counts.proofs.Sums.{zero-test, zeros-sum}
 use Rattle.geo_laws_counts.proofs.LimitFacts.{all_true}
 
--- a sum of one more
-pub sum_cons : (n : ℕ) (ns : List ℕ) → sum (n ∷ ns) ≡ n + sum ns
-sum_cons n ns = sum_by-cons (λ (m : ℕ). m) n ns
-
 -- Pieces that follow each other
 
 -- they go upwards
@@ -66,7 +62,7 @@ follow-sum a b (x ∷ xs) follow =
     follow-sum (a + x.span.len) b xs follow.2 in
     let one_more : sum (x.span.len ∷ map (λ (y : Piece). y.span.len) xs) ≡ x.span.len + sum
     (map (λ (y : Piece). y.span.len) xs) =
-    sum_cons x.span.len (map (λ (y : Piece). y.span.len) xs) in
+    sum_by-cons (λ m. m) x.span.len (map (λ (y : Piece). y.span.len) xs) in
     rw one_more (omega (arith, rest))
 
 -- The range of the address map
@@ -76,11 +72,11 @@ concat_by : (P : Spot → Type 0) (k size : ℕ) (sizes : List ℕ) (o : ℕ) (b
     → (IsSomeAnd (concat_spot (k + 1) sizes (o - size)) P → o - size < sum sizes)
     → IsSomeAnd (concat_spot k (size ∷ sizes) o) P → o < sum (size ∷ sizes)
 concat_by P k size sizes o true e rest has = let low : o < size = ltb-true o size e in
-    omega (arith, sum_cons size sizes)
+    omega (arith, sum_by-cons (λ m. m) size sizes)
 concat_by P k size sizes o false e rest has =
     let high : size ≤ o = ltb-false o size e in
     let below : o - size < sum sizes = rest (rw e at has) in
-    omega (arith, sum_cons size sizes)
+    omega (arith, sum_by-cons (λ m. m) size sizes)
 
 -- so for all components
 concat_inside : (P : Spot → Type 0) (k : ℕ) (sizes : List ℕ) (o : ℕ) → IsSomeAnd (concat_spot k sizes o) P

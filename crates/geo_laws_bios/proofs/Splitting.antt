@@ -3,10 +3,10 @@ use Rattle.std.specs.Prelude.{◌≡◌, ◌≢◌, ◌↔◌, ℕ, ◌+◌, ◌
 use Rattle.std.specs.List.{AllByRecursion, list_any, list_all, enumerate_from}
 use Rattle.std.specs.Option.{option_map_or}
 use Rattle.std.proofs.Common.{refl, sym, ◌∙◌, ap, subst, arith, append_assoc, get_or}
-use Rattle.std.proofs.lemmas.Bool.{eqb-true, eqb-false, eq-eqb, ne_eqb, or_from}
-use Rattle.std.proofs.lemmas.List.{append-nil}
+use Rattle.std.proofs.lemmas.Bool.{eqb-true, eqb-false, eq-eqb, ne_eqb}
+use Rattle.std.proofs.lemmas.List.{append-nil, map-append}
 use Rattle.std.proofs.lemmas.List.Elements.{All-append, All-from_recursion, All-contains, filter-append}
-use Rattle.std.proofs.lemmas.List.Folds.{list_any-append}
+use Rattle.std.proofs.lemmas.List.Folds.{list_any-append, list_any_none}
 use Rattle.std.proofs.lemmas.List.Quantifiers.{all_pairs_push}
 use Rattle.std.proofs.lemmas.List.Sums.{length-filter}
 use Rattle.std.proofs.lemmas.Simd.{map-map}
@@ -22,6 +22,7 @@ use Rattle.geo_model.specs.World.{World, Bio, Config, bio_at, children_of, is_do
 use Rattle.geo_model.specs.Bios.{PieceTarget, piece_targets, piece_child, bytes_of_piece, disk_of_bio}
 use Rattle.geo_model.specs.SoundBios.{IsRangeInside, IsBioInOrder, IsFamilyInOrder, HasItsParent, HasItsPieces, HasCountFor, shape_of_child, shape_of_piece, NotBothBusy}
 use Rattle.geo_model.specs.Steady.{ComesFromItsOwner, HasItsResult}
+use Rattle.geo_model.proofs.FilterLists.{keeps_all}
 use Rattle.geo_laws_graph.proofs.Lists.{Rise, rise-from, rise-wider, numbers-from, filter-changed, map-changed, any-changed, length-changed, numbers-changed}
 use Rattle.geo_laws_graph.proofs.Living.{found-before}
 use Rattle.geo_laws_graph.proofs.Members.{find-Contains, filter-Contains, Contains-here, Contains-map}
@@ -42,11 +43,6 @@ rise_append low mid high [] ms up more rise rest = rise-wider mid low high high 
 rise_append low mid high (n ∷ ns) ms up more rise rest =
     (rise.0, omega (arith, rise.1), rise_append (n + 1) mid high ns ms (omega (arith, rise.1)) more rise.2 rest)
 
--- what is seen of two lists
-seen_append : {X Y : Type 0} (see : X → Y) (xs ys : List X) → map see (xs ++ ys) ≡ map see xs ++ map see ys
-seen_append see [] ys = refl
-seen_append see (x ∷ xs) ys = ap (λ zs. see x ∷ zs) (seen_append see xs ys)
-
 -- pairs of a list, and of items that are quiet behind it
 pairs_quiet : {X : Type 0} (R : X → X → Type 0) (Quiet : X → Type 0) → ((a y : X) → Quiet y → R a y)
     → (ys xs : List X) → AllPairs R xs
@@ -56,18 +52,6 @@ pairs_quiet R Quiet so (y ∷ ys) xs pairs quiet =
     subst (AllPairs R) (append_assoc xs (y ∷ []) ys)
     (pairs_quiet R Quiet so ys (xs ++ y ∷ [])
     (all_pairs_push R xs y pairs (λ k d short. so (get_or xs k d) y quiet.0)) quiet.1)
-
--- where all pass, all are kept
-all_kept : {X : Type 0} (test : X → Bool) (xs : List X) → AllByRecursion (λ (x : X). test x ≡ true) xs
-    → filter test xs ≡ xs
-all_kept test [] all = refl
-all_kept test (x ∷ xs) all = let is : test x ≡ true = all.0 in rw is (ap (λ zs. x ∷ zs) (all_kept test xs all.1))
-
--- so it isn't so that one passes
-none_any : {X : Type 0} (test : X → Bool) (xs : List X) → AllByRecursion (λ (x : X). test x ≡ false) xs
-    → list_any test xs ≡ false
-none_any test [] none = refl
-none_any test (x ∷ xs) none = or_from (test x) (list_any test xs) none.0 (none_any test xs none.1)
 
 -- a list that contains nothing is empty
 nothing_kept : {X : Type 0} (xs : List X) → ((x : X) → Contains xs x → ⊥) → xs ≡ []
@@ -182,7 +166,7 @@ module _ (w : World) (x : Bio) (targets : List PieceTarget) where
         numbers-changed (λ (z : Bio). z.number) is_it wait (λ z e. refl) w.next_bio w.bios hold.numbers in
         let news = kids_rise 0 targets in
         subst (λ (ns : List ℕ). AreNumbers ns parted.next_bio)
-        (sym (seen_append (λ (z : Bio). z.number) old (kids 0 targets)))
+        (sym (map-append (λ (z : Bio). z.number) old (kids 0 targets)))
         (numbers-from 0 parted.next_bio
         (map (λ (z : Bio). z.number) old ++ map (λ (z : Bio). z.number) (kids 0 targets))
         (rise_append 0 w.next_bio parted.next_bio (map (λ (z : Bio). z.number) old)
@@ -248,7 +232,7 @@ module _ (w : World) (x : Bio) (targets : List PieceTarget) where
         ∙ ap (λ cs. cs ++ filter (λ (c : Bio). is_child_of c.owner x.number) (kids 0 targets))
         (filter-changed is_it wait (λ (c : Bio). is_child_of c.owner x.number) (λ c e. refl) w.bios
         ∙ ap (λ cs. change_where is_it wait cs) no_children)
-        ∙ all_kept (λ (c : Bio). is_child_of c.owner x.number) (kids 0 targets)
+        ∙ keeps_all (λ (c : Bio). is_child_of c.owner x.number) (kids 0 targets)
         (kids_any (λ (c : Bio). is_child_of c.owner x.number ≡ true) (λ k z. eq-eqb x.number x.number refl) 0 targets)
 
     module _ (p : Provider) (g : Geom Config) (to_it : provider_at w.topology x.target ≡ Some p)
@@ -381,7 +365,8 @@ module _ (w : World) (x : Bio) (targets : List PieceTarget) where
           list_any-append (λ (z : Bio). is_taste_root z.owner) old (kids 0 targets)
           ∙ or_nothing (list_any (λ (z : Bio). is_taste_root z.owner) old)
           (list_any (λ (z : Bio). is_taste_root z.owner) (kids 0 targets))
-          (none_any (λ (z : Bio). is_taste_root z.owner) (kids 0 targets) no_reads)
+          (list_any_none (λ (z : Bio). is_taste_root z.owner) (kids 0 targets)
+          (All-from_recursion _ (kids 0 targets) no_reads))
           ∙ any-changed is_it wait (λ (z : Bio). is_taste_root z.owner) (λ z e. refl) w.bios
 
       -- the reads are as before

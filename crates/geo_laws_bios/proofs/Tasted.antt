@@ -8,7 +8,7 @@ use Rattle.std.proofs.lemmas.List.Elements.{All-filter, All-weaker, All-contains
 use Rattle.std.proofs.lemmas.List.Kept.{AllPairs-filter}
 use Rattle.std.proofs.lemmas.List.Sums.{length-filter}
 use Rattle.geo_model.proofs.Options.{some_weaker}
-use Rattle.geo_model.proofs.FindLists.{none_passes}
+use Rattle.geo_model.proofs.FindLists.{none_passes, any-kept_some}
 use Rattle.geo_model.specs.Counts.{Counts}
 use Rattle.geo_model.specs.Kind.{Kind}
 use Rattle.geo_model.specs.Kind.TheVariants as kinds
@@ -56,15 +56,8 @@ single x (y ∷ []) short here = elim (Contains-cases y x [] here) [
 single x (y ∷ z ∷ zs) short here = absurd (omega (arith, short))
 
 -- where nothing is kept, nothing passes
-none_by : {X : Type 0} (test : X → Bool) (x : X) (xs : List X) (b : Bool) → test x ≡ b → filter test (x ∷ xs) ≡ []
-    → (filter test xs ≡ [] → list_any test xs ≡ false) → list_any test (x ∷ xs) ≡ false
-none_by test x xs true e none rest = let bad : x ∷ filter test xs ≡ [] = rw e at none in absurd cc
-none_by test x xs false e none rest = rw e (rest (rw e at none))
-
--- so for the whole list
 any_none : {X : Type 0} (test : X → Bool) (xs : List X) → filter test xs ≡ [] → list_any test xs ≡ false
-any_none test [] none = refl
-any_none test (x ∷ xs) none = none_by test x xs (test x) refl none (any_none test xs)
+any_none test xs none = any-kept_some test xs ∙ ap (λ ys. not (length ys == 0)) none
 
 -- where nothing passes, nothing is kept
 filter_none : {X : Type 0} (test : X → Bool) (x : X) → test x ≡ false → filter test (x ∷ []) ≡ []

@@ -4,6 +4,7 @@ use Rattle.std.specs.List.{AllByRecursion, AllZip, range_with_len}
 use Rattle.std.specs.Option.{option_flatten, option_map_or}
 use Rattle.std.proofs.Common.{inl, inr, refl, sym, ◌∙◌, subst, arith}
 use Rattle.std.proofs.lemmas.Bool.{cases_lt, lt-ltb, le-ltb}
+use Rattle.std.proofs.lemmas.List.Sums.{sum_by-cons}
 use Prim.Native.Nat.{◌∣◌}
 use Rattle.std.proofs.lemmas.Nat.Gcd.{dvd-zero, dvd_of_mod-eq-zero}
 use Rattle.std.proofs.Math.Nat.{dvd-add, dvd-sub, dvd-mul_left_of_dvd, dvd-mul_left}
@@ -21,7 +22,7 @@ use Rattle.geo_model.specs.Fitting.{FitsPlace, IsWholeIn}
 use Rattle.geo_model.proofs.DemandLemmas.{map_all}
 use Rattle.geo_model.proofs.PlaceLemmas.{cut_piece}
 use Rattle.geo_model.proofs.RankLemmas.{mapped_by}
-use Rattle.geo_laws_bios.proofs.Pieces.{Below, below_of, sum_cons}
+use Rattle.geo_laws_bios.proofs.Pieces.{Below, below_of}
 
 -- Of numbers
 
@@ -180,7 +181,7 @@ module _ (t : Topology Config) (g : Geom Config) (p : Provider) where
       → 0 < size → IsPlaceInside t g p (record { component = k; offset = 0 })
   first_spot k size sizes placed some =
       let low : nat_lt 0 size ≡ true = lt-ltb 0 size some in
-      rw low at (placed 0 (omega (arith, sum_cons size sizes)))
+      rw low at (placed 0 (omega (arith, sum_by-cons (λ m. m) size sizes)))
 
   -- the other places hold the offsets behind it
   other_spots : (k size : ℕ) (sizes : List ℕ)
@@ -189,7 +190,7 @@ module _ (t : Topology Config) (g : Geom Config) (p : Provider) where
   other_spots k size sizes placed o below =
       let high : nat_lt (size + o) size ≡ false = le-ltb (size + o) size (omega arith) in
       let back : size + o - size ≡ o = omega arith in
-      rw (high, back) at (placed (size + o) (omega (arith, sum_cons size sizes)))
+      rw (high, back) at (placed (size + o) (omega (arith, sum_by-cons (λ m. m) size sizes)))
 
   -- all sizes
   pub sizes_whole : (k : ℕ) (places : List (Option ℕ)) (sizes : List ℕ) → AllZip (FitsPlace t g.number) places sizes

@@ -11,11 +11,11 @@ use Rattle.geo_model.specs.Topology.{Topology, Geom, Provider, Consumer, geom_at
 use Rattle.geo_model.specs.Rank.{Ranked}
 use Rattle.geo_model.specs.Demand.{no_counts, add_counts, sum_counts, want_of_kind, want_given, have, want}
 use Rattle.geo_model.proofs.DemandLemmas.{kept_by, all_weaker, map_same}
+use Rattle.geo_model.proofs.AllLists.{two_facts}
 use Rattle.geo_laws_counts.specs.CountWords.{NumbersLead, SameAbove, kind_at}
 use Rattle.geo_laws_counts.proofs.Sums.{sum-same, counts-same}
 use Rattle.geo_laws_counts.proofs.Wants.{want_of_sum, want-sum, nothing_over, over_nothing}
 use Rattle.geo_laws_counts.proofs.Upward.{upward, have_is_sum, want_given-same, geom_found}
-use Rattle.geo_laws_counts.proofs.Members.{all_both}
 
 module _ {C : Type 0} (granted : ℕ → Counts) (t : Topology C) (ranked : Ranked t) (known : NumbersLead t) where
   -- counters that are at each provider the sum of what its consumers want by them are the counts
@@ -57,7 +57,7 @@ module _ {C : Type 0} (granted : ℕ → Counts) (t : Topology C) (ranked : Rank
           (λ (y : Provider). H y.number ≡ have granted t y.number)
           (λ y h. h.1 h.0)
           (providers_of t c.geom)
-          (all_both _ _ (providers_of t c.geom)
+          (two_facts _ _ (providers_of t c.geom)
           (kept_by (λ (y : Provider). H y.number ≡ sum_counts (map (want_given granted H t) (attached_to t y.number)))
           (λ (y : Provider). H y.number ≡ sum_counts (map (want_given granted H t) (attached_to t y.number)))
           (λ (y : Provider). y.geom == c.geom) (λ y e h. h) t.providers each)
@@ -129,17 +129,17 @@ module _ {C D : Type 0} (granted : ℕ → Counts) (t : Topology C) (other : ℕ
       (λ (y : Provider). have other u y.number ≡ have granted t y.number)
       (λ y above. above.0 above.1)
       (providers_of t c.geom)
-      (all_both _ _ (providers_of t c.geom) h.0.0.0
+      (two_facts _ _ (providers_of t c.geom) h.0.0.0
       (recursion_from_All (λ (y : Provider). Above y.number) (providers_of t c.geom) h.1.1))))
       (attached_to t p)
-      (all_both _ _ (attached_to t p)
-      (all_both _ _ (attached_to t p)
-      (all_both _ _ (attached_to t p) so
+      (two_facts _ _ (attached_to t p)
+      (two_facts _ _ (attached_to t p)
+      (two_facts _ _ (attached_to t p) so
       (recursion_from_All (λ (c : Consumer). other c.number ≡ granted c.number) (attached_to t p)
       (same.grants p stands)))
       (recursion_from_All (λ (c : Consumer). kind_at u c.geom ≡ kind_at t c.geom) (attached_to t p)
       (same.classes p stands)))
-      (all_both _ _ (attached_to t p)
+      (two_facts _ _ (attached_to t p)
       (recursion_from_All (λ (c : Consumer). providers_of u c.geom ≡ providers_of t c.geom) (attached_to t p)
       (same.providers p stands))
       (recursion_from_All (λ (c : Consumer). All (λ (y : Provider). Above y.number) (providers_of t c.geom))

@@ -5,11 +5,11 @@ use Rattle.geo_model.specs.Counts.{Counts}
 use Rattle.geo_model.specs.Words.{names_number}
 use Rattle.geo_model.specs.Topology.{Topology, Provider, Consumer, attached_to}
 use Rattle.geo_model.specs.Demand.{no_counts, have, want, is_exclusive, fits_limit}
+use Rattle.geo_model.proofs.MemberLists.{Contains-filter}
 use Rattle.geo_laws_counts.specs.CountWords.{IsAtMost, AreAtMost, keep_consumers}
 use Rattle.geo_laws_counts.specs.LimitLaws.{greatest_counts}
 use Rattle.geo_laws_counts.proofs.Sums.{at_most-trans, at_most-zero}
 use Rattle.geo_laws_counts.proofs.Levels.{have-at_most, want-at_most, kept-at_most, kept_want-at_most}
-use Rattle.geo_laws_counts.proofs.Members.{in_filter}
 use Rattle.geo_laws_counts.proofs.LimitFacts.{apart_from, exclusive_from, within_limit, limit_from, of_filter}
 
 module _ {C D : Type 0} (granted : ℕ → Counts) (t : Topology C) (other : ℕ → Counts) (u : Topology D) where
@@ -81,7 +81,7 @@ module _ {C : Type 0} (small large : ℕ → Counts) (grants : AreAtMost small l
         stands = there;
         leads = refl;
         elder = a;
-        attached = in_filter (λ c. names_number c.provider x.number) t.consumers a before.0 inside.1;
+        attached = Contains-filter (λ c. names_number c.provider x.number) t.consumers a before.0 inside.1;
         same = refl;
         at_most = kept_want-at_most small large grants t keep a;
       }))

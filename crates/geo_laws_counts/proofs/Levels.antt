@@ -6,6 +6,7 @@ use Rattle.geo_model.specs.Counts.{Counts}
 use Rattle.geo_model.specs.Words.{names_number}
 use Rattle.geo_model.specs.Topology.{Topology, Geom, Provider, Consumer, geom_at, providers_of}
 use Rattle.geo_model.specs.Demand.{no_counts, add_counts, sum_counts, want_of_kind, want_given, have_within, have, want}
+use Rattle.geo_model.proofs.FilterLists.{keeps_all}
 use Rattle.geo_laws_counts.specs.CountWords.{IsAtMost, AreAtMost, keep_consumers}
 use Rattle.geo_laws_counts.proofs.Sums.{at_most-same, at_most-zero, at_most-trans, at_most-add, sum-at_most}
 use Rattle.geo_laws_counts.proofs.Wants.{want-sum, want_of_sum-at_most}
@@ -82,14 +83,11 @@ module _ {C : Type 0} (small large : ℕ → Counts) (grants : AreAtMost small l
   kept_want-at_most t test c =
       want_given-at_most (have small (keep_consumers t test)) (have large t) (kept-at_most t test) t c
 
--- all consumers kept is the same graph
-filter_all : {X : Type 0} (xs : List X) → filter (λ x. true) xs ≡ xs
-filter_all [] = refl
-filter_all (x ∷ xs) = ap (λ ys. x ∷ ys) (filter_all xs)
-
 -- a graph that keeps all its consumers
 pub keep_all : {C : Type 0} (t : Topology C) → keep_consumers t (λ x. true) ≡ t
-keep_all t = ap (λ cs. record t { consumers = cs }) (filter_all t.consumers)
+keep_all t =
+    ap (λ cs. record t { consumers = cs })
+    (keeps_all (λ c. true) t.consumers (of_each (λ c. true ≡ true) (λ c. refl) t.consumers))
 
 module _ {C : Type 0} (small large : ℕ → Counts) (grants : AreAtMost small large) (t : Topology C) where
   -- more levels and greater grants never make the counts less

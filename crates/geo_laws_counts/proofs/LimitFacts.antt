@@ -1,36 +1,29 @@
 -- Exclusiveness and the limit as facts, and when they can't begin to fail.
-use Rattle.std.specs.Prelude.{◌≡◌, ◌≢◌, ◌⊎◌, ◌↔◌, ℕ, ◌==◌, nat_le, Bool, true, ◌&&◌, ◌||◌, List, [], ◌∷◌, All, Contains, IsTrue}
+use Rattle.std.specs.Prelude.{◌≡◌, ◌≢◌, ◌⊎◌, ◌↔◌, ℕ, ◌==◌, nat_le, Bool, true, ◌&&◌, ◌||◌, List, All, Contains, IsTrue}
 use Rattle.std.specs.List.{list_all}
-use Rattle.std.proofs.Common.{refl, sym, ◌∙◌, ap, inl, inr, eq-eqb}
+use Rattle.std.proofs.Common.{inl, inr, eq-eqb}
 use Rattle.std.proofs.lemmas.Bool.{eqb-true, leb-true, le-leb, and_parts, and_from, or_cases, or_left, or_right, cases_eq}
 use Rattle.std.proofs.lemmas.List.Elements.{All-from_recursion, All-contains}
+use Rattle.std.proofs.lemmas.List.Sums.{AllPass-from_list_all, list_all-from_AllPass}
 use Rattle.geo_model.specs.Counts.{Counts}
 use Rattle.geo_model.specs.TheConstants.{MAX_ACCESS_COUNT}
 use Rattle.geo_model.specs.Topology.{Topology, Provider, Consumer, attached_to}
 use Rattle.geo_model.specs.Demand.{have, want, is_exclusive, fits_limit, stand_together}
 use Rattle.geo_laws_counts.specs.CountWords.{IsAtMost}
 use Rattle.geo_laws_counts.specs.LimitLaws.{NoneInTheWay, greatest_counts}
-use Rattle.geo_laws_counts.proofs.Members.{in_head, in_tail, in_cases, in_nothing}
 pub use Rattle.geo_model.proofs.MemberLists.{All-from_contained as each_of, filter-Contains as of_filter}
 
 -- a test that holds of all items, by what the list contains
 pub all_true : {X : Type 0} (p : X → Bool) (xs : List X) → list_all p xs ≡ true → (x : X) → Contains xs x → p x ≡ true
-all_true p [] e x there = absurd (in_nothing x there)
-all_true p (y ∷ ys) e x there =
-    elim (in_cases y ys x there) [
-      | inl same ↦ ap p (sym same) ∙ (and_parts (p y) (list_all p ys) e).0
-      | inr rest ↦ all_true p ys (and_parts (p y) (list_all p ys) e).1 x rest
-    ]
+all_true p xs e x there = All-contains (λ x. p x ≡ true) xs x (AllPass-from_list_all p xs e) there
+
+-- a fact of all that a list contains
+pub all_of : {X : Type 0} (P : X → Type 0) (xs : List X) → ((x : X) → Contains xs x → P x) → All P xs
+all_of P xs so = All-from_recursion P xs (each_of P xs so)
 
 -- a test that holds of all that a list contains
 pub true_all : {X : Type 0} (p : X → Bool) (xs : List X) → ((x : X) → Contains xs x → p x ≡ true) → list_all p xs ≡ true
-true_all p [] so = refl
-true_all p (y ∷ ys) so =
-    and_from (p y) (list_all p ys) (so y (in_head y ys)) (true_all p ys (λ x there. so x (in_tail y ys x there)))
-
--- so of all
-pub all_of : {X : Type 0} (P : X → Type 0) (xs : List X) → ((x : X) → Contains xs x → P x) → All P xs
-all_of P xs so = All-from_recursion P xs (each_of P xs so)
+true_all p xs so = list_all-from_AllPass p xs (all_of (λ x. p x ≡ true) xs so)
 
 module _ {C : Type 0} (granted : ℕ → Counts) (t : Topology C) where
   -- at each provider none stands in another's way

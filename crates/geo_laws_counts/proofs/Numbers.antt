@@ -1,48 +1,35 @@
 -- Where numbers rise, each leads to its own item, no other item has it, and the next number is free.
-use Rattle.std.specs.Prelude.{◌≡◌, ◌≢◌, ℕ, suc, ◌<◌, ◌==◌, cond, List, [], ◌∷◌, map, filter, find, Some, All, AllPairs, Contains}
+use Rattle.std.specs.Prelude.{◌≡◌, ◌≢◌, ℕ, ◌<◌, ◌==◌, cond, List, [], ◌∷◌, map, filter, find, Some, All, AllPairs, Contains}
 use Rattle.std.specs.List.Sorted.{IsStrictlyIncreasing}
 use Rattle.std.proofs.Common.{refl, ◌∙◌, ap, subst, arith, inl, inr, eq-eqb}
 use Rattle.std.proofs.lemmas.Bool.{ne_eqb}
 use Rattle.std.proofs.lemmas.List.Elements.{recursion_from_All, All-contains}
 use Rattle.std.proofs.lemmas.List.Kept.{AllPairs-from_increasing}
 use Rattle.geo_model.specs.Topology.{Topology, Provider, Consumer, provider_at}
+use Rattle.geo_model.proofs.MemberLists.{Contains-there, Contains-cases, nothing_in, Contains-here, Contains-map}
+use Rattle.geo_model.proofs.AllLists.{pairs_head, pairs_tail}
 use Rattle.geo_laws_counts.specs.CountWords.{NumbersLead, IsOnlyOne}
-use Rattle.geo_laws_counts.proofs.Members.{in_head, in_tail, in_cases, in_nothing}
 use Rattle.geo_laws_counts.proofs.LimitFacts.{all_of}
 
 -- the first of rising numbers is below the others, and these rise
 pub first_below : (n : ℕ) (ns : List ℕ) → AllPairs (λ x y. x < y) (n ∷ ns) → (m : ℕ) → Contains ns m → n < m
-first_below n ns pairs m there =
-    subst (λ x. n < x) there.2 (pairs 0 (suc there.0) m (omega arith) (omega (arith, there.1)))
-
--- the rest of rising numbers rise
-pub rest_rise : (n : ℕ) (ns : List ℕ) → AllPairs (λ x y. x < y) (n ∷ ns) → AllPairs (λ x y. x < y) ns
-rest_rise n ns pairs i j d h k = pairs (suc i) (suc j) d (omega arith) (omega arith)
+first_below n ns pairs m there = All-contains (λ x. n < x) ns m (pairs_head (λ x y. x < y) n ns pairs) there
 
 module _ {X : Type 0} (key : X → ℕ) where
-  -- an item's number is among the numbers
-  pub key_in : (xs : List X) (x : X) → Contains xs x → Contains (map key xs) (key x)
-  key_in [] x there = absurd (in_nothing x there)
-  key_in (y ∷ ys) x there =
-      elim (in_cases y ys x there) [
-        | inl same ↦ subst (λ z. Contains (key y ∷ map key ys) (key z)) same (in_head (key y) (map key ys))
-        | inr rest ↦ in_tail (key y) (map key ys) (key x) (key_in ys x rest)
-      ]
-
   -- each item is found by its number
   pub found_of : (xs : List X) → AllPairs (λ m n. m < n) (map key xs) → (x : X) → Contains xs x
       → find (λ y. key y == key x) xs ≡ Some x
-  found_of [] rise x there = absurd (in_nothing x there)
+  found_of [] rise x there = absurd (nothing_in x there)
   found_of (y ∷ ys) rise x there =
-      elim (in_cases y ys x there) [
+      elim (Contains-cases y x ys there) [
         | inl same ↦
             ap (λ b. cond b (Some y) (find (λ z. key z == key x) ys)) (eq-eqb (key y) (key x) (ap key same))
             ∙ ap (λ z. Some z) same
         | inr rest ↦
             ap (λ b. cond b (Some y) (find (λ z. key z == key x) ys))
             (ne_eqb (key y) (key x) (λ e. let less : key y < key x =
-            first_below (key y) (map key ys) rise (key x) (key_in ys x rest) in omega arith))
-            ∙ found_of ys (rest_rise (key y) (map key ys) rise) x rest
+            first_below (key y) (map key ys) rise (key x) (Contains-map key ys x rest) in omega arith))
+            ∙ found_of ys (pairs_tail (λ x y. x < y) (key y) (map key ys) rise) x rest
       ]
 
   -- a number below all others is none of theirs
@@ -50,15 +37,15 @@ module _ {X : Type 0} (key : X → ℕ) where
   none_left n [] above = refl
   none_left n (x ∷ xs) above =
       ap (λ b. cond b (x ∷ filter (λ y. key y == n) xs) (filter (λ y. key y == n) xs))
-      (ne_eqb (key x) n (λ e. let less : n < key x = above (key x) (in_head (key x) (map key xs)) in omega arith))
-      ∙ none_left n xs (λ m there. above m (in_tail (key x) (map key xs) m there))
+      (ne_eqb (key x) n (λ e. let less : n < key x = above (key x) (Contains-here (key x) (map key xs)) in omega arith))
+      ∙ none_left n xs (λ m there. above m (Contains-there (key x) m (map key xs) there))
 
   -- no other item has its number
   pub only_of : (xs : List X) → AllPairs (λ m n. m < n) (map key xs) → (x : X) → Contains xs x
       → filter (λ y. key y == key x) xs ≡ x ∷ []
-  only_of [] rise x there = absurd (in_nothing x there)
+  only_of [] rise x there = absurd (nothing_in x there)
   only_of (y ∷ ys) rise x there =
-      elim (in_cases y ys x there) [
+      elim (Contains-cases y x ys there) [
         | inl same ↦
             ap (λ b. cond b (y ∷ filter (λ z. key z == key x) ys) (filter (λ z. key z == key x) ys))
             (eq-eqb (key y) (key x) (ap key same))
@@ -69,8 +56,8 @@ module _ {X : Type 0} (key : X → ℕ) where
         | inr rest ↦
             ap (λ b. cond b (y ∷ filter (λ z. key z == key x) ys) (filter (λ z. key z == key x) ys))
             (ne_eqb (key y) (key x) (λ e. let less : key y < key x =
-            first_below (key y) (map key ys) rise (key x) (key_in ys x rest) in omega arith))
-            ∙ only_of ys (rest_rise (key y) (map key ys) rise) x rest
+            first_below (key y) (map key ys) rise (key x) (Contains-map key ys x rest) in omega arith))
+            ∙ only_of ys (pairs_tail (λ x y. x < y) (key y) (map key ys) rise) x rest
       ]
 
   -- a number above all others is none of theirs
@@ -78,7 +65,7 @@ module _ {X : Type 0} (key : X → ℕ) where
   free_of xs next below =
       all_of (λ x. key x ≢ next) xs
       (λ x there e. let less : key x < next =
-      All-contains (λ n. n < next) (map key xs) (key x) below (key_in xs x there) in omega arith)
+      All-contains (λ n. n < next) (map key xs) (key x) below (Contains-map key xs x there) in omega arith)
 
 module _ {C : Type 0} (t : Topology C) where
   -- each provider is the one that its number leads to

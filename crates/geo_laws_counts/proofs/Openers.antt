@@ -13,14 +13,16 @@ use Rattle.geo_model.specs.Topology.{Topology, Geom, Provider, Consumer, geom_at
 use Rattle.geo_model.specs.Rank.{Ranked}
 use Rattle.geo_model.specs.Opens.{below, below_within, with_grant}
 use Rattle.geo_model.specs.Demand.{no_counts, add_counts, sum_counts, have, want, is_exclusive, fits_limit}
+use Rattle.geo_model.proofs.MemberLists.{Contains-cases, nothing_in, Contains-filter}
+use Rattle.geo_model.proofs.Tests.{passes_apart}
 use Rattle.geo_laws_counts.specs.CountWords.{IsAtMost, AreAtMost, more_counts, gain_of_kind, NumbersLead, DemandStays, AgreeExcept, HoldsGrants, IsOnlyOne}
 use Rattle.geo_laws_counts.specs.DemandLaws.{StaysAround}
 use Rattle.geo_laws_counts.proofs.Sums.{at_most-same, at_most-zero, add-zero, zero-add, add-assoc, counts-same, sum-same, add-move}
 use Rattle.geo_laws_counts.proofs.Levels.{have-at_most, of_each}
-use Rattle.geo_laws_counts.proofs.Members.{in_cases, in_nothing, in_filter, kept_members}
+use Rattle.geo_laws_counts.proofs.Members.{kept_members}
 use Rattle.geo_model.proofs.DemandLemmas.{map_same, all_weaker}
 use Rattle.geo_laws_counts.proofs.Gains.{want_gains, have_gains}
-use Rattle.geo_laws_counts.proofs.Quiet.{differs, grant_over}
+use Rattle.geo_laws_counts.proofs.Quiet.{grant_over}
 use Rattle.geo_laws_counts.proofs.LimitFacts.{all_of, of_filter}
 use Rattle.geo_laws_counts.proofs.Reach.{below_self, stays, wants_stay}
 use Rattle.geo_laws_counts.proofs.Keeping.{exclusive_less, limit_less}
@@ -59,7 +61,8 @@ below_same t u look under (suc k) p =
 other_geom : {C : Type 0} (t : Topology C) (g : ℕ) → providers_of t g ≡ [] → (x : Provider)
     → Contains t.providers x → x.geom ≢ g
 other_geom t g bare x there e =
-    in_none x (subst (λ xs. Contains xs x) bare (in_filter (λ y. y.geom == g) t.providers x there (eq-eqb x.geom g e)))
+    in_none x
+    (subst (λ xs. Contains xs x) bare (Contains-filter (λ y. y.geom == g) t.providers x there (eq-eqb x.geom g e)))
   where
     in_none : (x : Provider) → Contains [] x → ⊥
     in_none x h = omega (arith, h.1)
@@ -354,8 +357,8 @@ only_it t d only P fact =
     (λ x there same.
     let inside : Contains (d ∷ []) x =
     subst (λ cs. Contains cs x) only
-    (in_filter (λ y. y.number == d.number) t.consumers x there (eq-eqb x.number d.number same)) in
-    elim (in_cases d [] x inside) [ inl it ↦ subst P it fact | inr none ↦ absurd (in_nothing x none) ])
+    (Contains-filter (λ y. y.number == d.number) t.consumers x there (eq-eqb x.number d.number same)) in
+    elim (Contains-cases d x [] inside) [ inl it ↦ subst P it fact | inr none ↦ absurd (nothing_in x none) ])
 
 module _ {C : Type 0} (granted after : ℕ → Counts) (t : Topology C) (d : Consumer) (only : IsOnlyOne t d)
     (kind : HoldsGrants t d.geom)
@@ -446,7 +449,7 @@ module _ {C : Type 0} (granted after : ℕ → Counts) (t : Topology C) (d : Con
       let u : Topology C = remove_consumer t d.number in
       let ys : List Provider = providers_of t g.number in
       let other : c.number ≢ d.number =
-      λ e. differs c.number d.number e (of_filter (λ x. not (x.number == d.number)) t.consumers c there).1 in
+      λ e. passes_apart c.number d.number (of_filter (λ x. not (x.number == d.number)) t.consumers c there).1 e in
       want_gains without granted without_less t c g found
       ∙ ap
       (λ haves. add_counts (want without t c)

@@ -1,6 +1,5 @@
 -- The order of a walk downwards: no geom twice, each before those under it, and just those that are reached.
-use Rattle.std.specs.Prelude.{◌≡◌, ◌⊎◌, ℕ, zero, suc, ◌<◌, ◌≤◌, ◌==◌, Bool, true, false, ◌||◌, List, [], ◌∷◌, fold, filter_map, flat_map, Option, Some, None, Contains, IsSomeAnd, length, if◌then◌else◌}
-use Rattle.std.specs.List.{cons_option}
+use Rattle.std.specs.Prelude.{◌≡◌, ◌⊎◌, ℕ, zero, suc, ◌<◌, ◌≤◌, ◌==◌, Bool, true, false, ◌||◌, List, [], ◌∷◌, fold, flat_map, Option, Some, None, Contains, IsSomeAnd, length, if◌then◌else◌}
 use Rattle.std.specs.Option.{option_map, option_map_or}
 use Rattle.std.proofs.Common.{refl, sym, ◌∙◌, ap, subst, arith, inl, inr, eq-eqb}
 use Rattle.std.proofs.lemmas.Bool.{eqb-true}
@@ -9,7 +8,7 @@ use Rattle.geo_model.specs.Topology.{Topology, Provider, provider_at, providers_
 use Rattle.geo_model.specs.Rank.{rank, geoms_under, Ranked}
 use Rattle.geo_model.specs.Opens.{below, below_within}
 use Rattle.geo_model.proofs.DemandLemmas.{rank_within-positive}
-use Rattle.geo_laws_counts.proofs.Members.{in_nothing, in_head, in_tail, in_cases, in_filter_map, flat_map_cases}
+use Rattle.geo_model.proofs.MemberLists.{Contains-there, Contains-cases, nothing_in, Contains-here, Contains-filter_map, flat_map_cases, filter_map-Contains}
 use Rattle.geo_laws_counts.specs.WalkWords.{has_number, IsOrder, order_from}
 use Rattle.geo_laws_counts.proofs.Reach.{under_of}
 
@@ -19,8 +18,8 @@ use Rattle.geo_laws_counts.proofs.Reach.{under_of}
 has_step : (y : ℕ) (ys : List ℕ) (x : ℕ) → (has_number ys x ≡ true → Contains ys x) → (b : Bool) → (y == x) ≡ b
     → (b || has_number ys x) ≡ true
     → Contains (y ∷ ys) x
-has_step y ys x so true e h = subst (λ z. Contains (y ∷ ys) z) (eqb-true y x e) (in_head y ys)
-has_step y ys x so false e h = in_tail y ys x (so h)
+has_step y ys x so true e h = subst (λ z. Contains (y ∷ ys) z) (eqb-true y x e) (Contains-here y ys)
+has_step y ys x so false e h = Contains-there y x ys (so h)
 
 -- a number that the test finds is there
 pub has-contains : (xs : List ℕ) (x : ℕ) → has_number xs x ≡ true → Contains xs x
@@ -29,9 +28,9 @@ has-contains (y ∷ ys) x found = has_step y ys x (has-contains ys x) (y == x) r
 
 -- and the test finds one that is there
 pub contains-has : (xs : List ℕ) (x : ℕ) → Contains xs x → has_number xs x ≡ true
-contains-has [] x there = absurd (in_nothing x there)
+contains-has [] x there = absurd (nothing_in x there)
 contains-has (y ∷ ys) x there =
-    elim (in_cases y ys x there) [
+    elim (Contains-cases y x ys there) [
       | inl same ↦ ap (λ b. b || has_number ys x) (eq-eqb y x same)
       | inr rest ↦ ap (λ b. (y == x) || b) (contains-has ys x rest) ∙ or-true (y == x)
     ]
@@ -54,38 +53,20 @@ pub fold_keeps : {A B : Type 0} (Q : B → Type 0) (f : B → A → B) (xs : Lis
     → (b : B) → Q b → Q (fold f b xs)
 fold_keeps Q f [] keeps b q = q
 fold_keeps Q f (x ∷ xs) keeps b q =
-    fold_keeps Q f xs (λ c y there. keeps c y (in_tail x xs y there)) (f b x) (keeps b x (in_head x xs) q)
+    fold_keeps Q f xs (λ c y there. keeps c y (Contains-there x y xs there)) (f b x) (keeps b x (Contains-here x xs) q)
 
 -- what a step makes and the others keep, a fold has for each item
 pub fold_has : {A B : Type 0} (Q : A → B → Type 0) (f : B → A → B) → ((b : B) (x y : A) → Q x b → Q x (f b y))
     → (xs : List A) → ((b : B) (x : A) → Contains xs x → Q x (f b x)) → (b : B) (x : A) → Contains xs x
     → Q x (fold f b xs)
-fold_has Q f keeps [] makes b x there = absurd (in_nothing x there)
+fold_has Q f keeps [] makes b x there = absurd (nothing_in x there)
 fold_has Q f keeps (y ∷ ys) makes b x there =
-    elim (in_cases y ys x there) [
+    elim (Contains-cases y x ys there) [
       | inl same ↦
           fold_keeps (λ c. Q x c) f ys (λ c z inside q. keeps c x z q) (f b y)
-          (subst (λ z. Q z (f b y)) same (makes b y (in_head y ys)))
-      | inr rest ↦ fold_has Q f keeps ys (λ c z inside. makes c z (in_tail y ys z inside)) (f b y) x rest
+          (subst (λ z. Q z (f b y)) same (makes b y (Contains-here y ys)))
+      | inr rest ↦ fold_has Q f keeps ys (λ c z inside. makes c z (Contains-there y z ys inside)) (f b y) x rest
     ]
-
--- the same over one item more
-given_step : {X Y : Type 0} (h : X → Option Y) (x : X) (xs : List X) (y : Y)
-    → (Contains (filter_map h xs) y → (z : X) × Contains xs z × (h z ≡ Some y))
-    → (o : Option Y) → h x ≡ o → Contains (cons_option o (filter_map h xs)) y → (z : X) × Contains (x ∷ xs) z
-    × (h z ≡ Some y)
-given_step h x xs y so None e inside = let found = so inside in (found.0, in_tail x xs found.0 found.1, found.2)
-given_step h x xs y so (Some a) e inside =
-    elim (in_cases a (filter_map h xs) y inside) [
-      | inl same ↦ (x, in_head x xs, e ∙ ap (λ b. Some b) same)
-      | inr rest ↦ let found = so rest in (found.0, in_tail x xs found.0 found.1, found.2)
-    ]
-
--- what a list of given values has was given by an item
-pub filter_map_cases : {X Y : Type 0} (h : X → Option Y) (xs : List X) (y : Y) → Contains (filter_map h xs) y
-    → (x : X) × Contains xs x × (h x ≡ Some y)
-filter_map_cases h [] y there = absurd (in_nothing y there)
-filter_map_cases h (x ∷ xs) y there = given_step h x xs y (filter_map_cases h xs y) (h x) refl there
 
 -- a geom directly under another one
 pub record Under {C : Type 0} (t : Topology C) (x h : ℕ) : Type 0 where
@@ -105,33 +86,34 @@ module _ {C : Type 0} (t : Topology C) where
   -- what stands on the list of geoms directly under one
   pub under-is : (x h : ℕ) → Contains (geoms_under t x) h → Under t x h
   under-is x h there =
-      let found = filter_map_cases (λ p. option_map (λ (y : Provider). y.geom) (provider_at t p))
+      let found = filter_map-Contains (λ p. option_map (λ (y : Provider). y.geom) (provider_at t p))
       (providers_under t x) h there in
-      let offer = mapped_some (provider_at t found.0) h found.2 in
-      record { prov = found.0; below = found.1; offer = offer.0; found = offer.1; geom = offer.2 }
+      let offer = mapped_some (provider_at t found.item) h found.fact in
+      record { prov = found.item; below = found.stands; offer = offer.0; found = offer.1; geom = offer.2 }
 
   -- and what is directly under one stands on the list
   pub is-under : (x q : ℕ) (y : Provider) → Contains (providers_under t x) q → provider_at t q ≡ Some y
       → Contains (geoms_under t x) y.geom
   is-under x q y there found =
-      in_filter_map (λ p. option_map (λ (z : Provider). z.geom) (provider_at t p)) (providers_under t x) q y.geom there
+      Contains-filter_map (λ p. option_map (λ (z : Provider). z.geom) (provider_at t p)) (providers_under t x) q y.geom
+      there
       (ap (option_map (λ (z : Provider). z.geom)) found)
 
   -- what is directly under a geom of an order is in it
   pub order_closed : (xs : List ℕ) → IsOrder t xs → (x h : ℕ) → Contains xs x → Contains (geoms_under t x) h
       → Contains xs h
-  order_closed [] order x h there under = absurd (in_nothing x there)
+  order_closed [] order x h there under = absurd (nothing_in x there)
   order_closed (y ∷ ys) order x h there under =
-      elim (in_cases y ys x there) [
-        | inl same ↦ in_tail y ys h (order.1 h (subst (λ z. Contains (geoms_under t z) h) (sym same) under))
-        | inr rest ↦ in_tail y ys h (order_closed ys order.2 x h rest under)
+      elim (Contains-cases y x ys there) [
+        | inl same ↦ Contains-there y h ys (order.1 h (subst (λ z. Contains (geoms_under t z) h) (sym same) under))
+        | inr rest ↦ Contains-there y h ys (order_closed ys order.2 x h rest under)
       ]
 
   -- no geom of an order stands over the first
   pub order_first : (x : ℕ) (xs : List ℕ) → IsOrder t (x ∷ xs) → (g : ℕ) → Contains (x ∷ xs) g
       → Contains (geoms_under t g) x → ⊥
   order_first x xs order g there under =
-      elim (in_cases x xs g there) [
+      elim (Contains-cases x g xs there) [
         | inl same ↦ order.0 (order.1 x (subst (λ z. Contains (geoms_under t z) x) (sym same) under))
         | inr rest ↦ order.0 (order_closed xs order.2 g x rest under)
       ]
@@ -150,8 +132,8 @@ module _ {C : Type 0} (t : Topology C) where
         → Contains (order_from k t x xs) y → P y
     order_within zero x xs here all y there = all y there
     order_within (suc k) x xs here all y there =
-        elim (in_cases x
-        (fold (λ ys h. if has_number ys h then ys else order_from k t h ys) xs (geoms_under t x)) y there) [
+        elim (Contains-cases x y
+        (fold (λ ys h. if has_number ys h then ys else order_from k t h ys) xs (geoms_under t x)) there) [
           | inl same ↦ subst P same here
           | inr rest ↦
               fold_keeps (λ zs. (z : ℕ) → Contains zs z → P z)
@@ -166,7 +148,7 @@ module _ {C : Type 0} (t : Topology C) where
   pub order_keeps : (k x : ℕ) (xs : List ℕ) (y : ℕ) → Contains xs y → Contains (order_from k t x xs) y
   order_keeps zero x xs y there = there
   order_keeps (suc k) x xs y there =
-      in_tail x (fold (λ ys h. if has_number ys h then ys else order_from k t h ys) xs (geoms_under t x)) y
+      Contains-there x y (fold (λ ys h. if has_number ys h then ys else order_from k t h ys) xs (geoms_under t x))
       (fold_keeps (λ zs. Contains zs y)
       (λ ys h. if has_number ys h then ys else order_from k t h ys) (geoms_under t x)
       (λ ys h under old. pick (has_number ys h) ys (order_from k t h ys) old (order_keeps k h ys y old))
@@ -180,7 +162,7 @@ module _ {C : Type 0} (t : Topology C) where
   order_head : (k x : ℕ) (xs : List ℕ) → 1 ≤ k → Contains (order_from k t x xs) x
   order_head zero x xs some = absurd (omega arith)
   order_head (suc k) x xs some =
-      in_head x (fold (λ ys h. if has_number ys h then ys else order_from k t h ys) xs (geoms_under t x))
+      Contains-here x (fold (λ ys h. if has_number ys h then ys else order_from k t h ys) xs (geoms_under t x))
 
   module _ (ranked : Ranked t) where
     -- what is directly under a geom has a smaller rank
@@ -274,9 +256,9 @@ module _ {C : Type 0} (t : Topology C) (P : ℕ → Type 0)
       → (y : ℕ) → Contains (p ∷ option_map_or (λ x. flat_map (below_within k t) (providers_under t x.geom)) o []) y
       → P y
   least_over k p here more None e y inside =
-      elim (in_cases p [] y inside) [ inl same ↦ subst P same here | inr none ↦ absurd (in_nothing y none) ]
+      elim (Contains-cases p y [] inside) [ inl same ↦ subst P same here | inr none ↦ absurd (nothing_in y none) ]
   least_over k p here more (Some x) e y inside =
-      elim (in_cases p (flat_map (below_within k t) (providers_under t x.geom)) y inside) [
+      elim (Contains-cases p y (flat_map (below_within k t) (providers_under t x.geom)) inside) [
         | inl same ↦ subst P same here
         | inr rest ↦
             let way = flat_map_cases (below_within k t) (providers_under t x.geom) y rest in
@@ -285,10 +267,10 @@ module _ {C : Type 0} (t : Topology C) (P : ℕ → Type 0)
 
   -- and over all levels
   least_within : (k p : ℕ) → P p → (y : ℕ) → Contains (below_within k t p) y → P y
-  least_within zero p here y there = elim (in_cases p [] y there) [
+  least_within zero p here y there = elim (Contains-cases p y [] there) [
     | inl same ↦
         subst P same here
-    | inr none ↦ absurd (in_nothing y none)
+    | inr none ↦ absurd (nothing_in y none)
   ]
   least_within (suc k) p here y there = least_over k p here (least_within k) (provider_at t p) refl y there
 

@@ -1,8 +1,8 @@
 -- Consumers that want nothing may come, go and be attached without any count changing.
-use Rattle.std.specs.Prelude.{◌≡◌, ℕ, ◌<◌, ◌==◌, Bool, true, false, not, cond, List, [], ◌∷◌, map, filter, Option, Some, None, is_some, All, IsSomeAnd, length, if◌then◌else◌}
+use Rattle.std.specs.Prelude.{◌≡◌, ℕ, ◌<◌, ◌==◌, Bool, true, false, cond, List, [], ◌∷◌, map, filter, Option, Some, None, is_some, All, IsSomeAnd, length, if◌then◌else◌}
 use Rattle.std.specs.List.{AllByRecursion}
 use Rattle.std.specs.Option.{option_map_or}
-use Rattle.std.proofs.Common.{refl, sym, ◌∙◌, ap, arith, eq-eqb}
+use Rattle.std.proofs.Common.{refl, sym, ◌∙◌, ap, arith}
 use Rattle.std.proofs.lemmas.Bool.{eqb-true}
 use Rattle.std.proofs.lemmas.List.Elements.{recursion_from_All}
 use Rattle.geo_model.specs.Counts.{Counts}
@@ -20,10 +20,6 @@ use Rattle.geo_laws_counts.proofs.BareParts.{levels_same, sum-end, sum-left_out}
 pub attached_somewhere : (o : Option ℕ) (q : ℕ) → names_number o q ≡ true → is_some o ≡ true
 attached_somewhere None q e = cc
 attached_somewhere (Some m) q e = refl
-
--- a number that passes the test of being another one is another one
-pub differs : (m n : ℕ) → m ≡ n → not (m == n) ≡ true → ⊥
-differs m n e stays = let no : not true ≡ true = sym (ap not (eq-eqb m n e)) ∙ stays in cc
 
 -- a sum over items that change, where what changes adds nothing before and after
 sum-changed : {X : Type 0} (f : X → Counts) (test chosen : X → Bool) (change : X → X)

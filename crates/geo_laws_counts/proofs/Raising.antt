@@ -13,9 +13,9 @@ use Rattle.geo_model.specs.Topology.{Topology, Geom, Provider, Consumer, geom_at
 use Rattle.geo_model.specs.Rank.{Ranked}
 use Rattle.geo_model.specs.Opens.{below}
 use Rattle.geo_model.specs.Demand.{no_counts, add_counts, sum_counts, is_zero, have, want}
+use Rattle.geo_model.proofs.MemberLists.{Contains-cases, nothing_in, Contains-filter}
 use Rattle.geo_laws_counts.specs.CountWords.{AreAtMost, more_counts, gain_of_kind, NumbersLead, HoldsGrants}
 use Rattle.geo_laws_counts.proofs.Sums.{counts-same, zero-add, add-zero, sum-same, sum-add, more-add, zeros-sum}
-use Rattle.geo_laws_counts.proofs.Members.{in_filter, in_cases, in_nothing}
 use Rattle.geo_laws_counts.proofs.LimitFacts.{of_filter}
 use Rattle.geo_laws_counts.proofs.Counters.{want_same}
 use Rattle.geo_laws_counts.specs.DemandLaws.{DiffersAt, StaysAround, Comes}
@@ -121,11 +121,10 @@ module _ {C : Type 0} (t : Topology C) (ranked : Ranked t) (known : NumbersLead 
   -- a consumer of that number is that one
   the_one : (x : Consumer) → Contains t.consumers x → x.number ≡ c → x ≡ d
   the_one x there e =
-      elim (in_cases d [] x
-      (subst (λ xs. Contains xs x) only
-      (in_filter (λ (y : Consumer). y.number == c) t.consumers x there (eq-eqb x.number c e)))) [
+      elim (Contains-cases d x [] (subst (λ xs. Contains xs x) only
+      (Contains-filter (λ (y : Consumer). y.number == c) t.consumers x there (eq-eqb x.number c e)))) [
         | inl same ↦ sym same
-        | inr none ↦ absurd (in_nothing x none)
+        | inr none ↦ absurd (nothing_in x none)
       ]
 
   -- it wants as much more as it is granted

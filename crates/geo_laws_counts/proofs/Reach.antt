@@ -13,23 +13,25 @@ use Rattle.geo_model.specs.Opens.{below, below_within}
 use Rattle.geo_model.specs.Demand.{sum_counts, have, want}
 use Rattle.geo_model.proofs.DemandLemmas.{kept_by, all_weaker, rank_within-le, rank_within-positive, map_same}
 use Rattle.geo_model.proofs.RankLemmas.{mapped_by}
+use Rattle.geo_model.proofs.MemberLists.{Contains-there, Contains-cases, nothing_in, Contains-here, Contains-filter, Contains-filter_map, in_flat_map, flat_map_cases}
+use Rattle.geo_model.proofs.AllLists.{two_facts}
 use Rattle.geo_laws_counts.specs.CountWords.{NumbersLead}
-use Rattle.geo_laws_counts.proofs.Members.{in_nothing, in_head, in_tail, in_cases, in_filter, in_filter_map, in_flat_map, flat_map_cases, kept_members, all_both}
+use Rattle.geo_laws_counts.proofs.Members.{kept_members}
 use Rattle.geo_laws_counts.proofs.Levels.{of_each}
 use Rattle.geo_laws_counts.proofs.LimitFacts.{of_filter}
 use Rattle.geo_laws_counts.proofs.Upward.{names_some, want_given-same, want_given-granted, have_is_sum, upward, found_of}
 
 -- a provider is reached from itself
 pub below_self : {C : Type 0} (k : ℕ) (t : Topology C) (p : ℕ) → Contains (below_within k t p) p
-below_self zero t p = in_head p []
-below_self (suc k) t p = in_head p _
+below_self zero t p = Contains-here p []
+below_self (suc k) t p = Contains-here p _
 
 -- the provider to which a geom's consumer is attached is directly under the geom
 pub directly_under : {C : Type 0} (t : Topology C) (d : Consumer) (q : ℕ) → Contains t.consumers d → d.provider ≡ Some q
     → Contains (providers_under t d.geom) q
 directly_under t d q there attached =
-    in_filter_map (λ x. x.provider) (consumers_of t d.geom) d q
-    (in_filter (λ x. x.geom == d.geom) t.consumers d there (eq-eqb d.geom d.geom refl))
+    Contains-filter_map (λ x. x.provider) (consumers_of t d.geom) d q
+    (Contains-filter (λ x. x.geom == d.geom) t.consumers d there (eq-eqb d.geom d.geom refl))
     attached
 
 module _ {C : Type 0} (t : Topology C) (ranked : Ranked t) where
@@ -82,16 +84,16 @@ module _ {C : Type 0} (t : Topology C) (ranked : Ranked t) where
       → Contains (p ∷ option_map_or (λ x. flat_map (below_within k t) (providers_under t x.geom)) o []) y
       → Contains (p ∷ option_map_or (λ x. flat_map (below_within k t) (providers_under t x.geom)) o []) q
   reach_over k p y q n more direct above None e most reached =
-      elim (in_cases p [] y reached) [
+      elim (Contains-cases p y [] reached) [
         | inl same ↦
             let here : IsSomeAnd (provider_at t p) (λ x. x.geom ≡ n) =
             subst (λ r. IsSomeAnd (provider_at t r) (λ x. x.geom ≡ n)) (sym same) above in
             absurd (subst (λ o. IsSomeAnd o (λ (x : Provider). x.geom ≡ n)) e here)
-        | inr none ↦ absurd (in_nothing y none)
+        | inr none ↦ absurd (nothing_in y none)
       ]
   reach_over k p y q n more direct above (Some x) e most reached =
-      in_tail p (flat_map (below_within k t) (providers_under t x.geom)) q
-      (elim (in_cases p (flat_map (below_within k t) (providers_under t x.geom)) y reached) [
+      Contains-there p q (flat_map (below_within k t) (providers_under t x.geom))
+      (elim (Contains-cases p y (flat_map (below_within k t) (providers_under t x.geom)) reached) [
         | inl same ↦
             let here : IsSomeAnd (provider_at t p) (λ x. x.geom ≡ n) =
             subst (λ r. IsSomeAnd (provider_at t r) (λ x. x.geom ≡ n)) (sym same) above in
@@ -109,13 +111,13 @@ module _ {C : Type 0} (t : Topology C) (ranked : Ranked t) where
       → Contains t.consumers d → d.provider ≡ Some q → IsSomeAnd (provider_at t y) (λ x. x.geom ≡ d.geom)
       → Contains (below_within k t p) y → Contains (below_within k t p) q
   reach_step zero p y q d most there attached above reached =
-      elim (in_cases p [] y reached) [
+      elim (Contains-cases p y [] reached) [
         | inl same ↦
             absurd
             (low_end d.geom (provider_at t p) (provider_at t q) most
             (subst (λ r. IsSomeAnd (provider_at t r) (λ x. x.geom ≡ d.geom)) (sym same) above)
             (under_of d.geom q (directly_under t d q there attached)))
-        | inr none ↦ absurd (in_nothing y none)
+        | inr none ↦ absurd (nothing_in y none)
       ]
   reach_step (suc k) p y q d most there attached above reached =
       reach_over k p y q d.geom
@@ -154,7 +156,7 @@ module _ {C : Type 0} (t : Topology C) (ranked : Ranked t) (known : NumbersLead 
       (λ (y : Provider). have small t y.number ≡ have large t y.number)
       (λ y h. h.1 (λ reached. away (below_closed t ranked p y.number q d there attached (rw h.0.0 h.0.1) reached)))
       (providers_of t d.geom)
-      (all_both _ _ (providers_of t d.geom) (found_of t ranked known d.geom) above) in
+      (two_facts _ _ (providers_of t d.geom) (found_of t ranked known d.geom) above) in
       want_given-same small (have small t) (have large t) t d haves
       ∙ want_given-granted small large (have large t) t d (others d.number other)
 
@@ -173,7 +175,7 @@ module _ {C : Type 0} (t : Topology C) (ranked : Ranked t) (known : NumbersLead 
       (λ (d : Consumer). want small t d ≡ want large t d)
       (λ d h. want_stays q d away h.0.0 (names_some d.provider q h.0.1) h.1)
       (attached_to t q)
-      (all_both _ _ (attached_to t q) (kept_members (λ x. names_number x.provider q) t.consumers) above)))
+      (two_facts _ _ (attached_to t q) (kept_members (λ x. names_number x.provider q) t.consumers) above)))
       ∙ sym (have_is_sum t ranked known large q))
 
   -- and the consumers attached to it want what they wanted

@@ -7,10 +7,10 @@ use Rattle.std.proofs.Math.Bool.{and-not_self, not-and_self}
 use Rattle.geo_model.specs.Counts.{Counts}
 use Rattle.geo_model.specs.Topology.{Topology, Provider, Consumer, attached_to}
 use Rattle.geo_model.specs.Demand.{have, want, is_exclusive, fits_limit, risen, fallen}
+use Rattle.geo_model.proofs.MemberLists.{Contains-there, Contains-cases, nothing_in, Contains-here}
 use Rattle.geo_laws_counts.specs.CountWords.{IsAtMost}
 use Rattle.geo_laws_counts.specs.LimitLaws.{greatest_counts, NoneInTheWay}
 use Rattle.geo_laws_counts.specs.DemandLaws.{StaysAround}
-use Rattle.geo_laws_counts.proofs.Members.{in_head, in_tail, in_cases, in_nothing}
 use Rattle.geo_laws_counts.proofs.LimitFacts.{apart_from, exclusive_from, within_limit, limit_from, all_of, of_filter}
 
 -- Write counts that leave zero or come to it
@@ -22,14 +22,15 @@ filter_none test (x ∷ xs) so = rw (so x) (filter_none test xs so)
 
 -- whether a list of numbers contains a number
 is_there : (xs : List ℕ) (n : ℕ) → Contains xs n ⊎ (Contains xs n → ⊥)
-is_there [] n = inr (in_nothing n)
+is_there [] n = inr (nothing_in n)
 is_there (x ∷ xs) n =
     elim (cases_eq x n) [
-      | inl same ↦ inl (subst (λ m. Contains (x ∷ xs) m) same (in_head x xs))
+      | inl same ↦ inl (subst (λ m. Contains (x ∷ xs) m) same (Contains-here x xs))
       | inr other ↦
           elim (is_there xs n) [
-            | inl there ↦ inl (in_tail x xs n there)
-            | inr away ↦ inr (λ there. elim (in_cases x xs n there) [ inl same ↦ other same | inr rest ↦ away rest ])
+            | inl there ↦ inl (Contains-there x n xs there)
+            | inr away ↦ inr
+                (λ there. elim (Contains-cases x n xs there) [ inl same ↦ other same | inr rest ↦ away rest ])
           ]
     ]
 

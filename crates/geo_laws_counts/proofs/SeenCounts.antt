@@ -3,6 +3,7 @@ use Rattle.std.specs.Prelude.{◌≡◌, ℕ, zero, suc, ◌==◌, nat_le, Bool,
 use Rattle.std.specs.List.{list_all}
 use Rattle.std.specs.Option.{option_map_or}
 use Rattle.std.proofs.Common.{refl, sym, ◌∙◌, ap}
+use Rattle.std.proofs.lemmas.List.{length-map}
 use Rattle.geo_model.proofs.FindLists.{find-map}
 use Rattle.geo_model.proofs.FilterLists.{filter-map}
 use Rattle.geo_model.specs.Kind.{Kind}
@@ -37,11 +38,6 @@ list_all-filter_map : {X Y : Type 0} (p : X → Bool) (q : Y → Bool) (see : X 
 list_all-filter_map p q see same [] = refl
 list_all-filter_map p q see same (x ∷ xs) =
     ap (λ b. b && list_all p xs) (same x) ∙ ap (λ b. q (see x) && b) (list_all-filter_map p q see same xs)
-
--- as many items are seen as there are
-length-map : {X Y : Type 0} (f : X → Y) (xs : List X) → length (map f xs) ≡ length xs
-length-map f [] = refl
-length-map f (x ∷ xs) = ap suc (length-map f xs)
 
 -- Counts of what is seen
 
@@ -116,7 +112,7 @@ module _ (granted : ℕ → Counts) where
   have_of_seen {C} t p =
       within_seen t (length t.geoms) p
       ∙ ap (λ k. have_seen_within k (seen_by_counts t) p)
-      (sym (length-map (λ (g : Geom C). (g.number, g.kind)) t.geoms))
+      (sym (length-map t.geoms (λ (g : Geom C). (g.number, g.kind))))
 
   -- what a consumer wants from the counts of what is seen
   abbrev want_of_seen : Seen → ℕ → ℕ → Counts

@@ -11,24 +11,16 @@ use Rattle.geo_model.specs.Words.{names_number, change_where}
 use Rattle.geo_model.specs.Topology.{Topology, Geom, Provider, Consumer, geom_at, providers_of, attached_to, add_geom, add_provider, add_consumer, remove_geom, remove_provider, remove_consumer}
 use Rattle.geo_model.specs.Rank.{Ranked}
 use Rattle.geo_model.specs.Demand.{no_counts, want_of_kind, want_given, have, want}
+use Rattle.geo_model.proofs.MemberLists.{nothing_in, Contains-filter, map-Contains}
+use Rattle.geo_model.proofs.Tests.{passes_apart}
 use Rattle.geo_laws_counts.specs.CountWords.{IsAtMost, NumbersLead, DemandStays, AnyConsumer, AgreeExcept, HoldsGrants, keep_consumers, move_consumer}
 use Rattle.geo_laws_counts.proofs.Sums.{at_most-same}
 use Rattle.geo_laws_counts.proofs.Levels.{of_each}
 use Rattle.geo_laws_counts.proofs.Upward.{want_given-same, want_given-granted}
-use Rattle.geo_laws_counts.proofs.Members.{in_head, in_tail, in_cases, in_nothing, in_filter}
 use Rattle.geo_laws_counts.proofs.LimitFacts.{of_filter}
 use Rattle.geo_laws_counts.proofs.Keeping.{exclusive_keeps, limit_keeps}
 use Rattle.geo_laws_counts.proofs.BareParts.{granted_same, find-kept, new_geom, gone_geom, none_within, sum-end, sum-left_out, want_over-sums, new_provider, gone_provider}
-use Rattle.geo_laws_counts.proofs.Quiet.{differs, quiet_left_out, quiet_attached, quiet_new, granted_wants_nothing, attached_somewhere}
-
--- an item of a list that was changed item by item
-in_map : {X Y : Type 0} (f : X → Y) (xs : List X) (y : Y) → Contains (map f xs) y → (x : X) × Contains xs x × (f x ≡ y)
-in_map f [] y there = absurd (in_nothing y there)
-in_map f (x ∷ xs) y there =
-    elim (in_cases (f x) (map f xs) y there) [
-      | inl same ↦ (x, in_head x xs, same)
-      | inr rest ↦ let found = in_map f xs y rest in (found.0, in_tail x xs found.0 found.1, found.2)
-    ]
+use Rattle.geo_laws_counts.proofs.Quiet.{quiet_left_out, quiet_attached, quiet_new, granted_wants_nothing, attached_somewhere}
 
 module _ {C : Type 0} (granted : ℕ → Counts) (t : Topology C) (other : ℕ → Counts) (u : Topology C) where
   -- a consumer that was attached at the same provider, and wanted the same
@@ -65,7 +57,7 @@ module _ {C : Type 0} (granted : ℕ → Counts) (t : Topology C) (other : ℕ �
                       at_most = subst (λ b. IsAtMost (want other u a) b) was.wanted (at_most-same (want other u a));
                     })
               ]
-          | inr none ↦ absurd (in_nothing a (subst (λ cs. Contains cs a) none at))
+          | inr none ↦ absurd (nothing_in a (subst (λ cs. Contains cs a) none at))
         ])
         e;
     limit = λ e.
@@ -226,7 +218,7 @@ module _ {C : Type 0} (granted : ℕ → Counts) (t : Topology C) where
         | inl stood ↦
             inr (record {
               before = a;
-              attached = in_filter (λ x. names_number x.provider n) t.consumers a stood inside.1;
+              attached = Contains-filter (λ x. names_number x.provider n) t.consumers a stood inside.1;
               same = refl;
               wanted = wants a;
             })
@@ -250,7 +242,7 @@ module _ {C : Type 0} (granted : ℕ → Counts) (t : Topology C) where
       let inside = of_filter (λ x. names_number x.provider n) (filter keep t.consumers) a at in
       inr (record {
         before = a;
-        attached = in_filter (λ x. names_number x.provider n) t.consumers a
+        attached = Contains-filter (λ x. names_number x.provider n) t.consumers a
             (of_filter keep t.consumers a inside.0).0 inside.1;
         same = refl;
         wanted = wants a;
@@ -270,9 +262,9 @@ module _ {C : Type 0} (granted : ℕ → Counts) (t : Topology C) where
       let inside =
       of_filter (λ x. names_number x.provider n)
       (change_where (λ x. x.number == c) (λ x. record x { provider = to }) t.consumers) a at in
-      let from = in_map (λ (x : Consumer). if x.number == c then record x { provider = to } else x) t.consumers
+      let from = map-Contains (λ (x : Consumer). if x.number == c then record x { provider = to } else x) t.consumers
       a inside.0 in
-      was n a from.0 (from.0.number == c) refl from.1 from.2 inside.1 (wants a))
+      was n a from.item (from.item.number == c) refl from.stands from.fact inside.1 (wants a))
     where
       was : (n : ℕ) (a x : Consumer) (b : Bool) → (x.number == c) ≡ b → Contains t.consumers x
           → (if x.number == c then record x { provider = to } else x) ≡ a → names_number a.provider n ≡ true
@@ -288,7 +280,7 @@ module _ {C : Type 0} (granted : ℕ → Counts) (t : Topology C) where
           let kept : x ≡ a = rw e at made in
           inr (record {
             before = a;
-            attached = in_filter (λ y. names_number y.provider n) t.consumers a
+            attached = Contains-filter (λ y. names_number y.provider n) t.consumers a
                 (subst (Contains t.consumers) kept there) passes;
             same = refl;
             wanted = same;
@@ -356,7 +348,7 @@ module _ {C : Type 0} (granted other : ℕ → Counts) (t : Topology C) where
       (Contains (remove_consumer t c).consumers) =
       grants_agree granted other (remove_consumer t c)
       (All-weaker (λ (x : Consumer). (not (x.number == c)) ≡ true) (λ (x : Consumer). other x.number ≡ granted x.number)
-      (λ x stays. agree x.number (λ e. differs x.number c e stays))
+      (λ x stays. agree x.number (λ e. passes_apart x.number c stays e))
       (filter (λ x. not (x.number == c)) t.consumers)
       (filter_passes (λ x. not (x.number == c)) t.consumers)) in
       record {

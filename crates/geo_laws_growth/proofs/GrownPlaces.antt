@@ -9,14 +9,6 @@ use Rattle.geo_model.specs.Place.{Spot, concat_spot}
 use Rattle.geo_model.specs.Acceptance.{add_place}
 use Rattle.geo_laws_growth.specs.GrowthLaws.{GrownConcat, KeepsPlaces}
 
--- the sum with one size more before it
-sum_first : (size : ℕ) (sizes : List ℕ) → sum (size ∷ sizes) ≡ size + sum sizes
-sum_first size sizes = sum_by-cons (λ n. n) size sizes
-
--- and behind it
-sum_more : (sizes : List ℕ) (size : ℕ) → sum (sizes ++ size ∷ []) ≡ sum sizes + size
-sum_more sizes size = sum_by_push (λ n. n) sizes size
-
 -- a spot among the sizes is the same among more of them
 spot_more : (k : ℕ) (sizes more : List ℕ) (o : ℕ) (spot : Spot) → concat_spot k sizes o ≡ Some spot
     → concat_spot k (sizes ++ more) o ≡ Some spot
@@ -36,7 +28,7 @@ spot_old : (k : ℕ) (sizes more : List ℕ) (o : ℕ) → o < sum sizes → con
     ≡ concat_spot k sizes o
 spot_old k [] more o less = absurd (omega (arith, less))
 spot_old k (size ∷ sizes) more o less =
-    at (nat_lt o size) refl (sum_first size sizes) (spot_old (k + 1) sizes more (o - size))
+    at (nat_lt o size) refl (sum_by-cons (λ n. n) size sizes) (spot_old (k + 1) sizes more (o - size))
   where
     at : (b : Bool) → nat_lt o size ≡ b → sum (size ∷ sizes) ≡ size + sum sizes
         → (o - size < sum sizes → concat_spot (k + 1) (sizes ++ more) (o - size) ≡ concat_spot (k + 1) sizes (o - size))
@@ -49,7 +41,7 @@ spot_old k (size ∷ sizes) more o less =
 spot_behind : (k : ℕ) (sizes : List ℕ) (o : ℕ) → sum sizes ≤ o → concat_spot k sizes o ≡ None
 spot_behind k [] o past = refl
 spot_behind k (size ∷ sizes) o past =
-    let whole : sum (size ∷ sizes) ≡ size + sum sizes = sum_first size sizes in
+    let whole : sum (size ∷ sizes) ≡ size + sum sizes = sum_by-cons (λ n. n) size sizes in
     let here : nat_lt o size ≡ false = le-ltb o size (omega (arith, past, whole)) in
     rw here (spot_behind (k + 1) sizes (o - size) (omega (arith, past, whole)))
 
@@ -62,7 +54,7 @@ spot_last k [] size o less =
     let first : k + 0 ≡ k = omega arith in
     rw (at, here, first) refl
 spot_last k (s ∷ sizes) size o less =
-    let whole : sum (s ∷ sizes) + o ≡ s + sum sizes + o = ap (λ n. n + o) (sum_first s sizes) in
+    let whole : sum (s ∷ sizes) + o ≡ s + sum sizes + o = ap (λ n. n + o) (sum_by-cons (λ n. n) s sizes) in
     let here : nat_lt (s + sum sizes + o) s ≡ false = le-ltb (s + sum sizes + o) s (omega arith) in
     let rest : s + sum sizes + o - s ≡ sum sizes + o = omega arith in
     let number : k + 1 + length sizes ≡ k + suc (length sizes) = omega arith in
@@ -117,11 +109,11 @@ grown_concat = record {
       spot_last 0 sizes size o less ∙ (let number : 0 + length sizes
       ≡ length sizes = omega arith in ap (λ n. Some (record { component = n; offset = o })) number);
   behind = λ id places sizes c size name o past.
-      let more : sum (sizes ++ size ∷ []) ≡ sum sizes + size = sum_more sizes size in
+      let more : sum (sizes ++ size ∷ []) ≡ sum sizes + size = sum_by_push (λ n. n) sizes size in
       spot_behind 0 (sizes ++ size ∷ []) o (omega (arith, past, more));
   old_components = λ id places sizes c size k less. ap option_flatten (place_old places (Some c ∷ []) k less);
   new_component = λ id places sizes c size. ap option_flatten (place_last places c);
   all_components = λ id places sizes c size. all_places places c;
-  size = λ id places sizes c size. sum_more sizes size;
+  size = λ id places sizes c size. sum_by_push (λ n. n) sizes size;
   any = keeps_places;
 }

@@ -11,11 +11,13 @@ use Rattle.geo_model.specs.Rank.{rank, Ranked}
 use Rattle.geo_model.specs.Opens.{below, below_within}
 use Rattle.geo_model.specs.Demand.{sum_counts, have, want}
 use Rattle.geo_model.proofs.DemandLemmas.{all_weaker}
-use Rattle.geo_laws_graph.proofs.Members.{find-Contains}
+use Rattle.geo_model.proofs.MemberLists.{flat_map_cases}
+use Rattle.geo_model.proofs.AllLists.{two_facts}
+use Rattle.geo_laws_graph.proofs.Members.{find-Contains, Contains-cases, nothing_in}
 use Rattle.geo_laws_graph.proofs.Found.{attached-found}
 use Rattle.geo_laws_counts.specs.CountWords.{NumbersLead}
 use Rattle.geo_laws_counts.proofs.Sums.{sum-same}
-use Rattle.geo_laws_counts.proofs.Members.{in_nothing, in_cases, flat_map_cases, kept_members, all_both}
+use Rattle.geo_laws_counts.proofs.Members.{kept_members}
 use Rattle.geo_laws_counts.proofs.LimitFacts.{of_filter}
 use Rattle.geo_laws_counts.proofs.Levels.{of_each}
 use Rattle.geo_laws_counts.proofs.Upward.{names_some, want_given-same, have_is_sum, upward, found_of, attached-above}
@@ -64,13 +66,13 @@ module _ {C : Type 0} (v : Topology C) where
     pub below_lower : (k n r q : ℕ) → IsLower n (provider_at v q) → Contains (below_within k v q) r
         → IsLower n (provider_at v r)
     below_lower zero n r q low reached =
-        elim (in_cases q [] r reached) [
+        elim (Contains-cases q r [] reached) [
           | inl same ↦ subst (λ m. IsLower n (provider_at v m)) same low
-          | inr none ↦ absurd (in_nothing r none)
+          | inr none ↦ absurd (nothing_in r none)
         ]
     below_lower (suc k) n r q low reached =
-        elim (in_cases q (option_map_or (λ x. flat_map (below_within k v) (providers_under v x.geom))
-        (provider_at v q) []) r reached) [
+        elim (Contains-cases q r (option_map_or (λ x. flat_map (below_within k v) (providers_under v x.geom))
+        (provider_at v q) []) reached) [
           | inl same ↦ subst (λ m. IsLower n (provider_at v m)) same low
           | inr rest ↦ down_over k n r (λ m. below_lower k n r m) (provider_at v q) low rest
         ]
@@ -165,7 +167,7 @@ module _ {C : Type 0} (t : Topology C) (c p : ℕ) (j : Joins t c p) where
         (λ (y : Provider). have granted u y.number ≡ have granted t y.number)
         (λ y h. h.1 (λ reached. away (below_closed t j.ranked p y.number q d there attached (rw h.0.0 h.0.1) reached)))
         (providers_of t d.geom)
-        (all_both _ _ (providers_of t d.geom) (found_of t j.ranked (joined_known t c p j) d.geom) above))
+        (two_facts _ _ (providers_of t d.geom) (found_of t j.ranked (joined_known t c p j) d.geom) above))
 
     -- a provider that isn't reached is another one
     another : (q : ℕ) → IsAway q → p ≢ q
@@ -186,7 +188,7 @@ module _ {C : Type 0} (t : Topology C) (c p : ℕ) (j : Joins t c p) where
         (λ (d : Consumer). want granted u d ≡ want granted t d)
         (λ d h. want_same_above q d away h.0.0 (names_some d.provider q h.0.1) h.1)
         (attached_to t q)
-        (all_both _ _ (attached_to t q) (kept_members (λ x. names_number x.provider q) t.consumers) above))
+        (two_facts _ _ (attached_to t q) (kept_members (λ x. names_number x.provider q) t.consumers) above))
         ∙ sym (have_is_sum t j.ranked (joined_known t c p j) granted q))
 
     -- so does what is wanted of geoms that offer nothing of what is reached

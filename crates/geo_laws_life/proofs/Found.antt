@@ -1,6 +1,5 @@
 -- What is found, and pairs of a list in order of numbers.
 use Rattle.std.specs.Prelude.{◌≡◌, ℕ, ◌+◌, ◌<◌, ◌≤◌, ◌==◌, List, [], ◌∷◌, map, find, Option, Some, None, AllPairs, Contains, IsSomeAnd}
-use Rattle.std.specs.List.{AllZip}
 use Rattle.std.proofs.Common.{inl, inr, refl, sym, ◌∙◌, ap, subst, arith}
 use Rattle.geo_model.specs.Graph.{AreNumbers}
 use Rattle.geo_laws_graph.proofs.Members.{Contains-here, Contains-there, Contains-cases, nothing_in, All-from_contained, at_contained, find-Contains}
@@ -23,14 +22,6 @@ module _ {X : Type 0} where
   pub found-with : (o : Option X) (P : X → Type 0) → IsSomeAnd o P → FoundWith o P
   found-with None P fact = absurd fact
   found-with (Some x) P fact = record { item = x; is = refl; fact = fact }
-
--- a fact of each two items of two lists that follows from another
-pub all_zip-weaker : {A B : Type 0} (R S : A → B → Type 0) → ((a : A) (b : B) → R a b → S a b)
-    → (xs : List A) (ys : List B) → AllZip R xs ys → AllZip S xs ys
-all_zip-weaker R S so [] [] facts = facts
-all_zip-weaker R S so [] (y ∷ ys) facts = facts
-all_zip-weaker R S so (x ∷ xs) [] facts = facts
-all_zip-weaker R S so (x ∷ xs) (y ∷ ys) facts = (so x y facts.0, all_zip-weaker R S so xs ys facts.1)
 
 -- what is found at a number, and that a fact ties it to another thing
 pub record From {X : Type 0} (number : X → ℕ) (R : X → X → Type 0) (xs : List X) (n : ℕ) (y : X) : Type 0 where

@@ -7,6 +7,7 @@ use Rattle.std.proofs.Common.{inl, inr, refl, sym, ◌∙◌, ap, subst, arith}
 use Rattle.std.proofs.lemmas.Bool.{eqb-true, ne_eqb, cases_eq, not-true}
 use Rattle.std.proofs.lemmas.List.Elements.{All-contains, All-weaker, Contains-push_cases}
 use Rattle.geo_model.proofs.FindLists.{some-passes}
+use Rattle.geo_model.proofs.MemberLists.{zip_members}
 use Rattle.geo_model.proofs.Options.{if-any, some_weaker}
 use Rattle.geo_model.proofs.Tests.{from_true_false}
 use Rattle.geo_model.specs.Counts.{Counts}
@@ -29,7 +30,7 @@ use Rattle.geo_laws_graph.proofs.Found.{added-consumer, removed-consumer}
 use Rattle.geo_laws_graph.proofs.Numbered.{number_found, any-contained}
 use Rattle.geo_laws_graph.proofs.Living.{found-before, all_members, sound-order}
 use Rattle.geo_laws_counts.proofs.LimitFacts.{all_of}
-use Rattle.geo_laws_life.proofs.Found.{found-with, some-with, if-found, at-found, one-found, all_zip-weaker, keeps_all}
+use Rattle.geo_laws_life.proofs.Found.{found-with, some-with, if-found, at-found, one-found, keeps_all}
 use Rattle.geo_laws_life.proofs.Bare.{bare_there, bare_config, not_of_bare}
 
 -- Graphs
@@ -275,8 +276,8 @@ module _ (w : World) (firm : Firm w) (v : World) (n : ℕ) (bare : (n ≡ 1) ⊎
         | inl same ↦
             of_nothing (λ c. AllZip (FitsPlace u g.number) (places_of c) (sizes_of c)) g (geom_found g here) same tt
         | inr other ↦
-            all_zip-weaker (FitsPlace t g.number) (FitsPlace u g.number) (fits_place g other) (places_of g.config)
-            (sizes_of g.config) fact
+            zip_members (FitsPlace t g.number) (FitsPlace u g.number) (places_of g.config) (sizes_of g.config)
+            (λ a b here. fits_place g other a b) fact
       ]
 
   -- a fact of each consumer that was there, and of one that comes

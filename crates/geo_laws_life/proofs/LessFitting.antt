@@ -16,9 +16,10 @@ use Rattle.geo_model.specs.Events.{provider_of_event}
 use Rattle.geo_model.specs.Tasting.{facts_of}
 use Rattle.geo_model.specs.World.{World, Config, Taste, Asked, NoClass, NextSector, ReadOut, ReadBack, is_taste_root}
 use Rattle.geo_model.specs.Fitting.{IsWholeIn, FitsBelow, sizes_of, FitsPlace, FitsPlaces, IsAskedInOrder, IsOneSector, HasOneProvider, PlacesHold, HasItsSum, TasteReadHolds, SizesHold, Firm}
+use Rattle.geo_model.proofs.MemberLists.{zip_members}
 use Rattle.geo_laws_counts.proofs.LimitFacts.{all_of}
 use Rattle.geo_laws_life.proofs.Frames.{FitsOver}
-use Rattle.geo_laws_life.proofs.Found.{some-with, some-there, if-found, at-found, at-some, one-found, all_zip-weaker}
+use Rattle.geo_laws_life.proofs.Found.{some-with, some-there, if-found, at-found, at-some, one-found}
 use Rattle.geo_laws_life.specs.LessLaws.{LessIsFirm, IsProviderOf, IsLess}
 use Rattle.geo_laws_life.proofs.Less.{remade, less-self, geom-number}
 use Rattle.geo_laws_life.proofs.LessLooks.{geom_from, provider_from, consumer_from, stands-still, of_geom}
@@ -117,8 +118,8 @@ module _ (w : World) (u : Topology Config) (firm : Firm w) (less : IsLess w u) w
   fits_places : (y : Geom Config) → Contains u.geoms y → FitsPlaces u y
   fits_places y here =
       let o = less.geoms y here in
-      let moved = all_zip-weaker (FitsPlace w.topology o.item.number) (FitsPlace u o.item.number)
-      (λ a b. fits_place o.item.number a b) (places_of o.item.config) (sizes_of o.item.config)
+      let moved = zip_members (FitsPlace w.topology o.item.number) (FitsPlace u o.item.number) (places_of o.item.config)
+      (sizes_of o.item.config) (λ a b here. fits_place o.item.number a b)
       (All-contains (FitsPlaces w.topology) w.topology.geoms o.item firm.sizes.places o.stands) in
       subst (λ (z : Geom Config). FitsPlaces u z) (sym o.fact.same) moved
 

@@ -1,7 +1,8 @@
 -- A graph that has come to less is steady.
-use Rattle.std.specs.Prelude.{◌≡◌, ◌⊎◌, ℕ, ◌≤◌, true, false, not, List, [], ◌∷◌, length, Option, Some, None, All, Contains, IsSome, IsSomeAnd, IfSome, IsTrue, option_and_then}
+use Rattle.std.specs.Prelude.{◌≡◌, ◌⊎◌, ℕ, ◌≤◌, true, false, not, length, Option, Some, None, All, Contains, IsSome, IsSomeAnd, IfSome, IsTrue, option_and_then}
 use Rattle.std.proofs.Common.{inl, inr, refl, sym, ◌∙◌, ap, subst, arith}
 use Rattle.std.proofs.lemmas.List.Elements.{All-contains}
+use Rattle.std.proofs.lemmas.List.{nil_from_length}
 use Rattle.geo_model.proofs.FindLists.{some-passes}
 use Rattle.geo_model.specs.Counts.{Counts}
 use Rattle.geo_model.specs.Topology.{Topology, Geom, Provider, Consumer, geom_at, provider_at, consumer_at, providers_of}
@@ -19,11 +20,6 @@ use Rattle.geo_laws_life.proofs.Found.{found-with, some-with, one-found}
 use Rattle.geo_laws_life.specs.LessLaws.{IsGeomOf, IsSpent, IsLess}
 use Rattle.geo_laws_life.proofs.Less.{upright-before, geom-number, provider-number}
 use Rattle.geo_laws_life.proofs.LessLooks.{has_below, components-below, before_order, stays_or_spent, of_geom, spent-closed}
-
--- a list that isn't longer than none
-no_longer : {X : Type 0} (xs ys : List X) → length xs ≤ length ys → ys ≡ [] → xs ≡ []
-no_longer [] ys short none = refl
-no_longer (x ∷ xs) ys short none = let e : length ys ≡ 0 = ap length none in absurd (omega (arith, short, e))
 
 -- zero counts aren't some
 zero_open : (granted : ℕ → Counts) (t : Topology Config) (n : ℕ) → have granted t n ≡ no_counts
@@ -115,11 +111,15 @@ module _ (w : World) (u : Topology Config) (firm : Firm w) (less : IsLess w u) w
   waits : (y : Geom Config) → Contains u.geoms y → WaitsForPlaces u y
   waits y here free =
       let o = less.geoms y here in
-      no_longer (providers_of u y.number) (providers_of w.topology o.item.number)
-      (subst (λ n. length (providers_of u y.number) ≤ length (providers_of w.topology n))
-      (geom-number o.item y o.fact) (less.fewer y.number))
+      nil_from_length (providers_of u y.number)
+      (let none = ap (λ zs. length zs)
       (All-contains (WaitsForPlaces w.topology) w.topology.geoms o.item firm.graph.partial o.stands
-      (subst (λ (z : Geom Config). IsTrue (has_free_place z)) o.fact.same free))
+      (subst (λ (z : Geom Config). IsTrue (has_free_place z)) o.fact.same free)) in omega (
+        arith,
+        (subst (λ n. length (providers_of u y.number) ≤ length (providers_of w.topology n))
+            (geom-number o.item y o.fact) (less.fewer y.number)),
+        none,
+      ))
 
   -- geoms 1 and 2 aren't automatic
   pub less-made : AreMade u

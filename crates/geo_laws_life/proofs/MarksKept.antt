@@ -3,7 +3,7 @@ use Rattle.std.specs.Prelude.{◌≡◌, ◌⊎◌, ℕ, ◌==◌, Bool, true, f
 use Rattle.std.specs.List.{AllByRecursion}
 use Rattle.std.specs.Option.{option_map_or}
 use Rattle.std.proofs.Common.{inl, inr, refl, sym, ◌∙◌, ap, subst}
-use Rattle.std.proofs.lemmas.Bool.{eqb-true, or_from}
+use Rattle.std.proofs.lemmas.Bool.{eqb-true, or_from, and_right}
 use Rattle.std.proofs.lemmas.List.Elements.{All-contains, All-weaker, All-push, All-tail, All-from_recursion}
 use Rattle.geo_model.proofs.Tests.{from_false_true}
 use Rattle.geo_model.specs.Kind.TheVariants as kinds
@@ -110,12 +110,6 @@ made-at w firm n g which found =
     by (inl e) = inl (number_found (λ (x : Geom Config). x.number) w.topology.geoms n g found ∙ e)
     by (inr e) = inr (number_found (λ (x : Geom Config). x.number) w.topology.geoms n g found ∙ e)
 
--- nothing and nothing is nothing
-three_false : (a b c : Bool) → c ≡ false → (a && (b && c)) ≡ false
-three_false true true c e = e
-three_false true false c e = refl
-three_false false b c e = refl
-
 -- a consumer of DEV isn't to spoil
 not_to_spoil : (w : World) → Firm w → (p : ℕ) (c : Consumer) → c.geom ≡ 1
     → is_to_spoil (granted_in w) w.topology p c ≡ false
@@ -125,11 +119,15 @@ not_to_spoil w firm p c own =
     let number : g.item.number ≡ 1 = number_found (λ (x : Geom Config). x.number) w.topology.geoms c.geom g.item g.is
     ∙ own in
     let kind : is_kind g.item.kind kinds.Taste ≡ false = class.taste ∙ ap (λ n. n == 2) number in
-    three_false (names_number c.provider p) ((want (granted_in w) w.topology c).w == 0)
+    and_right (names_number c.provider p)
+    (((want (granted_in w) w.topology c).w == 0)
+    &&
+    (option_map_or (λ (x : Geom Config). x.automatic || is_kind x.kind kinds.Taste) (geom_at w.topology c.geom) false))
+    (and_right ((want (granted_in w) w.topology c).w == 0)
     (option_map_or (λ (x : Geom Config). x.automatic || is_kind x.kind kinds.Taste) (geom_at w.topology c.geom) false)
     (ap (λ (o : Option (Geom Config)). option_map_or (λ (x : Geom Config). x.automatic || is_kind x.kind kinds.Taste)
     o false) g.is
-    ∙ or_from g.item.automatic (is_kind g.item.kind kinds.Taste) (made-at w firm c.geom g.item (inl own) g.is) kind)
+    ∙ or_from g.item.automatic (is_kind g.item.kind kinds.Taste) (made-at w firm c.geom g.item (inl own) g.is) kind))
 
 -- the marks of a spoil
 pub spoiled-firm : (w : World) (p : ℕ) → Firm w

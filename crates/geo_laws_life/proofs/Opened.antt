@@ -4,6 +4,7 @@ use Rattle.std.specs.List.{AllByRecursion}
 use Rattle.std.proofs.Common.{inl, refl, sym, ◌∙◌, ap, subst, arith}
 use Rattle.std.proofs.lemmas.Bool.{eqb-true}
 use Rattle.std.proofs.lemmas.List.Elements.{All-from_recursion}
+use Rattle.std.proofs.lemmas.List.Sums.{list_all-from_AllPass}
 use Rattle.geo_model.specs.declared.step.Event.{Event}
 use Rattle.geo_model.specs.Topology.{Topology, Geom, Provider, geom_at, provider_at, providers_of, attached_to, is_withering}
 use Rattle.geo_model.specs.Rank.{rank}
@@ -24,7 +25,7 @@ use Rattle.geo_laws_graph.proofs.Members.{Contains-there, All-from_contained, at
 use Rattle.geo_laws_graph.proofs.Lists.{numbers-from, found_itself}
 use Rattle.geo_laws_life.proofs.Standing.{Stander, standers, stood, disk_geoms, disk_providers, opening-stood, nowhere}
 use Rattle.geo_laws_life.proofs.Standers.{IsStander, AreApart, PairsByRecursion, pairs-from_recursion, standers-stand, standers-apart}
-use Rattle.geo_laws_life.proofs.Parts.{geoms-rise, providers-rise, IsDiskGeom, geoms-are, IsOfDisk, of_disk-behind, providers-are, providers-above, none-of, geoms-differ, names-differ, IsOffered, offers-are, disk-class, no-withering, each-passes, HasDisk, geoms-have, bare-differs}
+use Rattle.geo_laws_life.proofs.Parts.{geoms-rise, providers-rise, IsDiskGeom, geoms-are, IsOfDisk, of_disk-behind, providers-are, providers-above, none-of, geoms-differ, names-differ, IsOffered, offers-are, disk-class, no-withering, HasDisk, geoms-have, bare-differs}
 
 -- geoms 1 and 2
 abbrev dev_geom : Geom Config
@@ -103,12 +104,12 @@ module _ (plan : Plan) (facts : List (ℕ × ℕ)) (xs : List Stander) where
   -- nothing is open, so all counts are within their limits
   counts : CountsHold (granted_in w) t
   counts = record {
-    exclusive = each-passes (λ (x : Provider). stand_together (granted_in w) t (attached_to t x.number))
-        (λ x. refl) t.providers;
-    limited = each-passes
-        (λ (x : Provider). let a = have (granted_in w) t x.number in
-        nat_le a.r MAX_ACCESS_COUNT && (nat_le a.w MAX_ACCESS_COUNT && nat_le a.e MAX_ACCESS_COUNT))
-        (λ x. refl) t.providers;
+    exclusive =
+        list_all-from_AllPass (λ (x : Provider). stand_together (granted_in w) t (attached_to t x.number)) t.providers
+        (λ k d short. refl);
+    limited = list_all-from_AllPass (λ (x : Provider). let a = have (granted_in w) t x.number in
+        nat_le a.r MAX_ACCESS_COUNT && (nat_le a.w MAX_ACCESS_COUNT && nat_le a.e MAX_ACCESS_COUNT)) t.providers
+        (λ k d short. refl);
   }
 
   module _ (stand : AllByRecursion (IsStander disks) xs) (apart : PairsByRecursion AreApart xs) where

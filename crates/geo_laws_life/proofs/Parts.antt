@@ -1,6 +1,6 @@
 -- The geoms, providers and offers of the disks that stand.
-use Rattle.std.specs.Prelude.{◌≡◌, ℕ, ◌+◌, ◌<◌, ◌≤◌, ◌==◌, Bool, true, false, ◌&&◌, List, [], ◌∷◌, length, map, filter, Some, None, Contains, slice_get}
-use Rattle.std.specs.List.{AllByRecursion, list_any, list_all}
+use Rattle.std.specs.Prelude.{◌≡◌, ℕ, ◌+◌, ◌<◌, ◌≤◌, ◌==◌, false, ◌&&◌, List, [], ◌∷◌, length, map, filter, Some, None, Contains, slice_get}
+use Rattle.std.specs.List.{AllByRecursion, list_any}
 use Rattle.std.proofs.Common.{refl, sym, ◌∙◌, arith}
 use Rattle.std.proofs.lemmas.Bool.{ne_eqb, and_right}
 use Rattle.geo_model.specs.Kind.TheVariants as kinds
@@ -224,11 +224,6 @@ pub no-withering : (g : ℕ) (xs : List (Geom Config)) → AllByRecursion (λ x.
     → list_any (λ x. (x.number == g) && x.withering) xs ≡ false
 no-withering g [] are = refl
 no-withering g (x ∷ xs) are = rw (and_right (x.number == g) x.withering are.0, no-withering g xs are.1) refl
-
--- a test that each passes
-pub each-passes : {X : Type 0} (test : X → Bool) → ((x : X) → test x ≡ true) → (xs : List X) → list_all test xs ≡ true
-each-passes test so [] = refl
-each-passes test so (x ∷ xs) = rw (so x, each-passes test so xs) refl
 
 -- a geom of a disk of the header
 pub record HasDisk (disks : List HeaderDisk) (x : Geom Config) : Type 0 where

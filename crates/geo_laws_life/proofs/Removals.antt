@@ -1,7 +1,7 @@
 -- A provider with nothing attached, a spent consumer and a bare geom go: the graph comes to less.
 use Rattle.std.specs.Prelude.{◌≡◌, ◌≢◌, ◌⊎◌, ℕ, ◌≤◌, ◌==◌, Bool, true, false, not, List, [], length, map, Option, Some, None, All, Contains, IsSome, IsSomeAnd, IsTrue}
 use Rattle.std.specs.Option.{option_map_or}
-use Rattle.std.proofs.Common.{inl, inr, refl, sym, ◌∙◌, ap, subst, arith}
+use Rattle.std.proofs.Common.{inl, inr, refl, sym, ◌∙◌, ap, subst, arith, le_refl}
 use Rattle.std.proofs.lemmas.Bool.{eqb-true, eq-eqb, ne_eqb, cases_eq}
 use Rattle.std.proofs.lemmas.List.Elements.{All-contains, All-filter}
 use Rattle.geo_model.specs.declared.step.Event.{Event}
@@ -37,10 +37,6 @@ use Rattle.geo_laws_life.proofs.Less.{same_le, same_tasting, geom-self, provider
 use Rattle.geo_laws_life.proofs.LessSound.{never_spent}
 use Rattle.geo_laws_life.proofs.LessFitting.{less-firm}
 
--- a number that isn't lower than itself
-at_most_itself : (n : ℕ) → n ≤ n
-at_most_itself n = omega arith
-
 -- a bare geom that withers
 pub record IsBareGeom (w : World) (g : ℕ) : Type 0 where
   pub geom : Geom Config
@@ -75,7 +71,7 @@ module _ (w : World) (firm : Firm w) where
     order = removed-provider.order t p order;
     ranks = sound-ranks.provider_removed t p firm.graph.ranks live.geoms none;
     lower = λ g. same_le (rank (remove_provider t p) g) (rank t g) (rank t g)
-        ((removing-stay.provider t p firm.graph.ranks.ranked live.geoms none).same g) (at_most_itself (rank t g));
+        ((removing-stay.provider t p firm.graph.ranks.ranked live.geoms none).same g) (le_refl (rank t g));
     demand = provider_went (granted_in w) t p none;
     live = parts-alive.provider_removed t p none live;
     geoms = λ y here. record { item = y; stands = here; fact = geom-self y };
@@ -176,7 +172,7 @@ module _ (w : World) (firm : Firm w) where
                 (filter-Contains (λ (z : Consumer). not (z.number == c)) t.consumers y here).0;
             fact = consumer-self y;
           };
-          fewer = λ g. at_most_itself (length (providers_of t g));
+          fewer = λ g. le_refl (length (providers_of t g));
           stay = λ y here. others_stay y here (cases_eq y.number c);
           tasting = tasting_stays w.taste firm.handles.taste;
         }
@@ -275,7 +271,7 @@ module _ (w : World) (firm : Firm w) where
       ranks = sound-ranks.geom_removed t g (not_upright 1 firm.graph.ranks.dev, not_upright 2 firm.graph.ranks.taste)
           firm.graph.ranks live.geoms bare.no_consumer;
       lower = λ h. same_le (rank (remove_geom t g) h) (rank t h) (rank t h) (ranks_stay.same h)
-          (at_most_itself (rank t h));
+          (le_refl (rank t h));
       demand = demand_stays;
       live = parts-alive.geom_removed t g bare.no_provider bare.no_consumer live;
       geoms = λ y here. record {
@@ -286,7 +282,7 @@ module _ (w : World) (firm : Firm w) where
       };
       providers = λ y here. record { item = y; stands = here; fact = provider-self y };
       consumers = λ y here. record { item = y; stands = here; fact = consumer-self y };
-      fewer = λ h. at_most_itself (length (providers_of t h));
+      fewer = λ h. le_refl (length (providers_of t h));
       stay = λ x here. inl (consumer_there x here);
       tasting = same_tasting t (remove_geom t g) refl w.taste firm.handles.taste;
     }

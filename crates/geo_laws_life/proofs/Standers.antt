@@ -1,9 +1,9 @@
 -- What holds of the disks of a plan that stand at its opening.
-use Rattle.std.specs.Prelude.{◌≡◌, ◌≢◌, ◌⊎◌, ℕ, suc, ◌+◌, ◌*◌, ◌<◌, ◌≤◌, Bool, true, false, not, List, [], ◌∷◌, map, filter, zip, Some, AllPairs, slice_get}
+use Rattle.std.specs.Prelude.{◌≡◌, ◌≢◌, ◌⊎◌, ℕ, suc, ◌+◌, ◌*◌, ◌<◌, ◌≤◌, Bool, not, List, [], ◌∷◌, map, filter, zip, Some, AllPairs, slice_get}
 use Rattle.std.specs.List.{AllByRecursion, AllZip, enumerate_from}
-use Rattle.std.proofs.Common.{inl, inr, refl, ◌∙◌, ap, arith}
+use Rattle.std.proofs.Common.{inl, inr, ◌∙◌, ap, arith}
 use Rattle.std.proofs.lemmas.List.Elements.{recursion_from_All, All-from_recursion}
-use Rattle.std.proofs.lemmas.List.Kept.{AllPairs-cons}
+use Rattle.std.proofs.lemmas.List.Kept.{AllPairs-cons, AllPairs-filter}
 use Rattle.std.proofs.Math.Nat.{mul-mod_right}
 use Rattle.geo_model.proofs.AllLists.{pairs_head, pairs_tail}
 use Rattle.geo_model.specs.TheConstants.{MAX_IMAGE_BYTES}
@@ -32,20 +32,11 @@ recursion-from_pairs R [] facts = tt
 recursion-from_pairs R (x ∷ xs) facts =
     (recursion_from_All (R x) xs (pairs_head R x xs facts), recursion-from_pairs R xs (pairs_tail R x xs facts))
 
--- one item more, which is kept or not
-kept_pairs_step : {X : Type 0} (R : X → X → Type 0) (test : X → Bool) (x : X) (xs : List X) (b : Bool) → test x ≡ b
-    → AllByRecursion (R x) (filter test xs) → PairsByRecursion R (filter test xs)
-    → PairsByRecursion R (filter test (x ∷ xs))
-kept_pairs_step R test x xs true e first rest = rw e (first, rest)
-kept_pairs_step R test x xs false e first rest = rw e rest
-
 -- what holds of any two holds of any two that a filter keeps
 kept_pairs : {X : Type 0} (R : X → X → Type 0) (test : X → Bool) (xs : List X) → PairsByRecursion R xs
     → PairsByRecursion R (filter test xs)
-kept_pairs R test [] facts = facts
-kept_pairs R test (x ∷ xs) facts =
-    kept_pairs_step R test x xs (test x) refl (kept_by (R x) (R x) test (λ y e fact. fact) xs facts.0)
-    (kept_pairs R test xs facts.1)
+kept_pairs R test xs facts =
+    recursion-from_pairs R (filter test xs) (AllPairs-filter R test xs (pairs-from_recursion R xs facts))
 
 -- what a disk that stands has: its place in the header, and the sizes of the media
 pub record IsStander (disks : List HeaderDisk) (x : Stander) : Type 0 where

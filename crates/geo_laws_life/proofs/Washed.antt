@@ -2,9 +2,10 @@
 use Rattle.std.specs.Prelude.{◌≡◌, ◌≢◌, ◌⊎◌, ℕ, ◌==◌, Bool, true, false, not, ◌&&◌, List, [], ◌∷◌, length, filter, find, Option, Some, None, All, Contains, IsSome, IsTrue, if◌then◌else◌, Ok, Err}
 use Rattle.std.specs.List.{AllByRecursion}
 use Rattle.std.specs.Option.{option_map, option_or, option_and_then, option_map_or}
-use Rattle.std.proofs.Common.{inl, inr, refl, sym, ◌∙◌, ap, subst, arith}
+use Rattle.std.proofs.Common.{inl, inr, refl, sym, ◌∙◌, ap, subst}
 use Rattle.std.proofs.lemmas.Bool.{eqb-true, ne_eqb, cases_eq, and_parts, and_from}
 use Rattle.std.proofs.lemmas.List.Elements.{All-contains}
+use Rattle.std.proofs.lemmas.List.{nil_from_length}
 use Rattle.geo_model.proofs.FindLists.{some-passes}
 use Rattle.geo_model.specs.declared.step.Entry.{Entry}
 use Rattle.geo_model.specs.declared.step.Step.TheVariants as steps
@@ -55,11 +56,6 @@ either_of : {X : Type 0} (a b : Option X) (x : X) → option_or a b ≡ Some x �
 either_of None b x e = inr e
 either_of (Some y) b x e = inl e
 
--- an empty list by its length
-empty_list : {X : Type 0} (xs : List X) → (length xs == 0) ≡ true → xs ≡ []
-empty_list [] e = refl
-empty_list (x ∷ xs) e = let none : length (x ∷ xs) ≡ 0 = eqb-true (length (x ∷ xs)) 0 e in absurd (omega arith)
-
 -- what is made of a thing that is found
 made_of : {X Y : Type 0} (f : X → Y) (o : Option X) (y : Y) → option_map f o ≡ Some y → (x : X) × (o ≡ Some x)
     × (f x ≡ y)
@@ -81,8 +77,10 @@ module _ (w : World) (firm : Firm w) where
     provider_can work e =
         let p = made_of (λ (p : Provider). washes.Provider p.number)
         (find (λ (p : Provider). length (attached_to t p.number) == 0) (providers_of t g.number)) work e in
-        subst (CanWash w) p.2 (empty_list (attached_to t p.0.number)
-        (find_passes (λ (p : Provider). length (attached_to t p.number) == 0) (providers_of t g.number) p.0 p.1))
+        subst (CanWash w) p.2
+        (nil_from_length (attached_to t p.0.number)
+        (eqb-true (length (attached_to t p.0.number)) 0
+        (find_passes (λ (p : Provider). length (attached_to t p.number) == 0) (providers_of t g.number) p.0 p.1)))
 
     -- a consumer that is found is spent
     consumer_can : (work : WashWork) → free_consumer (granted_in w) (is_active w) t g ≡ Some work → CanWash w work
@@ -118,8 +116,10 @@ module _ (w : World) (firm : Firm w) where
           geom = g;
           found = found_here;
           withering = withers;
-          no_provider = empty_list (providers_of t g.number) both.0;
-          no_consumer = empty_list (consumers_of t g.number) both.1;
+          no_provider =
+              nil_from_length (providers_of t g.number) (eqb-true (length (providers_of t g.number)) 0 both.0);
+          no_consumer =
+              nil_from_length (consumers_of t g.number) (eqb-true (length (consumers_of t g.number)) 0 both.1);
         })
 
     -- so for the geom's test

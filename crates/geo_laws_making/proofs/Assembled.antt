@@ -5,6 +5,7 @@ use Rattle.std.specs.Option.{option_flatten, option_to_list}
 use Rattle.std.proofs.Common.{inl, inr, refl, sym, ◌∙◌, subst}
 use Rattle.geo_base.specs.declared.kind.Kind.{Kind}
 use Rattle.geo_base.specs.declared.kind.Kind.TheVariants as kinds
+use Rattle.geo_base.proofs.MemberLists.{in_flat_map}
 use Rattle.geo_model.specs.Words.{is_kind}
 use Rattle.geo_model.specs.World.{Config, Concat, Stripe}
 use Rattle.geo_model.specs.Place.{component, components, disk_of}
@@ -78,19 +79,7 @@ filled_of places = flat_map option_to_list places
 
 -- what is in a place is in the list
 pub in-places : (places : List (Option ℕ)) (c : ℕ) → Contains places (Some c) → Contains (filled_of places) c
-in-places [] c here = absurd (nothing_in (Some c) here)
-in-places (None ∷ places) c here =
-    elim (Contains-cases None (Some c) places here) [
-      | inl same ↦ absurd (let no : ⊥ = cc in no)
-      | inr rest ↦ in-places places c rest
-    ]
-in-places (Some d ∷ places) c here =
-    elim (Contains-cases (Some d) (Some c) places here) [
-      | inl same ↦
-          subst (λ n. Contains (d ∷ filled_of places) n) (let e : d ≡ c = cc in e)
-          (Contains-here d (filled_of places))
-      | inr rest ↦ Contains-there d c (filled_of places) (in-places places c rest)
-    ]
+in-places places c here = in_flat_map option_to_list places (Some c) c here (Contains-here c [])
 
 -- and back
 pub of-places : (places : List (Option ℕ)) (c : ℕ) → Contains (filled_of places) c → Contains places (Some c)

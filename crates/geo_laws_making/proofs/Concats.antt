@@ -1,10 +1,11 @@
 -- A concat that may grow: its class, its configuration, its one provider; and that places are no more than
 -- consumers.
-use Rattle.std.specs.Prelude.{◌≡◌, ◌≢◌, ℕ, suc, ◌<◌, ◌≤◌, ◌==◌, Bool, true, false, not, ◌&&◌, List, [], ◌∷◌, ◌++◌, length, filter, find, flat_map, Option, Some, None, is_none, Contains}
-use Rattle.std.specs.List.{AllZip, list_any}
+use Rattle.std.specs.Prelude.{◌≡◌, ◌≢◌, ℕ, suc, ◌<◌, ◌≤◌, ◌==◌, true, false, not, ◌&&◌, List, [], ◌∷◌, ◌++◌, length, filter, find, flat_map, Option, Some, None, is_none, Contains}
+use Rattle.std.specs.List.{list_any}
 use Rattle.std.specs.Option.{option_to_list}
-use Rattle.std.proofs.Common.{inl, inr, refl, sym, ◌∙◌, ap, subst, arith}
+use Rattle.std.proofs.Common.{refl, sym, ◌∙◌, ap, subst, arith}
 use Rattle.std.proofs.lemmas.Bool.{and_parts, not-true, ne_eqb, eq-eqb}
+use Rattle.std.proofs.lemmas.List.Filters.{length-filter_both}
 use Rattle.geo_base.specs.declared.kind.Kind.{Kind}
 use Rattle.geo_base.specs.declared.kind.Kind.TheVariants as kinds
 use Rattle.geo_model.specs.Words.{is_kind, same_name}
@@ -15,9 +16,7 @@ use Rattle.geo_model.specs.Append.{Growing, with_provider, is_growing, growing_c
 use Rattle.geo_model.specs.Graph.{IsInOrder}
 use Rattle.geo_model.specs.Sound.{fits_kind}
 use Rattle.geo_model.proofs.DemandLemmas.{find_passes}
-use Rattle.geo_laws_graph.proofs.Members.{Contains-cases, Contains-here, Contains-there, Contains-filter, nothing_in, at_contained}
-use Rattle.geo_laws_counts.proofs.BareParts.{length-kept}
-use Rattle.geo_laws_counts.proofs.Members.{in_flat_map}
+use Rattle.geo_laws_graph.proofs.Members.{Contains-here, Contains-there, Contains-filter, at_contained}
 use Rattle.geo_laws_life.proofs.Standers.{PairsByRecursion}
 use Rattle.geo_laws_growth.specs.GrowthLaws.{IsFoundGrowing}
 use Rattle.geo_laws_growth.proofs.Grown.{grown_is_found}
@@ -79,22 +78,10 @@ still_fits kind config c size concat fits =
     (subst (λ z. fits_kind kinds.Concat (add_place z c size) ≡ true) (sym a.is) refl)
 
 -- without a member a list is shorter
-shorter : (x : ℕ) (y : ℕ) (ys : List ℕ) → (Contains ys x → length (filter (λ z. not (z == x)) ys) < length ys)
-    → Contains (y ∷ ys) x → (b : Bool) → (y == x) ≡ b → length (filter (λ z. not (z == x)) (y ∷ ys))
-    < length (y ∷ ys)
-shorter x y ys rest here true e =
-    let less = length-kept (λ z. not (z == x)) ys in
-    rw e (omega (arith, less))
-shorter x y ys rest here false e =
-    elim (Contains-cases y x ys here) [
-      | inl same ↦ false_true (sym e ∙ eq-eqb y x same)
-      | inr more ↦ (let less = rest more in rw e (omega (arith, less)))
-    ]
-
--- so for any member
 pub without_shorter : (x : ℕ) (ys : List ℕ) → Contains ys x → length (filter (λ z. not (z == x)) ys) < length ys
-without_shorter x [] here = absurd (nothing_in x here)
-without_shorter x (y ∷ ys) here = shorter x y ys (without_shorter x ys) here (y == x) refl
+without_shorter x ys here =
+    let gone = Contains-filter (λ z. not (not (z == x))) ys x here (rw (eq-eqb x x refl) refl) in
+    omega (arith, gone.1, length-filter_both (λ z. not (z == x)) (λ z. not (not (z == x))) (λ z. refl) ys)
 
 -- different numbers that are all among others are no more than these
 pub no_more : (xs ys : List ℕ) → PairsByRecursion (λ a b. a ≢ b) xs → ((n : ℕ) → Contains xs n → Contains ys n)
@@ -122,25 +109,3 @@ pub filled_still : (places : List (Option ℕ)) (c : ℕ) → list_any is_none p
 filled_still [] c none = refl
 filled_still (None ∷ places) c none = false_true (sym none)
 filled_still (Some d ∷ places) c none = filled_still places c none
-
--- what fills a place is among the components
-pub place-component : (places : List (Option ℕ)) (c : ℕ) → Contains places (Some c)
-    → Contains (flat_map option_to_list places) c
-place-component places c here = in_flat_map option_to_list places (Some c) c here (Contains-here c [])
-
--- and one pair more
-pub zip_push : {A B : Type 0} (R : A → B → Type 0) (xs : List A) (ys : List B) (a : A) (b : B) → AllZip R xs ys
-    → R a b
-    → AllZip R (xs ++ a ∷ []) (ys ++ b ∷ [])
-zip_push R [] [] a b facts fact = (fact, tt)
-zip_push R [] (y ∷ ys) a b facts fact = absurd facts
-zip_push R (x ∷ xs) [] a b facts fact = absurd facts
-zip_push R (x ∷ xs) (y ∷ ys) a b facts fact = (facts.0, zip_push R xs ys a b facts.1 fact)
-
--- two lists that go together are as long
-pub zip_length : {A B : Type 0} (R : A → B → Type 0) (xs : List A) (ys : List B) → AllZip R xs ys
-    → length xs ≡ length ys
-zip_length R [] [] facts = refl
-zip_length R [] (y ∷ ys) facts = absurd facts
-zip_length R (x ∷ xs) [] facts = absurd facts
-zip_length R (x ∷ xs) (y ∷ ys) facts = ap suc (zip_length R xs ys facts.1)

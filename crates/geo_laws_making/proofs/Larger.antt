@@ -2,6 +2,7 @@
 use Rattle.std.specs.Prelude.{◌≡◌, ◌≢◌, ◌⊎◌, ℕ, ◌+◌, ◌-◌, ◌<◌, ◌≤◌, ◌%◌, ◌==◌, nat_le, nat_lt, true, false, not, ◌||◌, [], ◌∷◌, ◌++◌, length, map, flat_map, sum, Option, Some, None, is_none, IsSome, IsSomeAnd, IfSome, All, AllPairs, Contains, option_and_then, slice_get}
 use Rattle.std.specs.List.{AllZip, list_any}
 use Rattle.std.specs.Option.{option_map_or, option_to_list}
+use Rattle.std.proofs.lemmas.Slice.Zip.{all_zipped_more, AllZip-long}
 use Prim.Native.Nat.{◌∣◌}
 use Rattle.std.proofs.Common.{inl, inr, refl, sym, ◌∙◌, ap, subst, arith, get_or}
 use Rattle.std.proofs.lemmas.Bool.{false_from_ne_true, or_parts, not-false, leb-false, ltb-false, eqb-true, eq-eqb, ne_eqb, cases_eq, cases_lt}
@@ -49,8 +50,9 @@ use Rattle.geo_laws_making.proofs.More.{fits_grown, inside_grown}
 use Rattle.geo_laws_making.proofs.MoreFirm.{more-firm}
 use Rattle.geo_laws_making.proofs.Over.{false_true}
 use Rattle.geo_laws_making.proofs.Made.{through}
-use Rattle.geo_laws_making.proofs.Concats.{IsConcat, concat_of, IsStanding, still_fits, no_more, all-components, filled_still, place-component, zip_push, zip_length}
+use Rattle.geo_laws_making.proofs.Concats.{IsConcat, concat_of, IsStanding, still_fits, no_more, all-components, filled_still}
 use Rattle.geo_laws_making.proofs.Rises.{order, live, geom_here, provider_here, provider_own, own_only, apart_from, wants_more, opened_upright, rank_away}
+use Rattle.geo_laws_making.proofs.Assembled.{in-places}
 
 -- what an append asks of the concat and the provider: not too many consumers, one sector size, and a size that
 -- isn't too large
@@ -252,7 +254,7 @@ module _ (w : World) (x : Growing) (q : Provider) (firm : Firm w) (is : IsStandi
   old_fits (Some k) b here fact =
       let d = found-with (consumer_at t k) (IsPart x.geom)
       (All-contains (λ d. IsSomeAnd (consumer_at t d) (IsPart x.geom))
-      (flat_map option_to_list before.places) k stood (place-component before.places k here)) in
+      (flat_map option_to_list before.places) k stood (in-places before.places k here)) in
       if-with (consumer_at u k) (FitsOver u n b) d.item (consumer_in k d.item d.is) (λ own.
       fits_grown t u provider_in d.item.provider
       (All-contains (λ (z : Consumer). IsSome (option_and_then (provider_at t) z.provider)) t.consumers d.item
@@ -368,7 +370,7 @@ module _ (w : World) (x : Growing) (q : Provider) (firm : Firm w) (is : IsStandi
         false_true (sym (ap (λ z. list_any is_none (places_of z)) config_is
         ∙ filled_still before.places c no_free) ∙ free);
     places = subst (λ z. AllZip (FitsPlace u n) (places_of z) (sizes_of z)) (sym config_is)
-        (zip_push (FitsPlace u n) before.places before.sizes (Some c) q.size
+        (all_zipped_more (FitsPlace u n) before.places before.sizes (Some c) q.size
         (zip_members (FitsPlace t n) (FitsPlace u n) before.places before.sizes old_fits fitted) new_fits);
     one = λ concat. one_still;
     apart = record {
@@ -430,8 +432,8 @@ module _ (w : World) (x : Growing) (q : Provider) (firm : Firm w) (is : IsStandi
   new_place o short =
       let spot : Spot = record { component = length before.sizes; offset = o } in
       let more : q.size ≤ q_in.now.size = q_in.is.larger in
-      let long : length before.places ≡ length before.sizes = zip_length (FitsPlace t n) before.places
-      before.sizes fitted in
+      let long : length before.places
+      ≡ length before.sizes = sym (AllZip-long (FitsPlace t n) before.places before.sizes fitted) in
       some-with (place config x.provider.name (sum before.sizes + o)) (IsPlaceInside u g larger) spot
       (ap (λ z. place z x.provider.name (sum before.sizes + o)) config_is
       ∙ grown_concat.new before.id before.places before.sizes c q.size x.provider.name o short)

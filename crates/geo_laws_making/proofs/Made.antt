@@ -10,6 +10,7 @@ use Rattle.std.proofs.lemmas.List.Quantifiers.{all_pairs_push}
 use Rattle.geo_base.specs.Sectors.{IsSectorSize}
 use Rattle.geo_base.specs.declared.kind.Kind.{Kind}
 use Rattle.geo_base.specs.declared.limits.TheConstants.{MAX_RANK, UNTASTED_RANK}
+use Rattle.geo_base.proofs.MemberLists.{zip_members}
 use Rattle.geo_model.specs.Words.{largest, same_name}
 use Rattle.geo_model.specs.Topology.{Topology, Geom, Provider, Consumer, geom_at, provider_at, consumer_at, geom_of_provider, providers_of, is_name_taken, add_geom}
 use Rattle.geo_model.specs.Rank.{rank}
@@ -39,7 +40,7 @@ use Rattle.geo_laws_counts.proofs.Stays.{geom_came}
 use Rattle.geo_laws_counts.proofs.Sums.{at_most-same}
 use Rattle.geo_laws_life.proofs.Standers.{recursion-from_pairs}
 use Rattle.geo_laws_life.proofs.Frames.{FitsOver}
-use Rattle.geo_laws_life.proofs.Found.{found-with, some-with, some-there, none-there, if-found, at-found, one-found, all_zip-weaker}
+use Rattle.geo_laws_life.proofs.Found.{found-with, some-with, some-there, none-there, if-found, at-found, one-found}
 use Rattle.geo_laws_life.proofs.Bare.{stands-at}
 use Rattle.geo_laws_making.specs.MakingLaws.{below_new, HasPlace, CanOffer, IsNewDisk, CanMake, MakesKeepFirm}
 use Rattle.geo_laws_making.specs.MoreLaws.{IsUntouched, GeomFits, ProviderFits, IsMore}
@@ -385,8 +386,9 @@ module _ (w : World) (kind : Kind) (name : List ℕ) (config : Config) (automati
   -- its places fit
   fits_places : FitsPlaces u g
   fits_places =
-      all_zip-weaker (λ (a : Option ℕ) (b : ℕ). IfSome (option_and_then (below_new t.next_consumer ps) a) (λ q.
-      (b ≤ q.size) × (b % q.sector ≡ 0))) (FitsPlace u n) fit (places_of config) (sizes_of config) can.places
+      zip_members (λ (a : Option ℕ) (b : ℕ). IfSome (option_and_then (below_new t.next_consumer ps) a) (λ q.
+      (b ≤ q.size) × (b % q.sector ≡ 0))) (FitsPlace u n) (places_of config) (sizes_of config) (λ a b here. fit a b)
+      can.places
     where
       -- one place
       fit : (a : Option ℕ) (b : ℕ) → IfSome (option_and_then (below_new t.next_consumer ps) a) (λ q.

@@ -8,6 +8,7 @@ use Rattle.std.proofs.lemmas.List.Elements.{All-contains, All-weaker}
 use Rattle.geo_base.proofs.FindLists.{some-passes}
 use Rattle.geo_base.specs.Sectors.{IsSectorSize}
 use Rattle.geo_base.specs.declared.kind.Kind.TheVariants as kinds
+use Rattle.geo_base.proofs.MemberLists.{zip_members}
 use Rattle.geo_model.specs.declared.class.Facts.{Facts}
 use Rattle.geo_model.specs.declared.step.Event.{Event}
 use Rattle.geo_model.specs.Topology.{Topology, Geom, Provider, Consumer, geom_at, provider_at, consumer_at, providers_of}
@@ -24,7 +25,7 @@ use Rattle.geo_laws_graph.proofs.Members.{has, find-Contains, filter-Contains}
 use Rattle.geo_laws_graph.proofs.Lists.{found_itself}
 use Rattle.geo_laws_graph.proofs.Numbered.{any-contained, number_found}
 use Rattle.geo_laws_counts.proofs.LimitFacts.{all_of}
-use Rattle.geo_laws_life.proofs.Found.{some-with, some-there, if-found, at-found, at-some, one-found, all_zip-weaker}
+use Rattle.geo_laws_life.proofs.Found.{some-with, some-there, if-found, at-found, at-some, one-found}
 use Rattle.geo_laws_life.proofs.Less.{remade}
 use Rattle.geo_laws_making.specs.MoreLaws.{IsMore, MoreIsFirm}
 use Rattle.geo_laws_life.proofs.Frames.{fact_still, IsPart, FitsOver}
@@ -241,8 +242,8 @@ module _ (w : World) (u : Topology Config) (g : Geom Config) (firm : Firm w) (mo
     places = all_of (FitsPlaces u) u.geoms (λ y here.
         elim (more.geoms y here) [
           | inl old ↦
-              all_zip-weaker (FitsPlace t y.number) (FitsPlace u y.number) (λ a b. fits_place y.number old.1 a b)
-              (places_of y.config) (sizes_of y.config)
+              zip_members (FitsPlace t y.number) (FitsPlace u y.number) (places_of y.config) (sizes_of y.config)
+              (λ a b here. fits_place y.number old.1 a b)
               (All-contains (FitsPlaces t) t.geoms y firm.sizes.places old.0)
           | inr same ↦ subst (FitsPlaces u) (sym same) more.fits.places
         ]);

@@ -7,11 +7,14 @@ use Rattle.std.proofs.Math.Bool.{or-true}
 use Rattle.std.proofs.lemmas.List.Elements.{All-contains, All-weaker, All-push}
 use Rattle.std.proofs.lemmas.List.Quantifiers.{all_pairs_push}
 use Rattle.std.proofs.lemmas.List.Sums.{length-filter}
+use Rattle.std.proofs.lemmas.List.{nil_from_length}
+use Rattle.std.proofs.lemmas.Bool.{eqb-true, not-false}
 use Rattle.geo_base.specs.Sectors.{IsSectorSize}
 use Rattle.geo_base.specs.declared.kind.Kind.{Kind}
 use Rattle.geo_base.specs.declared.request.BioCmd.TheVariants as cmds
 use Rattle.geo_base.specs.declared.request.Counts.{Counts}
 use Rattle.geo_base.specs.declared.limits.TheConstants.{MAX_REQUEST_BYTES}
+use Rattle.geo_base.proofs.FindLists.{any-kept_some}
 use Rattle.geo_model.specs.declared.step.Owner.{Owner}
 use Rattle.geo_model.specs.declared.step.Owner.TheVariants as owners
 use Rattle.geo_model.specs.Words.{is_read}
@@ -36,15 +39,6 @@ use Rattle.geo_laws_life.proofs.Found.{found-with, some-with}
 use Rattle.geo_laws_making.specs.TasteLaws.{taste_asking, world_with_taste, IsAsking, IsGranted}
 use Rattle.geo_laws_making.proofs.Tasters.{tasting, taster, taster_found, taster_holds}
 use Rattle.geo_laws_making.proofs.Reading.{more, taster_reads, read-firm}
-
--- where nothing passes, nothing is kept
-nothing_kept : {X : Type 0} (test : X → Bool) (xs : List X) → list_any test xs ≡ false → filter test xs ≡ []
-nothing_kept test [] none = refl
-nothing_kept {X = X} test (x ∷ xs) none = by (test x) refl (nothing_kept test xs) where
-  -- by the first
-  by : (b : Bool) → test x ≡ b → (list_any test xs ≡ false → filter test xs ≡ []) → filter test (x ∷ xs) ≡ []
-  by true e rest = absurd (let bad : true ≡ false = rw e at none in let no : ⊥ = cc in no)
-  by false e rest = let others : list_any test xs ≡ false = rw e at none in rw e (rest others)
 
 -- the range of one sector, by its size
 record IsRange (sector offset len size : ℕ) : Type 0 where
@@ -218,7 +212,9 @@ module _ (w : World) (firm : Firm w) (s : Taste) (p : Provider) (granted : IsGra
       sym (length-filter (λ (z : Bio). is_taste_root z.owner) v.bios)
       ∙ ap (λ (zs : List Bio). length zs)
       (filter-pushed_hit (λ (z : Bio). is_taste_root z.owner) w.bios x refl
-      ∙ ap (λ (zs : List Bio). zs ++ x ∷ []) (nothing_kept (λ (z : Bio). is_taste_root z.owner) w.bios none_out))
+      ∙ ap (λ (zs : List Bio). zs ++ x ∷ [])
+      (let none = sym (any-kept_some (λ (z : Bio). is_taste_root z.owner) w.bios) ∙ none_out in
+      nil_from_length (filter (λ (z : Bio). is_taste_root z.owner) w.bios) (eqb-true _ 0 (not-false _ none))))
 
   -- the bios then
   read-bios : BiosOf v

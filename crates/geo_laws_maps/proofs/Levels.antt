@@ -1,17 +1,17 @@
 -- As many levels as there are geoms are enough for the ways of a closed set, so the map of a provider is made of
 -- those of the providers below.
-use Rattle.std.specs.Prelude.{◌≡◌, ℕ, zero, suc, ◌+◌, ◌<◌, ◌≤◌, ◌==◌, nat_le, Bool, true, false, List, [], ◌∷◌, length, filter, Some, Contains, option_and_then}
-use Rattle.std.proofs.Common.{inl, inr, refl, sym, ◌∙◌, ap, subst, arith}
+use Rattle.std.specs.Prelude.{◌≡◌, ℕ, zero, suc, ◌+◌, ◌<◌, ◌≤◌, ◌==◌, nat_le, Bool, true, false, length, filter, Some, Contains, option_and_then}
+use Rattle.std.proofs.Common.{refl, sym, ◌∙◌, ap, subst, arith}
 use Rattle.std.proofs.lemmas.Bool.{leb-true, le-leb}
 use Rattle.std.proofs.lemmas.List.Sums.{length-filter, count_by-le-length}
 use Rattle.geo_model.specs.Topology.{Topology, Geom, Provider, Consumer, geom_at, provider_at, provider_of_consumer}
 use Rattle.geo_model.specs.Rank.{rank, Ranked}
 use Rattle.geo_model.specs.World.{Config}
 use Rattle.geo_model.specs.Place.{components, flat_step, flat_within, flat, ends_step, ends_within, ends}
-use Rattle.geo_laws_graph.proofs.Members.{find-Contains, Contains-cases, nothing_in}
+use Rattle.geo_laws_graph.proofs.Members.{find-Contains}
 use Rattle.geo_laws_graph.proofs.Numbered.{number_found}
 use Rattle.geo_laws_graph.specs.Edges.{Below}
-use Rattle.geo_laws_graph.proofs.Climbing.{rank-falls}
+use Rattle.geo_laws_graph.proofs.Climbing.{rank-falls, fewer_pass}
 use Rattle.geo_laws_life.proofs.Found.{one-found}
 use Rattle.geo_laws_maps.specs.Ways.{LeadsInto, GoesDown, IsWays, IsOpen}
 use Rattle.geo_laws_maps.specs.MapLaws.{MapGoesDown}
@@ -19,41 +19,6 @@ use Rattle.geo_laws_maps.proofs.Opened.{open-down}
 use Rattle.geo_laws_maps.proofs.MapSteps.{flat_level, ends_level, flat_step-same, ends_step-same}
 
 -- How many pass
-
-module _ {X : Type 0} (p q : X → Bool) (so : (x : X) → p x ≡ true → q x ≡ true) where
-  -- one item more
-  more_step : (x : X) (xs : List X) (a b : Bool) → p x ≡ a → q x ≡ b → length (filter p xs) ≤ length (filter q xs)
-      → length (filter p (x ∷ xs)) ≤ length (filter q (x ∷ xs))
-  more_step x xs true true e f less = rw (e, f) (omega arith)
-  more_step x xs true false e f less = absurd (let no : false ≡ true = sym f ∙ so x e in cc)
-  more_step x xs false true e f less = rw (e, f) (omega arith)
-  more_step x xs false false e f less = rw (e, f) less
-
-  -- no more pass the test that asks for more
-  more_pass : (xs : List X) → length (filter p xs) ≤ length (filter q xs)
-  more_pass [] = omega arith
-  more_pass (x ∷ xs) = more_step x xs (p x) (q x) refl refl (more_pass xs)
-
-  -- one item more, where fewer of the rest pass
-  less_step : (x : X) (xs : List X) (a b : Bool) → p x ≡ a → q x ≡ b → length (filter p xs) < length (filter q xs)
-      → length (filter p (x ∷ xs)) < length (filter q (x ∷ xs))
-  less_step x xs true true e f less = rw (e, f) (omega arith)
-  less_step x xs true false e f less = absurd (let no : false ≡ true = sym f ∙ so x e in cc)
-  less_step x xs false true e f less = rw (e, f) (omega arith)
-  less_step x xs false false e f less = rw (e, f) less
-
-  -- and fewer, where one passes the other alone
-  pub fewer_pass : (xs : List X) (y : X) → Contains xs y → p y ≡ false → q y ≡ true
-      → length (filter p xs) < length (filter q xs)
-  fewer_pass [] y here none some = absurd (nothing_in y here)
-  fewer_pass (x ∷ xs) y here none some =
-      elim (Contains-cases x y xs here) [
-        | inl same ↦
-            let e : p x ≡ false = rw same none in
-            let f : q x ≡ true = rw same some in
-            rw (e, f) (omega (arith, more_pass xs))
-        | inr rest ↦ less_step x xs (p x) (q x) refl refl (fewer_pass xs y rest none some)
-      ]
 
 -- what isn't at most another is more
 above_false : (a b : ℕ) → b < a → nat_le a b ≡ false

@@ -1,7 +1,7 @@
 -- Offsets of sectors in turn, and parts of bytes in turn.
 use Rattle.std.specs.Prelude.{◌≡◌, ℕ, zero, suc, ◌+◌, ◌*◌, ◌/◌, ◌%◌, ◌<◌, List, [], ◌∷◌, ◌++◌, map, take, drop}
 use Rattle.std.specs.List.{range_with_len}
-use Rattle.std.proofs.Common.{refl, sym, ◌∙◌, ap, arith}
+use Rattle.std.proofs.Common.{refl, sym, ◌∙◌, ap, arith, take-add}
 use Rattle.std.proofs.Math.Nat.{add-mul, div-mul_cancel, mul-add-div_right, dvd_of_mod-eq-zero, zero-div}
 use Rattle.geo_model.specs.Results.{sector_offsets}
 
@@ -57,15 +57,6 @@ pub offsets-none : (s o n : ℕ) → n ≡ 0 → sector_offsets s o n ≡ []
 offsets-none s o n none =
     ap (λ m. map (λ k. o + k * s) (range_with_len 0 m)) (ap (λ m. m / s) none ∙ zero-div s)
 
--- a part of nothing is nothing
-nothing : (n : ℕ) → take {A = ℕ} n [] ≡ []
-nothing zero = refl
-nothing (suc n) = refl
-
 -- a part of some bytes and the part after it
 pub part-split : (n m : ℕ) (xs : List ℕ) → take (n + m) xs ≡ take n xs ++ take m (drop n xs)
-part-split zero m xs = let e : zero + m ≡ m = omega arith in ap (λ k. take k xs) e
-part-split (suc n) m [] = let e : take (suc n + m) [] ≡ [] = nothing (suc n + m) in e ∙ sym (nothing m)
-part-split (suc n) m (x ∷ xs) =
-    let e : suc n + m ≡ suc (n + m) = omega arith in
-    ap (λ k. take k (x ∷ xs)) e ∙ ap (λ ys. x ∷ ys) (part-split n m xs)
+part-split n m xs = take-add n m xs
