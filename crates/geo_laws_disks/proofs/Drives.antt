@@ -3,7 +3,7 @@ use Rattle.std.specs.Prelude.{◌≡◌, ◌≢◌, ℕ, suc, ◌+◌, ◌==◌,
 use Rattle.std.specs.Option.{option_map}
 use Rattle.std.proofs.Common.{add-zero, append-nil, append_assoc, refl, sym, ◌∙◌, ap, subst, arith}
 use Rattle.std.proofs.lemmas.Bool.{both_ways, eqb-true, eq-eqb, ne_eqb}
-use Rattle.geo_base.proofs.Options.{if_some_weaker}
+use Rattle.geo_base.proofs.Options.{if_some_weaker, option_map-same}
 use Rattle.geo_base.proofs.PlaceLists.{slot-same, slot-other}
 use Rattle.geo_laws_graph.proofs.Members.{nothing_in}
 use Rattle.geo_disk.specs.Counts.{counted_if, counted_many, counted_on}
@@ -21,11 +21,6 @@ use Rattle.geo_serve.specs.Served.{AreServed, IsServed, IsServedAt}
 use Rattle.geo_laws_disks.proofs.Splits.{none_in}
 use Rattle.geo_laws_disks.specs.DriveLaws.{AreTaken, DrivesFollow}
 use Rattle.geo_laws_disks.proofs.HeldByDrives.{answered_calls, answered_contents, answered_failures, answered_true, quiet_calls, quiet_contents, quiet_failures, quiet_true}
-
--- what a told disk holds, by equal functions
-map_same : {A B : Type 0} (f g : A → B) (o : Option A) → ((x : A) → f x ≡ g x) → option_map f o ≡ option_map g o
-map_same f g None same = refl
-map_same f g (Some x) same = ap Some (same x)
 
 -- drives at the beginning of a log
 pub served_none : (disk : ℕ) (before : DriveView) → IsServed [] disk before before
@@ -56,8 +51,9 @@ pub served_quiet : (xs : List Entry) (e : Entry) (disk : ℕ) (before after : Dr
     → delivered_in e.step ≡ None → IsServed xs disk before after → IsServed (xs ++ e ∷ []) disk before after
 served_quiet xs e disk before after taken quiet served = record {
   held = served.held
-      ∙ map_same (λ held. contents before.sector held xs disk) (λ held. contents before.sector held (xs ++ e ∷ []) disk)
-      before.held (λ held. sym (quiet_contents xs e taken quiet before.sector disk held));
+      ∙ option_map-same (λ held. contents before.sector held xs disk)
+      (λ held. contents before.sector held (xs ++ e ∷ []) disk)
+      (λ held. sym (quiet_contents xs e taken quiet before.sector disk held)) before.held;
   reads = if_some_weaker (λ held. AreTrue before.sector held xs disk)
       (λ held. AreTrue before.sector held (xs ++ e ∷ []) disk)
       (λ held. quiet_true xs e taken quiet before.sector disk held) before.held served.reads;
@@ -78,8 +74,8 @@ pub served_other : (xs : List Entry) (e : Entry) (b : ℕ) (got : DeviceResult) 
     → q.disk ≢ disk → IsServed xs disk before after → IsServed (xs ++ e ∷ []) disk before after
 served_other xs e b got q disk before after taken delivers asked other served = record {
   held = served.held
-      ∙ map_same (λ held. contents before.sector held xs disk) (λ held. contents before.sector held (xs ++ e ∷ []) disk)
-      before.held (λ held. sym (same before.sector held));
+      ∙ option_map-same (λ held. contents before.sector held xs disk)
+      (λ held. contents before.sector held (xs ++ e ∷ []) disk) (λ held. sym (same before.sector held)) before.held;
   reads = if_some_weaker (λ held. AreTrue before.sector held xs disk)
       (λ held. AreTrue before.sector held (xs ++ e ∷ []) disk)
       (λ held so_far. answered_true xs e b got q taken delivers asked before.sector disk held so_far

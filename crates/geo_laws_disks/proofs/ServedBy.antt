@@ -4,7 +4,7 @@ use Rattle.std.specs.Option.{option_map}
 use Rattle.std.proofs.Common.{add-zero, append_assoc, refl, sym, ◌∙◌, ap, subst, arith}
 use Rattle.std.proofs.lemmas.List.{map-append}
 use Rattle.std.proofs.lemmas.List.Sums.{sum_by-append}
-use Rattle.geo_base.proofs.Options.{if_some_weaker}
+use Rattle.geo_base.proofs.Options.{if_some_weaker, option_map-same}
 use Rattle.geo_disk.specs.declared.calls.DiskCall.{DiskCall}
 use Rattle.geo_disk.specs.Counts.{counted_many, counted_on}
 use Rattle.geo_model.specs.declared.step.Entry.{Entry}
@@ -45,11 +45,6 @@ record IsServedBy (ds : List Delivery) (before after : DriveView) : Type 0 where
   kind : fails_of after ≡ fails_of before
   memory : fails_of before ≡ Some [] → failures ds ≡ 0
 
--- what a told disk holds, by equal functions
-held_same : {A : Type 0} (f g : A → A) (o : Option A) → ((x : A) → f x ≡ g x) → option_map f o ≡ option_map g o
-held_same f g None same = refl
-held_same f g (Some x) same = ap Some (same x)
-
 module _ (table : ℕ → Option Request) (log : List Entry) (disk : ℕ) (order : InOrder table log) where
   -- what the log delivers, by the table
   abbrev ds : List Delivery
@@ -71,8 +66,8 @@ module _ (table : ℕ → Option Request) (log : List Entry) (disk : ℕ) (order
   by_log : (before after : DriveView) → IsServed log disk before after → IsServedBy ds before after
   by_log before after served = record {
     held = served.held
-        ∙ held_same (λ held. contents before.sector held log disk) (λ held. held_by before.sector held ds) before.held
-        (λ held. contents_same before.sector held);
+        ∙ option_map-same (λ held. contents before.sector held log disk) (λ held. held_by before.sector held ds)
+        (λ held. contents_same before.sector held) before.held;
     reads = if_some_weaker (λ held. AreTrue before.sector held log disk) (λ held. AreTold before.sector held ds)
         (λ held reads. told_by_true table before.sector disk held log order reads) before.held served.reads;
     whole = served.whole;
@@ -89,8 +84,8 @@ module _ (table : ℕ → Option Request) (log : List Entry) (disk : ℕ) (order
   along_log : (before after : DriveView) → IsServedBy ds before after → IsServed log disk before after
   along_log before after served = record {
     held = served.held
-        ∙ held_same (λ held. held_by before.sector held ds) (λ held. contents before.sector held log disk) before.held
-        (λ held. sym (contents_same before.sector held));
+        ∙ option_map-same (λ held. held_by before.sector held ds) (λ held. contents before.sector held log disk)
+        (λ held. sym (contents_same before.sector held)) before.held;
     reads = if_some_weaker (λ held. AreTold before.sector held ds) (λ held. AreTrue before.sector held log disk)
         (λ held told. true_by_told table before.sector disk held log order told) before.held served.reads;
     whole = served.whole;

@@ -1,11 +1,12 @@
 -- In a log that takes each bio at most once, the request of a bio is that of its one Take, wherever that stands.
-use Rattle.std.specs.Prelude.{◌≡◌, ◌⊎◌, ℕ, ◌+◌, ◌≤◌, Bool, true, false, cond, List, [], ◌∷◌, ◌++◌, filter, find, count_by, Option, Some, None, IsSome, IfSome, Contains, option_and_then}
+use Rattle.std.specs.Prelude.{◌≡◌, ◌⊎◌, ℕ, ◌≤◌, Bool, true, false, cond, List, [], ◌∷◌, ◌++◌, filter, find, count_by, Option, Some, None, IsSome, IfSome, Contains, option_and_then}
 use Rattle.std.proofs.Common.{inl, inr, refl, sym, ◌∙◌, ap, subst, arith}
 use Rattle.std.proofs.lemmas.Bool.{both_ways}
 use Rattle.std.proofs.lemmas.List.{append_assoc}
 use Rattle.std.proofs.lemmas.List.Elements.{Contains-append_cases, Contains-append_left, Contains-append_right}
-use Rattle.std.proofs.lemmas.List.Sums.{sum_by-append, sum_by-cons}
-use Rattle.geo_base.proofs.FindLists.{found_passes}
+use Rattle.std.proofs.lemmas.List.Sums.{sum_by-append, length-filter}
+use Rattle.geo_base.proofs.FindLists.{found_passes, none_passes, found_in}
+use Rattle.geo_base.proofs.MemberLists.{one_only}
 use Rattle.geo_model.specs.declared.step.DeviceResult.{DeviceResult}
 use Rattle.geo_model.specs.declared.step.Entry.{Entry}
 use Rattle.geo_model.specs.declared.step.Request.{Request}
@@ -13,7 +14,7 @@ use Rattle.geo_model.specs.declared.step.Step.TheVariants as steps
 use Rattle.geo_model.specs.FixedOrder.{delivered_in}
 use Rattle.geo_model.specs.Log.{IsSplitBy}
 use Rattle.geo_model.specs.Results.{is_take_of, request_in, request_of}
-use Rattle.geo_laws_graph.proofs.Members.{Contains-cases, Contains-filter, Contains-here, at_contained, filter-Contains, find-Contains, nothing_in}
+use Rattle.geo_laws_graph.proofs.Members.{Contains-filter, Contains-here, at_contained, filter-Contains, find-Contains}
 use Rattle.geo_laws_disks.specs.DriveLaws.{AreTaken, IsTaken}
 use Rattle.geo_laws_disks.proofs.InOrder.{InOrder, IsAsked}
 use Rattle.geo_laws_disks.proofs.Splits.{none_in}
@@ -23,49 +24,24 @@ use Rattle.geo_laws_disks.proofs.Splits.{none_in}
 module _ {X : Type 0} (test : X → Bool) where
   -- what is contained and passes is counted
   passes_counted : (xs : List X) (y : X) → Contains xs y → test y ≡ true → 1 ≤ count_by test xs
-  passes_counted [] y here passes = absurd (nothing_in y here)
-  passes_counted (x ∷ xs) y here passes =
-      let front = sum_by-cons (λ z. cond (test z) 1 0) x xs in
-      elim (Contains-cases x y xs here) [
-        | inl same ↦
-            let one : cond {A = ℕ} (test x) 1 0 ≡ 1 = ap (λ (z : X). cond {A = ℕ} (test z) 1 0) same
-            ∙ ap (λ c. cond {A = ℕ} c 1 0) passes in
-            omega (arith, front, one)
-        | inr rest ↦ let more = passes_counted xs y rest passes in omega (arith, front, more)
-      ]
+  passes_counted xs y here passes =
+      let kept = Contains-filter test xs y here passes in omega (arith, kept.1, length-filter test xs)
 
   -- where one passes something is found
   found_some : (xs : List X) (y : X) → Contains xs y → test y ≡ true → find test xs ≡ None → ⊥
-  found_some [] y here passes none = nothing_in y here
-  found_some (x ∷ xs) y here passes none =
-      by (test x) refl (Contains-cases x y xs here) (λ rest. found_some xs y rest passes)
-    where
-      by : (c : Bool) → test x ≡ c → (x ≡ y) ⊎ Contains xs y → (Contains xs y → find test xs ≡ None → ⊥) → ⊥
-      by true is cases rest = let bad : Some x ≡ None = rw is at none in (let wrong : ⊥ = cc in wrong)
-      by false is (inl same) rest = both_ways (test y) (subst (λ (z : X). test z ≡ false) same is) passes
-      by false is (inr there) rest = rest there (rw is at none)
+  found_some xs y here passes none =
+      both_ways (test y) (at_contained (λ (z : X). test z ≡ false) xs y (none_passes test xs none) here) passes
 
   -- where one passes at most, it is found
   only_found : (xs : List X) (y : X) → count_by test xs ≤ 1 → Contains xs y → test y ≡ true → find test xs ≡ Some y
-  only_found [] y once here passes = absurd (nothing_in y here)
-  only_found (x ∷ xs) y once here passes =
-      by (test x) refl (Contains-cases x y xs here) (λ few rest. only_found xs y few rest passes)
+  only_found xs y once here passes = by (find test xs) refl
     where
-      front : count_by test (x ∷ xs) ≡ cond (test x) 1 0 + count_by test xs
-      front = sum_by-cons (λ z. cond (test z) 1 0) x xs
-
-      by : (c : Bool) → test x ≡ c → (x ≡ y) ⊎ Contains xs y
-          → (count_by test xs ≤ 1 → Contains xs y → find test xs ≡ Some y) → find test (x ∷ xs) ≡ Some y
-      by true is (inl same) rest = rw is (ap Some same)
-      by true is (inr there) rest =
-          let one : cond {A = ℕ} (test x) 1 0 ≡ 1 = ap (λ c. cond {A = ℕ} c 1 0) is in
-          let more : 1 ≤ count_by test xs = passes_counted xs y there passes in
-          absurd (omega (arith, front, one, more, once))
-      by false is (inl same) rest =
-          absurd (both_ways (test y) (subst (λ (z : X). test z ≡ false) same is) passes)
-      by false is (inr there) rest =
-          let none : cond {A = ℕ} (test x) 1 0 ≡ 0 = ap (λ c. cond {A = ℕ} c 1 0) is in
-          rw is (rest (omega (arith, front, none, once)) there)
+      by : (o : Option X) → find test xs ≡ o → find test xs ≡ Some y
+      by None none = absurd (found_some xs y here passes none)
+      by (Some z) is =
+          let found = found_in test xs z is in
+          is ∙ ap Some (one_only (filter test xs) z y (omega (arith, length-filter test xs, once))
+          (Contains-filter test xs z found.0 found.1) (Contains-filter test xs y here passes))
 
 -- The Take of a bio
 

@@ -4,6 +4,8 @@ use Rattle.std.specs.List.{AllByRecursion}
 use Rattle.std.proofs.Common.{refl, ap, arith}
 use Rattle.std.proofs.lemmas.Bool.{ne_eqb, eqb-true}
 use Rattle.std.proofs.lemmas.List.Sums.{sum_by-cons}
+use Rattle.geo_base.proofs.FilterLists.{keeps_all}
+use Rattle.geo_base.proofs.AllLists.{all_weaker}
 use Rattle.geo_model.specs.Words.{change_where}
 use Rattle.geo_model.specs.Graph.{AreNumbers}
 use Rattle.geo_laws_graph.proofs.Lists.{Rise, rise-from, unhit}
@@ -37,15 +39,11 @@ module _ {X : Type 0} (number : X → ℕ) (n : ℕ) where
       let is : number y ≡ n = eqb-true (number y) n e in
       others (number y + 1) high ys (omega (arith, is)) rise.2
 
-  -- an item of another number stays
-  stay_step : (x : X) (xs : List X) → (number x == n) ≡ false → filter other xs ≡ xs
-      → filter other (x ∷ xs) ≡ x ∷ xs
-  stay_step x xs e rest = rw (e, rest) refl
-
-  -- so do all
+  -- items of another number stay
   stay : (xs : List X) → AllByRecursion (λ (x : X). (number x == n) ≡ false) xs → filter other xs ≡ xs
-  stay [] facts = refl
-  stay (x ∷ xs) facts = stay_step x xs facts.0 (stay xs facts.1)
+  stay xs facts =
+      keeps_all other xs
+      (all_weaker (λ (x : X). (number x == n) ≡ false) (λ (x : X). other x ≡ true) (λ x e. rw e refl) xs facts)
 
   module _ (f : X → ℕ) (x : X) where
     -- one item more, the one that goes or another

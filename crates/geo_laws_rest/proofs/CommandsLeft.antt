@@ -1,9 +1,10 @@
 -- Each step but a Go of the actor leaves the actor's commands as they are.
-use Rattle.std.specs.Prelude.{◌≡◌, ◌≢◌, ℕ, zero, suc, Bool, true, false, List, [], ◌∷◌, slice_get, slice_set, Option, Some, None, if◌then◌else◌}
+use Rattle.std.specs.Prelude.{◌≡◌, ◌≢◌, ℕ, Bool, true, false, List, [], ◌∷◌, slice_get, Option, Some, None, if◌then◌else◌}
 use Rattle.std.specs.List.{AllByRecursion}
 use Rattle.std.specs.Option.{option_map_or}
-use Rattle.std.proofs.Common.{refl, ◌∙◌, ap}
+use Rattle.std.proofs.Common.{refl, ◌∙◌, ap, sym}
 use Rattle.std.proofs.lemmas.List.Elements.{recursion_from_All}
+use Rattle.geo_base.proofs.PlaceLists.{slot-other}
 use Rattle.geo_model.specs.declared.class.Judged.{Judged}
 use Rattle.geo_model.specs.declared.class.Judged.TheVariants as judgeds
 use Rattle.geo_model.specs.declared.command.LineCommand.{LineCommand}
@@ -27,14 +28,6 @@ use Rattle.geo_model.proofs.StepWalk.{step_by}
 use Rattle.geo_laws_rest.specs.CommandsLeft.{OthersLeaveCommands}
 use Rattle.geo_laws_rest.proofs.Gone.{keeps}
 use Rattle.geo_laws_rest.proofs.Heard.{kills}
-
--- what stands at another place stays
-set_elsewhere : {X : Type 0} (xs : List X) (i j : ℕ) (v : X) → i ≢ j → slice_get (slice_set xs i v) j ≡ slice_get xs j
-set_elsewhere [] i j v apart = refl
-set_elsewhere (x ∷ xs) zero zero v apart = absurd (apart refl)
-set_elsewhere (x ∷ xs) zero (suc j) v apart = refl
-set_elsewhere (x ∷ xs) (suc i) zero v apart = refl
-set_elsewhere (x ∷ xs) (suc i) (suc j) v apart = set_elsewhere xs i j v (λ same. apart (ap suc same))
 
 -- where the commands of all are the same, so are those at a place
 at_place : {xs ys : List (List LineCommand)} (actor : ℕ) → xs ≡ ys → slice_get xs actor ≡ slice_get ys actor
@@ -103,7 +96,7 @@ left_alone w seat s actor =
       refuses = λ d f apart. refl;
       goes = λ other c rest is apart.
           at_place actor (keeps (with_commands w other rest) c.line other c.command)
-          ∙ set_elsewhere w.actors other actor rest (λ same. apart (ap (λ n. steps.Go n) same));
+          ∙ slot-other w.actors other actor rest (λ same. apart (ap (λ n. steps.Go n) (sym same)));
       runs = λ e rest is apart. at_place actor (evented w (record w { events = rest }) refl e);
       judges = λ t x j is apart. at_place actor (judged w x j);
       reaps = λ h c is apart. at_place actor (reaped w c);

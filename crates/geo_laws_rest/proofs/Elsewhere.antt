@@ -1,12 +1,12 @@
 -- What tasting may cost where a rank changes of a geom that offers nothing, and where providers go.
-use Rattle.std.specs.Prelude.{◌≡◌, ◌≢◌, ℕ, ◌+◌, ◌<◌, ◌≤◌, ◌==◌, Bool, true, false, List, [], ◌∷◌, filter, length, sum_by, Option, Some, None, Contains, option_and_then}
+use Rattle.std.specs.Prelude.{◌≡◌, ◌≢◌, ℕ, ◌+◌, ◌<◌, ◌≤◌, ◌==◌, Bool, false, List, [], ◌∷◌, filter, length, sum_by, Option, Some, None, Contains, option_and_then, not}
 use Rattle.std.specs.List.{list_any}
 use Rattle.std.specs.Option.{option_map_or}
-use Rattle.std.proofs.Common.{inl, inr, refl, sym, ◌∙◌, ap, subst, arith}
-use Rattle.std.proofs.lemmas.Bool.{eq-eqb, or_parts}
+use Rattle.std.proofs.Common.{refl, sym, ◌∙◌, ap, subst, arith}
+use Rattle.std.proofs.lemmas.Bool.{eq-eqb, or_parts, not_from_false}
 use Rattle.std.proofs.lemmas.List.Sums.{sum_by-cons}
 use Rattle.std.proofs.Math.Nat.{mul-le-mul_left}
-use Rattle.geo_base.proofs.FilterLists.{length-kept}
+use Rattle.std.proofs.lemmas.List.Filters.{length-filter_both}
 use Rattle.geo_base.specs.declared.limits.TheConstants.{UNTASTED_RANK}
 use Rattle.geo_model.specs.declared.step.Event.{Event}
 use Rattle.geo_model.specs.declared.step.Event.TheVariants as events
@@ -15,7 +15,7 @@ use Rattle.geo_model.specs.Rank.{rank}
 use Rattle.geo_model.specs.World.{World, Config, Taste}
 use Rattle.geo_model.specs.Order.{taste_weight, rank_of_provider, event_weight, taste_left, makes_left, can_make}
 use Rattle.geo_model.specs.Laws.{is_offer}
-use Rattle.geo_laws_graph.proofs.Members.{find-Contains, Contains-filter, nothing_in, Contains-cases}
+use Rattle.geo_laws_graph.proofs.Members.{find-Contains, Contains-filter, nothing_in}
 use Rattle.geo_laws_graph.proofs.Numbered.{number_found}
 
 -- the rank of a geom that is found
@@ -97,20 +97,9 @@ no_offers v (e ∷ es) none =
 
 -- Lengths
 
--- one item more, where one is left out
-out_step : {X : Type 0} (keep : X → Bool) (x : X) (xs : List X) (b : Bool) → keep x ≡ b
-    → length (filter keep xs) < length xs → length (filter keep (x ∷ xs)) < length (x ∷ xs)
-out_step keep x xs true e less = rw e (omega (arith, less))
-out_step keep x xs false e less = rw e (omega (arith, less))
-
--- and is shorter where one is left out
+-- a list is shorter where one is left out
 pub left_out_length : {X : Type 0} (keep : X → Bool) (xs : List X) (x : X) → Contains xs x → keep x ≡ false
     → length (filter keep xs) < length xs
-left_out_length keep [] x here out = absurd (nothing_in x here)
-left_out_length keep (y ∷ ys) x here out =
-    elim (Contains-cases y x ys here) [
-      | inl same ↦
-          let gone : keep y ≡ false = rw same out in
-          rw gone (omega (arith, length-kept keep ys))
-      | inr rest ↦ out_step keep y ys (keep y) refl (left_out_length keep ys x rest out)
-    ]
+left_out_length keep xs x here out =
+    let gone = Contains-filter (λ y. not (keep y)) xs x here (not_from_false (keep x) out) in
+    omega (arith, gone.1, length-filter_both keep (λ y. not (keep y)) (λ y. refl) xs)

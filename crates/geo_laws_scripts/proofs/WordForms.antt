@@ -5,7 +5,8 @@ use Rattle.std.proofs.Common.{refl, sym, ◌∙◌, ap, arith}
 use Rattle.std.proofs.lemmas.Bool.{and_parts, leb-true}
 use Rattle.std.proofs.lemmas.Bool.Decides.{nat_tests}
 use Rattle.std.proofs.lemmas.Fmt.{decimal_digit, decimal_nonempty, length-decimal-le}
-use Rattle.std.proofs.lemmas.List.Elements.{recursion_from_All}
+use Rattle.std.proofs.lemmas.List.Elements.{recursion_from_All, All-weaker}
+use Rattle.std.proofs.lemmas.List.Sums.{list_all-from_AllPass, AllPass-from_list_all}
 use Rattle.geo_base.specs.Name.{is_name, is_name_byte, is_short_name, is_word_byte}
 use Rattle.geo_base.specs.Runs.{ByteRun, IsRuns, add_byte, hex_digit, run_text, runs_of, runs_text}
 use Rattle.geo_base.specs.declared.request.Counts.{Counts}
@@ -22,16 +23,6 @@ pub record IsWordWithin (n : ℕ) (word : List ℕ) : Type 0 where
   pub clean : IsClean word
   pub short : length word ≤ n
 
--- a test that follows from another, of all bytes
-all_weaker : (p q : ℕ → Bool) → ((b : ℕ) → p b ≡ true → q b ≡ true) → (bs : List ℕ) → list_all p bs ≡ true
-    → list_all q bs ≡ true
-all_weaker p q so [] all = refl
-all_weaker p q so (b ∷ bs) all =
-    let both = and_parts (p b) (list_all p bs) all in
-    let first : q b ≡ true = so b both.0 in
-    let rest : list_all q bs ≡ true = all_weaker p q so bs both.1 in
-    ap (λ t. t && list_all q bs) first ∙ rest
-
 -- Names
 
 -- a byte of a name is clean
@@ -46,7 +37,10 @@ name_within word is =
     record {
       clean = record {
         some_byte = let some : 1 ≤ length word = leb-true 1 (length word) sizes.0 in omega (arith, some);
-        bytes = all_weaker is_name_byte is_clean_byte name_byte_clean word sized.1;
+        bytes =
+            list_all-from_AllPass is_clean_byte word
+            (All-weaker (λ b. is_name_byte b ≡ true) (λ b. is_clean_byte b ≡ true) name_byte_clean word
+            (AllPass-from_list_all is_name_byte word sized.1));
       };
       short = leb-true (length word) 63 sizes.1;
     }
@@ -71,7 +65,10 @@ digit_clean b e = grind (arith, nat_tests)
 pub number_clean : (n : ℕ) → n < 2 ^ 64 → IsClean (decimal n)
 number_clean n fits = record {
   some_byte = decimal_nonempty n fits;
-  bytes = all_weaker is_digit is_clean_byte digit_clean (decimal n) (written_digits n fits);
+  bytes =
+      list_all-from_AllPass is_clean_byte (decimal n)
+      (All-weaker (λ b. is_digit b ≡ true) (λ b. is_clean_byte b ≡ true) digit_clean (decimal n)
+      (AllPass-from_list_all is_digit (decimal n) (written_digits n fits)));
 }
 
 -- a number of at most twenty digits
@@ -94,10 +91,6 @@ counts_spelled a r w e =
 -- a digit more than zero isn't `0`
 digit_is : (n : ℕ) → n ≤ 9 → is_digit (48 + n) ≡ true
 digit_is n h = grind (arith, nat_tests)
-
--- a digit above zero isn't that of zero
-other_digit : (n : ℕ) → n ≢ 0 → (48 + n == 48) ≡ false
-other_digit n h = grind (arith, nat_tests)
 
 -- and its value is the count
 digit_value : (n : ℕ) → (48 + n) - 48 ≡ n

@@ -6,6 +6,7 @@ use Rattle.std.proofs.Common.{inl, inr, refl, sym, ◌∙◌, ap, subst, arith}
 use Rattle.std.proofs.lemmas.Bool.{and_parts, eqb-true}
 use Rattle.std.proofs.lemmas.List.Elements.{All-contains}
 use Rattle.std.proofs.lemmas.Slice.Zip.{AllZip-long}
+use Rattle.std.proofs.lemmas.List.{set_past}
 use Rattle.geo_base.specs.declared.kind.Kind.{Kind}
 use Rattle.geo_base.specs.declared.kind.Kind.TheVariants as kinds
 use Rattle.geo_model.specs.declared.class.Shape.{Shape}
@@ -28,12 +29,6 @@ use Rattle.geo_laws_steps.proofs.Heirs.{inherits-same, heir-config, heir-geom, h
 use Rattle.geo_laws_steps.proofs.HeirQueues.{Comes, comes-offer, comes-offers}
 
 -- Places
-
--- past the end of a list nothing is set
-set_past : {X : Type 0} (xs : List X) (k : ℕ) (x : X) → length xs ≤ k → slice_set xs k x ≡ xs
-set_past [] k x past = refl
-set_past (y ∷ ys) zero x past = absurd (omega (arith, past))
-set_past (y ∷ ys) (suc k) x past = ap (λ (zs : List _). y ∷ zs) (set_past ys k x (omega (arith, past)))
 
 -- where all places are full, one that nobody fills is past the end
 past_full : (places : List (Option ℕ)) (k : ℕ) → list_any is_none places ≡ false

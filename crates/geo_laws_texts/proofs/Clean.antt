@@ -4,9 +4,11 @@ use Rattle.std.specs.List.{AllByRecursion, join_with_byte, list_all, list_any}
 use Rattle.std.proofs.Common.{refl, ◌∙◌, ap, arith}
 use Rattle.std.proofs.lemmas.Bool.{ne_eqb}
 use Rattle.std.proofs.lemmas.Bool.Decides.{nat_tests}
-use Rattle.std.proofs.lemmas.List.Elements.{All-from_recursion}
+use Rattle.std.proofs.lemmas.List.Elements.{All-from_recursion, recursion_from_All}
 use Rattle.std.proofs.lemmas.List.Folds.{list_all-append}
 use Rattle.std.proofs.lemmas.List.Splits.{slice_split_at, slice_split_none}
+use Rattle.std.proofs.lemmas.List.Sums.{AllPass-from_list_all, list_all-from_AllPass}
+use Rattle.geo_base.proofs.AllLists.{all_weaker}
 use Rattle.geo_model.specs.Script.{Words, words_of}
 
 -- a byte that isn't a space, and that may stand in a line
@@ -37,13 +39,9 @@ in_range b clean = grind (arith, nat_tests)
 -- of each byte of a word
 each_byte : (P : ℕ → Type 0) → ((b : ℕ) → is_clean_byte b ≡ true → P b) → (bs : List ℕ)
     → list_all is_clean_byte bs ≡ true → AllByRecursion P bs
-each_byte P so [] all = tt
-each_byte P so (b ∷ bs) all = by (is_clean_byte b) refl all (each_byte P so bs)
-  where
-    by : (c : Bool) → is_clean_byte b ≡ c → (c && list_all is_clean_byte bs) ≡ true
-        → (list_all is_clean_byte bs ≡ true → AllByRecursion P bs) → AllByRecursion P (b ∷ bs)
-    by true e all rest = (so b e, rest all)
-    by false e all rest = absurd (let bad : ⊥ = cc in bad)
+each_byte P so bs all =
+    all_weaker (λ b. is_clean_byte b ≡ true) P so bs
+    (recursion_from_All (λ b. is_clean_byte b ≡ true) bs (AllPass-from_list_all is_clean_byte bs all))
 
 -- the words of a line of clean words are these
 pub words_back : (w : List ℕ) (ws : Words) → AllByRecursion IsClean (w ∷ ws) → words_of (line_of (w ∷ ws)) ≡ w ∷ ws
@@ -62,8 +60,7 @@ all_both test xs ys first second = list_all-append test xs ys ∙ (rw (first, se
 
 -- from each to all
 all_bytes : (test : ℕ → Bool) (bs : List ℕ) → AllByRecursion (λ b. test b ≡ true) bs → list_all test bs ≡ true
-all_bytes test [] all = refl
-all_bytes test (b ∷ bs) all = rw all.0 (all_bytes test bs all.1)
+all_bytes test bs all = list_all-from_AllPass test bs (All-from_recursion (λ b. test b ≡ true) bs all)
 
 -- each byte of the line is in range
 pub line_in_range : (w : List ℕ) (ws : Words) → AllByRecursion IsClean (w ∷ ws)

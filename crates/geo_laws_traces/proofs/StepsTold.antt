@@ -38,10 +38,6 @@ any_tells : (words : Words) (found : ℕ × Words) → any_number words ≡ Ok f
     → IsFirst (λ n. true) words found.0 found.1
 any_tells words found e = ranged_tells (λ n. true) words found e
 
--- a small number is one
-below : (n : ℕ) → nat_lt n (2 ^ 32) ≡ true → n < 2 ^ 32
-below n e = ltb-true n (2 ^ 32) e
-
 -- the words behind some that are words
 behind : (words : Words) (word : List ℕ) (rest : Words) → words ≡ word ∷ rest → AreWords words → AreWords rest
 behind words word rest e are = let all : AreWords (word ∷ rest) = subst AreWords e are in all.1
@@ -64,7 +60,7 @@ failed_tells words got e are =
     subst (λ (x : DeviceResult). IsAnswer (codes "failed" ∷ words) x) last.same
     (record {
       stands = ap (λ (ws : Words). codes "failed" ∷ ws) (n.stands ∙ ap (λ ws. decimal first.value.0 ∷ ws) last.none);
-      fits = below first.value.0 n.passes;
+      fits = ltb-true first.value.0 (2 ^ 32) n.passes;
     })
 
 bytes_tell : (words : Words) (got : DeviceResult) → bytes_words words ≡ Ok got
@@ -92,7 +88,7 @@ go_tells words s e are =
     subst (λ (x : Step). IsStep (codes "go" ∷ words) x) last.same
     (record {
       stands = ap (λ (ws : Words). codes "go" ∷ ws) (n.stands ∙ ap (λ ws. decimal first.value.0 ∷ ws) last.none);
-      fits = below first.value.0 n.passes;
+      fits = ltb-true first.value.0 (2 ^ 32) n.passes;
     })
 
 -- a step without numbers
@@ -130,7 +126,7 @@ take_tells words s e are =
       stands = ap (λ (ws : Words). codes "take" ∷ ws)
           (disk.stands
           ∙ ap (λ ws. decimal first.value.0 ∷ ws) (n.stands ∙ ap (λ ws. decimal second.value.0 ∷ ws) last.none));
-      fits = (below first.value.0 disk.passes, n.fits);
+      fits = (ltb-true first.value.0 (2 ^ 32) disk.passes, n.fits);
     })
 
 deliver_tells : (words : Words) (s : Step) → deliver_words words ≡ Ok s → TellsStep (codes "deliver" ∷ words) s
@@ -199,7 +195,7 @@ seat_tells words item e are =
     (record {
       stands = ap (λ (ws : Words). codes "%" ∷ ws)
           (seat.stands ∙ ap (λ ws. decimal first.value.0 ∷ ws) s.stands);
-      fits = (below first.value.0 seat.passes, s.fits);
+      fits = (ltb-true first.value.0 (2 ^ 32) seat.passes, s.fits);
     })
 
 -- a line that is read as a seat and its step is written for them
