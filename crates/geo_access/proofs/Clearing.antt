@@ -3,6 +3,7 @@ use Rattle.std.specs.Prelude.{◌≡◌, ◌≢◌, ℕ, ◌==◌, Bool, true, f
 use Rattle.std.proofs.Common.{refl, sym, ◌∙◌, ap, subst, inl, inr, eq-eqb}
 use Rattle.std.proofs.lemmas.Bool.{eqb-true, cases_eq, ne_eqb}
 use Rattle.geo_base.specs.declared.request.Counts.{Counts}
+use Rattle.geo_base.proofs.MemberLists.{Contains-there, Contains-cases, nothing_in, Contains-here, Contains-filter, Contains-map}
 use Rattle.geo_model.specs.Words.{names_number}
 use Rattle.geo_model.specs.Topology.{Topology, Geom, Provider, Consumer, provider_at, providers_of, attached_to}
 use Rattle.geo_model.specs.Demand.{no_counts, add_counts, sum_counts}
@@ -10,9 +11,7 @@ use Rattle.geo_model.proofs.DemandLemmas.{map_same}
 use Rattle.geo_mesh.specs.declared.records.Scratch.{Scratch}
 use Rattle.geo_mesh.specs.Topo.{TopoView, no_scratch, with_geom_scratch}
 use Rattle.geo_laws_counts.proofs.Sums.{zero-add}
-use Rattle.geo_laws_counts.proofs.Members.{in_nothing, in_head, in_tail, in_cases, in_filter}
 use Rattle.geo_laws_counts.proofs.LimitFacts.{of_filter}
-use Rattle.geo_laws_counts.proofs.Numbers.{key_in}
 use Rattle.geo_laws_counts.proofs.Upward.{names_some}
 use Rattle.geo_laws_counts.specs.WalkWords.{has_number, IsOrder, set_at, Flow}
 use Rattle.geo_laws_counts.proofs.Reach.{directly_under}
@@ -42,25 +41,26 @@ pub sets-other : {X V : Type 0} (key : X → ℕ) (change : V → V) (xs : List 
     → sets key change f xs n ≡ f n
 sets-other key change [] f n apart = refl
 sets-other key change (x ∷ xs) f n apart =
-    sets-other key change xs (set_at f (key x) (change (f (key x)))) n (λ y there. apart y (in_tail x xs y there))
-    ∙ ap (λ b. if b then change (f (key x)) else f n) (ne_eqb n (key x) (λ e. apart x (in_head x xs) (sym e)))
+    sets-other key change xs (set_at f (key x) (change (f (key x)))) n
+    (λ y there. apart y (Contains-there x y xs there))
+    ∙ ap (λ b. if b then change (f (key x)) else f n) (ne_eqb n (key x) (λ e. apart x (Contains-here x xs) (sym e)))
 
 -- one of an item has the changed value, where items differ
 pub sets-here : {X V : Type 0} (key : X → ℕ) (change : V → V) (xs : List X) (f : ℕ → V) → Apart (map key xs)
     → (x : X) → Contains xs x
     → sets key change f xs (key x) ≡ change (f (key x))
-sets-here key change [] f apart x there = absurd (in_nothing x there)
+sets-here key change [] f apart x there = absurd (nothing_in x there)
 sets-here key change (y ∷ ys) f apart x there =
-    elim (in_cases y ys x there) [
+    elim (Contains-cases y x ys there) [
       | inl same ↦
           subst (λ z. sets key change f (y ∷ ys) (key z) ≡ change (f (key z))) same
           (sets-other key change ys (set_at f (key y) (change (f (key y)))) (key y)
-          (λ z inside e. apart.0 (subst (Contains (map key ys)) e (key_in key ys z inside)))
+          (λ z inside e. apart.0 (subst (Contains (map key ys)) e (Contains-map key ys z inside)))
           ∙ ap (λ b. if b then change (f (key y)) else f (key y)) (eq-eqb (key y) (key y) refl))
       | inr rest ↦
           sets-here key change ys (set_at f (key y) (change (f (key y)))) apart.1 x rest
           ∙ ap (λ b. change (if b then change (f (key y)) else f (key x)))
-          (ne_eqb (key x) (key y) (λ e. apart.0 (subst (Contains (map key ys)) e (key_in key ys x rest))))
+          (ne_eqb (key x) (key y) (λ e. apart.0 (subst (Contains (map key ys)) e (Contains-map key ys x rest))))
     ]
 
 -- what isn't among the rest any more
@@ -143,7 +143,7 @@ module _ {C : Type 0} (t : TopoView C) where
         → (cleared s x).gains z.number ≡ no_counts
     gain_here s x z there same =
         sets-here (λ (y : Provider). y.number) (λ a. no_counts) (providers_of t.topology x) s.gains (apart x) z
-        (in_filter (λ (y : Provider). y.geom == x) t.topology.providers z there (eq-eqb z.geom x same))
+        (Contains-filter (λ (y : Provider). y.geom == x) t.topology.providers z there (eq-eqb z.geom x same))
 
     gain_other : (s : Tries) (x : ℕ) (z : Provider) → Contains t.topology.providers z → z.geom ≢ x
         → (cleared s x).gains z.number ≡ s.gains z.number

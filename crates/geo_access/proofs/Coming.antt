@@ -7,6 +7,7 @@ use Rattle.geo_base.proofs.Options.{some_of}
 use Rattle.geo_base.proofs.FindLists.{find-Contains, found-before}
 use Rattle.geo_base.specs.declared.request.Counts.{Counts}
 use Rattle.geo_base.specs.declared.kind.Kind.TheVariants as kinds
+use Rattle.geo_base.proofs.MemberLists.{Contains-there, Contains-here, Contains-filter}
 use Rattle.geo_model.specs.Words.{names_number, is_granted_kind}
 use Rattle.geo_model.specs.Topology.{Topology, Geom, Provider, Consumer, geom_at, provider_at, consumer_at, providers_of, attached_to}
 use Rattle.geo_model.specs.Rank.{rank, Ranked}
@@ -17,7 +18,6 @@ use Rattle.geo_mesh.specs.Topo.{TopoView}
 use Rattle.geo_mesh.specs.Graph.{IsSoundGraph, IsOffer}
 use Rattle.geo_laws_counts.specs.CountWords.{more_counts, NumbersLead, HoldsGrants}
 use Rattle.geo_laws_counts.proofs.Sums.{add-more, more-add}
-use Rattle.geo_laws_counts.proofs.Members.{in_filter, in_head, in_tail}
 use Rattle.geo_laws_counts.proofs.LimitFacts.{of_filter, all_of}
 use Rattle.geo_laws_counts.proofs.Numbers.{numbers_lead, free_of}
 use Rattle.geo_laws_counts.proofs.Upward.{names_some, have_is_sum}
@@ -43,8 +43,8 @@ pub find_last : {X : Type 0} (test : X → Bool) (xs : List X) (y : X) → ((x :
     → test y ≡ true → find test (xs ++ y ∷ []) ≡ Some y
 find_last test [] y none passes = ap (λ b. cond b (Some y) None) passes
 find_last test (x ∷ xs) y none passes =
-    ap (λ b. cond b (Some x) (find test (xs ++ y ∷ []))) (none x (in_head x xs))
-    ∙ find_last test xs y (λ z there. none z (in_tail x xs z there)) passes
+    ap (λ b. cond b (Some x) (find test (xs ++ y ∷ []))) (none x (Contains-here x xs))
+    ∙ find_last test xs y (λ z there. none z (Contains-there x z xs there)) passes
 
 -- what a refusal says of errors: it names the first, or there is none
 abbrev pub SaysError : {C : Type 0} → Topology C → ℕ → Option Refused → Type 0
@@ -57,8 +57,8 @@ pub bare_of : (ps : List Provider) (g : ℕ) → ((y : Provider) → Contains ps
 bare_of [] g none = refl
 bare_of (y ∷ ys) g none =
     ap (λ b. cond b (y ∷ filter (λ (z : Provider). z.geom == g) ys) (filter (λ (z : Provider). z.geom == g) ys))
-    (ne_eqb y.geom g (none y (in_head y ys)))
-    ∙ bare_of ys g (λ z there. none z (in_tail y ys z there))
+    (ne_eqb y.geom g (none y (Contains-here y ys)))
+    ∙ bare_of ys g (λ z there. none z (Contains-there y z ys there))
 
 module _ {C : Type 0} (t : TopoView C) (sound : IsSoundGraph t.topology) (told : IsTold t) (p : ℕ) (y : Provider)
     (offered : provider_at t.topology p ≡ Some y) (add : Counts) where
@@ -227,13 +227,13 @@ module _ {C : Type 0} (t : TopoView C) (sound : IsSoundGraph t.topology) (told :
     old = λ q c at.
         let inside = of_filter (λ (x : Consumer). names_number x.provider q) t.topology.consumers c at in
         inr (
-          in_filter (λ (x : Consumer). names_number x.provider q) opened.consumers c
+          Contains-filter (λ (x : Consumer). names_number x.provider q) opened.consumers c
               (Contains-append_left t.topology.consumers (newcomer ∷ []) c inside.0) inside.1,
           old_number c inside.0,
           old_wants c inside.0,
         );
     opener = newcomer;
-    opener_at = in_filter (λ (x : Consumer). names_number x.provider p) opened.consumers newcomer
+    opener_at = Contains-filter (λ (x : Consumer). names_number x.provider p) opened.consumers newcomer
         (Contains-push t.topology.consumers newcomer) (eq-eqb p p refl);
     opener_is = refl;
     opener_wants = wants_grant opened_grants opened newcomer dev_holds ∙ own_grant;
@@ -258,7 +258,7 @@ module _ {C : Type 0} (t : TopoView C) (sound : IsSoundGraph t.topology) (told :
           let inside = of_filter (λ (x : Consumer). names_number x.provider q) opened.consumers c at in
           elim (Contains-push_cases t.topology.consumers newcomer c inside.0) [
             | inl old ↦ inr (
-              in_filter (λ (x : Consumer). names_number x.provider q) t.topology.consumers c old
+              Contains-filter (λ (x : Consumer). names_number x.provider q) t.topology.consumers c old
                   inside.1,
               old_number c old,
               old_wants c old,

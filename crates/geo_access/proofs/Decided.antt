@@ -8,6 +8,8 @@ use Rattle.std.proofs.lemmas.List.Elements.{All-contains}
 use Rattle.std.proofs.lemmas.List.Kept.{AllPairs-from_increasing}
 use Rattle.geo_base.proofs.FindLists.{find-Contains, any-contained}
 use Rattle.geo_base.specs.declared.request.Counts.{Counts}
+use Rattle.geo_base.proofs.MemberLists.{Contains-there, Contains-cases, Contains-here, flat_map_cases}
+use Rattle.geo_base.proofs.AllLists.{pairs_tail}
 use Rattle.geo_model.specs.Words.{names_number}
 use Rattle.geo_model.specs.Topology.{Topology, Provider, Consumer, geom_at, provider_at, consumers_of, providers_under, attached_to}
 use Rattle.geo_model.specs.Opens.{below}
@@ -16,9 +18,8 @@ use Rattle.geo_model.proofs.DemandLemmas.{find_passes}
 use Rattle.geo_slots.specs.Slots.{value_at}
 use Rattle.geo_mesh.specs.Topo.{TopoView}
 use Rattle.geo_mesh.specs.Graph.{IsSoundGraph}
-use Rattle.geo_laws_counts.proofs.Members.{in_head, in_tail, in_cases, flat_map_cases}
 use Rattle.geo_laws_counts.proofs.LimitFacts.{of_filter}
-use Rattle.geo_laws_counts.proofs.Numbers.{found_of, first_below, rest_rise, numbers_lead}
+use Rattle.geo_laws_counts.proofs.Numbers.{found_of, first_below, numbers_lead}
 use Rattle.geo_laws_counts.proofs.Sums.{add-zero}
 use Rattle.geo_laws_counts.proofs.Upward.{have_is_sum}
 use Rattle.geo_laws_counts.specs.WalkWords.{has_number, cap}
@@ -68,17 +69,18 @@ part_number {X} key keep (x ∷ xs) m there = by (keep x) there (part_number key
         → (Contains (map key (filter keep xs)) m → Contains (map key xs) m)
         → Contains (map key (x ∷ xs)) m
     by true inside so =
-        elim (in_cases (key x) (map key (filter keep xs)) m inside) [
-          | inl same ↦ subst (Contains (key x ∷ map key xs)) same (in_head (key x) (map key xs))
-          | inr rest ↦ in_tail (key x) (map key xs) m (so rest)
+        elim (Contains-cases (key x) m (map key (filter keep xs)) inside) [
+          | inl same ↦ subst (Contains (key x ∷ map key xs)) same (Contains-here (key x) (map key xs))
+          | inr rest ↦ Contains-there (key x) m (map key xs) (so rest)
         ]
-    by false inside so = in_tail (key x) (map key xs) m (so inside)
+    by false inside so = Contains-there (key x) m (map key xs) (so inside)
 
 -- numbers of a part of a rising list differ
 pub part_apart : {X : Type 0} (key : X → ℕ) (keep : X → Bool) (xs : List X) → AllPairs (λ m n. m < n) (map key xs)
     → Apart (map key (filter keep xs))
 part_apart key keep [] rise = tt
-part_apart {X} key keep (x ∷ xs) rise = by (keep x) (part_apart key keep xs (rest_rise (key x) (map key xs) rise))
+part_apart {X} key keep (x ∷ xs) rise =
+    by (keep x) (part_apart key keep xs (pairs_tail (λ x y. x < y) (key x) (map key xs) rise))
   where
     by : (b : Bool) → Apart (map key (filter keep xs)) → Apart (map key (cond b (x ∷ filter keep xs) (filter keep xs)))
     by true so = (
@@ -381,7 +383,7 @@ module _ {C : Type 0} (t : TopoView C) (sound : IsSoundGraph t.topology) (told :
           (provider_known t sound) (provider_stands t sound) order
           (λ q near. (reached_touched t sound told.clear p tried.offer tried.found q near).0)
           (λ q there.
-          elim (in_cases p (flat_map (providers_under t.topology) order) q there) [
+          elim (Contains-cases p q (flat_map (providers_under t.topology) order) there) [
             | inl same ↦ subst (Contains (below t.topology p)) same (below_self (length t.topology.geoms) t.topology p)
             | inr rest ↦
                 let way = flat_map_cases (providers_under t.topology) order q rest in

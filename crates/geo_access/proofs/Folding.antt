@@ -1,17 +1,17 @@
 -- Loops as folds: over what is left of a walk, and over what is left of an order.
-use Rattle.std.specs.Prelude.{◌≡◌, ◌≢◌, ℕ, zero, suc, ◌+◌, ◌==◌, Bool, true, false, cond, List, [], ◌∷◌, length, filter_map, find, fold, Option, Some, None, IsSome, Contains, option_map}
+use Rattle.std.specs.Prelude.{◌≡◌, ◌≢◌, ℕ, zero, suc, ◌+◌, ◌==◌, Bool, true, false, cond, List, [], ◌∷◌, length, filter_map, find, fold, Option, Some, None, Contains, option_map}
 use Rattle.std.specs.List.{cons_option}
 use Rattle.std.specs.Option.{option_map_or, option_or}
 use Rattle.std.proofs.Common.{refl, sym, ◌∙◌, ap, arith, inl, inr, eq-eqb}
 use Rattle.std.proofs.lemmas.Bool.{eqb-true, cases_eq, ne_eqb}
 use Rattle.geo_base.specs.declared.request.Counts.{Counts}
+use Rattle.geo_base.proofs.MemberLists.{Contains-there, Contains-here}
 use Rattle.geo_model.specs.Topology.{Topology, Provider, Consumer, consumers_of, providers_of}
 use Rattle.geo_slots.specs.Slots.{value_at, with_value}
 use Rattle.geo_mesh.specs.declared.records.Scratch.{Scratch}
 use Rattle.geo_mesh.specs.Topo.{TopoView, no_scratch, with_geom_scratch, with_provider_scratch}
 use Rattle.geo_laws_graph.specs.LookupLaws.{left_from, WalksMeetAll}
 use Rattle.geo_laws_graph.proofs.Walks.{walks-meet}
-use Rattle.geo_laws_counts.proofs.Members.{in_head, in_tail}
 use Rattle.geo_access.specs.declared.counts.Way.{Way}
 use Rattle.geo_access.specs.declared.counts.Way.TheVariants.{Rises, Falls}
 use Rattle.geo_access.specs.declared.order.Order.{Order}
@@ -46,13 +46,6 @@ count_more number xs from_number id x steps new total left step done =
     let one : length (left_from number from_number xs) ≡ suc (length (left_from number (id + 1) xs)) =
     ap length left in omega arith
 
--- and none at the end
-pub count_end : {X : Type 0} (number : X → ℕ) (xs : List X) (from_number steps total : ℕ)
-    → left_from number from_number xs ≡ []
-    → steps + length (left_from number from_number xs) ≡ total → steps ≡ total
-count_end number xs from_number steps total left done =
-    let none : length (left_from number from_number xs) ≡ 0 = ap length left in omega arith
-
 module _ {X Y : Type 0} (number : X → ℕ) (f : X → Option Y) (xs : List X) where
   -- at the beginning all is left
   pub some_begin : first_given f (left_from number 0 xs) ≡ first_given f xs
@@ -65,20 +58,6 @@ module _ {X Y : Type 0} (number : X → ℕ) (f : X → Option Y) (xs : List X) 
   some_more from_number id x total left none done =
       sym (ap (λ o. option_or o (first_given f (left_from number (id + 1) xs))) none)
       ∙ sym (ap (first_given f) left) ∙ done
-
-  -- at an item for which something is given
-  pub some_here : (from_number id : ℕ) (x : X) (total o : Option Y)
-      → left_from number from_number xs ≡ x ∷ left_from number (id + 1) xs → f x ≡ o → IsSome o
-      → first_given f (left_from number from_number xs) ≡ total → o ≡ total
-  some_here from_number id x total None left is never done = let no : false ≡ true = never in absurd (cc)
-  some_here from_number id x total (Some y) left is some done =
-      sym (ap (λ o. option_or o (first_given f (left_from number (id + 1) xs))) is) ∙ sym (ap (first_given f) left)
-      ∙ done
-
-  -- at the end
-  pub some_end : (from_number : ℕ) (total : Option Y) → left_from number from_number xs ≡ []
-      → first_given f (left_from number from_number xs) ≡ total → None ≡ total
-  some_end from_number total left done = sym (ap (first_given f) left) ∙ done
 
 module _ {X : Type 0} (number : X → ℕ) (test : X → Bool) (xs : List X) where
   -- the number of the first item left that passes
@@ -102,24 +81,10 @@ module _ {X : Type 0} (number : X → ℕ) (test : X → Bool) (xs : List X) whe
       sym (ap (λ b. option_map number (cond b (Some x) (find test (left_from number (id + 1) xs)))) passes)
       ∙ sym (ap (λ ys. option_map number (find test ys)) left) ∙ done
 
-  -- at the end
-  pub found_end : (from_number : ℕ) (total : Option ℕ) → left_from number from_number xs ≡ []
-      → option_map number (find test (left_from number from_number xs)) ≡ total → None ≡ total
-  found_end from_number total left done = sym (ap (λ ys. option_map number (find test ys)) left) ∙ done
-
 -- Walks that change the mesh
 
 module _ {C X : Type 0} (number : X → ℕ) (parts : Topology C → List X) (f : TopoView C → X → TopoView C)
     (graph : (v : TopoView C) (x : X) → (f v x).topology ≡ v.topology) where
-  -- after one part more
-  pub view_more : (from_number id : ℕ) (x : X) (v new total : TopoView C)
-      → left_from number from_number (parts v.topology) ≡ x ∷ left_from number (id + 1) (parts v.topology) → new ≡ f v x
-      → fold f v (left_from number from_number (parts v.topology)) ≡ total
-      → fold f new (left_from number (id + 1) (parts new.topology)) ≡ total
-  view_more from_number id x v new total left step done =
-      ap (λ u. fold f new (left_from number (id + 1) (parts u))) (ap (λ (u : TopoView C). u.topology) step ∙ graph v x)
-      ∙ fold_more number f (parts v.topology) from_number id x v new total left step done
-
   -- the graph stays over all of them
   pub fold_graph : (xs : List X) (v : TopoView C) → (fold f v xs).topology ≡ v.topology
   fold_graph [] v = refl
@@ -132,9 +97,9 @@ pub links_same : (next other : ℕ → ℕ) (n x : ℕ) → ((y : ℕ) → Conta
     → numbers_along other n x ≡ numbers_along next n x
 links_same next other zero x same = refl
 links_same next other (suc n) x same =
-    ap (λ y. x ∷ numbers_along other n y) (same x (in_head x (numbers_along next n (next x))))
+    ap (λ y. x ∷ numbers_along other n y) (same x (Contains-here x (numbers_along next n (next x))))
     ∙ ap (λ ys. x ∷ ys)
-    (links_same next other n (next x) (λ y there. same y (in_tail x (numbers_along next n (next x)) y there)))
+    (links_same next other n (next x) (λ y there. same y (Contains-there x y (numbers_along next n (next x)) there)))
 
 module _ {C : Type 0} (f : TopoView C → ℕ → TopoView C) where
   -- after one geom more, whose step leaves the marks of the rest
@@ -197,11 +162,7 @@ module _ {C : Type 0} where
   hands_leave see leaves gain (c ∷ cs) v = hands_leave see leaves gain cs (hand gain v c)
       ∙ hand_leaves see leaves gain v c
 
-  -- the graph stays
-  pub hand_graph : (gain : Counts) (v : TopoView C) (c : Consumer) → (hand gain v c).topology ≡ v.topology
-  hand_graph = hand_leaves (λ v. v.topology) (λ v q s. refl)
-
-  -- and each geom's scratch
+  -- so each geom's scratch stays
   pub hands_geoms : (gain : Counts) (cs : List Consumer) (v : TopoView C)
       → (fold (hand gain) v cs).scratches.geoms ≡ v.scratches.geoms
   hands_geoms = hands_leave (λ v. v.scratches.geoms) (λ v q s. refl)

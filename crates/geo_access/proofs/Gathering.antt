@@ -3,13 +3,13 @@ use Rattle.std.specs.Prelude.{◌≡◌, ℕ, zero, suc, ◌+◌, ◌==◌, ◌<
 use Rattle.std.specs.Option.{option_map_or, option_and_then}
 use Rattle.std.proofs.Common.{refl, sym, ◌∙◌, ap, subst, arith}
 use Rattle.std.proofs.lemmas.Bool.{eqb-true}
+use Rattle.geo_base.proofs.MemberLists.{Contains-here}
 use Rattle.geo_model.specs.Topology.{Provider, Consumer, provider_at, consumers_of}
 use Rattle.geo_model.specs.Rank.{rank, geoms_under}
 use Rattle.geo_model.proofs.DemandLemmas.{rank_within-positive}
 use Rattle.geo_mesh.specs.Topo.{TopoView}
 use Rattle.geo_mesh.specs.Graph.{IsSoundGraph}
 use Rattle.geo_laws_graph.specs.LookupLaws.{left_from}
-use Rattle.geo_laws_counts.proofs.Members.{in_head}
 use Rattle.geo_laws_counts.proofs.LimitFacts.{of_filter}
 use Rattle.geo_laws_counts.proofs.Reach.{directly_under}
 use Rattle.geo_laws_counts.proofs.Orders.{is-under, under_lower}
@@ -53,7 +53,7 @@ module _ {C : Type 0} where
   fresh_lower v geom from_number id c h sound left fresh =
       let head : Contains (left_from (λ (y : Consumer). y.number) from_number (consumers_of v.topology geom)) c =
       subst (λ ys. Contains ys c) (sym left)
-      (in_head c (left_from (λ (y : Consumer). y.number) (id + 1) (consumers_of v.topology geom))) in
+      (Contains-here c (left_from (λ (y : Consumer). y.number) (id + 1) (consumers_of v.topology geom))) in
       let inside =
       of_filter (λ (y : Consumer). y.geom == geom) v.topology.consumers c
       (of_filter _ (consumers_of v.topology geom) c head).0 in

@@ -15,11 +15,10 @@ use Rattle.geo_slots.specs.Slots.{value_at, without}
 use Rattle.geo_slots.proofs.RowLemmas.{without_absent}
 use Rattle.geo_mesh.specs.Topo.{TopoView, Room, Scratches, no_scratch, with_consumer, without_consumer}
 use Rattle.geo_mesh.specs.Graph.{IsSoundGraph}
-use Rattle.geo_laws_graph.proofs.Members.{Origin, map-Contains}
+use Rattle.geo_laws_graph.proofs.Members.{Origin, map-Contains, Contains-there, Contains-here}
 use Rattle.geo_laws_counts.specs.CountWords.{DemandStays, AnyConsumer, HoldsGrants}
 use Rattle.geo_laws_counts.proofs.BareParts.{levels_same}
 use Rattle.geo_laws_counts.proofs.LimitFacts.{all_of}
-use Rattle.geo_laws_counts.proofs.Members.{in_head, in_tail}
 use Rattle.geo_laws_counts.proofs.Quiet.{granted_wants_nothing}
 use Rattle.geo_laws_counts.proofs.Stays.{stays_from, want_from, grants_agree, consumer_came}
 use Rattle.geo_laws_counts.proofs.Flows.{each_of}
@@ -36,8 +35,8 @@ none_under : {X V : Type 0} (key : X → ℕ) (f : X → V) (n : ℕ) (xs : List
     → value_at (map (λ x. let row : ℕ × V = (key x, f x) in row) xs) n ≡ None
 none_under key f n [] apart = refl
 none_under key f n (x ∷ xs) apart =
-    rw (ne_eqb (key x) n (apart x (in_head x xs)))
-    (none_under key f n xs (λ y there. apart y (in_tail x xs y there)))
+    rw (ne_eqb (key x) n (apart x (Contains-here x xs)))
+    (none_under key f n xs (λ y there. apart y (Contains-there x y xs there)))
 
 -- a row behind those that hadn't its number, taken away again
 without_last : {V : Type 0} (n : ℕ) (v : V) (rows : List (ℕ × V)) → value_at rows n ≡ None
@@ -56,8 +55,8 @@ rid : (n : ℕ) (d : Consumer) (xs : List Consumer) → d.number ≡ n → ((x :
     → filter (λ (x : Consumer). not (x.number == n)) (xs ++ d ∷ []) ≡ xs
 rid n d [] own apart = rw (eq-eqb d.number n own) refl
 rid n d (x ∷ xs) own apart =
-    rw (ne_eqb x.number n (apart x (in_head x xs)))
-    (ap (λ ys. x ∷ ys) (rid n d xs own (λ y there. apart y (in_tail x xs y there))))
+    rw (ne_eqb x.number n (apart x (Contains-here x xs)))
+    (ap (λ ys. x ∷ ys) (rid n d xs own (λ y there. apart y (Contains-there x y xs there))))
 
 -- a change of the one of the number alone
 changed_last : (n : ℕ) (change : Consumer → Consumer) (d : Consumer) (xs : List Consumer) → d.number ≡ n
@@ -65,8 +64,8 @@ changed_last : (n : ℕ) (change : Consumer → Consumer) (d : Consumer) (xs : L
     → change_where (λ x. x.number == n) change (xs ++ d ∷ []) ≡ xs ++ change d ∷ []
 changed_last n change d [] own apart = rw (eq-eqb d.number n own) refl
 changed_last n change d (x ∷ xs) own apart =
-    rw (ne_eqb x.number n (apart x (in_head x xs)))
-    (ap (λ ys. x ∷ ys) (changed_last n change d xs own (λ y there. apart y (in_tail x xs y there))))
+    rw (ne_eqb x.number n (apart x (Contains-here x xs)))
+    (ap (λ ys. x ∷ ys) (changed_last n change d xs own (λ y there. apart y (Contains-there x y xs there))))
 
 -- A number that is used up
 
@@ -267,7 +266,7 @@ module _ {C : Type 0} (t : TopoView C) (geom : ℕ) (sound : IsSoundGraph t.topo
     want_comer =
         granted_wants_nothing (granted_by mesh) joined_graph (comer (Some prov))
         (agree_made (comer None)
-        (Contains-append_right t.topology.consumers (comer None ∷ []) (comer None) (in_head (comer None) []))
+        (Contains-append_right t.topology.consumers (comer None ∷ []) (comer None) (Contains-here (comer None) []))
         ∙ none_granted) holds
 
     wants_are : map want_row joined_graph.consumers ≡ t.wants ++ (n, no_counts) ∷ []

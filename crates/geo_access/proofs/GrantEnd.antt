@@ -5,6 +5,7 @@ use Rattle.std.proofs.Math.Bool.{and-not_self}
 use Rattle.std.proofs.lemmas.Bool.{cases_eq, ne_eqb}
 use Rattle.std.proofs.lemmas.List.Elements.{All-contains}
 use Rattle.geo_base.specs.declared.request.Counts.{Counts}
+use Rattle.geo_base.proofs.MemberLists.{nothing_in, Contains-filter}
 use Rattle.geo_model.specs.Words.{names_number}
 use Rattle.geo_model.specs.Topology.{Provider, Consumer, provider_at, providers_of, attached_to}
 use Rattle.geo_model.specs.Demand.{no_counts, add_counts, sum_counts, have, want, fits_limit, risen}
@@ -15,7 +16,6 @@ use Rattle.geo_laws_counts.specs.CountWords.{IsAtMost, more_counts}
 use Rattle.geo_laws_counts.specs.LimitLaws.{greatest_counts}
 use Rattle.geo_laws_counts.proofs.Sums.{add-zero, add-more, at_most-trans}
 use Rattle.geo_laws_counts.proofs.Levels.{want-at_most}
-use Rattle.geo_laws_counts.proofs.Members.{in_nothing, in_filter}
 use Rattle.geo_laws_counts.proofs.LimitFacts.{within_limit}
 use Rattle.geo_laws_counts.specs.WalkWords.{has_number, cap}
 use Rattle.geo_laws_counts.proofs.Orders.{has-contains, has_not}
@@ -126,7 +126,7 @@ module _ {C : Type 0} (t : TopoView C) (sound : IsSoundGraph t.topology) (counte
           let part : IsAtMost (want after t.topology c)
           (sum_counts (map (want after t.topology) (attached_to t.topology q))) =
           part_at_most (want after t.topology) (attached_to t.topology q) c
-          (in_filter (λ (x : Consumer). names_number x.provider q) t.topology.consumers c there
+          (Contains-filter (λ (x : Consumer). names_number x.provider q) t.topology.consumers c there
           (ap (λ w. names_number w q) attached ∙ eq-eqb q q refl)) in
           at_most-trans (want after t.topology c) (have after t.topology q) greatest_counts
           (subst (IsAtMost (want after t.topology c)) (sym (ctx.sums q)) part)
@@ -151,9 +151,9 @@ module _ {C : Type 0} (t : TopoView C) (sound : IsSoundGraph t.topology) (counte
               → IsSomeAnd z (λ (y : Provider). y.geom ≡ c.geom) → providers_of t.topology c.geom ≡ [] → ⊥
           offered None found never bare = never
           offered (Some y) found is bare =
-              in_nothing y
+              nothing_in y
               (subst (λ ys. Contains ys y) bare
-              (in_filter (λ (w : Provider). w.geom == c.geom) t.topology.providers y
+              (Contains-filter (λ (w : Provider). w.geom == c.geom) t.topology.providers y
               (provider_stands t sound _ y found).0 (eq-eqb y.geom c.geom is)))
 
   -- what a consumer other than the holder comes to want

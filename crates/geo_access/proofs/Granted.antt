@@ -3,6 +3,7 @@ use Rattle.std.specs.Prelude.{◌≡◌, ◌≢◌, ℕ, Bool, true, false, cond
 use Rattle.std.specs.Option.{option_map_or}
 use Rattle.std.proofs.Common.{refl, sym, ◌∙◌, ap, subst, arith, inl, inr}
 use Rattle.geo_base.specs.declared.request.Counts.{Counts}
+use Rattle.geo_base.proofs.MemberLists.{Contains-cases, nothing_in}
 use Rattle.geo_model.specs.Words.{is_granted_kind}
 use Rattle.geo_model.specs.Topology.{Geom, Provider, Consumer, geom_at, consumer_at}
 use Rattle.geo_model.specs.Demand.{no_counts, sum_counts, have, want, is_exclusive, fits_limit}
@@ -14,7 +15,6 @@ use Rattle.geo_mesh.specs.Graph.{IsSoundGraph}
 use Rattle.geo_laws_counts.specs.CountWords.{IsAtMost, DemandStays, HoldsGrants}
 use Rattle.geo_laws_counts.specs.LimitLaws.{greatest_counts}
 use Rattle.geo_laws_counts.proofs.Sums.{counts-same}
-use Rattle.geo_laws_counts.proofs.Members.{in_nothing, in_cases}
 use Rattle.geo_laws_counts.proofs.LimitFacts.{all_of}
 use Rattle.geo_laws_counts.proofs.Stays.{grants_agree}
 use Rattle.geo_laws_counts.specs.WalkWords.{set_at, cap}
@@ -58,9 +58,9 @@ noted_is {X} key test (x ∷ xs) = by (test x) (noted_is key test xs)
 -- what is one of the parts of a sum is at most the sum
 pub part_at_most : {X : Type 0} (f : X → Counts) (xs : List X) (x : X) → Contains xs x
     → IsAtMost (f x) (sum_counts (map f xs))
-part_at_most f [] x there = absurd (in_nothing x there)
+part_at_most f [] x there = absurd (nothing_in x there)
 part_at_most f (y ∷ ys) x there =
-    elim (in_cases y ys x there) [
+    elim (Contains-cases y x ys there) [
       | inl same ↦
           subst (λ z. IsAtMost (f z) (sum_counts (map f (y ∷ ys)))) same
           (record { r = omega arith; w = omega arith; e = omega arith })

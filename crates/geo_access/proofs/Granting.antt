@@ -8,6 +8,7 @@ use Rattle.std.proofs.lemmas.List.Kept.{AllPairs-from_increasing}
 use Rattle.geo_base.proofs.Options.{some_of, some_and_of}
 use Rattle.geo_base.proofs.FindLists.{find-Contains}
 use Rattle.geo_base.specs.declared.request.Counts.{Counts}
+use Rattle.geo_base.proofs.MemberLists.{Contains-filter}
 use Rattle.geo_model.specs.Words.{names_number}
 use Rattle.geo_model.specs.Topology.{Topology, Consumer, provider_at, consumer_at, attached_to}
 use Rattle.geo_model.specs.Opens.{grant_refusal, with_grant}
@@ -20,7 +21,6 @@ use Rattle.geo_laws_counts.specs.CountWords.{IsAtMost, AreAtMost, more_counts, N
 use Rattle.geo_laws_counts.proofs.Sums.{counts-same, at_most-same, add-more, zero-add}
 use Rattle.geo_laws_counts.proofs.Levels.{have-at_most, want-at_most}
 use Rattle.geo_laws_counts.proofs.LimitFacts.{of_filter, all_of}
-use Rattle.geo_laws_counts.proofs.Members.{in_filter}
 use Rattle.geo_laws_counts.proofs.Numbers.{numbers_lead, only_of}
 use Rattle.geo_laws_counts.proofs.Upward.{names_some, have_is_sum}
 use Rattle.geo_laws_counts.specs.DemandLaws.{DiffersAt}
@@ -204,7 +204,7 @@ module _ {C : Type 0} (t : TopoView C) (sound : IsSoundGraph t.topology) (counte
             | inr other ↦ inr (at, other, other_wants c other)
           ];
       opener = holder.one;
-      opener_at = in_filter (λ (x : Consumer). names_number x.provider place) t.topology.consumers holder.one
+      opener_at = Contains-filter (λ (x : Consumer). names_number x.provider place) t.topology.consumers holder.one
           one_stands (ap (λ o. names_number o place) holder.place ∙ eq-eqb place place refl);
       opener_is = one_number;
       opener_wants = wants_grant granted_after t.topology holder.one holder.kind ∙ ap granted_after one_number ∙ own_is;

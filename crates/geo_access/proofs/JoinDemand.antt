@@ -12,11 +12,10 @@ use Rattle.geo_model.specs.Opens.{below}
 use Rattle.geo_model.specs.Graph.{IsInOrder}
 use Rattle.geo_laws_graph.specs.LookupLaws.{AttachedIsFound}
 use Rattle.geo_laws_graph.proofs.Found.{attached-found}
-use Rattle.geo_laws_graph.proofs.Members.{Origin, Contains-map, map-Contains, at_contained}
+use Rattle.geo_laws_graph.proofs.Members.{Origin, Contains-map, map-Contains, at_contained, Contains-filter}
 use Rattle.geo_laws_graph.proofs.Numbered.{unique}
 use Rattle.geo_laws_counts.specs.CountWords.{more_counts, gain_of_kind}
 use Rattle.geo_laws_counts.proofs.Sums.{counts-same, more-add, add-more}
-use Rattle.geo_laws_counts.proofs.Members.{in_filter}
 use Rattle.geo_laws_counts.proofs.Numbers.{found_of}
 use Rattle.geo_laws_counts.proofs.LimitFacts.{of_filter, all_of}
 use Rattle.geo_laws_counts.proofs.Upward.{names_some, have_is_sum}
@@ -195,14 +194,14 @@ module _ {C : Type 0} (granted : ℕ → Counts) (t : Topology C) (c p : ℕ) (j
     old = λ q d at.
         let is = was_other q d at in
         inr (
-          in_filter (λ (x : Consumer). names_number x.provider q) joined.consumers d (other_stays d is.0 is.1)
+          Contains-filter (λ (x : Consumer). names_number x.provider q) joined.consumers d (other_stays d is.0 is.1)
               is.2,
           is.1,
           old_want d,
         );
     opener = joiner;
     opener_at =
-        in_filter (λ (x : Consumer). names_number x.provider p) joined.consumers joiner
+        Contains-filter (λ (x : Consumer). names_number x.provider p) joined.consumers joiner
         (subst (Contains joined.consumers) put_it (Contains-map put t.consumers j.consumer (it_stands t c p j)))
         (eq-eqb p p refl);
     opener_is = its_number t c p j;
@@ -229,7 +228,7 @@ module _ {C : Type 0} (granted : ℕ → Counts) (t : Topology C) (c p : ℕ) (j
                   ap (want granted joined) same,
                 )
             | inr old ↦ inr (
-              in_filter (λ (x : Consumer). names_number x.provider q) t.consumers d old.0 inside.1,
+              Contains-filter (λ (x : Consumer). names_number x.provider q) t.consumers d old.0 inside.1,
               old.1,
               old_want d,
             )

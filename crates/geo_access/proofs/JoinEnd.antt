@@ -15,8 +15,7 @@ use Rattle.geo_model.specs.Opens.{below}
 use Rattle.geo_laws_graph.specs.LookupLaws.{AttachedIsFound}
 use Rattle.geo_laws_graph.proofs.Found.{attached-found}
 use Rattle.geo_laws_graph.proofs.Lists.{map-changed}
-use Rattle.geo_laws_graph.proofs.Members.{All-from_contained, at_contained}
-use Rattle.geo_laws_counts.proofs.Members.{in_nothing, in_head, in_tail, in_filter}
+use Rattle.geo_laws_graph.proofs.Members.{All-from_contained, at_contained, Contains-there, nothing_in, Contains-here, Contains-filter}
 use Rattle.geo_access.specs.declared.counts.Way.{Way}
 use Rattle.geo_access.specs.declared.counts.Way.TheVariants.{Rises, Falls}
 use Rattle.geo_access.specs.Views.{raise_want, raise_wants, finish_provider, finish_geom, made_at}
@@ -93,12 +92,12 @@ module _ {C : Type 0} where
       → fold (finish_geom keep) (with_topology v u) xs ≡ with_topology (fold (finish_geom keep) v xs) u
   order_over t u keep [] v is same = refl
   order_over t u keep (x ∷ xs) v is same =
-      let here = same x (in_head x xs) in
+      let here = same x (Contains-here x xs) in
       ap (λ w. fold (finish_geom keep) w xs)
       (geom_over u keep v x (here.0 ∙ ap (λ (g : Topology C). consumers_of g x) (sym is)) (here.1
       ∙ ap (λ (g : Topology C). providers_of g x) (sym is)))
       ∙ order_over t u keep xs (finish_geom keep v x) (geom_graph keep v x
-      ∙ is) (λ y there. same y (in_tail x xs y there))
+      ∙ is) (λ y there. same y (Contains-there x y xs there))
 
 -- What is kept
 
@@ -238,7 +237,7 @@ module _ {C : Type 0} (t : TopoView C) (sound : IsSoundGraph t.topology) (cons :
           let at = provider_stands t sound q y found in
           at_contained (λ (z : Provider). Contains (below t.topology p) z.number
           → ⊥) (providers_of t.topology j.consumer.geom) y (never_below t.topology cons p j)
-          (in_filter (λ (z : Provider). z.geom == j.consumer.geom) t.topology.providers y at.0
+          (Contains-filter (λ (z : Provider). z.geom == j.consumer.geom) t.topology.providers y at.0
           (eq-eqb y.geom j.consumer.geom (same ∙ ap (λ (c : Consumer). c.geom) (sym one))))
           (subst (Contains (below t.topology p)) (sym at.1) reached)
 
@@ -297,7 +296,7 @@ module _ {C : Type 0} (t : TopoView C) (sound : IsSoundGraph t.topology) (cons :
       at q attached None found lives = let no : false ≡ true = lives in absurd (cc)
       at q attached (Some z) found lives =
           attached_fits q z found c
-          (in_filter (λ (x : Consumer). names_number x.provider q) u.consumers c
+          (Contains-filter (λ (x : Consumer). names_number x.provider q) u.consumers c
           (other_stays granted t.topology cons p j c there other)
           (ap (λ w. names_number w q) attached ∙ eq-eqb q q refl))
 
@@ -305,9 +304,9 @@ module _ {C : Type 0} (t : TopoView C) (sound : IsSoundGraph t.topology) (cons :
           → IsSomeAnd z (λ (y : Provider). y.geom ≡ c.geom) → providers_of t.topology c.geom ≡ [] → ⊥
       offered_none q None found never bare = never
       offered_none q (Some y) found same bare =
-          in_nothing y
+          nothing_in y
           (subst (λ ys. Contains ys y) bare
-          (in_filter (λ (w : Provider). w.geom == c.geom) t.topology.providers y
+          (Contains-filter (λ (w : Provider). w.geom == c.geom) t.topology.providers y
           (provider_stands t sound q y found).0 (eq-eqb y.geom c.geom same)))
 
       by : (w : Option ℕ) → c.provider ≡ w → IfSome w (λ q. IsSome (provider_at t.topology q))

@@ -9,6 +9,7 @@ use Rattle.geo_base.proofs.FindLists.{find-Contains}
 use Rattle.geo_base.specs.declared.request.Counts.{Counts}
 use Rattle.geo_base.specs.declared.kind.Kind.{Kind}
 use Rattle.geo_base.specs.declared.kind.Kind.TheVariants as kinds
+use Rattle.geo_base.proofs.MemberLists.{Contains-there, Contains-here}
 use Rattle.geo_model.specs.Words.{names_number, is_granted_kind}
 use Rattle.geo_model.specs.Topology.{Geom, Provider, Consumer, geom_at, consumer_at, providers_of, attached_to}
 use Rattle.geo_model.specs.Demand.{no_counts, add_counts, sum_counts, want_of_kind, have, want}
@@ -18,7 +19,6 @@ use Rattle.geo_mesh.specs.Topo.{TopoView}
 use Rattle.geo_mesh.specs.Graph.{IsSoundGraph}
 use Rattle.geo_laws_counts.specs.CountWords.{gain_of_kind}
 use Rattle.geo_laws_counts.proofs.Sums.{add-zero, add-assoc, zero-add}
-use Rattle.geo_laws_counts.proofs.Members.{in_head, in_tail}
 use Rattle.geo_laws_counts.proofs.LimitFacts.{of_filter}
 use Rattle.geo_laws_counts.proofs.Upward.{names_some, geom_found}
 use Rattle.geo_laws_counts.specs.WalkWords.{cap}
@@ -45,8 +45,8 @@ haves_are : {C : Type 0} (v : TopoView C) (f : ℕ → Counts) (ys : List Provid
 haves_are v f [] same a = ap cap (sym (add-zero a))
 haves_are v f (y ∷ ys) same a =
     ap (λ s. fold (with_have_of v) s ys) (cap-add a (have_at v y.number)
-    ∙ ap (λ h. cap (add_counts a h)) (same y (in_head y ys)))
-    ∙ haves_are v f ys (λ z there. same z (in_tail y ys z there)) (add_counts a (f y.number))
+    ∙ ap (λ h. cap (add_counts a h)) (same y (Contains-here y ys)))
+    ∙ haves_are v f ys (λ z there. same z (Contains-there y z ys there)) (add_counts a (f y.number))
     ∙ ap cap (add-assoc a (f y.number) (sum_counts (map (λ (z : Provider). f z.number) ys)))
 
 -- a consumer that is attached to nothing

@@ -8,10 +8,10 @@ use Rattle.geo_base.proofs.FindLists.{found_in}
 use Rattle.geo_base.proofs.Options.{none-mapped}
 use Rattle.geo_base.proofs.Tests.{passes_apart}
 use Rattle.geo_base.specs.declared.request.Counts.{Counts}
+use Rattle.geo_base.proofs.MemberLists.{Contains-there, Contains-cases, nothing_in, Contains-here}
 use Rattle.geo_model.specs.Words.{names_number}
 use Rattle.geo_model.specs.Topology.{Topology, Provider, Consumer, provider_at, attached_to, providers_under}
 use Rattle.geo_mesh.specs.Topo.{TopoView}
-use Rattle.geo_laws_counts.proofs.Members.{in_nothing, in_head, in_tail, in_cases}
 use Rattle.geo_laws_counts.proofs.LimitFacts.{of_filter}
 use Rattle.geo_laws_counts.specs.WalkWords.{cap}
 use Rattle.geo_access.specs.declared.decide.Side.{Side}
@@ -85,14 +85,14 @@ module _ {C : Type 0} (v : TopoView C) where
   least_all [] S best least = widen best least
     where
       widen : (o : Option ℕ) → IsLeastOf v.topology S o → IsLeastOf v.topology (λ z. S z ⊎ Contains [] z) o
-      widen None all = λ z among. elim among [ inl old ↦ all z old | inr none ↦ absurd (in_nothing z none) ]
+      widen None all = λ z among. elim among [ inl old ↦ all z old | inr none ↦ absurd (nothing_in z none) ]
       widen (Some b) all = (
         inl all.0,
         all.1,
         (λ z among err. elim among [
           | inl old ↦
               all.2 z old err
-          | inr none ↦ absurd (in_nothing z none)
+          | inr none ↦ absurd (nothing_in z none)
         ]),
       )
   least_all (q ∷ qs) S best least =
@@ -103,15 +103,16 @@ module _ {C : Type 0} (v : TopoView C) where
       into z among =
           elim among [
             | inl first ↦
-                elim first [ inl old ↦ inl old | inr same ↦ inr (subst (Contains (q ∷ qs)) (sym same) (in_head q qs)) ]
-            | inr rest ↦ inr (in_tail q qs z rest)
+                elim first
+                [ inl old ↦ inl old | inr same ↦ inr (subst (Contains (q ∷ qs)) (sym same) (Contains-here q qs)) ]
+            | inr rest ↦ inr (Contains-there q z qs rest)
           ]
 
       back : (z : ℕ) → S z ⊎ Contains (q ∷ qs) z → (S z ⊎ (z ≡ q)) ⊎ Contains qs z
       back z among =
           elim among [
             | inl old ↦ inl (inl old)
-            | inr there ↦ elim (in_cases q qs z there) [ inl same ↦ inl (inr (sym same)) | inr rest ↦ inr rest ]
+            | inr there ↦ elim (Contains-cases q z qs there) [ inl same ↦ inl (inr (sym same)) | inr rest ↦ inr rest ]
           ]
 
       widen : (o : Option ℕ) → IsLeastOf v.topology (λ z. (S z ⊎ (z ≡ q)) ⊎ Contains qs z) o
@@ -153,13 +154,13 @@ module _ {C : Type 0} (v : TopoView C) where
 -- where none is found none passes
 find_none : {X : Type 0} (test : X → Bool) (xs : List X) → find test xs ≡ None → (x : X) → Contains xs x
     → test x ≡ false
-find_none test [] none x there = absurd (in_nothing x there)
+find_none test [] none x there = absurd (nothing_in x there)
 find_none test (y ∷ ys) none x there = step (test y) refl none (λ h rest. find_none test ys h x rest)
   where
     step : (b : Bool) → test y ≡ b → cond b (Some y) (find test ys) ≡ None
         → (find test ys ≡ None → Contains ys x → test x ≡ false) → test x ≡ false
     step true e h so = absurd (cc)
-    step false e h so = elim (in_cases y ys x there) [
+    step false e h so = elim (Contains-cases y x ys there) [
       | inl same ↦
           subst (λ z. test z ≡ false) same e
       | inr rest ↦ so h rest
@@ -189,11 +190,6 @@ side-cap Excludes a = ap not (zero_min a.e)
 second_false : (a b : Bool) → (a && b) ≡ false → a ≡ true → b ≡ false
 second_false true b e holds = e
 second_false false b e holds = absurd (cc)
-
--- where something is there, or not
-is_there : {X : Type 0} (o : Option X) → (o ≡ None) ⊎ ((x : X) × (o ≡ Some x))
-is_there None = inl refl
-is_there (Some x) = inr (x, refl)
 
 module _ {C : Type 0} (v : TopoView C) (u : Consumer → Counts)
     (raises : (q : ℕ) (c : Consumer) → Contains (attached_to v.topology q) c → raised v c ≡ cap (u c)) where
@@ -322,12 +318,13 @@ module _ {C : Type 0} (v : TopoView C) (u : Consumer → Counts)
 -- where nothing is said of any
 pub first_none : {X Y : Type 0} (f : X → Option Y) (xs : List X) → first_given f xs ≡ None → (x : X) → Contains xs x
     → f x ≡ None
-first_none {X} {Y} f [] none x there = absurd (in_nothing x there)
+first_none {X} {Y} f [] none x there = absurd (nothing_in x there)
 first_none {X} {Y} f (y ∷ ys) none x there = step (f y) refl none (λ h rest. first_none f ys h x rest)
   where
     step : (o : Option Y) → f y ≡ o → option_or o (first_given f ys) ≡ None
         → (first_given f ys ≡ None → Contains ys x → f x ≡ None) → f x ≡ None
-    step None e h so = elim (in_cases y ys x there) [ inl same ↦ subst (λ z. f z ≡ None) same e | inr rest ↦ so h rest ]
+    step None e h so =
+        elim (Contains-cases y x ys there) [ inl same ↦ subst (λ z. f z ≡ None) same e | inr rest ↦ so h rest ]
     step (Some z) e h so = absurd (cc)
 
 -- where something is, it is said of one of them
@@ -339,5 +336,5 @@ first_of {X} {Y} f (y ∷ ys) r found = step (f y) refl found (first_of f ys r)
     step : (o : Option Y) → f y ≡ o → option_or o (first_given f ys) ≡ Some r
         → (first_given f ys ≡ Some r → (x : X) × Contains ys x × (f x ≡ Some r))
         → (x : X) × Contains (y ∷ ys) x × (f x ≡ Some r)
-    step None e h so = let rest = so h in (rest.0, in_tail y ys rest.0 rest.1, rest.2)
-    step (Some z) e h so = (y, in_head y ys, e ∙ h)
+    step None e h so = let rest = so h in (rest.0, Contains-there y rest.0 ys rest.1, rest.2)
+    step (Some z) e h so = (y, Contains-here y ys, e ∙ h)

@@ -6,13 +6,13 @@ use Rattle.std.proofs.lemmas.Bool.{eqb-true, cases_eq, ne_eqb}
 use Rattle.std.proofs.lemmas.List.Kept.{AllPairs-from_increasing}
 use Rattle.geo_base.proofs.Options.{some_of}
 use Rattle.geo_base.specs.declared.request.Counts.{Counts}
+use Rattle.geo_base.proofs.MemberLists.{Contains-there, Contains-here, Contains-filter}
 use Rattle.geo_model.specs.Topology.{Geom, Provider, Consumer, geom_at, provider_at, consumer_at, providers_of, consumers_of}
 use Rattle.geo_model.specs.Demand.{no_counts}
 use Rattle.geo_slots.specs.Slots.{with_value}
 use Rattle.geo_mesh.specs.declared.records.Scratch.{Scratch}
 use Rattle.geo_mesh.specs.Topo.{TopoView, no_scratch, with_geom_scratch, with_want}
 use Rattle.geo_mesh.specs.Graph.{IsSoundGraph}
-use Rattle.geo_laws_counts.proofs.Members.{in_head, in_tail, in_filter}
 use Rattle.geo_laws_counts.proofs.LimitFacts.{of_filter}
 use Rattle.geo_laws_counts.proofs.Numbers.{found_of}
 use Rattle.geo_laws_counts.specs.WalkWords.{has_number, set_at}
@@ -153,9 +153,9 @@ module _ {C : Type 0} (t : TopoView C) where
       ≡ with_parts (record f { cells = sets (λ (y : Provider). y.number) (kept_cell way) f.cells ys })
   keep_providers way [] f found = refl
   keep_providers way (y ∷ ys) f found =
-      ap (λ v. fold (finish_provider (Some way)) v ys) (keep_provider way f y (found y (in_head y ys)))
+      ap (λ v. fold (finish_provider (Some way)) v ys) (keep_provider way f y (found y (Contains-here y ys)))
       ∙ keep_providers way ys (record f { cells = set_at f.cells y.number (kept_cell way (f.cells y.number)) })
-      (λ z there. found z (in_tail y ys z there))
+      (λ z there. found z (Contains-there y z ys there))
 
   -- what a consumer gains is kept
   keep_want : (way : Way) (m : Counts) (f : Parts) (c : Consumer) → consumer_at t.topology c.number ≡ Some c
@@ -176,9 +176,9 @@ module _ {C : Type 0} (t : TopoView C) where
       ≡ with_parts (record f { wants = sets (λ (c : Consumer). c.number) (λ w. shifted way w m) f.wants cs })
   keep_wants way m [] f found = refl
   keep_wants way m (c ∷ cs) f found =
-      ap (λ v. fold (raise_want way m) v cs) (keep_want way m f c (found c (in_head c cs)))
+      ap (λ v. fold (raise_want way m) v cs) (keep_want way m f c (found c (Contains-here c cs)))
       ∙ keep_wants way m cs (record f { wants = set_at f.wants c.number (shifted way (f.wants c.number) m) })
-      (λ d there. found d (in_tail c cs d there))
+      (λ d there. found d (Contains-there c d cs there))
 
   -- nothing is left to try at a geom
   keep_mark : (f : Parts) (x : ℕ)
@@ -289,7 +289,7 @@ module _ {C : Type 0} (t : TopoView C) where
         (part_apart (λ (y : Provider). y.number) (λ (y : Provider). y.geom == x) t.topology.providers
         (AllPairs-from_increasing (map (λ (y : Provider). y.number) t.topology.providers)
         sound.orderly.order.providers.0)) z
-        (in_filter (λ (y : Provider). y.geom == x) t.topology.providers z there (eq-eqb z.geom x same))
+        (Contains-filter (λ (y : Provider). y.geom == x) t.topology.providers z there (eq-eqb z.geom x same))
 
     cell_other : (way : Way) (f : Parts) (x : ℕ) (z : Provider) → Contains t.topology.providers z → z.geom ≢ x
         → (passed way f x).cells z.number ≡ f.cells z.number
@@ -310,7 +310,7 @@ module _ {C : Type 0} (t : TopoView C) where
         (part_apart (λ (d : Consumer). d.number) (λ (d : Consumer). d.geom == x) t.topology.consumers
         (AllPairs-from_increasing (map (λ (d : Consumer). d.number) t.topology.consumers)
         sound.orderly.order.consumers.0)) c
-        (in_filter (λ (d : Consumer). d.geom == x) t.topology.consumers c there (eq-eqb c.geom x same))
+        (Contains-filter (λ (d : Consumer). d.geom == x) t.topology.consumers c there (eq-eqb c.geom x same))
 
     want_other : (way : Way) (f : Parts) (x : ℕ) (c : Consumer) → Contains t.topology.consumers c → c.geom ≢ x
         → (passed way f x).wants c.number ≡ f.wants c.number
@@ -394,12 +394,13 @@ module _ {C : Type 0} (t : TopoView C) where
         }
     keep_all way (x ∷ xs) f apart lives =
         let rest : Kept way xs (passed way f x) =
-        keep_all way xs (passed way f x) apart.1 (λ y there. lives y (in_tail x xs y there)) in
+        keep_all way xs (passed way f x) apart.1 (λ y there. lives y (Contains-there x y xs there)) in
         let gone : (n : ℕ) → n ≡ x → has_number xs n ≡ false =
         λ n is. not-has xs n (λ there. apart.0 (subst (Contains xs) is there)) in
         record {
           parts = rest.parts;
-          is = ap (λ v. fold (finish_geom (Some way)) v xs) (keep_geom way f x (lives x (in_head x xs))) ∙ rest.is;
+          is =
+              ap (λ v. fold (finish_geom (Some way)) v xs) (keep_geom way f x (lives x (Contains-here x xs))) ∙ rest.is;
           marks = λ n. mark_step x xs n 0 (f.marks n) (rest.parts.marks n) (rest.marks n);
           made = λ n. mark_step x xs n no_counts (f.made n) (rest.parts.made n) (rest.made n);
           cells = λ z there.

@@ -15,10 +15,9 @@ use Rattle.geo_slots.specs.Slots.{value_at}
 use Rattle.geo_mesh.specs.declared.records.Scratch.{Scratch}
 use Rattle.geo_mesh.specs.Topo.{TopoView, Room, no_scratch, with_consumer}
 use Rattle.geo_mesh.specs.Graph.{IsSoundGraph}
-use Rattle.geo_laws_graph.proofs.Members.{Origin, map-Contains}
+use Rattle.geo_laws_graph.proofs.Members.{Origin, map-Contains, Contains-there, Contains-here}
 use Rattle.geo_laws_counts.specs.CountWords.{DemandStays, AnyConsumer}
 use Rattle.geo_laws_counts.proofs.LimitFacts.{all_of}
-use Rattle.geo_laws_counts.proofs.Members.{in_head, in_tail}
 use Rattle.geo_laws_counts.proofs.Numbers.{free_of}
 use Rattle.geo_laws_counts.proofs.Stays.{grants_agree, consumer_came}
 use Rattle.geo_laws_counts.proofs.Flows.{each_of}
@@ -65,8 +64,8 @@ module _ {C : Type 0} (t : TopoView C) (geom : ℕ) where
             → find (λ (x : Consumer). x.number == n) xs ≡ None
         none_of [] so = refl
         none_of (x ∷ xs) so =
-            ap (λ b. if b then Some x else find (λ (y : Consumer). y.number == n) xs) (so x (in_head x xs))
-            ∙ none_of xs (λ y there. so y (in_tail x xs y there))
+            ap (λ b. if b then Some x else find (λ (y : Consumer). y.number == n) xs) (so x (Contains-here x xs))
+            ∙ none_of xs (λ y there. so y (Contains-there x y xs there))
 
     module _ (counted : IsCounted t) (room : Room) where
       -- what a consumer wanted, but nothing for it

@@ -6,6 +6,7 @@ use Rattle.std.proofs.Math.Bool.{not-and_self}
 use Rattle.std.proofs.lemmas.Bool.{cases_eq, ne_eqb}
 use Rattle.std.proofs.lemmas.List.Elements.{All-contains}
 use Rattle.geo_base.specs.declared.request.Counts.{Counts}
+use Rattle.geo_base.proofs.MemberLists.{nothing_in, Contains-filter}
 use Rattle.geo_model.specs.Words.{names_number, is_granted_kind}
 use Rattle.geo_model.specs.Topology.{Geom, Provider, Consumer, geom_at, provider_at, providers_of, attached_to}
 use Rattle.geo_model.specs.Opens.{with_grant}
@@ -17,7 +18,6 @@ use Rattle.geo_laws_counts.specs.CountWords.{IsAtMost, AreAtMost, more_counts}
 use Rattle.geo_laws_counts.specs.LimitLaws.{greatest_counts}
 use Rattle.geo_laws_counts.proofs.Sums.{counts-same, add-zero, add-more, at_most-same, at_most-trans}
 use Rattle.geo_laws_counts.proofs.Levels.{have-at_most, want-at_most}
-use Rattle.geo_laws_counts.proofs.Members.{in_nothing, in_filter}
 use Rattle.geo_laws_counts.proofs.LimitFacts.{all_of, within_limit}
 use Rattle.geo_laws_counts.proofs.Upward.{have_is_sum}
 use Rattle.geo_laws_counts.specs.DemandLaws.{DiffersAt}
@@ -200,7 +200,7 @@ module _ {C : Type 0} (t : TopoView C) (sound : IsSoundGraph t.topology) (counte
             let part : IsAtMost (want (granted_by t) t.topology c)
             (sum_counts (map (want (granted_by t) t.topology) (attached_to t.topology q))) =
             part_at_most (want (granted_by t) t.topology) (attached_to t.topology q) c
-            (in_filter (λ (x : Consumer). names_number x.provider q) t.topology.consumers c there
+            (Contains-filter (λ (x : Consumer). names_number x.provider q) t.topology.consumers c there
             (ap (λ w. names_number w q) attached ∙ eq-eqb q q refl)) in
             at_most-trans (want (granted_by t) t.topology c) (have (granted_by t) t.topology q) greatest_counts
             (subst (IsAtMost (want (granted_by t) t.topology c))
@@ -212,9 +212,9 @@ module _ {C : Type 0} (t : TopoView C) (sound : IsSoundGraph t.topology) (counte
             → IsSomeAnd z (λ (y : Provider). y.geom ≡ c.geom) → providers_of t.topology c.geom ≡ [] → ⊥
         offered q None found never bare = never
         offered q (Some y) found is bare =
-            in_nothing y
+            nothing_in y
             (subst (λ ys. Contains ys y) bare
-            (in_filter (λ (w : Provider). w.geom == c.geom) t.topology.providers y
+            (Contains-filter (λ (w : Provider). w.geom == c.geom) t.topology.providers y
             (provider_stands t sound q y found).0 (eq-eqb y.geom c.geom is)))
 
         by : (w : Option ℕ) → c.provider ≡ w → IfSome w (λ q. IsSome (provider_at t.topology q))

@@ -8,6 +8,7 @@ use Rattle.geo_base.proofs.PlaceLists.{row_more}
 use Rattle.geo_base.specs.declared.request.Counts.{Counts}
 use Rattle.geo_base.specs.declared.kind.Kind.{Kind}
 use Rattle.geo_base.specs.declared.kind.Kind.TheVariants as kinds
+use Rattle.geo_base.proofs.MemberLists.{Contains-cases, nothing_in}
 use Rattle.geo_model.specs.Words.{is_granted_kind}
 use Rattle.geo_model.specs.Topology.{Geom, Provider, Consumer, geom_at, consumer_at, providers_of, attached_to, attach}
 use Rattle.geo_model.specs.Demand.{no_counts, add_counts, sum_counts, is_zero, want_of_kind, want_given, have_within, have, want}
@@ -18,7 +19,6 @@ use Rattle.geo_laws_graph.proofs.Lists.{map-changed}
 use Rattle.geo_laws_counts.specs.CountWords.{IsAtMost}
 use Rattle.geo_laws_counts.specs.LimitLaws.{NoneInTheWay, greatest_counts}
 use Rattle.geo_laws_counts.proofs.Sums.{at_most-zero}
-use Rattle.geo_laws_counts.proofs.Members.{in_nothing, in_cases}
 use Rattle.geo_laws_counts.proofs.LimitFacts.{all_of, exclusive_means, limit_means}
 use Rattle.geo_laws_counts.proofs.Flows.{each_of, sum-none}
 use Rattle.geo_model.proofs.DemandLemmas.{map_same}
@@ -290,13 +290,14 @@ first_shut {C} dev taste room =
       kinds =
           all_of (λ (g : Geom C). is_granted_kind g.kind ≡ true → (g.number ≡ 1) ⊎ (g.number ≡ 2)) t.topology.geoms
           (λ g there granted.
-          elim (in_cases (made_first 1 kinds.Dev (codes "dev") dev) (made_first 2 kinds.Taste (codes "taste") taste
-          ∷ []) g there) [
+          elim (Contains-cases (made_first 1 kinds.Dev (codes "dev") dev) g
+          (made_first 2 kinds.Taste (codes "taste") taste
+          ∷ []) there) [
             | inl same ↦ inl (ap (λ (x : Geom C). x.number) (sym same))
             | inr rest ↦
-                elim (in_cases (made_first 2 kinds.Taste (codes "taste") taste) [] g rest) [
+                elim (Contains-cases (made_first 2 kinds.Taste (codes "taste") taste) g [] rest) [
                   | inl same ↦ inr (ap (λ (x : Geom C). x.number) (sym same))
-                  | inr none ↦ absurd (in_nothing g none)
+                  | inr none ↦ absurd (nothing_in g none)
                 ]
           ]);
       haves = refl;

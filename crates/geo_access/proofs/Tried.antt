@@ -9,6 +9,7 @@ use Rattle.geo_base.proofs.FindLists.{find-Contains}
 use Rattle.geo_base.specs.declared.request.Counts.{Counts}
 use Rattle.geo_base.specs.declared.kind.Kind.{Kind}
 use Rattle.geo_base.specs.declared.kind.Kind.TheVariants as kinds
+use Rattle.geo_base.proofs.MemberLists.{Contains-there, Contains-here}
 use Rattle.geo_model.specs.Topology.{Geom, Provider, Consumer, geom_at, provider_at, consumers_of}
 use Rattle.geo_model.specs.Rank.{geoms_under}
 use Rattle.geo_model.specs.Demand.{no_counts, add_counts, sum_counts, is_zero}
@@ -16,7 +17,6 @@ use Rattle.geo_mesh.specs.Topo.{TopoView}
 use Rattle.geo_mesh.specs.Graph.{IsSoundGraph}
 use Rattle.geo_laws_counts.specs.CountWords.{gain_of_kind}
 use Rattle.geo_laws_counts.proofs.Sums.{add-zero, add-assoc, zeros-sum}
-use Rattle.geo_laws_counts.proofs.Members.{in_head, in_tail}
 use Rattle.geo_laws_counts.proofs.Upward.{geom_found}
 use Rattle.geo_laws_counts.specs.WalkWords.{has_number, order_from, cap, set_at}
 use Rattle.geo_laws_counts.proofs.Orders.{order_within, under-is}
@@ -247,11 +247,12 @@ module _ {C : Type 0} (v : TopoView C) (way : Way) (gain small : ℕ → Counts)
       let rest : Counts = sum_counts (map (λ (z : Provider). gain z.number) ys) in
       let zeros : Bool = list_all is_zero (map (λ (z : Provider). small z.number) ys) in
       ap (λ s. fold (weigh v way) (make s (q && is_zero (had way (have_at v y.number) (gain_at v y.number)))) ys)
-      (cap-add a (gain_at v y.number) ∙ ap (λ g. cap (add_counts a g)) (gains y (in_head y ys))
+      (cap-add a (gain_at v y.number) ∙ ap (λ g. cap (add_counts a g)) (gains y (Contains-here y ys))
       ∙ add-cap a (gain y.number))
       ∙ ap (λ s. fold (weigh v way) (make (cap (add_counts a (gain y.number))) (q && is_zero s)) ys)
-      (smalls y (in_head y ys))
-      ∙ weigh_is ys (λ z there. gains z (in_tail y ys z there)) (λ z there. smalls z (in_tail y ys z there))
+      (smalls y (Contains-here y ys))
+      ∙ weigh_is ys (λ z there. gains z (Contains-there y z ys there))
+      (λ z there. smalls z (Contains-there y z ys there))
       (add_counts a (gain y.number)) (q && is_zero (small y.number))
       ∙ ap (λ s. make (cap s) ((q && is_zero (small y.number)) && zeros)) (add-assoc a (gain y.number) rest)
       ∙ ap (make (cap (add_counts a (add_counts (gain y.number) rest)))) (and-assoc q (is_zero (small y.number)) zeros)

@@ -7,6 +7,7 @@ use Rattle.std.proofs.lemmas.Bool.{eqb-true, cases_eq, ne_eqb}
 use Rattle.std.proofs.lemmas.List.Elements.{All-contains}
 use Rattle.std.proofs.lemmas.Map.Steps.{length-le_from_distinct_below}
 use Rattle.geo_base.specs.declared.request.Counts.{Counts}
+use Rattle.geo_base.proofs.MemberLists.{Contains-there, nothing_in, Contains-here, Contains-map}
 use Rattle.geo_model.specs.Topology.{Geom, Provider, Consumer, geom_at, provider_at, consumers_of, providers_of}
 use Rattle.geo_model.specs.Rank.{rank}
 use Rattle.geo_model.specs.Demand.{no_counts, add_counts, sum_counts, is_zero}
@@ -14,10 +15,9 @@ use Rattle.geo_mesh.specs.Topo.{TopoView}
 use Rattle.geo_mesh.specs.Graph.{IsSoundGraph}
 use Rattle.geo_laws_counts.specs.CountWords.{gain_of_kind}
 use Rattle.geo_laws_counts.proofs.Sums.{zero-add}
-use Rattle.geo_laws_counts.proofs.Members.{in_nothing, in_head, in_tail}
 use Rattle.geo_laws_counts.proofs.LimitFacts.{of_filter}
 use Rattle.geo_laws_counts.proofs.Upward.{geom_found}
-use Rattle.geo_laws_counts.proofs.Numbers.{found_of, key_in}
+use Rattle.geo_laws_counts.proofs.Numbers.{found_of}
 use Rattle.std.proofs.lemmas.List.Kept.{AllPairs-from_increasing}
 use Rattle.geo_base.proofs.Options.{some_of}
 use Rattle.geo_base.proofs.FindLists.{find-Contains}
@@ -42,8 +42,8 @@ any_contains (x ∷ xs) q found = step (eqb q x) refl found (any_contains xs q)
   where
     step : (b : Bool) → eqb q x ≡ b → (b || list_any (eqb q) xs) ≡ true
         → (list_any (eqb q) xs ≡ true → Contains xs q) → Contains (x ∷ xs) q
-    step true e h so = subst (Contains (x ∷ xs)) (sym (eqb-true q x e)) (in_head x xs)
-    step false e h so = in_tail x xs q (so h)
+    step true e h so = subst (Contains (x ∷ xs)) (sym (eqb-true q x e)) (Contains-here x xs)
+    step false e h so = Contains-there x q xs (so h)
 
 -- what a fold of steps that leave each mark leaves
 spreads_mark : {C : Type 0} (way : Way) (xs : List ℕ) (v : TopoView C) (y : ℕ)
@@ -73,7 +73,7 @@ module _ {C : Type 0} (t : TopoView C) (sound : IsSoundGraph t.topology) where
       subst (λ n. n < t.topology.next_geom) (geom_found t.topology x g.0 g.1)
       (All-contains (λ n. n < t.topology.next_geom) (map (λ (y : Geom C). y.number) t.topology.geoms) g.0.number
       sound.orderly.order.geoms.1
-      (key_in (λ (y : Geom C). y.number) t.topology.geoms g.0
+      (Contains-map (λ (y : Geom C). y.number) t.topology.geoms g.0
       (find-Contains (λ (y : Geom C). y.number == x) t.topology.geoms g.0 g.1)))
 
   -- there are few enough geoms in an order
@@ -121,8 +121,8 @@ module _ {C : Type 0} (t : TopoView C) (sound : IsSoundGraph t.topology) where
       → fold (hand m) (trying t s) cs ≡ trying t (record s { gains = fold (hand_at m) s.gains cs })
   hand_all m [] s lives = refl
   hand_all m (c ∷ cs) s lives =
-      ap (λ v. fold (hand m) v cs) (hand_one s m c (lives c (in_head c cs)))
-      ∙ hand_all m cs (record s { gains = hand_at m s.gains c }) (λ d there. lives d (in_tail c cs d there))
+      ap (λ v. fold (hand m) v cs) (hand_one s m c (lives c (Contains-here c cs)))
+      ∙ hand_all m cs (record s { gains = hand_at m s.gains c }) (λ d there. lives d (Contains-there c d cs there))
 
   -- the providers to which a geom's consumers are attached live
   pub places_live : (x : ℕ) (c : Consumer) → Contains (consumers_of t.topology x) c
@@ -249,7 +249,7 @@ module _ {C : Type 0} (t : TopoView C) (sound : IsSoundGraph t.topology) where
       others = λ n away. refl;
     }
     spread_all (x ∷ xs) s ordered all now =
-        let g = some_of (geom_at t.topology x) (all x (in_head x xs)) in
+        let g = some_of (geom_at t.topology x) (all x (Contains-here x xs)) in
         let μ : Counts =
         gain_of_kind g.0.kind (map (λ y. small y.number) (providers_of t.topology g.0.number))
         (map (λ y. gain y.number) (providers_of t.topology g.0.number)) no_counts in
@@ -260,19 +260,19 @@ module _ {C : Type 0} (t : TopoView C) (sound : IsSoundGraph t.topology) where
         let next : Tries =
         record s { made = set_at s.made x m; gains = fold (hand_at m) s.gains (consumers_of t.topology x) } in
         let rest : Spread xs next =
-        spread_all xs next ordered.2 (λ y there. all y (in_tail x xs y there))
+        spread_all xs next ordered.2 (λ y there. all y (Contains-there x y xs there))
         (flow_step t.topology p first more x xs m μ s.gains now is makes ordered.0) in
         record {
           tries = rest.tries;
-          is = ap (λ v. fold (spread_from way) v xs) (spread_one way s x m (all x (in_head x xs)) refl) ∙ rest.is;
+          is = ap (λ v. fold (spread_from way) v xs) (spread_one way s x m (all x (Contains-here x xs)) refl) ∙ rest.is;
           marks = rest.marks;
           gains = rest.gains;
           made = λ c there. made_step x xs m μ s.made rest.tries.made c ordered.0 is (makes c there)
               (rest.made c there);
           others = λ n away.
-              rest.others n (λ there. away (in_tail x xs n there))
+              rest.others n (λ there. away (Contains-there x n xs there))
               ∙ ap (λ b. if b then m else s.made n)
-              (ne_eqb n x (λ same. away (subst (Contains (x ∷ xs)) (sym same) (in_head x xs))));
+              (ne_eqb n x (λ same. away (subst (Contains (x ∷ xs)) (sym same) (Contains-here x xs))));
         }
 
   -- From a mesh in which nothing is tried
@@ -286,13 +286,13 @@ module _ {C : Type 0} (t : TopoView C) (sound : IsSoundGraph t.topology) where
     -- they are in order
     pub the_order_is : IsOrder t.topology the_order
     the_order_is =
-        order_stays t.topology sound.ranked (rank t.topology x) x [] (omega arith) tt (λ there. in_nothing x there)
+        order_stays t.topology sound.ranked (rank t.topology x) x [] (omega arith) tt (λ there. nothing_in x there)
 
     -- and live
     pub the_order_lives : (y : ℕ) → Contains the_order y → IsSome (geom_at t.topology y)
     the_order_lives =
         order_within t.topology (λ y. IsSome (geom_at t.topology y)) (under_lives t sound x positive)
-        (rank t.topology x) x [] lives (λ y there. absurd (in_nothing y there))
+        (rank t.topology x) x [] lives (λ y there. absurd (nothing_in y there))
 
     -- what is gathered
     pub gathered_is : gathered_from t x ≡ record {
@@ -304,4 +304,4 @@ module _ {C : Type 0} (t : TopoView C) (sound : IsSoundGraph t.topology) where
         let P : TopoView C → Gathered C =
         λ v. visit (rank t.topology x) x (record { view = v; order = record { head = x; count = 0 } }) in
         ap P (sym (trying-none t clear))
-        ∙ visit_is t sound x positive (rank t.topology x) x [] lives (λ y there. absurd (in_nothing y there))
+        ∙ visit_is t sound x positive (rank t.topology x) x [] lives (λ y there. absurd (nothing_in y there))

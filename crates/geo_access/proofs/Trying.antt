@@ -6,6 +6,7 @@ use Rattle.std.proofs.Common.{refl, sym, ◌∙◌, ap, subst, arith, eq-eqb, eq
 use Rattle.std.proofs.lemmas.Bool.{eqb-true, ne_eqb}
 use Rattle.geo_base.proofs.Options.{some_of}
 use Rattle.geo_base.specs.declared.request.Counts.{Counts}
+use Rattle.geo_base.proofs.MemberLists.{Contains-there, Contains-here}
 use Rattle.geo_model.specs.Topology.{Topology, Geom, Provider, geom_at, provider_at}
 use Rattle.geo_model.specs.Demand.{no_counts}
 use Rattle.geo_model.proofs.DemandLemmas.{map_same}
@@ -13,7 +14,6 @@ use Rattle.geo_slots.specs.Slots.{value_at, with_value}
 use Rattle.geo_mesh.specs.declared.records.Scratch.{Scratch}
 use Rattle.geo_mesh.specs.Topo.{TopoView, with_geom_scratch, with_provider_scratch}
 use Rattle.geo_laws_counts.proofs.Levels.{of_each}
-use Rattle.geo_laws_counts.proofs.Members.{in_head, in_tail}
 use Rattle.geo_laws_counts.specs.WalkWords.{has_number, IsOrder, set_at}
 use Rattle.geo_laws_counts.proofs.Flows.{each_of}
 use Rattle.geo_access.specs.declared.order.Order.{Order}
@@ -209,12 +209,12 @@ pub link_zero : (end : ℕ) (xs : List ℕ) (h : ℕ) → 1 ≤ end → ((y : �
     → (link_in end xs h == 0) ≡ not (has_number xs h)
 link_zero end [] h some each = refl
 link_zero end (x ∷ xs) h some each =
-    zero_step end x xs h (first xs (λ y there. each y (in_tail x xs y there)))
-    (link_zero end xs h some (λ y there. each y (in_tail x xs y there))) (h == x) refl
+    zero_step end x xs h (first xs (λ y there. each y (Contains-there x y xs there)))
+    (link_zero end xs h some (λ y there. each y (Contains-there x y xs there))) (h == x) refl
   where
     first : (ys : List ℕ) → ((y : ℕ) → Contains ys y → 1 ≤ y) → 1 ≤ head_or end ys
     first [] positive = some
-    first (y ∷ ys) positive = positive y (in_head y ys)
+    first (y ∷ ys) positive = positive y (Contains-here y ys)
 
 -- the marks lead through the order
 pub links_order : {C : Type 0} (t : Topology C) (end : ℕ) (xs : List ℕ) → IsOrder t xs

@@ -10,6 +10,7 @@ use Rattle.geo_base.specs.declared.request.Counts.{Counts}
 use Rattle.geo_base.specs.declared.errno.Errno.{Errno}
 use Rattle.geo_base.specs.declared.errno.Errno.TheVariants.{ENXIO, EPERM, EOVERFLOW}
 use Rattle.geo_base.specs.declared.limits.TheConstants.{MAX_ACCESS_COUNT}
+use Rattle.geo_base.proofs.MemberLists.{Contains-there, Contains-cases, nothing_in, Contains-here, Contains-filter}
 use Rattle.geo_model.specs.Words.{first_error, names_number}
 use Rattle.geo_model.specs.Topology.{Topology, Provider, Consumer, provider_at, consumer_at, providers_of, attached_to, providers_under, is_errored}
 use Rattle.geo_model.specs.Demand.{no_counts, add_counts, sum_counts, have, want, is_exclusive, fits_limit}
@@ -18,7 +19,6 @@ use Rattle.geo_model.specs.Refusals.{IsFirstErrored, StandAgainst, IsOverLimit, 
 use Rattle.geo_mesh.specs.Topo.{TopoView}
 use Rattle.geo_laws_counts.specs.CountWords.{IsAtMost}
 use Rattle.geo_laws_counts.specs.LimitLaws.{NoneInTheWay, greatest_counts}
-use Rattle.geo_laws_counts.proofs.Members.{in_nothing, in_head, in_tail, in_cases, in_filter}
 use Rattle.geo_laws_counts.proofs.LimitFacts.{of_filter, all_of, exclusive_means, limit_means}
 use Rattle.geo_laws_counts.proofs.Upward.{names_some}
 use Rattle.geo_laws_counts.specs.DemandLaws.{StaysAround}
@@ -73,9 +73,9 @@ side_gone n e =
 -- what is part of a sum that is zero is zero
 pub sum_zero_w : {X : Type 0} (f : X → Counts) (xs : List X) (x : X) → Contains xs x → (sum_counts (map f xs)).w ≡ 0
     → (f x).w ≡ 0
-sum_zero_w f [] x there none = absurd (in_nothing x there)
+sum_zero_w f [] x there none = absurd (nothing_in x there)
 sum_zero_w f (y ∷ ys) x there none =
-    elim (in_cases y ys x there) [
+    elim (Contains-cases y x ys there) [
       | inl same ↦ subst (λ z. (f z).w ≡ 0) same (omega arith)
       | inr rest ↦ sum_zero_w f ys x rest (omega arith)
     ]
@@ -83,9 +83,9 @@ sum_zero_w f (y ∷ ys) x there none =
 -- the same for exclusive counts
 pub sum_zero_e : {X : Type 0} (f : X → Counts) (xs : List X) (x : X) → Contains xs x → (sum_counts (map f xs)).e ≡ 0
     → (f x).e ≡ 0
-sum_zero_e f [] x there none = absurd (in_nothing x there)
+sum_zero_e f [] x there none = absurd (nothing_in x there)
 sum_zero_e f (y ∷ ys) x there none =
-    elim (in_cases y ys x there) [
+    elim (Contains-cases y x ys there) [
       | inl same ↦ subst (λ z. (f z).e ≡ 0) same (omega arith)
       | inr rest ↦ sum_zero_e f ys x rest (omega arith)
     ]
@@ -132,8 +132,8 @@ is_past a e =
 any_false : {X : Type 0} (test : X → Bool) (xs : List X) → ((x : X) → Contains xs x → test x ≡ false)
     → list_any test xs ≡ false
 any_false test [] none = refl
-any_false test (x ∷ xs) none = ap (λ b. b || list_any test xs) (none x (in_head x xs))
-    ∙ any_false test xs (λ y there. none y (in_tail x xs y there))
+any_false test (x ∷ xs) none = ap (λ b. b || list_any test xs) (none x (Contains-here x xs))
+    ∙ any_false test xs (λ y there. none y (Contains-there x y xs there))
 
 module _ {C : Type 0} (t : Topology C) (known : (z : Provider) → Contains t.providers z
     → provider_at t z.number ≡ Some z)
@@ -331,7 +331,7 @@ module _ {C : Type 0} (v : TopoView C) (p own : ℕ) (add : Counts) (granted aft
     no_fault_at asked none z there near =
         first_none (λ (y : Provider). fault_at v asked y.number) (providers_of v.topology z.geom)
         (first_none (fault_in v asked) xs none z.geom (covers z there near)) z
-        (in_filter (λ (y : Provider). y.geom == z.geom) v.topology.providers z there (eq-eqb z.geom z.geom refl))
+        (Contains-filter (λ (y : Provider). y.geom == z.geom) v.topology.providers z there (eq-eqb z.geom z.geom refl))
 
     -- the counts of a provider in the new state are zero where they are so stopped
     zero_w : (z : Provider) → Contains v.topology.providers z → ((raised_have v z.number).w == 0) ≡ true

@@ -3,6 +3,7 @@ use Rattle.std.specs.Prelude.{◌≡◌, ℕ, zero, suc, ◌==◌, ◌<◌, ◌�
 use Rattle.std.proofs.Common.{refl, sym, ◌∙◌, ap, subst, arith}
 use Rattle.std.proofs.lemmas.Bool.{eqb-true}
 use Rattle.geo_base.specs.declared.request.Counts.{Counts}
+use Rattle.geo_base.proofs.MemberLists.{Contains-there, nothing_in, Contains-here, in_flat_map, filter_map-Contains}
 use Rattle.geo_model.specs.Words.{names_number}
 use Rattle.geo_model.specs.Topology.{Topology, Provider, Consumer, geom_at, provider_at, consumers_of, attached_to, providers_under}
 use Rattle.geo_model.specs.Rank.{rank, geoms_under}
@@ -12,12 +13,11 @@ use Rattle.geo_model.proofs.DemandLemmas.{rank_within-positive}
 use Rattle.geo_mesh.specs.Topo.{TopoView}
 use Rattle.geo_mesh.specs.Graph.{IsSoundGraph}
 use Rattle.geo_laws_counts.proofs.Sums.{zero-add}
-use Rattle.geo_laws_counts.proofs.Members.{in_nothing, in_head, in_tail, in_flat_map}
 use Rattle.geo_laws_counts.proofs.LimitFacts.{of_filter, all_of}
 use Rattle.geo_laws_counts.proofs.Upward.{names_some}
 use Rattle.geo_laws_counts.specs.WalkWords.{has_number, IsOrder, order_from, cap, set_at, gain_without}
 use Rattle.geo_laws_counts.proofs.Reach.{below_self, below_closed, directly_under, under_of}
-use Rattle.geo_laws_counts.proofs.Orders.{order_within, order_closed, under_lower, under-is, is-under, below_least, filter_map_cases}
+use Rattle.geo_laws_counts.proofs.Orders.{order_within, order_closed, under_lower, under-is, is-under, below_least}
 use Rattle.geo_laws_counts.proofs.Flows.{flow_start, set_at-value}
 use Rattle.geo_laws_counts.proofs.Raising.{Demands, Covers}
 use Rattle.geo_access.specs.declared.counts.Way.{Way}
@@ -69,7 +69,7 @@ module _ {C : Type 0} (t : TopoView C) (sound : IsSoundGraph t.topology) (clear 
       head : (k : ℕ) → 1 ≤ k → Contains (order_from k t.topology y.geom []) y.geom
       head zero some = absurd (omega arith)
       head (suc k) some =
-          in_head y.geom (fold (λ ys h. if has_number ys h then ys else order_from k t.topology h ys) []
+          Contains-here y.geom (fold (λ ys h. if has_number ys h then ys else order_from k t.topology h ys) []
           (geoms_under t.topology y.geom))
 
   -- each provider that is reached is p or one to which a consumer of these geoms is attached, and its geom is among
@@ -82,13 +82,13 @@ module _ {C : Type 0} (t : TopoView C) (sound : IsSoundGraph t.topology) (clear 
   reached_touched =
       below_least t.topology IsTouched
       (λ u x q touched at under. (
-        in_tail p (flat_map (providers_under t.topology) geoms_below) q
+        Contains-there p q (flat_map (providers_under t.topology) geoms_below)
             (in_flat_map (providers_under t.topology) geoms_below x.geom q (touched.1 x at) under),
         (λ z there. order_closed t.topology geoms_below below_ordered x.geom z.geom (touched.1 x at)
             (is-under t.topology x.geom q z under there)),
       ))
       p (
-        in_head p (flat_map (providers_under t.topology) geoms_below),
+        Contains-here p (flat_map (providers_under t.topology) geoms_below),
         (λ z there. let same : y ≡ z = let e : Some y ≡ Some z = sym found ∙ there in cc in
             subst (λ w. Contains geoms_below w.geom) same first_below),
       )
@@ -105,10 +105,10 @@ module _ {C : Type 0} (t : TopoView C) (sound : IsSoundGraph t.topology) (clear 
   pub attached_reached : (x q : ℕ) → HasReached x → Contains (providers_under t.topology x) q
       → Contains (below t.topology p) q
   attached_reached x q has under =
-      let d = filter_map_cases (λ (c : Consumer). c.provider) (consumers_of t.topology x) q under in
-      let inside = of_filter (λ (c : Consumer). c.geom == x) t.topology.consumers d.0 d.1 in
-      below_closed t.topology sound.ranked p has.0 q d.0 inside.0 d.2
-      (subst (λ n. IsSomeAnd (provider_at t.topology has.0) (λ z. z.geom ≡ n)) (sym (eqb-true d.0.geom x inside.1))
+      let d = filter_map-Contains (λ (c : Consumer). c.provider) (consumers_of t.topology x) q under in
+      let inside = of_filter (λ (c : Consumer). c.geom == x) t.topology.consumers d.item d.stands in
+      below_closed t.topology sound.ranked p has.0 q d.item inside.0 d.fact
+      (subst (λ n. IsSomeAnd (provider_at t.topology has.0) (λ z. z.geom ≡ n)) (sym (eqb-true d.item.geom x inside.1))
       has.2) has.1
 
   pub all_reached : (x : ℕ) → Contains geoms_below x → HasReached x
@@ -125,7 +125,7 @@ module _ {C : Type 0} (t : TopoView C) (sound : IsSoundGraph t.topology) (clear 
         below_self (length t.topology.geoms) t.topology p,
         subst (λ o. IsSomeAnd o (λ (z : Provider). z.geom ≡ y.geom)) (sym found) refl,
       )
-      (λ x there. absurd (in_nothing x there))
+      (λ x there. absurd (nothing_in x there))
 
   -- none of these geoms has a consumer attached to the provider
   place_low : (x : ℕ) → Contains geoms_below x → rank t.topology x ≤ rank t.topology y.geom
@@ -133,7 +133,7 @@ module _ {C : Type 0} (t : TopoView C) (sound : IsSoundGraph t.topology) (clear 
       order_within t.topology (λ x. rank t.topology x ≤ rank t.topology y.geom)
       (λ x h low under. let less : rank t.topology h < rank t.topology x =
       under_lower t.topology sound.ranked x h under in omega arith)
-      (rank t.topology y.geom) y.geom [] (omega arith) (λ x there. absurd (in_nothing x there))
+      (rank t.topology y.geom) y.geom [] (omega arith) (λ x there. absurd (nothing_in x there))
 
   pub above_place : (c : Consumer) → Contains (attached_to t.topology p) c → Contains geoms_below c.geom → ⊥
   above_place c at there =

@@ -5,6 +5,7 @@ use Rattle.std.proofs.Common.{refl, sym, ◌∙◌, ap, subst}
 use Rattle.std.proofs.lemmas.List.Elements.{All-contains, All-head}
 use Rattle.std.proofs.lemmas.List.Kept.{AllPairs-from_increasing}
 use Rattle.geo_base.proofs.FindLists.{find-Contains}
+use Rattle.geo_base.proofs.MemberLists.{Contains-here}
 use Rattle.geo_model.specs.Topology.{Topology, Provider, Consumer, geom_at, consumer_at, provider_at}
 use Rattle.geo_model.specs.Graph.{AreNumbers}
 use Rattle.geo_mesh.specs.declared.records.ConsRec.{ConsRec}
@@ -14,7 +15,6 @@ use Rattle.geo_mesh.specs.Cells.{consumer_seen, provider_seen}
 use Rattle.geo_mesh.specs.Graph.{IsSoundGraph}
 use Rattle.geo_laws_graph.specs.LookupLaws.{left_from, IsStep, WalksMeetAll}
 use Rattle.geo_laws_graph.proofs.Walks.{walks-meet}
-use Rattle.geo_laws_counts.proofs.Members.{in_head}
 use Rattle.geo_laws_counts.proofs.LimitFacts.{of_filter}
 use Rattle.geo_laws_counts.proofs.Numbers.{found_of}
 use Rattle.geo_access.specs.declared.order.Order.{Order}
@@ -40,7 +40,7 @@ next_item number keep xs next from_number n order first =
     (WalksMeetAll.part walks-meet number keep xs next order) first in
     let left : Contains (left_from number from_number (filter keep xs)) step.item =
     subst (λ ys. Contains ys step.item) (sym step.left)
-    (in_head step.item (left_from number (n + 1) (filter keep xs))) in
+    (Contains-here step.item (left_from number (n + 1) (filter keep xs))) in
     let inside =
     of_filter keep xs step.item
     (of_filter (λ y. nat_le from_number (number y)) (filter keep xs) step.item left).0 in

@@ -1,14 +1,12 @@
 -- One more number of those that a parent gathers.
-use Rattle.std.proofs.Common.{◌≡◌, ℕ, suc, ◌+◌, ◌-◌, ◌<◌, ◌++◌, List, Option, Some, None, [], refl, ap, sym, ◌∙◌, arith, append_assoc}
+use Rattle.std.proofs.Common.{◌≡◌, ℕ, suc, ◌+◌, ◌-◌, ◌<◌, ◌++◌, List, Option, Some, [], refl, ap, sym, ◌∙◌, arith, append_assoc}
 use Rattle.std.specs.Option.{option_map_or, option_and_then}
 use Rattle.geo_model.specs.Errno.{Errno}
 use Rattle.geo_model.specs.Bios.{bytes_of_result}
 use Rattle.geo_slots.specs.Slots.{value_at, without}
 use Rattle.geo_bio.specs.declared.bio.Bio.{Bio}
-use Rattle.geo_bio.specs.declared.bio.Held.{Held}
-use Rattle.geo_bio.specs.declared.bio.Held.TheVariants as held
 use Rattle.geo_bio.specs.Up.{resolved}
-use Rattle.geo_bio.specs.Gather.{held_error, error_from, bytes_from, without_all, copy_of, result_given}
+use Rattle.geo_bio.specs.Gather.{held_error, error_from, bytes_from, without_all}
 
 pub error_from-more : (rows : List (ℕ × Bio)) (first place count : ℕ) → place < count
     → error_from rows (first + place) (count - place)
@@ -47,14 +45,6 @@ without_all-more rows first place count more =
     let next : first + place + 1 ≡ first + (place + 1) = omega arith in
     ap (without_all rows (first + place)) one
     ∙ ap (λ a. without_all (without rows (first + place)) a (count - (place + 1))) next
-
--- a result from a copy is the result
-pub result_given-copy : (log : ℕ → Option (List ℕ)) (h : Option Held) → result_given h (copy_of log h) ≡ resolved log h
-result_given-copy log None = refl
-result_given-copy log (Some held.Done) = refl
-result_given-copy log (Some (held.Bytes bytes)) = refl
-result_given-copy log (Some (held.AtPlace place)) = refl
-result_given-copy log (Some (held.Failed errno)) = refl
 
 -- one more part is joined
 pub join_step : (new old part rest tail all : List ℕ) → new ≡ old ++ part → tail ≡ part ++ rest → old ++ tail ≡ all

@@ -1,7 +1,7 @@
 -- A bio is split: its children stand at the end of the table, and it waits for them.
-use Rattle.std.proofs.Common.{◌≡◌, ◌≢◌, ◌⊎◌, ℕ, suc, ◌+◌, ◌-◌, ◌^◌, ◌<◌, ◌≤◌, max, List, [], ◌∷◌, ◌++◌, map, length, drop, get_or, ◌==◌, cond, Bool, true, false, Option, Some, None, sym, refl, ap, ◌∙◌, subst, inl, inr, arith, append_assoc, append-nil}
+use Rattle.std.proofs.Common.{◌≡◌, ◌≢◌, ◌⊎◌, ℕ, suc, ◌+◌, ◌-◌, ◌^◌, ◌<◌, ◌≤◌, max, List, [], ◌∷◌, ◌++◌, map, length, ◌==◌, cond, Bool, true, false, Option, Some, None, sym, refl, ap, ◌∙◌, subst, inl, inr, arith, append_assoc, append-nil}
 use Rattle.std.proofs.lemmas.Bool.{cases_eq, cases_lt, eq-eqb, ne_eqb, MatchBool-at_false}
-use Rattle.std.proofs.lemmas.List.{drop_more, map-append}
+use Rattle.std.proofs.lemmas.List.{map-append}
 use Rattle.std.proofs.lemmas.Option.{same_Some, MatchOption-at_some}
 use Rattle.std.specs.List.{cons_option}
 use Rattle.std.specs.Prelude.{count_by, if◌then◌else◌}
@@ -38,15 +38,6 @@ with_all-numbered s (x ∷ xs) =
     let spare : s.spare - 1 - length xs ≡ s.spare - suc (length xs) = omega arith in
     let rows = append_assoc s.rows ((s.next, x) ∷ []) (numbered (s.next + 1) xs) in
     with_all-numbered (with_insert s x) xs ∙ (λ i. record { rows = rows i; next = next i; spare = spare i })
-
--- one more child
-pub children_for-step : (p : ℕ) (x : Bio) (k : ℕ) (pieces : List Piece) (targets : List (ℕ × ℕ)) (piece : Piece)
-    (target : ℕ × ℕ) → k < length pieces → k < length targets → piece ≡ get_or pieces k piece
-    → target ≡ get_or targets k target
-    → children_for p x k (drop k pieces) (drop k targets) ≡ child_for p x k piece target
-    ∷ children_for p x (k + 1) (drop (k + 1) pieces) (drop (k + 1) targets)
-children_for-step p x k pieces targets piece target in_pieces in_targets piece_is target_is =
-    rw (drop_more pieces k piece in_pieces, drop_more targets k target in_targets, ← piece_is, ← target_is) refl
 
 pub length-children_for : (p : ℕ) (x : Bio) (k : ℕ) (pieces : List Piece) (targets : List (ℕ × ℕ))
     → length targets ≡ length pieces → length (children_for p x k pieces targets) ≡ length pieces

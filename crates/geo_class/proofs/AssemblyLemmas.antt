@@ -1,5 +1,5 @@
 -- Places that are free, and sizes that providers may have.
-use Rattle.std.proofs.Common.{◌≡◌, ℕ, zero, suc, ◌*◌, ◌/◌, ◌<◌, ◌≤◌, Bool, true, false, ◌||◌, not, List, [], ◌∷◌, ◌++◌, length, Option, Some, None, sum, refl, ap, sym, ◌∙◌, arith}
+use Rattle.std.proofs.Common.{◌≡◌, ℕ, zero, suc, ◌*◌, ◌/◌, ◌<◌, ◌≤◌, Bool, true, false, ◌||◌, not, List, [], ◌∷◌, length, Option, Some, None, sum, refl, ap, sym, ◌∙◌, arith}
 use Rattle.std.specs.Prelude.{is_none, is_some, if◌then◌else◌}
 use Rattle.std.specs.List.{list_all, list_any}
 use Rattle.std.proofs.lemmas.Bool.Decides.{nat_tests}
@@ -13,13 +13,6 @@ pub free_is : {X : Type 0} (places : List (Option X)) → list_any is_none place
 free_is [] = refl
 free_is (None ∷ places) = refl
 free_is (Some x ∷ places) = free_is places
-
--- one more that is filled leaves as many free
-pub free_more : {X : Type 0} (places : List (Option X)) (x : X)
-    → list_any is_none (places ++ Some x ∷ []) ≡ list_any is_none places
-free_more [] x = refl
-free_more (None ∷ places) x = refl
-free_more (Some y ∷ places) x = free_more places x
 
 -- whether there is a size that a provider may have
 some-if : (b : Bool) (n : ℕ) → is_some (if b then Some n else None) ≡ b

@@ -161,18 +161,7 @@ module _ (s new : State) (line : ℕ) (o : Outcome) (actors : List (List LineCom
   -- Nops
 
   module _ (name : List ℕ) (offset size fail : ℕ) where
-    pub nop-unknown : (q : Option Provider) → q ≡ None → o ≡ outcomes.Replied line (replies.Refused ENOENT)
-        → do_nop w line name offset size fail q ≡ (w, o)
-    nop-unknown q none is = ap (do_nop w line name offset size fail) none ∙ ap (with_outcome w) (sym is)
-
     module _ (q : Option Provider) (p : Provider) (found : q ≡ Some p) where
-      pub nop-refused : (e : Errno) → Some e ≡ first_error (nop_tests w.topology name offset size p)
-          → o ≡ outcomes.Replied line (replies.Refused e) → do_nop w line name offset size fail q ≡ (w, o)
-      nop-refused e told is =
-          ap (do_nop w line name offset size fail) found
-          ∙ made-refused (first_error (nop_tests w.topology name offset size p))
-          (with_made w kinds.Nop name (nop_config w.topology offset fail) (p ∷ []) name size p.sector) e (sym told) is
-
       pub nop-done : (geom : NewGeom) (below : List ℕ) (x : Offer)
           → geom ≡ record { kind = kinds.Nop; name = name; config = nop_config w.topology offset fail }
           → x ≡ record { name = name; size = size; sector = p.sector }

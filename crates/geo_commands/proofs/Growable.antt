@@ -6,6 +6,7 @@ use Rattle.std.proofs.Common.{inl, sym, ◌∙◌, ap, subst, arith}
 use Rattle.std.proofs.lemmas.Bool.{false_from_ne_true, eq-eqb}
 use Rattle.std.proofs.lemmas.List.{length-map}
 use Rattle.std.proofs.lemmas.List.Elements.{All-contains}
+use Rattle.std.proofs.lemmas.Slice.Zip.{AllZip-long}
 use Rattle.geo_base.specs.declared.limits.TheConstants.{MAX_COMPONENTS, MAX_MEDIA_BYTES}
 use Rattle.geo_model.specs.Topology.{Topology, Consumer, Provider, consumer_at, consumers_of, providers_of}
 use Rattle.geo_model.specs.Place.{components}
@@ -20,7 +21,7 @@ use Rattle.geo_laws_graph.proofs.Members.{find-Contains, Contains-filter, Contai
 use Rattle.geo_laws_graph.proofs.Numbered.{number_found}
 use Rattle.geo_laws_life.proofs.Found.{found-with}
 use Rattle.geo_laws_life.proofs.Standers.{recursion-from_pairs}
-use Rattle.geo_laws_making.proofs.Concats.{IsConcat, IsStanding, all-components, concat_of, no_more, zip_length}
+use Rattle.geo_laws_making.proofs.Concats.{IsConcat, IsStanding, all-components, concat_of, no_more}
 use Rattle.geo_laws_making.proofs.Rises.{geom_here, provider_own}
 
 module _ (w : World) (x : Growing) (firm : Firm w) (is : IsStanding w.topology x) where
@@ -92,6 +93,6 @@ module _ (w : World) (x : Growing) (firm : Firm w) (is : IsStanding w.topology x
       → CanGrow x.geom.config size
   can-grow size short fits =
       let many = few in
-      let as_many = zip_length (FitsPlace t n) its.places its.sizes fitted in
+      let as_many = sym (AllZip-long (FitsPlace t n) its.places its.sizes fitted) in
       let whole = summed in
       subst (λ z. CanGrow z size) (sym its.is) (record { few = omega arith; fits = omega arith })

@@ -96,11 +96,6 @@ module _ (t : Topology Config) (kind : Kind) (name : List ℕ) where
     pub find_begin : find more (named_from t kind name 0) ≡ find test t.geoms
     find_begin = ap (find more) (walk-begin number (named_geoms t kind name)) ∙ among t.geoms
 
-    -- at the end none is left
-    pub find_end : (from_number : ℕ) → named_from t kind name from_number ≡ []
-        → find more (named_from t kind name from_number) ≡ find test t.geoms → find test t.geoms ≡ None
-    find_end from_number none so_far = sym so_far ∙ ap (find more) none
-
     module _ (from_number n : ℕ) (next : IsNextNamed t kind name from_number n)
         (so_far : find more (named_from t kind name from_number) ≡ find test t.geoms) where
       -- one that doesn't pass is passed over
@@ -109,12 +104,6 @@ module _ (t : Topology Config) (kind : Kind) (name : List ℕ) where
           let rest : find more (next.geom ∷ named_from t kind name (n + 1))
           ≡ find more (named_from t kind name (n + 1)) = rw fails refl in
           sym (ap (find more) next.left ∙ rest) ∙ so_far
-
-      -- one that passes is the first
-      pub find_here : more next.geom ≡ true → find test t.geoms ≡ Some next.geom
-      find_here passes =
-          let first : find more (next.geom ∷ named_from t kind name (n + 1)) ≡ Some next.geom = rw passes refl in
-          sym so_far ∙ ap (find more) next.left ∙ first
 
 -- the geom that stands, as the model tests it
 pub stands_agree : (kind : Kind) (name : List ℕ) (g : Geom Config)

@@ -1,9 +1,8 @@
 -- What the walks print, and that it is the model's listing.
-use Rattle.std.specs.Prelude.{◌≡◌, ℕ, ◌+◌, ◌==◌, nat_le, Bool, true, false, List, [], ◌∷◌, ◌++◌, map, filter, Option, Some, None, Contains, IsSome, MatchOption, unwrap_or, option_and_then, Result, Ok, Err, IfOk}
+use Rattle.std.specs.Prelude.{◌≡◌, ℕ, ◌+◌, ◌==◌, nat_le, List, [], ◌∷◌, ◌++◌, map, Option, Some, None, Contains, IsSome, MatchOption, unwrap_or, option_and_then, Result, Ok, Err, IfOk}
 use Rattle.std.specs.Option.{option_map_or}
-use Rattle.std.proofs.Common.{refl, sym, ap, ◌∙◌, subst, append_assoc}
+use Rattle.std.proofs.Common.{sym, ap, ◌∙◌, subst, append_assoc}
 use Rattle.std.proofs.lemmas.List.Elements.{recursion_from_All}
-use Rattle.geo_base.specs.declared.request.Counts.{Counts}
 use Rattle.geo_model.specs.declared.command.LineCommand.{LineCommand}
 use Rattle.geo_model.specs.declared.listing.ConsLine.{ConsLine}
 use Rattle.geo_model.specs.declared.listing.GeomLine.{GeomLine}
@@ -30,7 +29,7 @@ use Rattle.geo_access.proofs.Decided.{item_at}
 use Rattle.geo_state.specs.declared.state.State.{State}
 use Rattle.geo_state.specs.Holds.{Holds}
 use Rattle.geo_state.specs.World.{world}
-use Rattle.geo_commands.specs.Lines.{IsNextGeom, cons_line, cons_lines, geom_line, geoms_from, is_listed, mesh_lines, prov_line, prov_lines, stored_line}
+use Rattle.geo_commands.specs.Lines.{IsNextGeom, cons_line, cons_lines, geoms_from, mesh_lines, prov_line, prov_lines, stored_line}
 
 -- A walk: print tells what is printed of a list
 module _ {X Y : Type 0} (number : X → ℕ) (print : List X → List Y) (xs : List X) where
@@ -49,17 +48,6 @@ module _ {X Y : Type 0} (number : X → ℕ) (print : List X → List Y) (xs : L
       ∙ append_assoc lines one (print (left_from number (n + 1) xs))
       ∙ ap (λ ys. lines ++ ys) (sym (ap print left ∙ split (left_from number (n + 1) xs)))
       ∙ so_far
-
--- the lines of the geoms that are printed, geom by geom
-pub geoms-split : (granted : ℕ → Counts) (t : Topology Config) (g : Geom Config) (gs : List (Geom Config))
-    → map (geom_line granted t) (filter is_listed (g ∷ gs))
-    ≡ map (geom_line granted t) (filter is_listed (g ∷ [])) ++ map (geom_line granted t) (filter is_listed gs)
-geoms-split granted t g gs = by (is_listed g) refl
-  where
-    by : (b : Bool) → is_listed g ≡ b → map (geom_line granted t) (filter is_listed (g ∷ gs))
-        ≡ map (geom_line granted t) (filter is_listed (g ∷ [])) ++ map (geom_line granted t) (filter is_listed gs)
-    by true e = rw e refl
-    by false e = rw e refl
 
 -- the next geom of a walk
 pub next_geom : (t : Topology Config) → IsSoundGraph t → (from_number : ℕ) (o : Option ℕ)

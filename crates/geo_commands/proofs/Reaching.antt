@@ -6,6 +6,7 @@ use Rattle.std.proofs.Common.{refl, sym, ◌∙◌, ap, subst, arith, inl, inr}
 use Rattle.std.proofs.lemmas.Bool.{cases_eq, cases_lt, eq-eqb, eqb-true, ne_eqb, false_from_ne_true, or_parts}
 use Rattle.std.proofs.lemmas.List.{length-append, length-map}
 use Rattle.std.proofs.lemmas.List.Elements.{All-contains, Contains-append_left, Contains-append_right, Contains-append_cases}
+use Rattle.geo_base.proofs.MemberLists.{in_flat_map, flat_map_cases}
 use Rattle.geo_laws_counts.proofs.Orders.{contains-has}
 use Rattle.geo_model.specs.Words.{names_number}
 use Rattle.geo_model.specs.Topology.{Topology, Provider, Consumer, provider_at, consumers_of, providers_of, providers_under, attached_to}
@@ -17,7 +18,6 @@ use Rattle.geo_laws_graph.specs.LookupLaws.{EachIsFound, left_from}
 use Rattle.geo_laws_graph.proofs.Found.{each-found}
 use Rattle.geo_laws_graph.proofs.Members.{Origin, Contains-here, Contains-there, Contains-cases, Contains-filter, Contains-map, at_contained, filter-Contains, filter_map-Contains, find-Contains, map-Contains, nothing_in}
 use Rattle.geo_laws_graph.proofs.Numbered.{number_found}
-use Rattle.geo_laws_counts.proofs.Members.{flat_map_cases, in_flat_map}
 use Rattle.geo_laws_counts.proofs.Reach.{below_closed, below_self}
 use Rattle.geo_laws_life.proofs.Standers.{PairsByRecursion}
 use Rattle.geo_laws_making.proofs.Concats.{no_more}

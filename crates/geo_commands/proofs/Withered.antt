@@ -145,10 +145,6 @@ module _ (s new : State) (line : ℕ) (o : Outcome) (actors : List (List LineCom
   -- Destroys
 
   module _ (kind : Kind) (name : List ℕ) where
-    pub destroy-unknown : named_geom w kind name ≡ None → o ≡ outcomes.Replied line (replies.Refused ENOENT)
-        → do_destroy w line (named_geom w kind name) ≡ (w, o)
-    destroy-unknown none is = ap (do_destroy w line) none ∙ ap (with_outcome w) (sym is)
-
     module _ (kept : Holds s) (geom : ℕ) (g : IsNumberOf (named_geom w kind name) geom) where
       -- whether it is in use
       use-is : (b : Bool) → is_in_use (granted_by s.topo) s.topo.topology geom ≡ b

@@ -1,6 +1,5 @@
 -- What is answered to a step.
-use Rattle.std.specs.Prelude.{◌≡◌, ℕ, ◌+◌, ◌<◌, ◌≤◌, Bool, true, false, ◌&&◌, List, [], ◌∷◌, ◌++◌, length, Option, Some, None, Result, Ok, Err, IsOk, IsErrAnd, is_ok, is_none, IfOk, slice_get, option_and_then, if◌then◌else◌}
-use Rattle.std.specs.Option.{option_map}
+use Rattle.std.specs.Prelude.{◌≡◌, ℕ, ◌+◌, ◌<◌, ◌≤◌, Bool, true, false, ◌&&◌, List, [], ◌∷◌, ◌++◌, length, Option, Some, None, Result, Ok, Err, IsOk, IsErrAnd, is_ok, is_none, IfOk, if◌then◌else◌}
 use Rattle.std.proofs.Common.{refl, sym, ◌∙◌, ap, subst, arith}
 use Rattle.geo_base.specs.declared.block.NoMemory.{NoMemory}
 use Rattle.geo_base.specs.declared.limits.TheConstants.{MAX_LOG_ENTRIES}
@@ -16,7 +15,7 @@ use Rattle.geo_model.specs.declared.step.Step.{Step}
 use Rattle.geo_model.specs.declared.step.Step.TheVariants as steps
 use Rattle.geo_model.specs.World.{World}
 use Rattle.geo_model.specs.Fitting.{Firm}
-use Rattle.geo_model.specs.History.{first_command, next_command}
+use Rattle.geo_model.specs.History.{next_command}
 use Rattle.geo_model.specs.declared.listing.GeomLine.{GeomLine}
 use Rattle.geo_model.specs.Listing.{listing}
 use Rattle.geo_model.specs.Step.{Answer, step}
@@ -31,7 +30,7 @@ use Rattle.geo_core.specs.declared.refusal.ApplyRefusal.TheVariants as refusals
 use Rattle.geo_core.specs.declared.running.Running.{Running}
 use Rattle.geo_core.specs.declared.twin.Spare.{Spare}
 use Rattle.geo_core.specs.Goes.{IsAdmitted, IsOwedAfter, HasRoomFor, PaysOff}
-use Rattle.geo_core.specs.Left.{left_of, next_command_of}
+use Rattle.geo_core.specs.Left.{left_of}
 use Rattle.geo_core.specs.Mesh.{MeshView, world_of, entry_of, Made, Refuses, Applies, IsSure}
 use Rattle.geo_core.specs.Moves.{IsFound}
 use Rattle.geo_core.specs.Running.{seen, IsMesh}
@@ -212,30 +211,3 @@ pub listed : (r : Running) → IsMesh r → (result : Result (List GeomLine) NoM
 listed r is (Ok lines) told =
     told (left_of r.plan.commands r.left) r.log.items ∙ ap (λ (v : World). listing v) is.world
 listed r is (Err e) told = tt
-
--- the next command of an actor
-next_by : (o : Option (List LineCommand)) (c : LineCommand) → next_command_of o ≡ Ok c
-    → option_and_then first_command o ≡ Some c
-next_by None c e = absurd (let wrong : ⊥ = cc e in wrong)
-next_by (Some []) c e = absurd (let wrong : ⊥ = cc e in wrong)
-next_by (Some (d ∷ rest)) c e = let same : d ≡ c = cc e in ap (λ (x : LineCommand). Some x) same
-
-none_by : (o : Option (List LineCommand)) (f : Found) → next_command_of o ≡ Err f → option_and_then first_command o
-    ≡ None
-none_by None f e = refl
-none_by (Some []) f e = refl
-none_by (Some (d ∷ rest)) f e = absurd (let wrong : ⊥ = cc e in wrong)
-
-pub line_of_next : (r : Running) → IsMesh r → (actor : ℕ) (c : LineCommand)
-    → next_command_of (slice_get (left_of r.plan.commands r.left) actor) ≡ Ok c
-    → Some c.line ≡ option_map (λ (x : LineCommand). x.line) (next_command (world_of (seen r)) actor)
-line_of_next r is actor c e =
-    sym (ap (λ (v : World). option_map (λ (x : LineCommand). x.line) (next_command v actor)) (sym is.world)
-    ∙ ap (option_map (λ (x : LineCommand). x.line)) (next_by (slice_get (left_of r.plan.commands r.left) actor) c e))
-
-pub no_line : (r : Running) → IsMesh r → (actor : ℕ) (f : Found)
-    → next_command_of (slice_get (left_of r.plan.commands r.left) actor) ≡ Err f
-    → None ≡ option_map (λ (x : LineCommand). x.line) (next_command (world_of (seen r)) actor)
-no_line r is actor f e =
-    sym (ap (λ (v : World). option_map (λ (x : LineCommand). x.line) (next_command v actor)) (sym is.world)
-    ∙ ap (option_map (λ (x : LineCommand). x.line)) (none_by (slice_get (left_of r.plan.commands r.left) actor) f e))

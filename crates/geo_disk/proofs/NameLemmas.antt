@@ -1,11 +1,10 @@
 -- Names in lists, and items that are found by their names.
-use Rattle.std.proofs.Common.{◌≡◌, ◌≢◌, ℕ, ◌<◌, Bool, true, false, List, [], ◌∷◌, ◌++◌, length, get_or, Option, Some, None, refl, ◌∙◌, ap, sym, is_some, bytes_eq, not, nat_lt, cond, slice_get, ◌||◌, ◌&&◌, Contains, set, ◌⊎◌, inl, inr}
+use Rattle.std.proofs.Common.{◌≡◌, ◌≢◌, ℕ, ◌<◌, Bool, true, false, List, [], ◌∷◌, ◌++◌, length, get_or, Option, Some, None, refl, ◌∙◌, ap, sym, is_some, bytes_eq, not, nat_lt, cond, slice_get, ◌||◌, ◌&&◌, Contains, set, inl, inr}
 use Rattle.std.specs.Option.{option_or}
 use Rattle.std.proofs.Math.Bool.{or-false, or_assoc}
 use Rattle.std.proofs.lemmas.Bool.{lt-ltb, ltb-true, ltb-false, cases_lt, false≢true}
 use Rattle.std.proofs.lemmas.Bool.Decides.{same_from_decides}
 use Rattle.std.proofs.lemmas.Option.{slice_get_past, slice_get-get_or}
-use Rattle.std.specs.Bool.{Decides}
 use Rattle.std.specs.Cmp.{IsEquivalence}
 use Rattle.std.specs.List.{position, position_or_len}
 use Rattle.std.proofs.lemmas.List.Folds.{find_at, find-set, find_past, find-append}
@@ -15,11 +14,6 @@ use Rattle.geo_base.proofs.Tests.{bytes_eq-same, same_from_bytes_eq, bytes_eq-ot
 use Rattle.geo_base.proofs.Options.{or_none}
 use Rattle.geo_base.proofs.FindLists.{found_passes}
 use Rattle.geo_disk.specs.Names.{is_among, is_named, named, names_without}
-
--- what a test decides holds or not
-decided : {P : Type 0} (b : Bool) → Decides b P → P ⊎ (P → ⊥)
-decided true d = inl (d.0 refl)
-decided false d = inr (λ p. let wrong : false ≡ true = d.1 p in cc)
 
 -- the test of names is an equivalence
 pub names_agree : IsEquivalence bytes_eq

@@ -38,16 +38,6 @@ none_due order m goes_on history none_busy none = by (is_at_rest (world_of m)) r
         let bad : IsSomeAnd None Good = subst (λ o. IsSomeAnd o Good) none some in
         absurd bad
 
--- a step that is due is enabled
-pub due_enabled : (order : StepOrder) (m : MeshView) (s : Step) → OrderGoesOn order → OrderEnds order → IsHistory m
-    → NoneBusy (world_of m) → order (world_of m) m.log ≡ Some s → IsTrue (is_enabled (world_of m) 0 s)
-due_enabled order m s goes_on ends history none_busy due =
-    let Good : Step → Type 0 = (λ t. IsTrue (is_enabled (world_of m) 0 t) × Lowers (world_of m) 0 t) in
-    let some : IsSomeAnd (order (world_of m) m.log) Good =
-    goes_on m.plan m.facts history.plan history.facts m.log history.lawful.0 none_busy
-    (λ rest. let none : order (world_of m) m.log ≡ None = ends (world_of m) m.log rest in (let bad : ⊥ = cc in bad)) in
-    (subst (λ o. IsSomeAnd o Good) due some).0
-
 -- an order gives none exactly at rest
 pub none_at_rest : (order : StepOrder) (m : MeshView) → OrderGoesOn order → OrderEnds order → IsHistory m
     → NoneBusy (world_of m) → (o : Option Step) → o ≡ order (world_of m) m.log

@@ -1,6 +1,6 @@
 -- A run begins, and goes on by one turn.
-use Rattle.std.specs.Prelude.{◌≡◌, ℕ, ◌+◌, ◌≤◌, ◌==◌, true, false, List, [], ◌∷◌, ◌++◌, length, map, Option, Some, None, is_ok, IsSome, IfSome, IsTrue}
-use Rattle.std.proofs.Common.{append-nil, inl, inr, length-append, refl, sym, ◌∙◌, ap, subst, arith}
+use Rattle.std.specs.Prelude.{◌≡◌, ℕ, ◌==◌, true, false, List, [], ◌∷◌, ◌++◌, map, Option, Some, None, is_ok, IsSome, IfSome, IsTrue}
+use Rattle.std.proofs.Common.{append-nil, inl, inr, refl, sym, ◌∙◌, ap, subst}
 use Rattle.std.proofs.lemmas.Bool.{both_ways, eq-eqb}
 use Rattle.std.proofs.lemmas.List.{append_assoc}
 use Rattle.std.proofs.lemmas.List.Elements.{All-contains, All-from_recursion, recursion_from_All}
@@ -259,47 +259,3 @@ goes_on order old new next before after later (steps.Start b) run due history tu
     plain_turn order old new next before after later (steps.Start b) refl refl run due history turn
 goes_on order old new next before after later (steps.Up b) run due history turn =
     plain_turn order old new next before after later (steps.Up b) refl refl run due history turn
-
--- The length of the log
-
--- a step makes the log longer
-made_longer : (old new : MeshView) (s : Step) (o : Outcome) → Made old new 0 s o → length new.log ≡ length old.log + 1
-made_longer old new s o made =
-    ap (λ (m : MeshView). length m.log) made.logged ∙ length-append old.log (entry_of 0 s o ∷ [])
-
--- so does each turn
-pub turns_longer : (old new : MeshView) (before after : List DriveView) (s : Step) → MakesTurn old new before after s
-    → length old.log + 1 ≤ length new.log
-turns_longer old new before after (steps.Take disk b) turn =
-    let one = made_longer old turn.taken (steps.Take disk b) (outcomes.Asked turn.request) turn.take in
-    let two = made_longer turn.taken new (steps.Deliver b turn.got) turn.outcome turn.deliver in
-    omega (arith, one, two)
-turns_longer old new before after (steps.Go actor) turn =
-    let one = made_longer old new (steps.Go actor) turn.outcome turn.made in omega (arith, one)
-turns_longer old new before after steps.Event turn =
-    let one = made_longer old new steps.Event turn.outcome turn.made in omega (arith, one)
-turns_longer old new before after steps.Judge turn =
-    let one = made_longer old new steps.Judge turn.outcome turn.made in omega (arith, one)
-turns_longer old new before after steps.Reap turn =
-    let one = made_longer old new steps.Reap turn.outcome turn.made in omega (arith, one)
-turns_longer old new before after steps.Wash turn =
-    let one = made_longer old new steps.Wash turn.outcome turn.made in omega (arith, one)
-turns_longer old new before after (steps.Start b) turn =
-    let one = made_longer old new (steps.Start b) turn.outcome turn.made in omega (arith, one)
-turns_longer old new before after (steps.Deliver b got) turn =
-    let one = made_longer old new (steps.Deliver b got) turn.outcome turn.made in omega (arith, one)
-turns_longer old new before after (steps.Up b) turn =
-    let one = made_longer old new (steps.Up b) turn.outcome turn.made in omega (arith, one)
-
--- a step that isn't a Take
-pub plain_turns : (old new : MeshView) (before after : List DriveView) (s : Step) → taken_in s ≡ None
-    → MakesStep old new before after s → MakesTurn old new before after s
-plain_turns old new before after (steps.Take disk b) other makes = absurd (let bad : ⊥ = cc in bad)
-plain_turns old new before after (steps.Go actor) other makes = makes
-plain_turns old new before after steps.Event other makes = makes
-plain_turns old new before after steps.Judge other makes = makes
-plain_turns old new before after steps.Reap other makes = makes
-plain_turns old new before after steps.Wash other makes = makes
-plain_turns old new before after (steps.Start b) other makes = makes
-plain_turns old new before after (steps.Deliver b got) other makes = makes
-plain_turns old new before after (steps.Up b) other makes = makes

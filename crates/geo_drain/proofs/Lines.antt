@@ -118,14 +118,3 @@ pub earliest_found : (w : World) (k : ℕ) (best : Option (ℕ × ℕ)) → best
     → option_map (λ (x : ℕ × ℕ). x.0) best ≡ earliest (ready_actors w)
 earliest_found w k best is zero_is =
     ap (λ o. option_map (λ (x : ℕ × ℕ). x.0) o) (is ∙ ap (earliest_from w) zero_is) ∙ sym (earliest_is (ready_actors w))
-
--- nothing is behind the last
-drop_all : {X : Type 0} (xs : List X) → drop (length xs) xs ≡ []
-drop_all [] = refl
-drop_all (x ∷ xs) = drop_all xs
-
--- behind the last actor there is none
-pub earliest_past : (w : World) (k : ℕ) → k ≡ length w.actors → None ≡ earliest_from w k
-earliest_past w k is =
-    ap (λ xs. earliest_item (flat_map (ready_actor w) (enumerate_from k xs)))
-    (sym (ap (λ n. drop n w.actors) is ∙ drop_all w.actors))

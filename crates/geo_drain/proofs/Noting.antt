@@ -1,6 +1,6 @@
 -- What an order knows of a mesh, while the mesh goes on.
-use Rattle.std.specs.Prelude.{◌≡◌, List, [], Option, Some, ⊤}
-use Rattle.std.proofs.Common.{append-nil, refl, sym, ◌∙◌, ap, subst}
+use Rattle.std.specs.Prelude.{◌≡◌, List, Option, Some}
+use Rattle.std.proofs.Common.{sym, ◌∙◌, ap, subst}
 use Rattle.geo_model.specs.declared.step.Entry.{Entry}
 use Rattle.geo_model.specs.declared.step.Step.{Step}
 use Rattle.geo_model.specs.FixedOrder.{StepOrder}
@@ -20,14 +20,6 @@ pub due_same : (first now : StepOrder) (w : World) (log : List Entry) (o : Optio
 due_same first now w log o s same due is = ap (λ (order : StepOrder). order w log) (sym same) ∙ sym due ∙ is
 
 module _ (knows : World → List Entry → Type 0) where
-  -- who knows all knows a part
-  pub part_of_all : (m : MeshView) → KnowsAll knows m → KnowsPart knows m
-  part_of_all m all = (m.log, ([], sym (append-nil m.log)), all)
-
-  -- what is right before the first entry is right for a part
-  pub part_of_none : (m : MeshView) → knows (opened m) [] → KnowsPart knows m
-  part_of_none m none = ([], (m.log, refl), none)
-
   -- who knew all before more was done then knows a part
   pub part_of_more : (old new : MeshView) (added : List Entry) → new ≡ with_entries old added → KnowsAll knows old
       → KnowsPart knows new
@@ -45,7 +37,3 @@ module _ (knows : World → List Entry → Type 0) where
       let run : IsRunning order old new before after =
       goes_on order old old new before before after s (begins order old before none_busy history fit) due then turn in
       part_of_more old new run.runs.added run.runs.grown all
-
--- who notes nothing knows a part of each mesh
-pub part_of_each : (m : MeshView) → KnowsPart (λ _ _. ⊤) m
-part_of_each m = part_of_none (λ _ _. ⊤) m tt

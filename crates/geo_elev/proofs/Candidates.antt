@@ -39,18 +39,6 @@ front_rises low [] rise = tt
 front_rises low (x ∷ xs) rise =
     front_by x.flush low x (before_flush xs) rise.0 rise.1 (front_rises (x.bio + 1) xs rise.2)
 
--- by whether the first is a FLUSH
-next_by : (b : Bool) (low : ℕ) (x : Waiting) (xs : List Waiting) → low ≤ x.bio → x.bio < 2 ^ 64
-    → Rises (x.bio + 1) xs → Rises low (if b then x ∷ [] else x ∷ xs)
-next_by true low x xs above below rest = (above, below, tt)
-next_by false low x xs above below rest = (above, below, rest)
-
--- of what may be taken next
-pub candidates_rise : (low : ℕ) (xs : List Waiting) → Rises low xs → Rises low (candidates xs)
-candidates_rise low [] rise = tt
-candidates_rise low (x ∷ xs) rise =
-    next_by x.flush low x (before_flush xs) rise.0 rise.1 (front_rises (x.bio + 1) xs rise.2)
-
 -- none has a smaller number
 pub absent : (bio low : ℕ) (xs : List Waiting) → Rises low xs → bio < low → has_bio bio xs ≡ false
 absent bio low [] rise below = refl

@@ -83,23 +83,6 @@ module _ (log : List Entry) (e : Entry) (n : ℕ) where
       ∙ ap (λ (c : Bool). if c && not (is_flush q.cmd) then q.first else head_of log q.disk)
       (eq-eqb q.disk q.disk refl)))) new does
 
-  -- another outcome moves none
-  pub still_then : ((q : Request) → e.outcome ≡ outcomes.Asked q → ⊥) → bare_heads log n ≡ bare_heads (log ++ e ∷ []) n
-  still_then not_asked = all_same (bare_head log) (bare_head (log ++ e ∷ [])) (λ j. by j e.outcome refl) 0 n
-    where
-      by : (j : ℕ) (o : Outcome) → e.outcome ≡ o → bare_head log j ≡ bare_head (log ++ e ∷ []) j
-      by j (outcomes.Asked q) is = absurd (not_asked q is)
-      by j (outcomes.Queued d) is = bare_same (outcomes.Queued d) is j refl
-      by j (outcomes.Replied line reply) is = bare_same (outcomes.Replied line reply) is j refl
-      by j (outcomes.Accepted line bio) is = bare_same (outcomes.Accepted line bio) is j refl
-      by j (outcomes.Reading bio) is = bare_same (outcomes.Reading bio) is j refl
-      by j outcomes.Ran is = bare_same outcomes.Ran is j refl
-      by j (outcomes.Split first count) is = bare_same (outcomes.Split first count) is j refl
-      by j outcomes.Bounced is = bare_same outcomes.Bounced is j refl
-      by j outcomes.Delivered is = bare_same outcomes.Delivered is j refl
-      by j (outcomes.Gathered parent complete) is = bare_same (outcomes.Gathered parent complete) is j refl
-      by j outcomes.TasteBack is = bare_same outcomes.TasteBack is j refl
-
 -- The walk
 
 -- the bio of a number that was found

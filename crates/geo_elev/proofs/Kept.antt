@@ -153,18 +153,7 @@ module _ (keys : List ℕ) (flush : Bool) where
           (sym are.next ∙ all_next all (some_behind (listed flush keys) (waiting_at e) (waiting_in later)) f))
       shut false f = refl
 
-  -- where nothing waits it does
-  pub joins_none : (later : List (ℕ × Place)) (more : Bool) → is_none_of later ≡ true → is_none_of keys ≡ true
-      → true ≡ joins (all_waiting keys flush later) more
-  joins_none later more none empty = by later keys none empty
-    where
-      by : (es : List (ℕ × Place)) (ks : List ℕ) → is_none_of es ≡ true → is_none_of ks ≡ true
-          → true ≡ joins (all_waiting ks flush es) more
-      by [] [] no_more no_key = refl
-      by (e ∷ es) ks no_more no_key = absurd (let bad : ⊥ = cc in bad)
-      by [] (k ∷ ks) no_more no_key = absurd (let bad : ⊥ = cc in bad)
-
-  -- else it does where neither is a FLUSH
+  -- where only the keys wait, it does where neither is a FLUSH
   pub joins_front : (later : List (ℕ × Place)) (more : Bool) → is_none_of later ≡ true → is_none_of keys ≡ false
       → not (flush || more) ≡ joins (all_waiting keys flush later) more
   joins_front later more none some = by later keys none some

@@ -26,11 +26,6 @@ or_true : (b : Bool) → (b || true) ≡ true
 or_true true = refl
 or_true false = refl
 
--- false behind
-or_false : (b : Bool) → (b || false) ≡ b
-or_false true = refl
-or_false false = refl
-
 -- what holds of each key that some have holds of their keys
 all_keys : (P : ℕ → Type 0) (xs : List Waiting) → ((key : ℕ) → has_key key xs ≡ true → P key)
     → AllByRecursion (λ (z : Waiting). P (key_of z)) xs

@@ -39,14 +39,6 @@ is_equal key n e =
     let here : is_at (nat_cmp key) n ≡ true = rw e refl in
     eqb-true n key (sym (finds key n) ∙ here)
 
--- a greater key comes after
-is_greater : (key n : ℕ) → nat_cmp key n ≡ Greater → n < key
-is_greater key n e = by (nat_lt n key) refl
-  where
-    by : (b : Bool) → nat_lt n key ≡ b → n < key
-    by true f = ltb-true n key f
-    by false f = grind (arith, nat_tests)
-
 -- With one more
 
 module _ (p : Waiting → Bool) (x : Waiting) where

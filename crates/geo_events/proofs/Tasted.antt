@@ -25,11 +25,10 @@ use Rattle.geo_log.specs.Places.{delivered_at}
 use Rattle.geo_state.specs.Shown.{shown_bio, shown_bios}
 use Rattle.geo_mesh.specs.Graph.{IsSoundGraph}
 use Rattle.geo_laws_graph.proofs.Lists.{found_itself}
-use Rattle.geo_laws_graph.proofs.Members.{find-Contains}
+use Rattle.geo_laws_graph.proofs.Members.{find-Contains, Contains-here}
 use Rattle.geo_laws_graph.proofs.Numbered.{find-none}
 use Rattle.geo_laws_counts.specs.CountWords.{HoldsGrants}
 use Rattle.geo_laws_counts.proofs.LimitFacts.{of_filter}
-use Rattle.geo_laws_counts.proofs.Members.{in_head}
 use Rattle.geo_laws_counts.proofs.Openers.{wants_grant}
 use Rattle.geo_laws_making.proofs.Firsts.{has_sector}
 use Rattle.geo_access.specs.Access.{granted_by}
@@ -168,7 +167,7 @@ module _ (s : State) (kept : Holds s) (firm : IsFirm s) (a : Taste) (is : s.tast
     of-taste =
         eqb-true tasting-of.consumer.geom 2
         (of_filter (λ (x : Consumer). x.geom == 2) t.consumers tasting-of.consumer
-        (subst (λ xs. Contains xs tasting-of.consumer) (sym tasting-of.alone) (in_head tasting-of.consumer []))).1
+        (subst (λ xs. Contains xs tasting-of.consumer) (sym tasting-of.alone) (Contains-here tasting-of.consumer []))).1
 
     -- so no handle has it
     pub nobodys : holding_handle s.handles.handles a.consumer ≡ None

@@ -114,12 +114,6 @@ children-without n (row ∷ rows) =
       | inr other ↦ rw (ne_eqb row.0 n other) (ap (λ xs. (row.0, row.1.parent) ∷ xs) (children-without n rows))
     ]
 
--- the children with one more at the end
-pub children-push : (n : ℕ) (l : Link) (links : List (ℕ × Link))
-    → child_rows (links ++ (n, l) ∷ []) ≡ child_rows links ++ (n, l.parent) ∷ []
-children-push n l [] = refl
-children-push n l (row ∷ rows) = ap (λ xs. (row.0, row.1.parent) ∷ xs) (children-push n l rows)
-
 -- the parent of a child, by the rows and by what they stand for
 pub value_at-children : (n : ℕ) (links : List (ℕ × Link))
     → value_at (child_rows links) n ≡ option_map parent_of (value_at links n)

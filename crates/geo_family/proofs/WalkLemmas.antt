@@ -23,19 +23,7 @@ module _ (f : ℕ → Option ℕ) (p n : ℕ) where
     ],
   )
 
-  -- a walk up begins at the first child
-  pub way_up_begins : (o : Option ℕ) → IsNearest (λ d. Unit {0}) Up f p o → IsOnWayUp f p n o
-  way_up_begins None is = λ d from had. is d tt had
-  way_up_begins (Some b) is = (
-    is.1,
-    λ d from had. elim (cases_lt d b) [
-      | inl early ↦
-          absurd (is.2 d tt early had)
-      | inr within ↦ within
-    ],
-  )
-
-  -- it goes on to the child after
+  -- a walk up goes on to the child after
   pub way_up_goes_on : (at : Option ℕ) (c : ℕ) → at ≡ Some c → c < n → IsOnWayUp f p n at → (after : ℕ → Option ℕ)
       → ((c q : ℕ) → f c ≡ Some q → IsNearest (λ d. c < d) Up f q (after c)) → IsOnWayUp f p n (after c)
   way_up_goes_on at c here below way after afters =

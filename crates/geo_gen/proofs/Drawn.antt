@@ -1,7 +1,7 @@
 -- The lines that are drawn, one by one.
 use Rattle.std.proofs.Common.{◌≡◌, ℕ, zero, suc, ◌+◌, ◌-◌, ◌*◌, ◌%◌, ◌<◌, List, ◌++◌, refl, sym, ap, ◌∙◌, arith, codes, decimal}
 use Rattle.std.specs.Fmt.{digits}
-use Rattle.std.proofs.lemmas.List.{append_assoc, append-nil}
+use Rattle.std.proofs.lemmas.List.{append_assoc}
 use Rattle.geo_model.specs.Generator.{generated, draws, drawn_lines, command_text, next_draw, draw_value, line}
 use Rattle.geo_gen.specs.Lines.{header_text, next_text, drawn_text, third_draw, chosen_text, open_text, close_text, read_text, write_text, delete_text, flush_text, target_text, range_text, fill_text}
 
@@ -47,13 +47,6 @@ next_line whole text more count i x last below written drawn so_far =
     ∙ sym (append_assoc text (next_text i x) rest)
     ∙ ap (λ l. l ++ rest) (sym written)
     ∙ ap (λ y. more ++ drawn_lines (i + 1) (draws (3 * n) y)) (sym drawn)
-
--- no line is left
-pub all_lines : (whole text : List ℕ) (count i x : ℕ) → count ≡ i
-    → whole ≡ text ++ drawn_lines i (draws (3 * (count - i)) x) → text ≡ whole
-all_lines whole text count i x all so_far =
-    let none : count - i ≡ 0 = omega arith in
-    sym (so_far ∙ ap (λ k. text ++ drawn_lines i (draws (3 * k) x)) none ∙ append-nil text)
 
 pub whole : (start count : ℕ) → header_text ++ drawn_lines 0 (draws (3 * count) start) ≡ generated start count
 unfolding generated header_text

@@ -1,18 +1,12 @@
 -- Numbers that can be reaped, over the family that keeps them.
-use Rattle.std.specs.Prelude.{◌≡◌, ℕ, ◌==◌, nat_le, Bool, true, false, List, [], ◌∷◌, ◌++◌, Option, Some, None, map}
+use Rattle.std.specs.Prelude.{◌≡◌, ℕ, ◌==◌, nat_le, Bool, true, false, List, [], ◌∷◌, Option, Some, None, map}
 use Rattle.std.proofs.Common.{refl, sym, arith}
 use Rattle.std.proofs.lemmas.Bool.{le-leb}
-use Rattle.std.proofs.lemmas.List.{map-append}
 use Rattle.geo_slots.specs.Slots.{with_value, without}
 use Rattle.geo_slots.proofs.RowLemmas.{filter-items, with_value-twice}
 use Rattle.geo_family.specs.Family.{FamilyView, names, first_child}
 use Rattle.geo_handles.specs.Handles.{first_ready}
 use Rattle.geo_handles.specs.Inside.{ready_row}
-
--- one number more, which isn't noted
-pub ready-push : (rows : List (ℕ × Option ℕ)) (n : ℕ)
-    → map ready_row (rows ++ (n, None) ∷ []) ≡ map ready_row rows ++ (n, false) ∷ []
-ready-push rows n = map-append ready_row rows ((n, None) ∷ [])
 
 -- one number less
 pub ready-without : (n : ℕ) (rows : List (ℕ × Option ℕ))

@@ -1,5 +1,5 @@
 -- Bytes added to a sink.
-use Rattle.std.proofs.Common.{ℕ, ◌+◌, ◌-◌, List, [], ◌++◌, length, take, drop, Option, Some, None, sym, ◌∙◌, ap, append_assoc, append-nil}
+use Rattle.std.proofs.Common.{ℕ, ◌+◌, ◌-◌, List, ◌++◌, length, take, drop, Option, Some, None, ◌∙◌, ap, append_assoc}
 use Rattle.std.proofs.Math.Seq.{take-add}
 use Rattle.geo_io.specs.Sink.{Grows, SinkView, Takes}
 use Rattle.geo_io.proofs.SourceLemmas.{tail_range}
@@ -13,21 +13,12 @@ Grows-more None (Some b) c x y h k = absurd h
 Grows-more (Some a) None c x y h k = absurd h
 Grows-more (Some a) (Some b) None x y h k = absurd k
 
--- adding nothing
-pub Grows-none : (a : Option (List ℕ)) → Grows a [] a
-Grows-none None = tt
-Grows-none (Some a) = sym (append-nil a)
-
 -- taken, and then more
 pub Takes-more : (a b c : SinkView) (x y : List ℕ) → Takes a x b → Takes b y c → Takes a (x ++ y) c
 Takes-more a b c x y h k = record {
   taken = k.taken ∙ ap (λ t. t ++ y) h.taken ∙ append_assoc a.taken x y;
   grows = Grows-more a.held b.held c.held x y h.grows k.grows;
 }
-
--- nothing was taken
-pub Takes-none : (a : SinkView) → Takes a [] a
-Takes-none a = record { taken = sym (append-nil a.taken); grows = Grows-none a.held }
 
 -- one more part of the bytes was taken, whatever was taken before
 pub takes_on : (b c : SinkView) (n k : ℕ) (xs : List ℕ) → Takes b (take k (take (length xs - n) (drop n xs))) c

@@ -17,11 +17,6 @@ use Rattle.geo_lane.specs.View.{opening_view, nobody, one_more, newcomer, with_e
 use Rattle.geo_lane.specs.Delivery.{IsSentOf, Knows, IsDelivered, Tells, Puts, Takes}
 use Rattle.geo_lane.proofs.Orders.{sent_more, sent_mine, sent_other, number_at, numbered_more}
 
-at_bound : (l : List View) (i : ℕ) (v : View) → get_elem? l i ≡ some v → i < length l
-at_bound [] i v e = absurd (some-ne-none v (sym e))
-at_bound (x ∷ xs) zero v e = omega arith
-at_bound (x ∷ xs) (suc i) v e = let n = at_bound xs i v e in omega arith
-
 at_end : (l : List View) (a b : View) (j : ℕ) → get_elem? (l ++ a ∷ []) j ≡ some b → (get_elem? l j ≡ some b)
     ⊎ ((j ≡ length l) × (a ≡ b))
 at_end [] a b zero e = inr (refl, some-injective a b e)

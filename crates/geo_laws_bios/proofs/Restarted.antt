@@ -13,7 +13,6 @@ use Rattle.geo_model.specs.Counts.{Counts}
 use Rattle.geo_model.specs.Kind.{Kind}
 use Rattle.geo_model.specs.Kind.TheVariants as kinds
 use Rattle.geo_model.specs.TheConstants.{MAX_RANK, UNTASTED_RANK}
-use Rattle.geo_model.specs.declared.step.Owner.TheVariants as owners
 use Rattle.geo_model.specs.Words.{is_read}
 use Rattle.geo_model.specs.Topology.{Topology, Geom, Provider, Consumer, geom_at, provider_at, consumer_at, providers_of, consumers_of, is_withering, note_started}
 use Rattle.geo_model.specs.Graph.{AreNumbers}

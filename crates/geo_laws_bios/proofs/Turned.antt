@@ -13,7 +13,6 @@ use Rattle.geo_model.proofs.FindLists.{none_passes}
 use Rattle.geo_model.specs.declared.step.BioResult.{BioResult}
 use Rattle.geo_model.specs.declared.step.BioResult.TheVariants as results
 use Rattle.geo_model.specs.declared.step.Owner.{Owner}
-use Rattle.geo_model.specs.declared.step.Owner.TheVariants as owners
 use Rattle.geo_model.specs.declared.step.Phase.{Phase}
 use Rattle.geo_model.specs.Words.{change_where, is_flush}
 use Rattle.geo_model.specs.Topology.{Provider, geom_at, provider_at}

@@ -26,10 +26,6 @@ cap-add a b = counts-same (cap (add_counts (cap a) b)) (cap (add_counts a b)) (o
 pub add-cap : (a b : Counts) → cap (add_counts a (cap b)) ≡ cap (add_counts a b)
 add-cap a b = counts-same (cap (add_counts a (cap b))) (cap (add_counts a b)) (omega arith) (omega arith) (omega arith)
 
--- nothing more is stopped the second time
-pub cap-cap : (a : Counts) → cap (cap a) ≡ cap a
-cap-cap a = counts-same (cap (cap a)) (cap a) (omega arith) (omega arith) (omega arith)
-
 -- a sum of what was stopped is stopped alike
 pub sum-cap : {X : Type 0} (f : X → Counts) (xs : List X) (a : Counts)
     → cap (add_counts a (sum_counts (map (λ x. cap (f x)) xs))) ≡ cap (add_counts a (sum_counts (map f xs)))

@@ -1,7 +1,6 @@
 -- What one demand makes providers and consumers gain: where the grant of one consumer rises, and where a consumer
 -- comes.
-use Rattle.std.specs.Prelude.{◌≡◌, ◌≢◌, ℕ, ◌==◌, Bool, true, false, not, ◌&&◌, cond, List, [], ◌∷◌, map, filter, Some, Contains, IsSomeAnd, if◌then◌else◌}
-use Rattle.std.specs.List.{list_all}
+use Rattle.std.specs.Prelude.{◌≡◌, ◌≢◌, ℕ, ◌==◌, Bool, true, false, cond, List, [], ◌∷◌, map, filter, Some, Contains, IsSomeAnd, if◌then◌else◌}
 use Rattle.std.proofs.Common.{refl, sym, ◌∙◌, ap, subst, arith, inl, inr, eq-eqb}
 use Rattle.std.proofs.lemmas.Bool.{eqb-true, cases_eq, ne_eqb}
 use Rattle.std.proofs.lemmas.List.Elements.{All-contains, All-from_recursion}
@@ -12,10 +11,10 @@ use Rattle.geo_model.specs.Words.{names_number, is_granted_kind}
 use Rattle.geo_model.specs.Topology.{Topology, Geom, Provider, Consumer, geom_at, provider_at, providers_of, attached_to, add_consumer}
 use Rattle.geo_model.specs.Rank.{Ranked}
 use Rattle.geo_model.specs.Opens.{below}
-use Rattle.geo_model.specs.Demand.{no_counts, add_counts, sum_counts, is_zero, have, want}
+use Rattle.geo_model.specs.Demand.{no_counts, add_counts, sum_counts, have, want}
 use Rattle.geo_model.proofs.MemberLists.{Contains-cases, nothing_in, Contains-filter}
 use Rattle.geo_laws_counts.specs.CountWords.{AreAtMost, more_counts, gain_of_kind, NumbersLead, HoldsGrants}
-use Rattle.geo_laws_counts.proofs.Sums.{counts-same, zero-add, add-zero, sum-same, sum-add, more-add, zeros-sum}
+use Rattle.geo_laws_counts.proofs.Sums.{counts-same, zero-add, add-zero, sum-same, sum-add, more-add}
 use Rattle.geo_laws_counts.proofs.LimitFacts.{of_filter}
 use Rattle.geo_laws_counts.proofs.Counters.{want_same}
 use Rattle.geo_laws_counts.specs.DemandLaws.{DiffersAt, StaysAround, Comes}
@@ -30,23 +29,7 @@ pub more-same : (a b : Counts) → b ≡ a → more_counts a b ≡ no_counts
 more-same a b e = ap (more_counts a) e
     ∙ counts-same (more_counts a a) no_counts (omega arith) (omega arith) (omega arith)
 
--- no exclusive count comes where nothing is gained
-none_more : (b : Bool) (gains : List Counts) → sum_counts gains ≡ no_counts
-    → add_counts (sum_counts gains)
-    (record { r = 0; w = 0; e = (if b && not (list_all is_zero gains) then 1 else 0) }) ≡ no_counts
-none_more true gains none = rw (zeros-sum gains, none) refl
-none_more false gains none = rw none refl
-
--- what a class's consumer gains where its geom's providers gain nothing
-pub nothing_gained : (kind : Kind) (had gains : List Counts) → sum_counts gains ≡ no_counts
-    → gain_of_kind kind had gains no_counts ≡ no_counts
-nothing_gained kinds.Dev had gains none = refl
-nothing_gained kinds.Taste had gains none = refl
-nothing_gained kinds.Disk had gains none = refl
-nothing_gained kinds.Nop had gains none = none
-nothing_gained _ had gains none = none_more (list_all is_zero had) gains none
-
--- and what one of DEV or TASTE gains without a grant
+-- what one of DEV or TASTE gains without a grant
 pub granted_gain : (kind : Kind) (had gains : List Counts) → is_granted_kind kind ≡ true
     → gain_of_kind kind had gains no_counts ≡ no_counts
 granted_gain kinds.Dev had gains e = refl

@@ -1,5 +1,5 @@
 -- Sums of access counts, and what a consumer of a class wants from them.
-use Rattle.std.specs.Prelude.{◌≡◌, ℕ, ◌==◌, Bool, true, false, ◌&&◌, List, [], ◌∷◌, ◌++◌, map}
+use Rattle.std.specs.Prelude.{◌≡◌, ℕ, ◌==◌, Bool, true, false, ◌&&◌, List, [], ◌∷◌, map}
 use Rattle.std.specs.List.{list_all, AllByRecursion}
 use Rattle.std.proofs.Common.{refl, sym, ◌∙◌, ap, arith}
 use Rattle.std.proofs.lemmas.Bool.{eqb-true}
@@ -39,11 +39,6 @@ pub add-swap : (a b c d : Counts)
 add-swap a b c d =
     counts-same (add_counts (add_counts a b) (add_counts c d)) (add_counts (add_counts a c) (add_counts b d))
     (omega arith) (omega arith) (omega arith)
-
--- the sum of two lists in a row
-pub sum-append : (xs ys : List Counts) → sum_counts (xs ++ ys) ≡ add_counts (sum_counts xs) (sum_counts ys)
-sum-append [] ys = sym (zero-add (sum_counts ys))
-sum-append (x ∷ xs) ys = ap (add_counts x) (sum-append xs ys) ∙ sym (add-assoc x (sum_counts xs) (sum_counts ys))
 
 -- the order of counts
 pub at_most-same : (a : Counts) → IsAtMost a a

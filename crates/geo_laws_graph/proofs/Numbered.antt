@@ -14,14 +14,6 @@ use Rattle.geo_laws_graph.proofs.Members.{has, find-Contains, Contains-map, All-
 use Rattle.geo_laws_graph.proofs.Lists.{changed, find-changed, any-changed, find-kept, find-gone, any-kept, found_fresh, found_itself}
 pub use Rattle.geo_model.proofs.FindLists.{find-pushed, find-pushed_hit, any-contained}
 
--- in a list of one item that doesn't pass nothing is found
-single_miss : {X : Type 0} (test : X → Bool) (y : X) → test y ≡ false → find test (y ∷ []) ≡ None
-single_miss test y e = rw e refl
-
--- in a list of one that passes it is found
-single_hit : {X : Type 0} (test : X → Bool) (y : X) → test y ≡ true → find test (y ∷ []) ≡ Some y
-single_hit test y e = rw e refl
-
 -- of one item that doesn't pass nothing is kept
 filter_miss : {X : Type 0} (test : X → Bool) (y : X) → test y ≡ false → filter test (y ∷ []) ≡ []
 filter_miss test y e = rw e refl

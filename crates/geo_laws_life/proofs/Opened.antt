@@ -7,7 +7,6 @@ use Rattle.std.proofs.lemmas.List.Elements.{All-from_recursion}
 use Rattle.std.proofs.lemmas.List.Sums.{list_all-from_AllPass}
 use Rattle.geo_model.specs.declared.step.Event.{Event}
 use Rattle.geo_model.specs.Topology.{Topology, Geom, Provider, geom_at, provider_at, providers_of, attached_to, is_withering}
-use Rattle.geo_model.specs.Rank.{rank}
 use Rattle.geo_model.specs.Kind.TheVariants as kinds
 use Rattle.geo_model.specs.TheConstants.{MAX_ACCESS_COUNT}
 use Rattle.geo_model.specs.Names.{dev_name, taste_name}
@@ -67,10 +66,6 @@ module _ (plan : Plan) (facts : List (ℕ × ℕ)) (xs : List Stander) where
   -- the geoms after DEV and TASTE are those of disks
   geoms_of_disks : AllByRecursion (IsDiskGeom 3) (disk_geoms 3 xs)
   geoms_of_disks = geoms-are 3 xs
-
-  -- without consumers each geom's rank is 1
-  rank_one : (g : ℕ) → rank t g ≡ 1
-  rank_one g = refl
 
   -- no geom withers
   none_withers : (g : ℕ) → is_withering t g ≡ false

@@ -168,10 +168,6 @@ module _ (w : World) (kind : Kind) (name : List ℕ) (config : Config) (automati
   none_of_it : providers_of t n ≡ []
   none_of_it = offers-nothing t order live.offerers
 
-  -- the geom alone changes no rank
-  rank_base : (h : ℕ) → rank base h ≡ rank t h
-  rank_base h = (adding-stay.geom t kind name config automatic firm.graph.ranks.ranked live.geoms).same h
-
   -- the ranks with the consumers: others stay, and that of the geom is the one over the providers
   pub record RanksOver : Type 0 where
     pub hold : RanksHold v

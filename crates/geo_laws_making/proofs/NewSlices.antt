@@ -90,11 +90,6 @@ module _ {X : Type 0} (name : ℕ → List ℕ) (count : X → ℕ) where
 
 -- Names of slices
 
--- the last of some bytes and one more
-last-behind : (o : Option ℕ) (xs : List ℕ) (b : ℕ) → last_or o (xs ++ b ∷ []) ≡ Some b
-last-behind o [] b = refl
-last-behind o (x ∷ xs) b = last-behind (Some x) xs b
-
 -- the last of some bytes, an `s` and one more
 last-of_slice : (o : Option ℕ) (below : List ℕ) (b : ℕ) → last_or o (below ++ (codes "s" ++ b ∷ [])) ≡ Some b
 last-of_slice o [] b = refl

@@ -95,11 +95,6 @@ module _ (n : ℕ) where
   over-providers [] t = refl
   over-providers (p ∷ ps) t = over-providers ps (add_consumer t n (Some p.number))
 
-  -- and the next number of a provider
-  pub over-next : (ps : List Provider) (t : Topology Config) → (over n t ps).next_provider ≡ t.next_provider
-  over-next [] t = refl
-  over-next (p ∷ ps) t = over-next ps (add_consumer t n (Some p.number))
-
   -- a consumer that was found is found
   pub over-found : (ps : List Provider) (t : Topology Config) (c : ℕ) (d : Consumer) → consumer_at t c ≡ Some d
       → consumer_at (over n t ps) c ≡ Some d

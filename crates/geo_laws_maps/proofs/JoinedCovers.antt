@@ -9,8 +9,6 @@ use Rattle.std.proofs.lemmas.List.{map-append, drop-drop, take_all}
 use Rattle.std.proofs.lemmas.List.Elements.{All-contains, All-append, All-nil}
 use Rattle.std.proofs.lemmas.Simd.{map-map}
 use Rattle.geo_laws_bios.proofs.Joined.{no_pieces}
-use Rattle.geo_base.specs.declared.request.BioCmd.{BioCmd}
-use Rattle.geo_base.specs.declared.request.BioCmd.TheVariants as cmds
 use Rattle.geo_base.specs.Sectors.{IsSectorSize}
 use Rattle.geo_model.specs.declared.span.Piece.{Piece}
 use Rattle.geo_model.specs.Words.{is_flush, is_write, same_cmd}
@@ -69,13 +67,6 @@ matched x k (y ∷ ys) (z ∷ zs) e =
 no_shapes : (cs : List Bio) → map shape_of_child cs ≡ [] → cs ≡ []
 no_shapes [] e = refl
 no_shapes (y ∷ ys) e = absurd (let no : ⊥ = cc in no)
-
--- the same command is the same
-same_itself : (c : BioCmd) → IsTrue (same_cmd c c)
-same_itself cmds.Read = refl
-same_itself cmds.Write = refl
-same_itself cmds.Delete = refl
-same_itself cmds.Flush = refl
 
 -- a number of sectors below a count lies inside their bytes
 inside-count : (s n k : ℕ) → 0 < s → k < n → k * s < n * s

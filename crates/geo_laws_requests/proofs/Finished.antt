@@ -69,10 +69,6 @@ answered : (h k : List Moment) (b : ℕ) (r : BioResult) (o : Option DeviceResul
 answered h k b r None is e = absurd (let bad : ⊥ = cc in bad)
 answered h k b r (Some got) is e = ap (λ o. option_map result_of_device o) (answer_stays h k b got is) ∙ e
 
--- the result by those of the children
-joined_by : BioCmd → Option (List BioResult) → Option BioResult
-joined_by cmd o = o >>= (λ found. Some (joined_result cmd found))
-
 -- results of children that were found give the same result later
 joined : (f g : ℕ → Option BioResult) → Finds f g → (bs : List ℕ) (cmd : Option BioCmd) (r : BioResult)
     → (o : Option (List BioResult)) → all_there (map f bs) ≡ o

@@ -170,10 +170,6 @@ module _ (h : List Moment) (w v : World) (seat b : ℕ) (o : Outcome) (ledger : 
         not_own_child w y y.owner
         (All-contains (λ (z : Bio). ComesFromItsOwner w.handles w.taste z z.owner) w.bios y firm.bios.owners y_here)
 
-    -- only the parent has its number
-    only_y : AllByRecursion (λ (z : Bio). is_it z ≡ true → z ≡ y) w.bios
-    only_y = unique (λ (z : Bio). z.number) w.next_bio y.number w.bios y firm.bios.numbers there
-
     -- only the child has its number
     only_x : AllByRecursion (λ (z : Bio). (z.number == x.number) ≡ true → z ≡ x) w.bios
     only_x = unique (λ (z : Bio). z.number) w.next_bio x.number w.bios x firm.bios.numbers found

@@ -16,7 +16,7 @@ use Rattle.geo_model.specs.declared.command.Command.{Command}
 use Rattle.geo_model.specs.declared.command.Command.TheVariants as commands
 use Rattle.geo_model.specs.Plans.{AreComponents, IsCommand, IsMark, IsNamedClass, IsStripe}
 use Rattle.geo_model.specs.Report.{counts_text}
-use Rattle.geo_model.specs.Script.{◌>>=◌, Words, any_number, beside, by_word, class_names, command_table, counts_of, in_range, long_names, names_within, number_of, ranged, record_count, record_id, record_place, runs_words, stripe_size}
+use Rattle.geo_model.specs.Script.{◌>>=◌, Words, beside, by_word, class_names, command_table, counts_of, in_range, long_names, names_within, number_of, ranged, record_count, record_id, record_place, runs_words, stripe_size}
 use Rattle.geo_laws_texts.proofs.Clean.{IsClean, is_clean_byte, line_of}
 use Rattle.geo_laws_texts.proofs.Numbers.{number_read}
 use Rattle.geo_laws_scripts.specs.PlanTexts.{class_text, command_in_words}
@@ -104,10 +104,6 @@ few_words c ns first others within small reads = record {
 }
 
 -- Readers
-
--- a number of any size
-any_read : (n : ℕ) (words : Words) → n < 2 ^ 64 → any_number (decimal n ∷ words) ≡ Ok (n, words)
-any_read n words fits = ap (in_range (λ k. true) words) (number_read n fits)
 
 -- a number that passes its test
 pub ranged_read : (test : ℕ → Bool) (n : ℕ) (words : Words) → n < 2 ^ 64 → test n ≡ true

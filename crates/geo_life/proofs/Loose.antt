@@ -1,7 +1,7 @@
 -- A consumer before and after it is detached.
-use Rattle.std.specs.Prelude.{◌≡◌, ℕ, Bool, true, false, Option, Some, None, IsSome, IsSomeAnd, IfSome, is_some}
+use Rattle.std.specs.Prelude.{◌≡◌, ℕ, Some, None, IsSome, IfSome}
 use Rattle.std.proofs.Common.{refl, sym, ap, ◌∙◌, subst}
-use Rattle.geo_model.specs.Topology.{Topology, Consumer, consumer_at, detach, remove_consumer}
+use Rattle.geo_model.specs.Topology.{Topology, consumer_at, detach, remove_consumer}
 use Rattle.geo_slots.specs.Slots.{value_at}
 use Rattle.geo_mesh.specs.Topo.{TopoView, no_counts, with_topology, without_consumer}
 use Rattle.geo_mesh.specs.Graph.{IsSoundGraph}
@@ -10,26 +10,6 @@ use Rattle.geo_laws_graph.proofs.Found.{detached-found}
 use Rattle.geo_laws_graph.proofs.Members.{Has, has}
 use Rattle.geo_life.specs.Life.{CountsStay}
 use Rattle.geo_life.proofs.Dropping.{dropped_stays}
-
--- what is attached has a provider
-some_provider : (o : Option ℕ) → true ≡ is_some o → IsSome o
-some_provider None never = absurd (cc)
-some_provider (Some p) e = refl
-
-no_provider : (o : Option ℕ) → false ≡ is_some o → o ≡ None
-no_provider None e = refl
-no_provider (Some p) never = absurd (cc)
-
--- a test of what is there tells it
-pub told_attached : (o : Option Consumer) (b : Bool) → IsSomeAnd o (λ x. b ≡ is_some x.provider) → b ≡ true
-    → IfSome o (λ x. IsSome x.provider)
-told_attached None b never e = absurd never
-told_attached (Some x) b is e = some_provider x.provider (sym e ∙ is)
-
-pub told_loose : (o : Option Consumer) (b : Bool) → IsSomeAnd o (λ x. b ≡ is_some x.provider) → b ≡ false
-    → IfSome o (λ x. x.provider ≡ None)
-told_loose None b never e = absurd never
-told_loose (Some x) b is e = no_provider x.provider (sym e ∙ is)
 
 module _ {C : Type 0} where
   -- what was detached is attached to nothing

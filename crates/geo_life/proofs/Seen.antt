@@ -1,9 +1,8 @@
 -- What counts see stays through all that this crate does to a graph but washing.
 use Rattle.std.specs.Prelude.{◌≡◌, ℕ, ◌==◌, Bool, true, false, not, List, [], ◌∷◌, map, filter, fold, if◌then◌else◌}
 use Rattle.std.proofs.Common.{refl, sym, ◌∙◌, ap, subst}
-use Rattle.geo_base.specs.declared.request.Counts.{Counts}
 use Rattle.geo_model.specs.Topology.{Topology, Geom, Provider, Consumer, attached_to, providers_of, is_withering, set_error, set_withering, set_marks}
-use Rattle.geo_model.specs.Events.{QueuedTopology, orphan_provider, wither, wither_unless_withering, spoil_consumer, spoil, is_of_dev, orphan_consumer, orphan, is_outgrown, outgrow_consumer}
+use Rattle.geo_model.specs.Events.{QueuedTopology, orphan_provider, wither, wither_unless_withering, spoil_consumer, spoil, is_of_dev, orphan_consumer, orphan}
 use Rattle.geo_mesh.specs.Topo.{TopoView, with_topology}
 use Rattle.geo_event.specs.EventQueue.{Queued}
 use Rattle.geo_laws_graph.proofs.Lists.{map-changed}
@@ -78,15 +77,6 @@ module _ {C : Type 0} where
               → seen_by_counts (if b then r else wither_unless_withering r c.geom).topology ≡ seen_by_counts r.topology
           by true = refl
           by false = seen_unless r c.geom
-
-  -- one consumer that is outgrown
-  pub seen_outgrow : (granted : ℕ → Counts) (r : QueuedTopology C) (c : Consumer)
-      → seen_by_counts (outgrow_consumer granted r c).topology ≡ seen_by_counts r.topology
-  seen_outgrow granted r c = by (is_outgrown granted r.topology c)
-    where
-      by : (b : Bool) → seen_by_counts (if b then wither r c.geom else r).topology ≡ seen_by_counts r.topology
-      by true = seen_wither r c.geom
-      by false = refl
 
   -- so of a geom that may wither
   pub seen_if : (b : Bool) (q new : QueuedTopology C) (g : ℕ) → new ≡ (if b then wither q g else q)

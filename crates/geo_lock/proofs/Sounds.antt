@@ -1,5 +1,5 @@
 -- What a pass keeps of its seat after each call.
-use Rattle.std.proofs.Common.{◌≡◌, ℕ, ◌+◌, ◌<◌, List, [], ◌∷◌, ◌++◌, Bool, true, false, Some, Result, Ok, Err, IfOk, IfErr, sym, refl, ap, ◌∙◌, subst, arith, le_refl}
+use Rattle.std.proofs.Common.{◌≡◌, ℕ, ◌<◌, List, [], ◌∷◌, ◌++◌, Bool, true, false, Some, Result, Ok, Err, IfOk, IfErr, sym, refl, ap, ◌∙◌, subst, arith, le_refl}
 use mathlib.Core.Option.{some}
 use mathlib.Core.List.{IsPrefix}
 use lib.ListN.{get_elem?}
@@ -37,18 +37,6 @@ module _ {S B E : Type 0} (lawful : B → List E → Type 0) (seat_of : E
       own = more.1 made (le_refl made);
       law = s.law;
       none_more = λ z. absurd (omega arith);
-    },
-  )
-
-  pub one_more_sound : number ≡ 0 → (me' : Me S (View B E)) → me' ≡ (one_more me.0, me.1)
-      → (z : B) × IsSound lawful seat_of z number (made + 1) me'
-  one_more_sound zeroth me' is = let more = s.none_more zeroth in (
-    b,
-    subst (λ (m : Me S (View B E)). Sound number (made + 1) m) (sym is) record {
-      me_is = λ i. (one_more (s.me_is i).0, (s.me_is i).1);
-      own = s.own;
-      law = s.law;
-      none_more = λ z. (omega arith, λ n above. more.1 n (omega arith));
     },
   )
 

@@ -119,18 +119,6 @@ module _ {X : Type 0} (number : X → ℕ) (xs : List X) where
           ap (list_any (λ x. test (number x))) step.left
           ∙ ap (λ m. test m || list_any (λ x. test (number x)) (left_from number (n + 1) xs)) step.is
 
-      -- one that doesn't pass is passed over
-      pub any-more : test n ≡ false
-          → list_any (λ x. test (number x)) (left_from number (n + 1) xs)
-          ≡ list_any (λ x. test (number x)) (left_from number from_number xs)
-      any-more fails =
-          sym (any_step ∙ ap (λ b. b || list_any (λ x. test (number x)) (left_from number (n + 1) xs)) fails)
-
-      -- one that passes is found
-      pub any-here : test n ≡ true → list_any (λ x. test (number x)) (left_from number from_number xs) ≡ true
-      any-here passing =
-          any_step ∙ ap (λ b. b || list_any (λ x. test (number x)) (left_from number (n + 1) xs)) passing
-
 -- what says that there is something says that there isn't nothing
 pub told_none : {X : Type 0} (o : Option X) (b : Bool) → is_some o ≡ not b → b ≡ is_none o
 told_none None true e = refl

@@ -127,20 +127,6 @@ module _ (edges : Edges) where
             (footing-some v.consumer.geom p v.consumer.prov
             (names_some (footing v.consumer.geom v.consumer.prov) p there)).0
 
-  -- and it is attached to that provider
-  pub attached-linked : (p c : ℕ) → passes (is_attached p) (value_at (ranked_links edges).rows c) ≡ true
-      → passes (is_attached p) (value_at (links edges).rows c) ≡ true
-  attached-linked p c there =
-      rw (value_at-rows_with links_of c edges.consumers.rows)
-      (at (value_at edges.consumers.rows c)
-      (rw (value_at-rows_with ranked_link_of c edges.consumers.rows) at there)) where
-        at : (o : Option ConsCell) → passes (is_attached p) (option_map ranked_link_of o) ≡ true
-            → passes (is_attached p) (option_map links_of o) ≡ true
-        at None there = absurd (cc)
-        at (Some v) there =
-            rw (footing-some v.consumer.geom p v.consumer.prov
-            (names_some (footing v.consumer.geom v.consumer.prov) p there)).1 (eq-eqb p p refl)
-
   -- so it is one of those that aren't DEV's
   pub attached-above : (p c : ℕ) → passes (is_attached p) (value_at (ranked_links edges).rows c) ≡ true
       → passes (is_above p) (value_at (links edges).rows c) ≡ true

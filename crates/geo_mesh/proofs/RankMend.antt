@@ -156,14 +156,6 @@ module _ (below : ℕ → List ℕ) where
   pub lowered-none : (f : ℕ → ℕ) → ((x : ℕ) → above below f x ≤ f x) → Lowered below f f
   lowered-none f enough = record { falls = λ x. omega arith; enough = enough; stays = λ x h. h }
 
-  -- two steps of a walk that lower values
-  pub lowered-more : (f r s : ℕ → ℕ) → Lowered below f r → Lowered below r s → Lowered below f s
-  lowered-more f r s one two = record {
-    falls = λ x. omega (arith, one.falls x, two.falls x);
-    enough = two.enough;
-    stays = λ x h. two.stays x (one.stays x h);
-  }
-
   -- a geom is given the value that it has to have, and what stands directly above it is lowered
   pub lowered-store : (g : ℕ) (f m : ℕ → ℕ) → (IsAmong (below g) g → ⊥) → ((x : ℕ) → above below f x ≤ f x)
       → above below f g < f g

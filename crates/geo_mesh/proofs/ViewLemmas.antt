@@ -531,18 +531,6 @@ module _ {C : Type 0} (gs : SlotsView (GeomCell C)) (n : ℕ) where
       taken_step low high v row rows (row.0 == n) refl rising at
       (λ h. length-without (row.0 + 1) high v rows rising.1 h)
 
-  -- one row more in front, which isn't under the number
-  none_step : (row : ℕ × GeomCell C) (rows : List (ℕ × GeomCell C)) (b : Bool) → (row.0 == n) ≡ b
-      → None ≡ value_at (row ∷ rows) n
-      → (None ≡ value_at rows n → without rows n ≡ rows) → without (row ∷ rows) n ≡ row ∷ rows
-  none_step row rows true e none so = let no : None ≡ Some row.1 = rw e at none in absurd cc
-  none_step row rows false e none so = rw (e, so (rw e at none)) refl
-
-  -- all stay where there is none
-  pub without-none : (rows : List (ℕ × GeomCell C)) → None ≡ value_at rows n → without rows n ≡ rows
-  without-none [] none = refl
-  without-none (row ∷ rows) none = none_step row rows (row.0 == n) refl none (λ h. without-none rows h)
-
   -- one geom less
   pub count_falls : (live : ℕ) (v : GeomCell C) → IsRising 1 gs.rows gs.next → Some v ≡ value_at gs.rows n
       → IsCount (length gs.rows) live → IsCount (length (without gs.rows n)) (live - 1)

@@ -1,5 +1,5 @@
 -- Ids with their names, and numbers under the ids of their names.
-use Rattle.std.specs.Prelude.{◌≡◌, ℕ, ◌+◌, ◌⊎◌, ◌==◌, ◌&&◌, nat_le, Bool, true, false, not, List, [], ◌∷◌, ◌++◌, Option, Some, None, IsSome, filter, option_map, if◌then◌else◌}
+use Rattle.std.specs.Prelude.{◌≡◌, ℕ, ◌+◌, ◌⊎◌, ◌==◌, ◌&&◌, nat_le, Bool, true, false, not, List, [], ◌∷◌, ◌++◌, Option, Some, None, filter, option_map, if◌then◌else◌}
 use Rattle.std.specs.List.{AllByRecursion, last_or}
 use Rattle.std.specs.Option.{is_some}
 use Rattle.std.proofs.Common.{refl, sym, ◌∙◌, ap, subst, inl, inr, arith}
@@ -148,13 +148,6 @@ module _ (n : Inside) (is : IsInside n) (name : List ℕ) where
   last-missing none = rw (last_none none n.alike.children is.under) refl
 
 -- A number more, and a number less
-
--- one number more, under an id
-pub under-push : (texts : List (ℕ × List ℕ)) (rows : List (ℕ × Option ℕ)) (k id : ℕ) → IsSome (value_at texts id)
-    → AllByRecursion (IsUnder texts) rows
-    → AllByRecursion (IsUnder texts) (rows ++ (k, Some id) ∷ [])
-under-push texts [] k id there under = (there, tt)
-under-push texts (row ∷ rows) k id there under = (under.0, under-push texts rows k id there under.1)
 
 -- one number less
 pub under-without : (texts : List (ℕ × List ℕ)) (k : ℕ) (rows : List (ℕ × Option ℕ))

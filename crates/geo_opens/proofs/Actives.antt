@@ -1,6 +1,6 @@
 -- Requests out, and the handle that is reaped next, by what is kept beside the parts.
-use Rattle.std.specs.Prelude.{◌≡◌, ℕ, ◌==◌, Bool, true, false, not, ◌&&◌, List, [], ◌∷◌, Option, Some, None, Ok, Err, Contains, IsSome, option_map}
-use Rattle.std.specs.List.{AllByRecursion, list_any}
+use Rattle.std.specs.Prelude.{◌≡◌, ℕ, ◌==◌, Bool, true, false, not, ◌&&◌, List, Option, Some, None, Ok, Err, IsSome, option_map}
+use Rattle.std.specs.List.{list_any}
 use Rattle.std.specs.Option.{option_map_or}
 use Rattle.std.proofs.Common.{refl, sym, ◌∙◌, ap, subst}
 use Rattle.std.proofs.Math.Bool.{not-not}
@@ -24,14 +24,13 @@ use Rattle.geo_state.specs.Shown.{shown_bio, shown_bios}
 use Rattle.geo_slots.specs.Slots.{value_at}
 use Rattle.geo_laws_graph.proofs.Lists.{found_itself}
 use Rattle.geo_laws_graph.proofs.Members.{find-Contains}
-use Rattle.geo_laws_counts.proofs.Members.{in_head, in_tail}
 use Rattle.geo_handles.specs.Handles.{handle_at, first_ready}
 use Rattle.geo_handles.specs.HandleLaws.{noted_handles}
 use Rattle.geo_handles.proofs.HandleLawLemmas.{handles_are_of_world}
 use Rattle.geo_life.specs.Life.{is_out}
 use Rattle.geo_access.proofs.Decided.{item_at}
 use Rattle.geo_state.specs.declared.state.State.{State}
-use Rattle.geo_state.specs.Trips.{Trip, trip_of, trips, out_through, can_be_reaped}
+use Rattle.geo_state.specs.Trips.{trip_of, trips, out_through, can_be_reaped}
 use Rattle.geo_state.specs.Trips.{is_out as goes_through}
 use Rattle.geo_state.specs.Holds.{Holds}
 use Rattle.geo_state.specs.World.{world}
@@ -46,17 +45,6 @@ active-is log bios c =
     ∙ sym (any-map (goes_through c) (trip_of {R = Held}) bios)
     ∙ any-kept_some (goes_through c) (trips bios)
     ∙ ap (λ n. not (n == 0)) (length-filter (goes_through c) (trips bios))
-
--- a fact of each bio of the world is one of each request on its way
-pub trips-all : (log : List Entry) (P : Trip → Type 0) (bios : List (BioOf Held))
-    → ((z : Bio) → Contains (shown_bios (delivered_at log) bios) z → P (trip_of z)) → AllByRecursion P (trips bios)
-trips-all log P [] so = tt
-trips-all log P (x ∷ xs) so = (
-  so (shown_bio (delivered_at log) x)
-      (in_head (shown_bio (delivered_at log) x) (shown_bios (delivered_at log) xs)),
-  trips-all log P xs
-      (λ z there. so z (in_tail (shown_bio (delivered_at log) x) (shown_bios (delivered_at log) xs) z there)),
-)
 
 module _ (s : State) (kept : Holds s) where
   -- as many are kept as go through a consumer
@@ -93,12 +81,6 @@ module _ (s : State) (kept : Holds s) where
         (eqb-true (out_through (trips s.traffic.bios) c) 0
         (sym (not-not (out_through (trips s.traffic.bios) c == 0))
         ∙ ap not (sym (active-is log s.traffic.bios c) ∙ idle)))
-
-    -- and where none is kept, nothing is out
-    pub stored-idle : (c : ℕ) → value_at s.topo.active c ≡ Some 0 → IsSome (consumer_at s.topo.topology c)
-        → is_active w c ≡ false
-    stored-idle c stored lives =
-        sym (out-told c lives) ∙ ap (λ o. option_map_or (λ n. not (n == 0)) o false) stored
 
     -- the handles that can be reaped are those of the world
     to_reap : (h : Handle) → is_to_reap w h ≡ can_be_reaped (trips s.traffic.bios) h

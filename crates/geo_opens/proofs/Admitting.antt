@@ -1,6 +1,5 @@
 -- The steps of opens, from what their bodies know.
-use Rattle.std.specs.Prelude.{◌≡◌, ℕ, Bool, true, false, ◌||◌, List, [], Option, Some, None, Result, Ok, Err, OnOk, OnErr, IfSome, is_some, is_none, option_map, if◌then◌else◌}
-use Rattle.std.specs.Option.{option_map_or}
+use Rattle.std.specs.Prelude.{◌≡◌, ℕ, Bool, false, List, [], Option, Some, None, Result, Ok, Err, OnOk, OnErr, IfSome, is_some, option_map}
 use Rattle.std.proofs.Common.{refl, sym, ◌∙◌, ap, arith}
 use Rattle.geo_base.proofs.Options.{at-found, if-with}
 use Rattle.geo_base.specs.declared.request.Counts.{Counts}
@@ -16,7 +15,7 @@ use Rattle.geo_model.specs.Topology.{Consumer, find_provider}
 use Rattle.geo_model.specs.Opens.{grant_refusal, open_refusal_at, with_opener}
 use Rattle.geo_model.specs.World.{World, Config, Handle, granted_in}
 use Rattle.geo_model.specs.WorldEvents.{after_open}
-use Rattle.geo_model.specs.HandleCommands.{do_open, with_handle, without_number}
+use Rattle.geo_model.specs.HandleCommands.{do_open, with_handle}
 use Rattle.geo_event.specs.EventQueue.{Queued}
 use Rattle.geo_slots.specs.Slots.{value_at}
 use Rattle.geo_mesh.specs.Topo.{TopoView, IsButForRoom}
@@ -44,46 +43,7 @@ module _ (s : State) (kept : Holds s) where
       ∙ none_stored (λ (c : Consumer). out_through (trips s.traffic.bios) c.number) s.topo.topology.next_consumer
       s.topo.topology.consumers (next_free s.topo.topology in_order)
 
-  module _ (actor : ℕ) (name prov : List ℕ) where
-    -- where there is a handle of the name, or no provider, the world stays
-    pub refuse-same : (is_some (option_map (λ (h : Handle). h.number) (named_handle s.handles.handles actor name))
-        || is_none (find_provider s.topo.topology prov)) ≡ true
-        → (actors : List (List LineCommand)) (log : List Entry)
-        → world actors log s ≡ refused_world (world actors log s) actor name prov
-    refuse-same either actors log =
-        by (named_handle s.handles.handles actor name) (find_provider s.topo.topology prov) either
-      where
-        by : (h : Option Handle) (o : Option ℕ)
-            → (is_some (option_map (λ (x : Handle). x.number) h) || is_none o) ≡ true
-            → world actors log s
-            ≡ (if is_some h
-            then world actors log s
-            else option_map_or (λ p. without_number (world actors log s)) o (world actors log s))
-        by (Some h) o either = refl
-        by None None either = refl
-        by None (Some p) never = absurd (cc)
-
-    -- else a number is used up
-    pub refuse-used : (is_some (option_map (λ (h : Handle). h.number) (named_handle s.handles.handles actor name))
-        || is_none (find_provider s.topo.topology prov)) ≡ false
-        → (u : TopoView Config) → HasUsedNumber s.topo u
-        → (actors : List (List LineCommand)) (log : List Entry)
-        → world actors log (record s { topo = u }) ≡ refused_world (world actors log s) actor name prov
-    refuse-used neither u used actors log =
-        ap (λ (v : TopoView Config). world actors log (record s { topo = v })) used
-        ∙ by (named_handle s.handles.handles actor name) (find_provider s.topo.topology prov) neither
-      where
-        by : (h : Option Handle) (o : Option ℕ)
-            → (is_some (option_map (λ (x : Handle). x.number) h) || is_none o) ≡ false
-            → without_number (world actors log s)
-            ≡ (if is_some h
-            then world actors log s
-            else option_map_or (λ p. without_number (world actors log s)) o (world actors log s))
-        by (Some h) o never = absurd (cc)
-        by None None never = absurd (cc)
-        by None (Some p) neither = refl
-
-  -- and all is kept
+  -- where a number was used up, all is kept
   pub used-kept : KeptWithHandles → (u : TopoView Config) → HasUsedNumber s.topo u → Holds (record s { topo = u })
   used-kept laws u used = laws.refused s u s.queue s.handles kept used refl (omega arith) refl
 

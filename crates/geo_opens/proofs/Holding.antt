@@ -4,7 +4,6 @@ use Rattle.std.specs.Option.{option_and_then}
 use Rattle.std.proofs.Common.{refl, sym, ◌∙◌, ap, subst, arith}
 use Rattle.std.proofs.lemmas.Bool.{eq-eqb, ne_eqb, eqb-true}
 use Rattle.std.proofs.lemmas.List.{map-append}
-use Rattle.std.proofs.lemmas.List.Elements.{All-push}
 use Rattle.geo_base.specs.declared.request.Counts.{Counts}
 use Rattle.geo_model.specs.Words.{is_granted_kind}
 use Rattle.geo_model.specs.Topology.{Topology, Provider, Consumer, provider_at, consumer_at, remove_consumer}
@@ -24,7 +23,7 @@ use Rattle.geo_laws_counts.proofs.Quiet.{granted_wants_nothing}
 use Rattle.geo_laws_counts.proofs.Stays.{consumer_came}
 use Rattle.geo_laws_counts.proofs.Flows.{each_of}
 use Rattle.geo_laws_counts.proofs.Openers.{wants_grant}
-use Rattle.geo_access.specs.Access.{granted_by, clear_scratches, noted, place_of, consumers_below, granted_view, released_view, IsCounted, IsQuiet, IsPlaced, IsHolder}
+use Rattle.geo_access.specs.Access.{granted_by, clear_scratches, noted, place_of, consumers_below, granted_view, released_view, IsCounted, IsQuiet, IsHolder}
 use Rattle.geo_access.proofs.Clearing.{rows-same_on}
 use Rattle.geo_access.proofs.Decided.{item_at}
 use Rattle.geo_access.proofs.Granting.{Holder, holder_is}
@@ -143,18 +142,7 @@ module _ {C : Type 0} (t : TopoView C) (sound : IsSoundGraph t.topology) (counte
         t.topology.consumers (comer ∷ [])));
   }) grants_same
 
-  -- no note is set
-  pub opened_quiet : IsQuiet t → IsQuiet opened
-  opened_quiet quiet = record { risen = quiet.risen; fallen = quiet.fallen }
-
-  -- none that isn't attached is in the way
-  pub opened_placed : IsPlaced t.topology → IsPlaced opened.topology
-  opened_placed placed =
-      All-push
-      (λ (c : Consumer). c.provider ≡ None → filter (λ (y : Provider). y.geom == c.geom) t.topology.providers ≡ [])
-      t.topology.consumers comer placed (λ none. absurd (cc))
-
-  -- it holds grants
+  -- the new consumer holds grants
   pub opened_holder : IsHolder opened.topology next
   opened_holder =
       let found : consumer_at u next ≡ Some comer = comer_found t sound counted p room in
@@ -264,13 +252,6 @@ module _ {C : Type 0} (t : TopoView C) (sound : IsSoundGraph t.topology) (counte
   pub comer_counted : IsCounted m
   comer_counted = subst IsCounted (sym attached) (opened_counted t sound counted p m.room)
 
-  pub comer_quiet : IsQuiet t → IsQuiet m
-  comer_quiet quiet = subst IsQuiet (sym attached) (opened_quiet t sound counted p m.room quiet)
-
-  pub comer_placed : IsPlaced t.topology → IsPlaced m.topology
-  comer_placed placed =
-      subst (λ (v : TopoView C). IsPlaced v.topology) (sym attached) (opened_placed t sound counted p m.room placed)
-
   pub comer_holder : IsHolder m.topology cons
   comer_holder =
       subst (λ n. IsHolder m.topology n) (sym number)
@@ -365,13 +346,7 @@ module _ {C : Type 0} (t : TopoView C) (counted : IsCounted t) (c : ℕ) (holder
       by false = at_most-same (granted_by t n)
 
   module _ (m : TopoView C) (released : m ≡ released_view t c) where
-    -- it is there
-    pub goer_lives : IsSome (consumer_at m.topology c)
-    goer_lives =
-        subst (λ (v : TopoView C). IsSome (consumer_at v.topology c)) (sym released)
-        (subst (λ o. IsSome o) (sym its.found) refl)
-
-    -- and holds nothing
+    -- it holds nothing then
     pub goer_nothing : value_at m.wants c ≡ Some no_counts
     goer_nothing =
         ap (λ (v : TopoView C). value_at v.wants c) released
@@ -381,10 +356,6 @@ module _ {C : Type 0} (t : TopoView C) (counted : IsCounted t) (c : ℕ) (holder
         ∙ ap left (eqb-true its.one.number c
         (find_passes (λ (x : Consumer). x.number == c) t.topology.consumers its.one its.found))
         ∙ none_left)
-
-    -- nothing is out through it
-    pub goer_idle : value_at t.active c ≡ Some 0 → value_at m.active c ≡ Some 0
-    goer_idle idle = ap (λ (v : TopoView C). value_at v.active c) released ∙ idle
 
     -- what the notes and the write counts are together
     places : written m + notes m.fallen ≡ written t

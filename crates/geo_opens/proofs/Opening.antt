@@ -5,7 +5,7 @@ use Rattle.std.proofs.Common.{refl, sym, ◌∙◌, ap, subst, inl, inr}
 use Rattle.std.proofs.lemmas.Bool.{cases_eq, eq-eqb, ne_eqb}
 use Rattle.geo_base.specs.declared.request.Counts.{Counts}
 use Rattle.geo_base.specs.declared.errno.Errno.{Errno}
-use Rattle.geo_base.specs.declared.errno.Errno.TheVariants.{EEXIST, ENOENT}
+use Rattle.geo_base.specs.declared.errno.Errno.TheVariants.{EEXIST}
 use Rattle.geo_model.specs.declared.command.LineCommand.{LineCommand}
 use Rattle.geo_model.specs.declared.step.Entry.{Entry}
 use Rattle.geo_model.specs.declared.step.Outcome.{Outcome}
@@ -117,18 +117,6 @@ module _ (s : State) (actors : List (List LineCommand)) (log : List Entry) (acto
     (grant : Counts) where
   abbrev w : World
   w = world actors log s
-
-  -- a handle of the name
-  pub name-refuses : is_some (handle_of w actor name) ≡ true → Some EEXIST ≡ refusal_in w actor name prov grant
-  name-refuses has =
-      sym (ap (λ b. if b then Some EEXIST else open_refusal (granted_in w) w.topology prov grant) has)
-
-  -- no provider
-  pub none-refuses : is_some (handle_of w actor name) ≡ false → find_provider w.topology prov ≡ None
-      → Some ENOENT ≡ refusal_in w actor name prov grant
-  none-refuses free none =
-      sym (ap (λ b. if b then Some EEXIST else open_refusal (granted_in w) w.topology prov grant) free
-      ∙ ap (λ o. open_refusal_at (granted_in w) w.topology o grant) none)
 
   -- what refuses its counts
   pub counts-refuse : Holds s → is_some (handle_of w actor name) ≡ false → (p : ℕ)

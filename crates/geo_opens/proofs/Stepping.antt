@@ -2,8 +2,8 @@
 use Rattle.std.specs.Prelude.{◌≡◌, ℕ, ◌==◌, Bool, true, false, List, Option, Some, None, Ok, Err, Contains, IsSome, IsSomeAnd, IfSome, option_map, if◌then◌else◌}
 use Rattle.std.specs.Option.{option_map_or, option_and_then}
 use Rattle.std.proofs.Common.{refl, sym, ◌∙◌, ap, subst}
-use Rattle.geo_base.proofs.Options.{none-mapped, some_and_of, at-found, if-with}
-use Rattle.geo_base.specs.declared.errno.Errno.TheVariants.{EBADF, EBUSY}
+use Rattle.geo_base.proofs.Options.{some_and_of, at-found, if-with}
+use Rattle.geo_base.specs.declared.errno.Errno.TheVariants.{EBUSY}
 use Rattle.geo_model.specs.declared.command.LineCommand.{LineCommand}
 use Rattle.geo_model.specs.declared.step.Entry.{Entry}
 use Rattle.geo_model.specs.declared.step.Found.TheVariants as refusals
@@ -212,16 +212,6 @@ module _ (s : State) (kept : Holds s) (firm : IsFirm s) where
   -- A close, by what is found
 
   module _ (line actor : ℕ) (name : List ℕ) where
-    -- no handle
-    pub close-none : option_map (λ (x : Handle). x.number) (named_handle hs actor name) ≡ None → (o : Outcome)
-        → o ≡ outcomes.Replied line (replies.Refused EBADF) → (actors : List (List LineCommand)) (log : List Entry)
-        → close_handle (world actors log s) line (handle_of (world actors log s) actor name)
-        ≡ (world actors log s, o)
-    close-none none o is actors log =
-        ap (close_handle (world actors log s) line)
-        (none-mapped (λ (x : Handle). x.number) (named_handle hs actor name) none)
-        ∙ ap (λ (r : Outcome). let pair : World × Outcome = (world actors log s, r) in pair) (sym is)
-
     -- whether a request is out through its consumer
     told : (k : Handle) → Contains hs k → (actors : List (List LineCommand)) (log : List Entry)
         → option_map_or (is_out s.topo) k.consumer false
@@ -382,13 +372,6 @@ module _ (s : State) (kept : Holds s) (firm : IsFirm s) where
   -- A handle that is forgotten, with its consumer or without
 
   module _ (id : ℕ) where
-    -- the steps that it takes
-    pub forget-steps : (o : Option ℕ) → IsSomeAnd (handle_at hs id) (λ h. h.consumer ≡ o)
-        → counts_computed s (handle_at hs id) ≡ option_map_or (λ c. consumers_below t (place_of t c)) o 0
-    forget-steps o there =
-        let k = some_and_of (λ (h : Handle). h.consumer ≡ o) (handle_at hs id) there in
-        ap (counts_computed s) k.1 ∙ ap (λ r. option_map_or (λ c. consumers_below t (place_of t c)) r 0) k.2
-
     -- one with a consumer is idle
     pub forget-idle : (c : ℕ) → IsSomeAnd (handle_at hs id) (λ h. h.consumer ≡ Some c)
         → option_map_or (is_out s.topo) (Some c) false ≡ false → IsIdle s id c
@@ -400,11 +383,3 @@ module _ (s : State) (kept : Holds s) (firm : IsFirm s) where
         sym (out-told s kept firm.1.0 firm.0 c lives) ∙ free in
         subst (λ o. IsSomeAnd o (λ (x : Handle). (x.consumer ≡ Some c) × (value_at s.topo.active c ≡ Some 0)))
         (sym k.1) (k.2, idle-stored s kept firm.1.0 firm.0 c lives idle)
-
-    -- what stands under its number has the consumer that was looked up
-    pub forget-there : (k : Handle) → handle_at hs id ≡ Some k → (o : Option ℕ)
-        → o ≡ option_and_then (λ (h : Handle). h.consumer) (handle_at hs id)
-        → IsSomeAnd (handle_at hs id) (λ h. h.consumer ≡ o)
-    forget-there k is o told =
-        subst (λ p. IsSomeAnd p (λ (h : Handle). h.consumer ≡ o)) (sym is)
-        (sym (told ∙ ap (option_and_then (λ (h : Handle). h.consumer)) is))

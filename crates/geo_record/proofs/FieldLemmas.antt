@@ -1,34 +1,8 @@
 -- Fields of a sector, and what stands behind them.
-use Rattle.std.proofs.Common.{◌≡◌, ℕ, ◌+◌, ◌-◌, ◌≤◌, List, [], ◌∷◌, ◌++◌, length, take, drop, replicate, refl, sym, ap, ◌∙◌, arith, append_assoc, length-append, length-drop, length-take-le}
-use Rattle.std.proofs.lemmas.List.{append-nil, take_at, drop_at, drop_all, drop-replicate, length-replicate, replicate-append-replicate}
-use Rattle.std.specs.Int.{w16, w32, w64, from_le_bytes}
-use Rattle.byteorder.specs.Endian.{little_number}
+use Rattle.std.proofs.Common.{◌≡◌, ℕ, ◌+◌, ◌-◌, ◌≤◌, List, ◌++◌, length, take, drop, replicate, refl, sym, ap, ◌∙◌, arith, append_assoc, length-append, length-take-le}
+use Rattle.std.proofs.lemmas.List.{take_at, drop_at, drop-replicate, length-replicate, replicate-append-replicate}
 use Rattle.geo_model.specs.Records.{padded}
 use Rattle.geo_model.proofs.RecordLemmas.{length-padded}
-
--- the number in the first bytes, by its two spellings
-pub little-u16 : (xs : List ℕ) → little_number 2 xs ≡ from_le_bytes w16 (take 2 xs)
-little-u16 [] = refl
-little-u16 (a ∷ []) = omega arith
-little-u16 (a ∷ b ∷ xs) = omega arith
-
-pub little-u32 : (xs : List ℕ) → little_number 4 xs ≡ from_le_bytes w32 (take 4 xs)
-little-u32 [] = refl
-little-u32 (a ∷ []) = omega arith
-little-u32 (a ∷ b ∷ []) = omega arith
-little-u32 (a ∷ b ∷ c ∷ []) = omega arith
-little-u32 (a ∷ b ∷ c ∷ d ∷ xs) = omega arith
-
-pub little-u64 : (xs : List ℕ) → little_number 8 xs ≡ from_le_bytes w64 (take 8 xs)
-little-u64 [] = refl
-little-u64 (a ∷ []) = omega arith
-little-u64 (a ∷ b ∷ []) = omega arith
-little-u64 (a ∷ b ∷ c ∷ []) = omega arith
-little-u64 (a ∷ b ∷ c ∷ d ∷ []) = omega arith
-little-u64 (a ∷ b ∷ c ∷ d ∷ e ∷ []) = omega arith
-little-u64 (a ∷ b ∷ c ∷ d ∷ e ∷ f ∷ []) = omega arith
-little-u64 (a ∷ b ∷ c ∷ d ∷ e ∷ f ∷ g ∷ []) = omega arith
-little-u64 (a ∷ b ∷ c ∷ d ∷ e ∷ f ∷ g ∷ h ∷ xs) = omega arith
 
 -- what stands in front of the zeros, and how many zeros there are
 pub take-padded : (n k : ℕ) (front : List ℕ) → length front ≡ k → take k (padded n front) ≡ front
@@ -48,14 +22,6 @@ put-zeros xs bytes k m size room free =
     let rest : length xs - k - m ≡ length xs - length (take k xs ++ bytes) =
     omega (arith, length-append (take k xs) bytes, taken, size) in
     rw behind (ap (λ n. take k xs ++ (bytes ++ replicate n 0)) rest ∙ sym (append_assoc (take k xs) bytes _))
-
--- the same where the write reaches the end of the sector
-pub put-to_end : (xs bytes : List ℕ) (k m n : ℕ) → length bytes ≡ m → k + m ≤ length xs → length xs - k ≤ n
-    → drop k xs ≡ replicate (length xs - k) 0
-    → take k xs ++ ((bytes ++ drop m (drop k xs)) ++ drop n (drop k xs)) ≡ padded (length xs) (take k xs ++ bytes)
-put-to_end xs bytes k m n size room end free =
-    let none : drop n (drop k xs) ≡ [] = drop_all n (drop k xs) (omega (arith, length-drop k xs, end)) in
-    rw (none, append-nil (bytes ++ drop m (drop k xs))) (put-zeros xs bytes k m size room free)
 
 -- a sector that holds some bytes is zero behind them
 pub free-behind : (n k : ℕ) (front xs : List ℕ) → xs ≡ padded n front → length front ≡ k → k ≤ n

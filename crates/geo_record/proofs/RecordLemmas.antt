@@ -3,16 +3,16 @@ use Rattle.std.proofs.Common.{◌≡◌, ℕ, zero, suc, ◌+◌, ◌-◌, ◌<�
 use Rattle.std.proofs.lemmas.Bool.{le-leb, and_parts}
 use Rattle.std.proofs.lemmas.List.{take_at, drop_at, drop-drop}
 use Rattle.std.proofs.lemmas.List.Sums.{take_while-cons}
-use Rattle.std.proofs.lemmas.Nat.{from_le_bytes-to_le_bytes_2, from_le_bytes-to_le_bytes_4, from_le_bytes-to_le_bytes_8}
+use Rattle.std.proofs.lemmas.Nat.{from_le_bytes-to_le_bytes_2, from_le_bytes-to_le_bytes_4}
 use Rattle.std.proofs.lemmas.Slice.Eq.{bytes_eq-Decides}
 use Rattle.std.specs.Prelude.{◌==◌, bytes_eq, take_while}
 use Rattle.std.specs.List.{list_all}
-use Rattle.std.specs.Int.{w16, w32, w64, to_le_bytes, from_le_bytes}
+use Rattle.std.specs.Int.{w16, w32, to_le_bytes, from_le_bytes}
 use Rattle.geo_model.proofs.Tests.{word_byte-not_zero}
 use Rattle.geo_model.specs.Name.{is_word_byte, is_short_name}
 use Rattle.geo_model.specs.Words.{first_error}
 use Rattle.geo_model.proofs.RecordLemmas.{length-padded}
-use Rattle.geo_model.specs.Records.{padded, record_head, record_name, head_tests, u16_at, u32_at, u64_at}
+use Rattle.geo_model.specs.Records.{padded, record_head, record_name, head_tests, u16_at, u32_at}
 use Rattle.geo_record.proofs.FieldLemmas.{holds_first, holds-behind}
 use Rattle.geo_record.proofs.NameLemmas.{short_name}
 
@@ -145,16 +145,6 @@ holds_version n version magic zeros first second size room blank wrote_magic wro
     holds-behind n 16 magic (to_le_bytes w32 version) first second (holds_first n magic zeros first blank wrote_magic)
     size (omega (arith, room)) wrote_version
 
--- what an encoder writes of a head alone
-pub has_head : (magic : List ℕ) (version : ℕ) (name : List ℕ) (size : ℕ) → length magic ≡ 16 → is_short_name name ≡ true
-    → HasRecord magic version name (replicate (size - length (record_head magic version name)) 0)
-    (padded size (record_head magic version name))
-has_head magic version name size magic_size short = record {
-  magic_size = magic_size;
-  short = short;
-  layout_is = simp append_assoc;
-}
-
 -- a number that stands at a place is read there
 pub u16_at-there : (bytes after : List ℕ) (i n : ℕ) → drop i bytes ≡ to_le_bytes w16 n ++ after → n < 2 ^ 16
     → u16_at bytes i ≡ n
@@ -165,11 +155,6 @@ pub u32_at-there : (bytes after : List ℕ) (i n : ℕ) → drop i bytes ≡ to_
     → u32_at bytes i ≡ n
 u32_at-there bytes after i n stands fits = ap (λ xs. from_le_bytes w32 (take 4 xs)) stands
     ∙ from_le_bytes-to_le_bytes_4 n fits
-
-pub u64_at-there : (bytes after : List ℕ) (i n : ℕ) → drop i bytes ≡ to_le_bytes w64 n ++ after → n < 2 ^ 64
-    → u64_at bytes i ≡ n
-u64_at-there bytes after i n stands fits = ap (λ xs. from_le_bytes w64 (take 8 xs)) stands
-    ∙ from_le_bytes-to_le_bytes_8 n fits
 
 -- what stands behind a field
 pub drop-field : (bytes field after : List ℕ) (i m : ℕ) → drop i bytes ≡ field ++ after → length field ≡ m

@@ -1,8 +1,7 @@
 -- The slots that are kept lead to the first replies.
-use Rattle.std.proofs.Common.{◌≡◌, ◌≢◌, ℕ, ◌+◌, ◌<◌, ◌≤◌, ◌==◌, Bool, true, false, List, [], ◌∷◌, ◌++◌, length, Option, Some, None, if◌then◌else◌, refl, sym, ap, ◌∙◌, subst, arith, get_or, drop, replicate, add-one, inl, inr, slice_get, is_some}
+use Rattle.std.proofs.Common.{◌≡◌, ◌≢◌, ℕ, ◌+◌, ◌<◌, ◌≤◌, ◌==◌, Bool, true, false, List, [], ◌∷◌, ◌++◌, length, Option, Some, None, if◌then◌else◌, refl, sym, ap, ◌∙◌, subst, arith, drop, replicate, inl, inr, slice_get, is_some}
 use Rattle.std.specs.Option.{option_and_then, unwrap_or}
 use Rattle.std.proofs.Math.ListN.{drop_of_length-le}
-use Rattle.std.proofs.Math.Seq.{drop-cons}
 use Rattle.std.proofs.lemmas.Bool.{cases_Bool, false≢true}
 use Rattle.std.proofs.lemmas.Bool.Decides.{nat_tests}
 use Rattle.std.proofs.lemmas.List.{append_assoc, length-append, length-set, length-replicate, get_or-set_same, get_or-set_other, get_or-replicate}
@@ -144,14 +143,6 @@ at_first pre (e ∷ log) line = elim (cases_Bool (gives line (line_of e))) [
 ]
 
 -- The pass over the log
-
-front : (log : List Entry) (i : ℕ) (e : Entry) → i < length log → e ≡ get_or log i e → drop i log ≡ e ∷ drop (i + 1) log
-front log i e h is = rw (add-one, drop-cons log i e, ← is) refl
-
-pub places_next : (log : List Entry) (i : ℕ) (e : Entry) (slots all : List (Option ℕ)) → i < length log
-    → e ≡ get_or log i e → places (drop i log) i slots ≡ all
-    → places (drop (i + 1) log) (i + 1) (slots_after slots i e) ≡ all
-places_next log i e slots all within is so_far = ap (λ l. places l i slots) (sym (front log i e within is)) ∙ so_far
 
 -- the slots at the end, of which there are enough
 pub are_places : (log : List Entry) (i lines : ℕ) (slots : List (Option ℕ)) → length log ≤ i → MAX_SCRIPT_LINES < lines

@@ -18,7 +18,6 @@ use Rattle.geo_laws_graph.proofs.Members.{find-Contains}
 use Rattle.geo_laws_graph.proofs.Numbered.{number_found}
 use Rattle.geo_laws_bios.proofs.Starting.{SplitsAt, splits_at}
 use Rattle.geo_bio.specs.declared.bio.Held.{Held}
-use Rattle.geo_bio.specs.declared.bio.Held.TheVariants as held
 use Rattle.geo_bio.specs.PieceLaws.{target_in}
 use Rattle.geo_log.specs.Places.{delivered_at}
 use Rattle.geo_handles.specs.Handles.{holding_handle}

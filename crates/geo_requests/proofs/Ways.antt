@@ -1,16 +1,13 @@
 -- The way of a request reads only its command, its range and its target.
-use Rattle.std.specs.Prelude.{◌≡◌, ℕ, true, false, [], Some, None, if◌then◌else◌}
+use Rattle.std.specs.Prelude.{◌≡◌, true, false, [], Some, None, if◌then◌else◌}
 use Rattle.std.specs.Option.{option_map_or}
-use Rattle.std.proofs.Common.{refl, ap}
+use Rattle.std.proofs.Common.{refl}
 use Rattle.geo_base.specs.declared.errno.Errno.TheVariants.{ENXIO, EIO}
 use Rattle.geo_model.specs.declared.step.Owner.TheVariants as owners
 use Rattle.geo_model.specs.Topology.{Topology, Geom, Provider, geom_at, provider_at, is_errored, provider_with_geom}
-use Rattle.geo_model.specs.World.{BioOf, Config, Disk, Nop}
-use Rattle.geo_model.specs.Place.{disk_of}
-use Rattle.geo_model.specs.Bios.{Bounces, Sends, Splits, new_bio, piece_targets, way_at, way_of}
+use Rattle.geo_model.specs.World.{BioOf, Config, Disk}
+use Rattle.geo_model.specs.Bios.{Bounces, new_bio, way_at, way_of}
 use Rattle.geo_bio.specs.declared.bio.Held.{Held}
-use Rattle.geo_class.specs.Assembly.{fail_of}
-use Rattle.geo_requests.specs.Ways.{at_nop}
 
 -- a bio with the same command, range and target
 abbrev pub plain : {R : Type 0} → BioOf R → BioOf Held
@@ -28,30 +25,6 @@ way_plain t x i =
     then Bounces ENXIO
     else option_map_or (λ (f : Provider × Geom Config). way_at_plain x f.0 f.1 f.1.config i)
     (provider_with_geom t x.target) (Bounces EIO)
-
--- a geom with pieces of its own: not a disk's, and no NOP
-pub way_splits : {R : Type 0} (x : BioOf R) (p : Provider) (g : Geom Config) (config : Config)
-    → disk_of config ≡ None → fail_of config ≡ None → way_at x p g config ≡ Splits (piece_targets config p x)
-way_splits x p g (Disk disk) no_disk no_nop = absurd cc
-way_splits x p g (Nop below offset fail) no_disk no_nop = absurd cc
-way_splits x p g _ no_disk no_nop = refl
-
--- a NOP geom
-pub way_nop : {R : Type 0} (x : BioOf R) (p : Provider) (g : Geom Config) (config : Config) (fail : ℕ)
-    → fail_of config ≡ Some fail → way_at x p g config ≡ at_nop x p g fail
-way_nop x p g (Nop below offset n) fail is = let same : n ≡ fail = cc in ap (at_nop x p g) same
-way_nop x p g _ fail is = absurd cc
-
--- a disk
-pub way_sends : {R : Type 0} (x : BioOf R) (p : Provider) (g : Geom Config) (config : Config) (disk : ℕ)
-    → disk_of config ≡ Some disk → way_at x p g config ≡ Sends disk
-way_sends x p g (Disk d) disk is = let same : d ≡ disk = cc in ap Sends same
-way_sends x p g _ disk is = absurd cc
-
--- a NOP geom isn't a disk's
-pub nop_no_disk : (config : Config) (fail : ℕ) → fail_of config ≡ Some fail → disk_of config ≡ None
-nop_no_disk (Disk disk) fail is = absurd cc
-nop_no_disk _ fail is = refl
 
 -- By the graph
 

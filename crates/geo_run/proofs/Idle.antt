@@ -18,22 +18,10 @@ stands_bios : (w : World) (items : List (ℕ × (DiskDecl × (ℕ × ℕ))))
 stands_bios w [] = refl
 stands_bios w (x ∷ xs) = stands_bios (stand w (x.0, disk_in_size x.1)) xs
 
-stands_handles : (w : World) (items : List (ℕ × (DiskDecl × (ℕ × ℕ))))
-    → (fold (λ (v : World) (item : ℕ × (DiskDecl × (ℕ × ℕ))). stand v (item.0, disk_in_size item.1)) w items).handles
-    ≡ w.handles
-stands_handles w [] = refl
-stands_handles w (x ∷ xs) = stands_handles (stand w (x.0, disk_in_size x.1)) xs
-
 opening_bios : (plan : Plan) (facts : List (ℕ × ℕ)) → (opening plan facts).bios ≡ []
 unfolding opening
 opening_bios plan facts =
     stands_bios (bare_world plan facts)
-    (filter (λ item. not item.1.0.later) (enumerate_from 0 (zip plan.disks facts)))
-
-opening_handles : (plan : Plan) (facts : List (ℕ × ℕ)) → (opening plan facts).handles ≡ []
-unfolding opening
-opening_handles plan facts =
-    stands_handles (bare_world plan facts)
     (filter (λ item. not item.1.0.later) (enumerate_from 0 (zip plan.disks facts)))
 
 -- no bio is Busy

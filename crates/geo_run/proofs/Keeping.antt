@@ -610,11 +610,3 @@ pub generation_finishes : (words : List (List ℕ)) (work : Work) (finish : Fini
 generation_finishes words work finish source shelf shelf_after start count is accepts f =
     finishes_generated words finish source shelf shelf_after start count
     (subst (λ (w : Work). Accepts words (mode_of w)) is accepts) f
-
--- the numbers that the words give have their ranges
-pub numbers_in_range : (words : List (List ℕ)) (work : Work) (start count : ℕ) → work ≡ works.Generate start count
-    → Accepts words (mode_of work) → IsMode (GenMode start count)
-numbers_in_range words work start count is accepts =
-    let as_generated : Accepts words (GenMode start count) =
-    subst (λ (w : Work). Accepts words (mode_of w)) is accepts in
-    as_generated.in_range

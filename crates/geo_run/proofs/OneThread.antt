@@ -8,10 +8,9 @@ use Rattle.geo_model.specs.History.{KeepsHistory, RanToItsEnd}
 use Rattle.geo_model.specs.Listing.{listing}
 use Rattle.geo_model.specs.Log.{Fits}
 use Rattle.geo_model.specs.Report.{report, summary}
-use Rattle.geo_headline.specs.Modes.{Mode, StepMode, GenMode, SweepMode}
+use Rattle.geo_headline.specs.Modes.{Mode, StepMode, GenMode}
 use Rattle.geo_headline.specs.Endings.{Ending, order_of}
 use Rattle.geo_headline.specs.Headline.{FollowsMode}
-use Rattle.geo_headline.specs.Sweep.{sweep_order}
 use Rattle.geo_elev.specs.Meshes.{MeshView, opened, world_of}
 use Rattle.geo_elev.specs.DrainRefusal.{DrainRefusal}
 use Rattle.geo_elev.specs.DrainRefusal.TheVariants as refusals
@@ -72,11 +71,6 @@ pub stepped : (old : MeshView) (left : Option MeshView) (xs ys : List DriveView)
     (answer : Result (Unit {0}) DrainRefusal) → RanAlone fixed_order old left xs ys answer
     → RanOrNot StepMode old left xs ys answer
 stepped old left xs ys answer r = ran_in StepMode old left xs ys answer (λ plan w ending log f. f) r
-
-pub swept : (old : MeshView) (left : Option MeshView) (xs ys : List DriveView)
-    (answer : Result (Unit {0}) DrainRefusal) → RanAlone sweep_order old left xs ys answer
-    → RanOrNot SweepMode old left xs ys answer
-swept old left xs ys answer r = ran_in SweepMode old left xs ys answer (λ plan w ending log f. f) r
 
 pub drawn : (start count : ℕ) (old : MeshView) (left : Option MeshView) (xs ys : List DriveView)
     (answer : Result (Unit {0}) DrainRefusal) → RanAlone fixed_order old left xs ys answer

@@ -1,7 +1,6 @@
 -- A mesh that is opened for a script, and the run of that mesh.
 use Rattle.std.proofs.Common.{◌≡◌, ℕ, true, false, List, [], map, Option, None, Result, Ok, Err, IfErr, refl, sym, ◌∙◌, ap, subst, slice_get}
 use Rattle.geo_log.specs.Room.{Room}
-use Rattle.geo_model.specs.declared.command.Cause.{Cause}
 use Rattle.geo_model.specs.declared.command.DiskDecl.{DiskDecl}
 use Rattle.geo_model.specs.declared.step.Entry.{Entry}
 use Rattle.geo_model.specs.Plans.{IsPlan}
@@ -12,9 +11,6 @@ use Rattle.geo_headline.specs.Modes.{Mode}
 use Rattle.geo_headline.specs.Outside.{ShelfView}
 use Rattle.geo_elev.specs.Meshes.{IsHistory, MeshView}
 use Rattle.geo_elev.specs.DrainRefusal.{DrainRefusal}
-use Rattle.geo_script.specs.declared.refusal.ParseRefusal.{ParseRefusal}
-use Rattle.geo_script.specs.declared.refusal.ParseRefusal.TheVariants as refusals
-use Rattle.geo_script.specs.Draft.{Parses}
 use Rattle.geo_run.specs.declared.due.Due.{Due}
 use Rattle.geo_run.specs.declared.finish.Finish.{Finish}
 use Rattle.geo_run.specs.declared.stop.Stop.{Stop}
@@ -28,7 +24,7 @@ use Rattle.geo_run.specs.Runners.{FinishesRun, RanOrNot}
 use Rattle.geo_run.specs.Stops.{IsDue, ending_by, ending_of}
 use Rattle.geo_run.proofs.Endings.{runs_plan, runs_stopped}
 use Rattle.geo_run.proofs.Plans.{drives_out}
-use Rattle.geo_run.proofs.Reading.{text_faulty, text_lost, text_ran}
+use Rattle.geo_run.proofs.Reading.{text_ran}
 
 -- Where a mesh began
 
@@ -47,15 +43,6 @@ plan_opened plan ds names xs seen mesh facts a m is e named opens same began his
   named = named ∙ ap (λ (es : List DiskDecl). names_of es) e;
   out = drives_out plan ds names xs a m is e named opens;
 }
-
--- a text with this plan
-pub script_opened : (text : List ℕ) (plan : Plan) (mesh : MeshView) (facts : List (ℕ × ℕ)) (names : List (List ℕ))
-    (xs : List DriveView) (a m : ShelfView) → script text ≡ Ok plan → OpensPlan plan a mesh facts names xs m
-    → OpensScript text a mesh facts names xs m
-script_opened text plan mesh facts names xs a m is opens = (
-  is ∙ ap (λ (p : Plan). Ok p) (sym opens.plan_is),
-  subst (λ (p : Plan). OpensPlan p a mesh facts names xs m) (sym opens.plan_is) opens,
-)
 
 -- Where none began
 
@@ -83,16 +70,6 @@ plan_lost plan ds names xs a m b is e named opens first given mode facts =
       mesh = tt;
       cause = tt;
     })
-
--- the text isn't a script, or memory was wanting to read it
-pub faulty_stops : (text : List ℕ) (refusal : ParseRefusal) (line : ℕ) (cause : Cause) (a : ShelfView)
-    → Parses (Err refusal) (script text) → refusal ≡ refusals.Fault line cause
-    → StopsScript text a (stops.NoScript line cause) a
-faulty_stops text refusal line cause a answer is mode finish due log =
-    text_faulty text mode finish refusal line cause a answer is due log
-
-pub lost_stops : (text : List ℕ) (a : ShelfView) → StopsScript text a stops.NoMemory a
-lost_stops text a mode finish due log = text_lost text mode finish a due log
 
 -- its plan couldn't be opened
 pub script_stops : (text : List ℕ) (plan : Plan) (stop : Stop) (a b : ShelfView) → script text ≡ Ok plan

@@ -58,12 +58,6 @@ text_faulty text mode finish refusal line cause a answer is due log =
     (sym (fault_told text refusal line cause answer is))
     (early_end finish (stops.NoScript line cause) a due log))
 
--- memory ran out before a mesh opened
-pub text_lost : (text : List ℕ) (mode : Mode) (finish : Finish) (a : ShelfView)
-    → finish.due ≡ dues.Stopped stops.NoMemory
-    → finish.log ≡ None → FinishesText text mode finish a a
-text_lost text mode finish a due log = inl (early_end finish stops.NoMemory a due log)
-
 -- Sources
 
 goes_left : (old new : Option (List ℕ)) (text : List ℕ) → Goes old text new

@@ -1,5 +1,5 @@
 -- The run of a mesh over drives that are out.
-use Rattle.std.proofs.Common.{◌≡◌, ℕ, List, map, Option, Some, None, Result, Ok, Err, OnOk, IsErrOf, refl, sym, ◌∙◌, ap, subst, slice_get, true, false}
+use Rattle.std.proofs.Common.{◌≡◌, ℕ, List, map, Option, Some, None, Result, Ok, Err, OnOk, IsErrOf, refl, sym, ◌∙◌, ap, subst, slice_get}
 use Rattle.geo_log.specs.Room.{Room}
 use Rattle.geo_model.specs.declared.step.Entry.{Entry}
 use Rattle.geo_model.specs.World.{World, Plan}
@@ -7,7 +7,7 @@ use Rattle.geo_model.specs.FixedOrder.{StepOrder}
 use Rattle.geo_model.specs.History.{RanToItsEnd}
 use Rattle.geo_headline.specs.Modes.{Mode, StepMode, RunMode, GenMode, SweepMode, WatchMode, TraceMode, VerifyMode}
 use Rattle.geo_headline.specs.Outside.{ShelfView}
-use Rattle.geo_headline.specs.Endings.{Ending, OutOfMemory, IsWhole, LogRanFull, order_of, reported}
+use Rattle.geo_headline.specs.Endings.{Ending, IsWhole, LogRanFull, order_of, reported}
 use Rattle.geo_headline.specs.Headline.{FollowsMode, FollowsRun}
 use Rattle.geo_elev.specs.Meshes.{MeshView, opened}
 use Rattle.geo_elev.specs.DrainRefusal.{DrainRefusal}
@@ -16,7 +16,6 @@ use Rattle.geo_run.specs.Drives.{DriveView, size_of}
 use Rattle.geo_run.specs.declared.due.Due.{Due}
 use Rattle.geo_run.specs.declared.due.Due.TheVariants as dues
 use Rattle.geo_run.specs.declared.stop.Stop.{Stop}
-use Rattle.geo_run.specs.declared.stop.Stop.TheVariants as stops
 use Rattle.geo_run.specs.Ends.{IsDueOf, LentCause, RunsDrives, entries_in}
 use Rattle.geo_run.specs.Lending.{AreOut, GivesBack}
 use Rattle.geo_run.specs.Runners.{Ran, RanOrNot, ending_after}
@@ -160,35 +159,3 @@ ran_due mode read old new left xs ys answer first due facts log entries some ran
     (its.facts ∙ sym same_facts)
     (subst (λ (p : Plan). IsDue due (reported mode read p new.facts (Some new.log))) its.plan
     (due_is mode read new answer first due is)))
-
--- drives of which no mesh was opened
-pub gave_back : (mode : Mode) (plan : Plan) (names : List (List ℕ)) (xs : List DriveView) (facts : List (ℕ × ℕ))
-    (log : Option (Room Entry)) (due : Due) (a b : ShelfView) → due ≡ dues.Stopped stops.NoMemory → log ≡ None
-    → (first : Option (List ℕ)) → (kept : List (List ℕ)) × (first ≡ slice_get kept 0) × GivesBack a names xs kept b
-    → RunsDrives mode plan names xs facts (entries_in log) (ending_by due) a b
-gave_back mode plan names xs facts log due a b due_is log_is first given =
-    subst (λ (d : Due). RunsDrives mode plan names xs facts (entries_in log) (ending_by d) a b) (sym due_is)
-    (subst (λ (l : Option (Room Entry)). RunsDrives mode plan names xs facts (entries_in l) OutOfMemory a b)
-    (sym log_is)
-    (record {
-      served = xs;
-      kept = given.0;
-      serves = refl;
-      given = given.2;
-      sizes = λ some. absurd (let bad : false ≡ true = some in cc);
-      mesh = tt;
-      cause = tt;
-    }))
-
--- the same where memory was wanting before the first step of a mesh
-pub gave_back_unrun : (mode : Mode) (old : MeshView) (left : Option MeshView) (names : List (List ℕ))
-    (xs ys : List DriveView) (answer : Result (Unit {0}) DrainRefusal) (facts : List (ℕ × ℕ))
-    (log : Option (Room Entry)) (due : Due) (a b : ShelfView) → left ≡ None → RanOrNot mode old left xs ys answer
-    → due ≡ dues.Stopped stops.NoMemory → log ≡ None
-    → (first : Option (List ℕ)) → (kept : List (List ℕ)) × (first ≡ slice_get kept 0) × GivesBack a names ys kept b
-    → RunsDrives mode old.plan names xs facts (entries_in log) (ending_by due) a b
-gave_back_unrun mode old left names xs ys answer facts log due a b none ran due_is log_is first given =
-    let as_before : RanOrNot mode old None xs ys answer =
-    subst (λ (l : Option MeshView). RanOrNot mode old l xs ys answer) none ran in
-    gave_back mode old.plan names xs facts log due a b due_is log_is first
-    (given.0, given.1, subst (λ (zs : List DriveView). GivesBack a names zs given.0 b) as_before.0 given.2)

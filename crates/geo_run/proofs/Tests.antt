@@ -80,27 +80,6 @@ pub other-append : (name : List ℕ) (xs ys : List (List ℕ)) → AreOther name
 other-append name [] ys none more = more
 other-append name (x ∷ xs) ys none more = (none.0, other-append name xs ys none.1 more)
 
--- so no name of either
-pub other-front : (name : List ℕ) (xs ys : List (List ℕ)) → AreOther name (xs ++ ys) → AreOther name xs
-other-front name [] ys none = tt
-other-front name (x ∷ xs) ys none = (none.0, other-front name xs ys none.1)
-
-pub other-back : (name : List ℕ) (xs ys : List (List ℕ)) → AreOther name (xs ++ ys) → AreOther name ys
-other-back name [] ys none = none
-other-back name (x ∷ xs) ys none = other-back name xs ys none.1
-
--- where a test of names passes, the name is among them
-pub among-contains : (name : List ℕ) (names : List (List ℕ)) → list_any (bytes_eq name) names ≡ true
-    → Contains names name
-among-contains name [] e = absurd (let bad : false ≡ true = e in cc)
-among-contains name (x ∷ names) e = by (bytes_eq name x) refl (λ h. among-contains name names h) e
-  where
-    by : (t : Bool) → bytes_eq name x ≡ t → (list_any (bytes_eq name) names ≡ true → Contains names name)
-        → (t || list_any (bytes_eq name) names) ≡ true → Contains (x ∷ names) name
-    by true same more h =
-        subst (λ (n : List ℕ). Contains (x ∷ names) n) (sym (same_names name x same)) (contains_first x names)
-    by false other more h = contains_more x name names (more h)
-
 -- where a name is among them, the test passes
 pub contains-among : (name : List ℕ) (names : List (List ℕ)) → Contains names name
     → list_any (bytes_eq name) names ≡ true

@@ -1,11 +1,11 @@
 -- The forms of lines whose words are read in turn.
-use Rattle.std.proofs.Common.{◌≡◌, ℕ, zero, suc, ◌+◌, ◌-◌, ◌<◌, ◌≤◌, Bool, true, false, List, [], ◌∷◌, ◌++◌, length, Option, Some, None, option_and_then, Result, Ok, Err, refl, sym, ◌∙◌, ap, arith, if◌then◌else◌, codes, append_assoc, append-nil, length-append}
+use Rattle.std.proofs.Common.{◌≡◌, ℕ, suc, ◌+◌, ◌-◌, ◌<◌, ◌≤◌, Bool, true, false, List, [], ◌∷◌, ◌++◌, length, Option, Some, None, option_and_then, Result, Ok, Err, refl, sym, ◌∙◌, ap, arith, if◌then◌else◌, codes, append_assoc, length-append}
 use Rattle.geo_base.specs.Name.{is_name}
 use Rattle.geo_base.specs.Runs.{IsRuns}
 use Rattle.geo_base.specs.declared.limits.TheConstants.{MAX_COMPONENTS}
 use Rattle.geo_model.specs.declared.command.Cause.{Cause}
 use Rattle.geo_model.specs.declared.command.Cause.TheVariants as causes
-use Rattle.geo_model.specs.Script.{◌>>=◌, Words, words_of, next_word, short_name, long_name, by_word, mark_words, mark_concat_words, mark_stripe_words, runs_words, runs_in, fitting_bytes, found_or, names_within, long_names, at_end, line_tests, plan_with_line, words_line}
+use Rattle.geo_model.specs.Script.{◌>>=◌, Words, words_of, next_word, short_name, long_name, by_word, mark_words, mark_concat_words, mark_stripe_words, runs_words, runs_in, fitting_bytes, found_or, names_within, long_names, line_tests, plan_with_line, words_line}
 use Rattle.geo_model.specs.Words.{unless, first_error}
 use Rattle.geo_model.specs.World.{Plan}
 use Rattle.geo_script.proofs.RunsAgree.{runs-agree}
@@ -118,18 +118,6 @@ names_on xs ws name rest all few e whole =
 abbrev more_names : ℕ
 more_names = MAX_COMPONENTS - 1
 
--- the first name
-pub names_first : (ws : Words) (name : List ℕ) (rest : Words) → long_name ws ≡ Ok (name, rest)
-    → after (name ∷ []) (names_within more_names rest) ≡ names_within MAX_COMPONENTS ws
-names_first ws name rest e =
-    let is = is_first ws name rest e in
-    sym (ap (names_within MAX_COMPONENTS) is.stands ∙ within-next more_names name rest is.named
-    ∙ one (names_within more_names rest))
-  where
-    one : (r : Result (List (List ℕ)) Cause) → (r >>= λ names. Ok (name ∷ names)) ≡ after (name ∷ []) r
-    one (Ok ys) = refl
-    one (Err cause) = refl
-
 -- a word that is no name
 within-fault : (n : ℕ) (ws : Words) (cause : Cause) → 1 ≤ length ws → long_name ws ≡ Err cause
     → names_within (suc n) ws ≡ Err cause
@@ -156,32 +144,6 @@ names_fault xs ws all cause few some any e whole =
     let fault : after xs (names_within (room xs) ws) ≡ Err cause = ap (λ n. after xs (names_within n ws)) more
     ∙ ap (after xs) (within-fault (more_names - length xs) ws cause some e) in
     long_names-some all any ∙ ap (λ r. r >>= λ names. Ok (names, [])) (sym whole ∙ fault)
-
--- the first word is no name
-pub names_none : (ws : Words) (cause : Cause) → long_name ws ≡ Err cause → long_names ws ≡ Err cause
-names_none [] cause e = ap Err (ap cause_of e)
-names_none (word ∷ words) cause e =
-    ap (λ r. r >>= λ names. Ok (names, [])) (within-fault more_names (word ∷ words) cause (omega arith) e)
-
--- the words are at an end, or as many names stand as may
-pub names_end : (xs : List (List ℕ)) (ws all : Words) → 1 ≤ length all
-    → (MAX_COMPONENTS ≤ length xs → length xs ≤ MAX_COMPONENTS)
-    → (1 ≤ length ws → MAX_COMPONENTS ≤ length xs) →
-    after xs (names_within (room xs) ws) ≡ names_within MAX_COMPONENTS all
-    → long_names all ≡ (at_end xs ws >>= λ names. Ok (names, []))
-names_end xs [] all any few full whole =
-    long_names-some all any
-    ∙ ap (λ r. r >>= λ names. Ok (names, [])) (sym whole ∙ none (room xs) ∙ ap Ok (append-nil xs))
-  where
-    none : (n : ℕ) → after xs (names_within n []) ≡ Ok (xs ++ [])
-    none zero = refl
-    none (suc n) = refl
-names_end xs (word ∷ words) all any few full whole =
-    let many : MAX_COMPONENTS ≤ length xs = full (omega arith) in
-    let no_room : room xs ≡ 0 = omega arith in
-    long_names-some all any
-    ∙ ap (λ r. r >>= λ names. Ok (names, [])) (sym whole
-    ∙ ap (λ n. after xs (names_within n (word ∷ words))) no_room)
 
 -- a line that isn't skipped, by its first word
 pub plan_with_line-by : (plan : Plan) (n : ℕ) (line word : List ℕ) (words : Words)

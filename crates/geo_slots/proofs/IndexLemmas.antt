@@ -79,14 +79,6 @@ module _ {T : Type 0} where
 
 -- Keys of the index
 
--- no number outside the range of the numbers has a key
-pub lookup_past : (n low : ℕ) (live : List (ℕ × ℕ)) (high : ℕ) → IsRising low live high → high ≤ n
-    → lookup (λ m. m == n) live ≡ None
-lookup_past n low [] high rising past = refl
-lookup_past n low (p ∷ ps) high rising past =
-    let ends = IsRising_ends (p.0 + 1) ps high rising.1 in
-    rw (ne_eqb p.0 n (λ same. omega (arith, same))) (lookup_past n (p.0 + 1) ps high rising.1 past)
-
 -- the row that is reserved for a number
 pub has_row-next : (low : ℕ) (live : List (ℕ × ℕ)) (next spare : ℕ) → IsRising low live next → 1 ≤ spare
     → has_row next (map keyed live ++ reserved next spare) ≡ true

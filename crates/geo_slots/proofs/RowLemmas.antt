@@ -1,11 +1,10 @@
 -- The rows of a table, for this crate and those above it: their numbers rise, and a look-up, a change and a removal
 -- go through a map of the rows.
 use Rattle.std.proofs.Common.{◌≡◌, ℕ, ◌+◌, ◌<◌, ◌≤◌, Bool, true, false, List, [], ◌∷◌, ◌++◌, map, ◌==◌, not, Some, None, IsSome, sym, refl, ap, ◌∙◌, subst, inl, inr, arith, filter, find}
-use Rattle.std.proofs.lemmas.Bool.{cases_eq, cases_lt, eq-eqb, ne_eqb, eqb-true, le-leb, lt-leb}
-use Rattle.std.proofs.lemmas.Option.{same_Some}
+use Rattle.std.proofs.lemmas.Bool.{cases_eq, eq-eqb, ne_eqb, eqb-true}
 use Rattle.std.specs.Prelude.{if◌then◌else◌}
 use Rattle.std.specs.Option.{option_map}
-use Rattle.geo_slots.specs.Slots.{IsRising, value_at, first_from, with_value, without}
+use Rattle.geo_slots.specs.Slots.{IsRising, value_at, with_value, without}
 
 module _ {T : Type 0} where
   pub IsRising_ends : (low : ℕ) (rows : List (ℕ × T)) (high : ℕ) → IsRising low rows high → low ≤ high
@@ -92,25 +91,6 @@ module _ {T : Type 0} where
         | inr other ↦
             rw (ne_eqb row.0 n other)
             (ap (λ xs. row ∷ xs) (without_absent n rows (rw (ne_eqb row.0 n other) at absent)))
-      ]
-
-  -- the first number from a number on is one of the table's
-  pub first_from_found : (n m low : ℕ) (rows : List (ℕ × T)) (high : ℕ) → IsRising low rows high
-      → first_from rows n ≡ Some m → record { from : n ≤ m; below : m < high; stands : IsSome (value_at rows m) }
-  first_from_found n m low [] high rising found = absurd (cc)
-  first_from_found n m low (row ∷ rows) high rising found =
-      let ends = IsRising_ends (row.0 + 1) rows high rising.1 in
-      elim (cases_lt row.0 n) [
-        | inl before ↦
-            let later = first_from_found n m (row.0 + 1) rows high rising.1 (rw (lt-leb n row.0 before) at found) in
-            record {
-              from = later.from;
-              below = later.below;
-              stands = rw (ne_eqb row.0 m (λ same. omega (arith, same, later.from))) later.stands;
-            }
-        | inr from ↦
-            let here : row.0 ≡ m = same_Some _ _ (rw (le-leb n row.0 from) at found) in
-            record { from = omega (arith, here); below = omega (arith, here); stands = rw (eq-eqb row.0 m here) refl }
       ]
 
 -- Values under numbers after a change of one row, behind one row more, and without a number
@@ -248,9 +228,3 @@ module _ {T X : Type 0} (item : ℕ × T → X) (number_of : X → ℕ) (keeps :
         | inl same ↦ rw (keeps row, eq-eqb row.0 n same) (filter-items n rows)
         | inr other ↦ rw (keeps row, ne_eqb row.0 n other) (ap (λ xs. item row ∷ xs) (filter-items n rows))
       ]
-
--- the items with the next number at the end are those of the rows with it
-pub map-push : {T X : Type 0} → (item : ℕ × T → X) (rows : List (ℕ × T)) (n : ℕ) (value : T)
-    → map item (rows ++ (n, value) ∷ []) ≡ map item rows ++ item (n, value) ∷ []
-map-push item [] n value = refl
-map-push item (row ∷ rows) n value = ap (λ xs. item row ∷ xs) (map-push item rows n value)

@@ -15,9 +15,8 @@ use Rattle.geo_handles.specs.Handles.{HandlesView, HoldsAlone, holding_handle}
 use Rattle.geo_state.specs.declared.state.State.{State}
 use Rattle.geo_state.specs.Trips.{trips}
 use Rattle.geo_state.specs.Ready.{refreshed}
-use Rattle.geo_state.specs.Bios.{CameThrough, CanLeave, IsOfItsOwner, OnlyBios, own_after, taste_read_after}
+use Rattle.geo_state.specs.Bios.{CameThrough, CanLeave, IsOfItsOwner, own_after, taste_read_after}
 use Rattle.geo_state.specs.Holds.{Holds}
-use Rattle.geo_state.specs.World.{disk_of_seat}
 use Rattle.geo_state.proofs.Unseen.{InPhase, in-phase}
 use Rattle.geo_state.proofs.Rises.{active-at, can-leave, holds-rose, rises, some-out}
 
@@ -118,10 +117,6 @@ module _ (s : State) (b : ℕ) (x : BioOf Held) (log : ℕ → Option (List ℕ)
           disks = z.disks;
           own = z.own;
         }) (sym all) refl
-
-    -- nothing but requests changed
-    pub only-back : OnlyBios s new
-    only-back = record { rest = rest; disks = ap (λ (z : State). map disk_of_seat z.disks.items) all }
 
     -- all is kept
     pub holds-back : Holds new

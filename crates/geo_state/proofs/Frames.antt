@@ -1,12 +1,12 @@
 -- Changes of the graph that leave each geom its disk, each provider its geom and the consumers their numbers.
-use Rattle.std.specs.Prelude.{◌≡◌, ℕ, ◌+◌, ◌==◌, Bool, true, false, not, List, [], ◌∷◌, length, map, filter, find, fold, Option, Some, None, if◌then◌else◌}
+use Rattle.std.specs.Prelude.{◌≡◌, ℕ, ◌==◌, Bool, true, false, not, List, [], ◌∷◌, length, map, filter, find, fold, Option, Some, None, if◌then◌else◌}
 use Rattle.std.specs.List.{AllByRecursion}
 use Rattle.std.specs.Option.{option_map, option_map_or, option_and_then, option_flatten}
 use Rattle.std.proofs.Common.{refl, sym, ◌∙◌, ap}
 use Rattle.std.proofs.lemmas.List.{length-map}
 use Rattle.geo_base.specs.declared.request.Counts.{Counts}
 use Rattle.geo_model.specs.Words.{change_where}
-use Rattle.geo_model.specs.Topology.{Topology, Geom, Provider, Consumer, geom_at, provider_at, is_withering, attached_to, providers_of, set_error, set_size, set_withering, set_marks, set_config, note_started}
+use Rattle.geo_model.specs.Topology.{Topology, Geom, Provider, Consumer, geom_at, provider_at, is_withering, attached_to, providers_of, set_error, set_size, set_withering, set_marks, set_config}
 use Rattle.geo_model.specs.World.{Config}
 use Rattle.geo_model.specs.Place.{disk_of}
 use Rattle.geo_model.specs.Bios.{disk_at}
@@ -141,15 +141,6 @@ module _ (t : Topology Config) where
   parts-withering g = record {
     geoms =
         map-changed (λ (x : Geom Config). x.number == g) (λ x. record x { withering = true })
-        disk_row (λ x e. refl) t.geoms;
-    providers = refl;
-    consumers = refl;
-  }
-
-  pub parts-started : (g : ℕ) → SameParts t (note_started t g)
-  parts-started g = record {
-    geoms =
-        map-changed (λ (x : Geom Config). x.number == g) (λ x. record x { started = x.started + 1 })
         disk_row (λ x e. refl) t.geoms;
     providers = refl;
     consumers = refl;

@@ -331,10 +331,6 @@ module _ (s : State) (next b : ℕ) (x : BioOf Held) (log : ℕ → Option (List
   up : is_up x.phase ≡ true
   up = rw is at at.passes
 
-  -- the bios with it done
-  done_bios : List (BioOf Held)
-  done_bios = change_number x.number (with_phase phases.Done) s.traffic.bios
-
   done_seen : trip_of (with_phase phases.Done x) ≡ (let w : Trip = record (trip_of x) { done = true } in w)
   done_seen = ap (λ d. let w : Trip = record (trip_of x) { done = true; busy = d } in w) (sym (up-is x.phase up).1)
 

@@ -1,11 +1,10 @@
 -- What is read of the requests on their way, after each change of them.
-use Rattle.std.specs.Prelude.{◌≡◌, ℕ, ◌≤◌, ◌==◌, Bool, true, false, List, [], ◌∷◌, filter, count_by}
+use Rattle.std.specs.Prelude.{◌≡◌, ℕ, ◌==◌, Bool, true, false, List, [], ◌∷◌, filter}
 use Rattle.std.specs.List.{AllByRecursion}
-use Rattle.std.proofs.Common.{refl, ap}
-use Rattle.geo_model.specs.Topology.{Topology}
+use Rattle.std.proofs.Common.{refl}
 use Rattle.geo_model.specs.Words.{change_where}
-use Rattle.geo_model.specs.World.{BioOf, Config, Handle, is_taste_root, is_of_handle, change_number}
-use Rattle.geo_state.specs.Trips.{Trip, trip_of, trips, out_through, taste_read, busy_at, is_own}
+use Rattle.geo_model.specs.World.{BioOf, is_taste_root, is_of_handle, change_number}
+use Rattle.geo_state.specs.Trips.{Trip, trip_of, trips}
 
 module _ {R : Type 0} where
   -- a change of one request is a change of its trip
@@ -43,26 +42,6 @@ module _ {R : Type 0} where
           → trips (filter keep (x ∷ xs)) ≡ filter seen (trips (x ∷ xs))
       at true e rest = rw (same x, e, rest) refl
       at false e rest = rw (same x, e, rest) refl
-
--- what is read of two lists is the same
-pub record SameTrips (xs ys : List Trip) : Type 0 where
-  pub out : (c : ℕ) → out_through ys c ≡ out_through xs c
-  pub read : taste_read ys ≡ taste_read xs
-  pub busy : (t : Topology Config) (disk : ℕ) → busy_at t ys disk ≡ busy_at t xs disk
-  pub count : (handles : List Handle) (actor : ℕ)
-      → count_by (is_own handles actor) ys ≡ count_by (is_own handles actor) xs
-  pub low : (handles : List Handle) (actor low : ℕ)
-      → AllByRecursion (λ x. is_own handles actor x ≡ true → low ≤ x.number) xs
-      → AllByRecursion (λ x. is_own handles actor x ≡ true → low ≤ x.number) ys
-
-pub same-trips : (xs ys : List Trip) → ys ≡ xs → SameTrips xs ys
-same-trips xs ys same = record {
-  out = λ c. ap (λ zs. out_through zs c) same;
-  read = ap taste_read same;
-  busy = λ t disk. ap (λ zs. busy_at t zs disk) same;
-  count = λ handles actor. ap (count_by (is_own handles actor)) same;
-  low = λ handles actor low all. rw same all;
-}
 
 -- children that are done are gone
 pub record IsGoneChild (x : Trip) : Type 0 where

@@ -25,13 +25,6 @@ pub record SameReads (xs ys : List Trip) : Type 0 where
   pub own : (handles : List Handle) (actor count low : ℕ) → IsOwnCount handles xs actor count low
       → IsOwnCount handles ys actor count low
 
-pub reads-trans : (xs ys zs : List Trip) → SameReads xs ys → SameReads ys zs → SameReads xs zs
-reads-trans xs ys zs first second = record {
-  out = λ c. second.out c ∙ first.out c;
-  read = second.read ∙ first.read;
-  own = λ handles actor count low is. second.own handles actor count low (first.own handles actor count low is);
-}
-
 pub reads-same : (xs ys : List Trip) → ys ≡ xs → SameReads xs ys
 reads-same xs ys same = record {
   out = λ c. ap (λ zs. out_through zs c) same;

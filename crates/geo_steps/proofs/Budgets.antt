@@ -45,9 +45,3 @@ pub within_worked : (p q : MeshPass) (e : Entry) (added : List Entry) (l m : Lan
     → Goes p q (e ∷ added) → IsWithin l p.own → PutsAll l ss m → length ss ≤ 4294967295 → IsWithin m q.own
 within_worked p q e added l m ss goes within puts few =
     omega (arith, added_some p q e added goes, within, puts_length l ss m puts, few)
-
--- a pass that puts nothing has put few enough for more entries too
-pub within_rested : (p q : MeshPass) (added : List Entry) (l : LanePassView) → Goes p q added → IsWithin l p.own
-    → IsWithin l q.own
-within_rested p q added l goes within =
-    omega (arith, ap (λ (own : List Entry). length own) goes.own, length-append p.own added, within)

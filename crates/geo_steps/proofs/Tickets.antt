@@ -16,11 +16,6 @@ pub puts_join : (p : LanePassView) (ss ts : List TicketStep) (m q : LanePassView
 puts_join p [] ts m q none rest = subst (λ (l : LanePassView). PutsAll l ts q) none rest
 puts_join p (s ∷ ss) ts m q (l, one, all) rest = (l, one, puts_join l ss ts m q all rest)
 
--- and one ticket more
-pub puts_more : (p : LanePassView) (ss : List TicketStep) (s : TicketStep) (m q : LanePassView) → PutsAll p ss m
-    → PutsOne m s q → PutsAll p (ss ++ s ∷ []) q
-puts_more p ss s m q all one = puts_join p ss (s ∷ []) m q all (puts_one m s q one)
-
 one_same : (p : LanePassView) (s : TicketStep) (q : LanePassView) → PutsOne p s q → q ≡ record p { put = q.put }
 one_same p s q (inl is) = subst (λ (l : LanePassView). l ≡ record p { put = l.put }) (sym is) refl
 one_same p s q (inr (is, full)) = subst (λ (l : LanePassView). l ≡ record p { put = l.put }) (sym is) refl

@@ -19,12 +19,11 @@ use Rattle.geo_model.proofs.DemandLemmas.{names_some}
 use Rattle.geo_mesh.specs.declared.records.Scratch.{Scratch}
 use Rattle.geo_mesh.specs.Topo.{TopoView, Room, Scratches, no_scratch, with_geom, with_provider, with_consumer, with_topology}
 use Rattle.geo_laws_graph.specs.LookupLaws.{EachIsFound, new_geom, new_provider, new_consumer}
-use Rattle.geo_laws_graph.proofs.Members.{at_contained}
+use Rattle.geo_laws_graph.proofs.Members.{at_contained, Contains-there, Contains-here}
 use Rattle.geo_laws_graph.proofs.Lists.{changed, changed-keeps, find-changed, map-changed, all-changed}
 use Rattle.geo_laws_graph.proofs.Numbered.{find-none}
 use Rattle.geo_laws_graph.proofs.Found.{each-found, added-geom, added-provider, added-consumer, config-found}
 use Rattle.geo_laws_counts.specs.CountWords.{DemandStays, AnyConsumer}
-use Rattle.geo_laws_counts.proofs.Members.{in_head, in_tail}
 use Rattle.geo_laws_counts.proofs.BareParts.{none_within}
 use Rattle.geo_laws_counts.proofs.LimitFacts.{all_of}
 use Rattle.geo_laws_counts.proofs.Numbers.{free_of, numbers_lead}
@@ -56,8 +55,8 @@ none_kept : {X : Type 0} (test : X → Bool) (xs : List X) → ((x : X) → Cont
     → filter test xs ≡ []
 none_kept test [] none = refl
 none_kept test (x ∷ xs) none =
-    ap (λ b. cond b (x ∷ filter test xs) (filter test xs)) (none x (in_head x xs))
-    ∙ none_kept test xs (λ y there. none y (in_tail x xs y there))
+    ap (λ b. cond b (x ∷ filter test xs) (filter test xs)) (none x (Contains-here x xs))
+    ∙ none_kept test xs (λ y there. none y (Contains-there x y xs there))
 
 module _ {C : Type 0} (t : TopoView C) (counted : IsCounted t) (order : IsInOrder t.topology) (room : Room) where
   -- a consumer that stood is known

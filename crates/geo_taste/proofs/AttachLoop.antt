@@ -57,13 +57,6 @@ module _ (t u : TopoView Config) (geom i : ℕ) (provs : List ℕ) where
       one_more t u v geom prov (drop (i + 1) provs) provs
       (subst (λ xs. AttachedSoFar t u geom xs provs) (first_left provs i prov less is) far) one
 
-  -- the next one may be stood on, and has room
-  pub attach_next : (prov : ℕ) → i < length provs → prov ≡ get_or provs i prov
-      → AttachedSoFar t u geom (drop i provs) provs → CanStandOn u.topology prov × (1 ≤ u.room.consumers)
-  attach_next prov less is far =
-      let now = subst (λ xs. AttachedSoFar t u geom xs provs) (first_left provs i prov less is) far in
-      (now.stand.0, omega (arith, now.room))
-
   -- at the end all are made
   pub attach_end : length provs ≤ i → AttachedSoFar t u geom (drop i provs) provs
       → IsButForRoom u (with_all_attached t geom provs)

@@ -176,13 +176,3 @@ pub attached_roomed : (t : TopoView Config) (room : Room) (geom : ℕ) (provs : 
     ≡ record (with_all_attached t geom provs) { room = room }
 attached_roomed t room geom [] = refl
 attached_roomed t room geom (prov ∷ provs) = attached_roomed (with_attached t geom prov) room geom provs
-
--- one consumer and then the others
-pub all_attached : (t u v : TopoView Config) (geom prov : ℕ) (provs : List ℕ)
-    → IsButForRoom u (with_attached t geom prov) → IsButForRoom v (with_all_attached u geom provs)
-    → IsButForRoom v (with_all_attached t geom (prov ∷ provs))
-all_attached t u v geom prov provs first rest =
-    rest
-    ∙ ap (λ (x : TopoView Config). record (with_all_attached x geom provs) { room = v.room }) first
-    ∙ ap (λ (x : TopoView Config). record x { room = v.room })
-    (attached_roomed (with_attached t geom prov) u.room geom provs)

@@ -16,11 +16,10 @@ use Rattle.geo_model.specs.Tasting.{is_over, is_attached_class}
 use Rattle.geo_model.specs.World.{Config}
 use Rattle.geo_model.proofs.DemandLemmas.{find_passes}
 use Rattle.geo_laws_graph.specs.LookupLaws.{EachIsFound}
-use Rattle.geo_laws_graph.proofs.Members.{at_contained, find-Contains}
+use Rattle.geo_laws_graph.proofs.Members.{at_contained, find-Contains, Contains-filter}
 use Rattle.geo_laws_graph.proofs.Numbered.{any-contained}
 use Rattle.geo_laws_graph.proofs.Found.{each-found}
 use Rattle.geo_laws_counts.proofs.LimitFacts.{of_filter}
-use Rattle.geo_laws_counts.proofs.Members.{in_filter}
 use Rattle.geo_mesh.specs.Graph.{IsSoundGraph}
 use Rattle.geo_taste.specs.Over.{may_be_of, over, stands_as}
 use Rattle.geo_taste.proofs.Tests.{some_passes}
@@ -47,7 +46,7 @@ module _ (t : Topology Config) (order : IsInOrder t) (kind : Kind) (p : ℕ) whe
       let parts = and_parts (is_kind found.0.kind kind) (not found.0.withering) found.2 in
       let over : is_over t p found.0 ≡ true =
       any-contained (λ (c : Consumer). names_number c.provider p) (consumers_of t found.0.number) one.item
-      (in_filter (λ (c : Consumer). c.geom == found.0.number) t.consumers one.item at.0
+      (Contains-filter (λ (c : Consumer). c.geom == found.0.number) t.consumers one.item at.0
       (Rattle.std.proofs.Common.eq-eqb one.item.geom found.0.number (sym number)))
       at.1 in
       any-contained covers t.geoms found.0
@@ -72,7 +71,7 @@ module _ (t : Topology Config) (order : IsInOrder t) (kind : Kind) (p : ℕ) whe
       ap (geom_at t) same
       ∙ at_contained (λ (x : Geom Config). geom_at t x.number ≡ Some x) t.geoms g (each.geoms t order) one.here in
       any-contained (λ (c : Consumer). stands_as t kind c.geom) (attached_to t p) below.item
-      (in_filter (λ (c : Consumer). names_number c.provider p) t.consumers below.item at.0 below.passes)
+      (Contains-filter (λ (c : Consumer). names_number c.provider p) t.consumers below.item at.0 below.passes)
       (ap (λ o. option_map_or is_of o false) found
       ∙ and_from (is_kind g.kind kind) (not g.withering) parts.0 rest.0)
 

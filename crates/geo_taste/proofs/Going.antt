@@ -1,14 +1,13 @@
 -- Whether a taste goes on.
 use Rattle.std.specs.Prelude.{◌≡◌, ℕ, ◌==◌, ◌≤◌, Bool, true, false, ◌&&◌, ◌||◌, Some, None, if◌then◌else◌}
 use Rattle.std.specs.Option.{option_map_or}
-use Rattle.std.proofs.Common.{refl, sym, ◌∙◌, ap, inl, inr, arith}
+use Rattle.std.proofs.Common.{sym, ◌∙◌, ap, inl, inr, arith}
 use Rattle.std.proofs.lemmas.Bool.{eqb-true, and_parts, and_from, or_cases}
 use Rattle.std.proofs.lemmas.List.Elements.{All-contains}
 use Rattle.geo_base.proofs.Tests.{same_tests}
 use Rattle.geo_base.proofs.FindLists.{some-passes, Passes}
 use Rattle.geo_model.specs.Topology.{Topology, Provider, Consumer, provider_at, consumer_at, is_errored}
 use Rattle.geo_model.specs.Graph.{IsInOrder}
-use Rattle.geo_model.specs.Tasting.{is_ended}
 use Rattle.geo_model.specs.World.{Config, Taste}
 use Rattle.geo_model.proofs.DemandLemmas.{find_passes}
 use Rattle.geo_mesh.specs.Graph.{IsSoundGraph, IsOffer}
@@ -65,28 +64,11 @@ module _ (t : Topology Config) (order : IsInOrder t) (s : Taste) where
   abbrev pub spoiled : Bool
   spoiled = option_map_or (λ (c : Consumer). c.spoiled) (consumer_at t s.consumer) false
 
-  -- a provider that is gone
-  pub going_nowhere : provider_at t s.provider ≡ None → going t s ≡ None
-  going_nowhere none = by (is_ended t s)
-    where
-      by : (b : Bool) → (if b then None else provider_at t s.provider) ≡ None
-      by true = refl
-      by false = none
-
   -- one with an error
   pub going_errored : (x : Provider) → provider_at t s.provider ≡ Some x → x.errored ≡ true → going t s ≡ None
   going_errored x found errored =
       ap (λ b. if b || spoiled then None else provider_at t s.provider)
       (errored_told t order s.provider ∙ ap (λ o. option_map_or (λ (y : Provider). y.errored) o false) found ∙ errored)
-
-  -- a marked consumer
-  pub going_spoiled : spoiled ≡ true → going t s ≡ None
-  going_spoiled marked = ap (λ b. if is_errored t s.provider || b then None else provider_at t s.provider) marked
-      ∙ by (is_errored t s.provider)
-    where
-      by : (b : Bool) → (if b || true then None else provider_at t s.provider) ≡ None
-      by true = refl
-      by false = refl
 
   -- neither
   pub going_on : (x : Provider) → provider_at t s.provider ≡ Some x → x.errored ≡ false → spoiled ≡ false

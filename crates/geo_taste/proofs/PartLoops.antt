@@ -173,12 +173,6 @@ one_offer t u v q r s geom x rest all far one =
       left = omega (arith, left, one.spare);
     }
 
--- what one needs
-pub record NeedsOne (u : TopoView Config) (r : Queued) (x : NewSlice) : Type 0 where
-  pub can : CanAddPart u.topology x
-  pub room : 1 ≤ u.room.providers
-  pub spare : 1 ≤ r.spare
-
 module _ (t u : TopoView Config) (q r : Queued) (geom i : ℕ) (parts : List NewSlice) where
   -- one of the list
   pub offer_step : (v : TopoView Config) (s : Queued) (x : NewSlice) → i < length parts → x ≡ get_or parts i x
@@ -187,15 +181,6 @@ module _ (t u : TopoView Config) (q r : Queued) (geom i : ℕ) (parts : List New
   offer_step v s x less is far one =
       one_offer t u v q r s geom x (drop (i + 1) parts) parts
       (subst (λ xs. OfferedSoFar t u q r geom xs parts) (first_left parts i x less is) far) one
-
-  -- the next one can be made
-  pub offer_next : (x : NewSlice) → i < length parts → x ≡ get_or parts i x
-      → OfferedSoFar t u q r geom (drop i parts) parts → NeedsOne u r x
-  offer_next x less is far =
-      let now = subst (λ xs. OfferedSoFar t u q r geom xs parts) (first_left parts i x less is) far in
-      let enough : 1 + length (drop (i + 1) parts) ≤ u.room.providers = omega (arith, now.room) in
-      let spare : 1 + length (drop (i + 1) parts) ≤ r.spare = omega (arith, now.spare) in
-      record { can = now.can.0; room = omega (arith, enough); spare = omega (arith, spare) }
 
   -- at the end all are made
   pub offer_end : length parts ≤ i → OfferedSoFar t u q r geom (drop i parts) parts

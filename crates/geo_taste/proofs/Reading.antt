@@ -14,11 +14,10 @@ use Rattle.geo_slots.specs.Slots.{value_at}
 use Rattle.geo_mesh.specs.Topo.{TopoView}
 use Rattle.geo_mesh.specs.Graph.{IsSoundGraph}
 use Rattle.geo_laws_graph.specs.LookupLaws.{EachIsFound}
-use Rattle.geo_laws_graph.proofs.Members.{at_contained}
+use Rattle.geo_laws_graph.proofs.Members.{at_contained, Contains-here}
 use Rattle.geo_laws_graph.proofs.Found.{each-found}
 use Rattle.geo_laws_counts.specs.CountWords.{HoldsGrants}
 use Rattle.geo_laws_counts.proofs.LimitFacts.{of_filter, each_of}
-use Rattle.geo_laws_counts.proofs.Members.{in_head}
 use Rattle.geo_laws_counts.proofs.Openers.{wants_grant}
 use Rattle.geo_access.specs.Access.{granted_by, holds_grants, counted_view, granted_view, released_view, leaves_zero, comes_to_zero, place_of, IsQuiet, IsHolder}
 use Rattle.geo_access.proofs.Decided.{item_at}
@@ -33,7 +32,7 @@ module _ (t : Topology Config) (sound : IsSoundGraph t) (s : Taste) (is : IsTast
   taster_stands : Contains t.consumers is.consumer × ((is.consumer.geom == 2) ≡ true)
   taster_stands =
       of_filter (λ (x : Consumer). x.geom == 2) t.consumers is.consumer
-      (subst (λ xs. Contains xs is.consumer) (sym is.alone) (in_head is.consumer []))
+      (subst (λ xs. Contains xs is.consumer) (sym is.alone) (Contains-here is.consumer []))
 
   -- it is found
   pub taster_found : consumer_at t s.consumer ≡ Some is.consumer

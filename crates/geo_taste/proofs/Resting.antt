@@ -1,5 +1,5 @@
 -- A taste whose read isn't out holds nothing, however far a class has been asked.
-use Rattle.std.specs.Prelude.{◌≡◌, ℕ, false, List, [], ◌∷◌, Option, Some, None, if◌then◌else◌}
+use Rattle.std.specs.Prelude.{◌≡◌, ℕ, false, List, Option, Some, None, if◌then◌else◌}
 use Rattle.std.specs.Option.{option_map, option_map_or}
 use Rattle.std.proofs.Common.{refl, sym, ap, ◌∙◌, subst}
 use Rattle.geo_base.specs.declared.kind.Kind.{Kind}
@@ -14,7 +14,7 @@ use Rattle.geo_model.specs.Tasting.{verdict_on}
 use Rattle.geo_model.specs.World.{Config, Taste, Asked, NoClass, NextSector, ReadOut, ReadBack, is_read_out}
 use Rattle.geo_slots.specs.Slots.{value_at}
 use Rattle.geo_mesh.specs.Topo.{TopoView, Room}
-use Rattle.geo_class.specs.Taste.{after_verdict, ended, sector_back, verdict_back, weighed, with_next}
+use Rattle.geo_class.specs.Taste.{after_verdict, ended, sector_back, verdict_back, weighed}
 use Rattle.geo_taste.specs.Taster.{IsTasteOf}
 use Rattle.geo_taste.proofs.Saying.{read-ended}
 
@@ -47,11 +47,6 @@ roomed_tasting t room s is = record { tasting = is.tasting; holds = is.holds }
 -- one that is done with a class
 pub ended_rest : (s : Taste) → IsAtRest s (ended s)
 ended_rest s = record { consumer = refl; provider = refl; idle = refl }
-
--- or that takes the next one
-pub next_rest : (s : Taste) (kinds : List Kind) → is_read_out s.asked ≡ false → IsAtRest s (with_next s kinds)
-next_rest s [] idle = record { consumer = refl; provider = refl; idle = idle }
-next_rest s (kind ∷ rest) idle = record { consumer = refl; provider = refl; idle = refl }
 
 -- a read that is back isn't out
 pub back_idle : (got : BioResult) (a : Asked) → is_read_out (read_back got a) ≡ false

@@ -101,20 +101,6 @@ module _ (granted : ℕ → Counts) (q : QueuedTopology Config) (s : Taste) (p :
       (same ∙ ap (λ x. weighed granted s x r) known ∙ ap (weighed granted s f) is)
 
 module _ (t : TopoView Config) (events : List Event) (s : Taste) where
-  -- a taste that has ended
-  pub step_ends : going t.topology s ≡ None
-      → taste_step (granted_by t) (queued t events) s ≡ end_taste (granted_by t) (queued t events) s
-  step_ends none = by (is_ended t.topology s) none
-    where
-      by : (b : Bool) → (if b then None else provider_at t.topology s.provider) ≡ None
-          → (if b then end_taste (granted_by t) (queued t events) s
-          else option_map_or (λ p. go_on (granted_by t) (queued t events) s p s.asked)
-          (provider_at t.topology s.provider) (end_taste (granted_by t) (queued t events) s))
-          ≡ end_taste (granted_by t) (queued t events) s
-      by true e = refl
-      by false e = ap (λ o. option_map_or (λ p. go_on (granted_by t) (queued t events) s p s.asked) o
-          (end_taste (granted_by t) (queued t events) s)) e
-
   -- one that goes on
   pub step_goes : (p : Provider) → going t.topology s ≡ Some p
       → taste_step (granted_by t) (queued t events) s ≡ go_on (granted_by t) (queued t events) s p s.asked

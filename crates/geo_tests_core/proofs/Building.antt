@@ -1,19 +1,15 @@
 -- Meshes stay built.
-use Rattle.std.specs.Prelude.{◌≡◌, ℕ, ◌==◌, Bool, true, false, List, [], ◌∷◌, map, filter, find, Option, Some, None, Contains, IsSome, IsSomeAnd, is_some, option_map, not, if◌then◌else◌}
+use Rattle.std.specs.Prelude.{◌≡◌, ℕ, ◌==◌, Bool, true, false, List, [], ◌∷◌, map, find, Option, Some, None, Contains, IsSome, is_some, option_map, not, if◌then◌else◌}
 use Rattle.std.proofs.Common.{refl, sym, ◌∙◌, ap, subst, inl, inr, eq-eqb}
 use Rattle.std.proofs.lemmas.Bool.{cases_eq, ne_eqb}
 use Rattle.std.proofs.lemmas.List.Elements.{All-contains, Contains-push_cases}
 use Rattle.geo_base.specs.declared.kind.Kind.{Kind}
-use Rattle.geo_base.specs.declared.kind.Kind.TheVariants as kinds
 use Rattle.geo_model.specs.Words.{is_granted_kind}
-use Rattle.geo_model.specs.Topology.{Topology, Geom, Provider, Consumer, geom_at, consumer_at, add_consumer, attach}
+use Rattle.geo_model.specs.Topology.{Topology, Provider, Consumer, add_consumer, attach}
 use Rattle.geo_mesh.specs.Topo.{TopoView, first_mesh, with_geom, with_provider, with_consumer, with_topology, IsButForRoom}
-use Rattle.geo_laws_graph.proofs.Members.{Origin, map-Contains}
-use Rattle.geo_laws_counts.proofs.Members.{in_nothing}
+use Rattle.geo_laws_graph.proofs.Members.{Origin, map-Contains, nothing_in}
 use Rattle.geo_laws_counts.proofs.LimitFacts.{all_of}
-use Rattle.geo_mesh.specs.Graph.{IsSoundGraph}
-use Rattle.geo_laws_counts.specs.CountWords.{HoldsGrants}
-use Rattle.geo_access.specs.Access.{IsCounted, IsQuiet, IsPlaced, IsHolder}
+use Rattle.geo_access.specs.Access.{IsCounted, IsQuiet}
 use Rattle.geo_access.specs.ShutLaws.{MeshesStayShut, ShutMeshesAreCounted}
 use Rattle.geo_access.proofs.Shut.{meshes_stay_shut, shut_meshes_are_counted}
 use Rattle.geo_tests_core.specs.Built.{ConsumersAreAttached, IsBuilt}
@@ -24,7 +20,7 @@ first_built t dev taste is =
     subst IsBuilt (sym is)
     (record {
       shut = MeshesStayShut.first meshes_stay_shut dev taste t.room;
-      attached = all_of (λ (c : Consumer). IsSome c.provider) [] (λ c there. absurd (in_nothing c there));
+      attached = all_of (λ (c : Consumer). IsSome c.provider) [] (λ c there. absurd (nothing_in c there));
     })
 
 -- with a geom
@@ -128,29 +124,6 @@ quiet_found t counted risen fallen = record {
   risen = quiet_rows (λ (p : Provider). p.number) t.risen t.topology.providers counted.risen risen;
   fallen = quiet_rows (λ (p : Provider). p.number) t.fallen t.topology.providers counted.fallen fallen;
 }
-
--- where each consumer is attached, each that isn't is of a geom without providers
-pub attached_placed : {C : Type 0} (t : Topology C) → ConsumersAreAttached t → IsPlaced t
-attached_placed t all =
-    all_of (λ (c : Consumer). c.provider ≡ None
-    → filter (λ (y : Provider). y.geom == c.geom) t.providers ≡ []) t.consumers
-    (λ c there free.
-    let some : is_some c.provider ≡ true = All-contains (λ (d : Consumer). IsSome d.provider) t.consumers c all there in
-    let no : false ≡ true = sym (ap is_some free) ∙ some in absurd (cc))
-
--- a consumer of DEV that is attached is a holder
-pub dev_holder : {C : Type 0} (t : Topology C) → IsSoundGraph t → (cons : ℕ) (c : Consumer)
-    → consumer_at t cons ≡ Some c → c.geom ≡ 1 → IsSome c.provider → IsHolder t cons
-dev_holder {C} t sound cons c found dev attached = record {
-  kind = subst (λ o. IsSomeAnd o (λ (x : Consumer). HoldsGrants t x.geom)) (sym found)
-      (subst (HoldsGrants t) (sym dev) (by (geom_at t 1) sound.orderly.first.dev));
-  attached = subst (λ o. IsSomeAnd o (λ (x : Consumer). IsSome x.provider)) (sym found) attached;
-}
-  where
-    by : (o : Option (Geom C)) → IsSomeAnd o (λ (x : Geom C). x.kind ≡ kinds.Dev)
-        → IsSomeAnd o (λ (x : Geom C). is_granted_kind x.kind ≡ true)
-    by None never = absurd never
-    by (Some g) dev_kind = ap is_granted_kind dev_kind
 
 -- where a new consumer of a mesh has joined, each one is attached
 pub joined_attached : {C : Type 0} (t mid : TopoView C) (geom p : ℕ) → IsButForRoom mid (with_consumer t geom)

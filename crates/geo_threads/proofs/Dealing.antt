@@ -30,12 +30,6 @@ module _ {X : Type 0} where
   pub even_left : (n : ℕ) (z : X) → n % 2 ≡ 0 → own_disks 1 ((n, z) ∷ []) ≡ []
   even_left n z e = rw (ne_eqb (n % 2) 1 (λ h. omega (arith, e, h))) refl
 
-  pub odd_left : (n : ℕ) (z : X) → n % 2 ≡ 1 → own_disks 0 ((n, z) ∷ []) ≡ []
-  odd_left n z e = rw (ne_eqb (n % 2) 0 (λ h. omega (arith, e, h))) refl
-
-  pub odd_kept : (n : ℕ) (z : X) → n % 2 ≡ 1 → own_disks 1 ((n, z) ∷ []) ≡ (n, z) ∷ []
-  odd_kept n z e = rw (eq-eqb (n % 2) 1 e) refl
-
   -- in turn with no other
   pub merged_alone : (xs : List X) → merged xs [] ≡ xs
   merged_alone [] = refl

@@ -136,10 +136,6 @@ last_two xs (y ∷ ys) a b c d is split =
     let some = length-append (y ∷ ys) (c ∷ []) in
     absurd (omega (arith, all, long, more, some))
 
--- the two lists of disk workers
-pub two_long : {D : Type 0} (count : ℕ) (lists : List (DriveListView D)) → AreTwo count lists → length lists ≡ 2
-two_long count lists two = let p = pair_of count lists two in ap (λ l. length l) p.both
-
 pub two_are : {D : Type 0} (count : ℕ) (lists front : List (DriveListView D)) (even odd : DriveListView D)
     → AreTwo count lists → lists ≡ front ++ even ∷ [] ++ odd ∷ []
     → (length odd.items ≤ length even.items) × (length even.items + length odd.items ≤ count)

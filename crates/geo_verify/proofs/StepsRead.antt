@@ -7,7 +7,6 @@ use Rattle.geo_model.specs.declared.step.Step.{Step}
 use Rattle.geo_model.specs.Words.{same_name}
 use Rattle.geo_headline.specs.Traces.{Reading, then_read, line_says, read_steps, report_mark, parts_of, joined_parts, marked, seat_and_step}
 use Rattle.geo_laws_traces.proofs.Lines.{some_part, joined_back}
-use Rattle.geo_verify.specs.declared.refusal.VerifyRefusal.TheVariants as refusals
 
 -- steps before others
 abbrev pub Rest : Type 0

@@ -14,13 +14,6 @@ shows_first v p of stands = record {
   later = subst (λ (seen : List Entry). IsPrefix seen p.seen) (sym stands) (prefix_self p.seen);
 }
 
--- after a publish
-pub shows_again : (v w : PublisherView) (p : MeshPass) → CanShow v p → w.of ≡ v.of → w.stands ≡ p.seen → CanShow w p
-shows_again v w p can of stands = record {
-  of = (can.of.0, of ∙ can.of.1, can.of.2);
-  later = subst (λ (seen : List Entry). IsPrefix seen p.seen) (sym stands) (prefix_self p.seen);
-}
-
 -- after the pass went on
 pub shows_on : (v : PublisherView) (p q : MeshPass) → CanShow v p → IsSamePass p q → IsPrefix p.seen q.seen
     → CanShow v q

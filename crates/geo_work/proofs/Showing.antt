@@ -1,7 +1,7 @@
 -- A client that shows: what it is replied can be shown, and it can show what its pass has seen.
 use Rattle.std.specs.Prelude.{◌≡◌, ℕ, List, [], ◌∷◌, Option, Some, None, IfSome, IsSomeAnd}
 use Rattle.std.specs.Option.{option_map}
-use Rattle.std.proofs.Common.{append-nil, ap, refl, subst, sym, ◌∙◌}
+use Rattle.std.proofs.Common.{append-nil, ap, subst, sym, ◌∙◌}
 use mathlib.Core.List.{IsPrefix}
 use Rattle.geo_model.specs.declared.listing.GeomLine.{GeomLine}
 use Rattle.geo_model.specs.declared.step.Entry.{Entry}
@@ -21,7 +21,7 @@ use Rattle.geo_disk_job.specs.Putting.{PutsAll}
 use Rattle.geo_disk_job.proofs.Replies.{replies_can_be_shown}
 use Rattle.geo_disk_job.proofs.Shows.{shows_on}
 use Rattle.geo_work.specs.declared.client.ClientJob.{ClientJob}
-use Rattle.geo_work.specs.Clients.{ClientWorked, IsClientJob, NotesOutcome, Showed, ShowsOutcome, stands_after}
+use Rattle.geo_work.specs.Clients.{ClientWorked, IsClientJob, NotesOutcome, ShowsOutcome}
 use Rattle.geo_work.specs.Hints.{go_hints}
 use Rattle.geo_work.specs.LanePasses.{AreFew, IsPassTo, MadeOneStep}
 use Rattle.geo_work.proofs.Joining.{pass_worked}
@@ -48,29 +48,6 @@ shows_later None p q same longer can = tt
 shows_later (Some v) p q same longer can = shows_on v p q can same longer
 
 -- Outcomes that are shown
-
--- a listing
-pub showed_listing : (o : Outcome) (line : ℕ) (lines : List GeomLine) (seen : List Entry) (a b : PublisherView)
-    → o ≡ outcomes.Replied line (replies.Listing lines) → b.view ≡ a.view → b.of ≡ a.of → b.stands ≡ seen
-    → Showed o seen a b
-showed_listing o line lines seen a b is view of stands = record {
-  view = view;
-  of = of;
-  stands = stands ∙ sym (ap (λ (x : Outcome). stands_after x seen a.stands) is);
-}
-
--- of another outcome nothing is shown
-shows_none : (o : Outcome) (seen stood : List Entry)
-    → ((line : ℕ) (lines : List GeomLine) → o ≡ outcomes.Replied line (replies.Listing lines) → ⊥)
-    → stood ≡ stands_after o seen stood
-shows_none (outcomes.Replied line (replies.Listing lines)) seen stood other = absurd (other line lines refl)
-shows_none o seen stood other = refl
-
-pub showed_none : (o : Outcome) (seen : List Entry) (a : PublisherView)
-    → ((line : ℕ) (lines : List GeomLine) → o ≡ outcomes.Replied line (replies.Listing lines) → ⊥)
-    → Showed o seen a a
-showed_none o seen a other =
-    record { view = refl; of = refl; stands = shows_none o seen a.stands other }
 
 -- a client that showed an outcome, or not, keeps the view that it shows
 pub view_stays : (o : Outcome) (seen : List Entry) (a b : Option PublisherView) → ShowsOutcome o seen a b
