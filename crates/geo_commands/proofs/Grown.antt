@@ -9,6 +9,7 @@ use Rattle.geo_base.specs.declared.limits.TheConstants.{MAX_RANK}
 use Rattle.geo_model.specs.declared.command.LineCommand.{LineCommand}
 use Rattle.geo_model.specs.declared.step.Entry.{Entry}
 use Rattle.geo_model.specs.Words.{is_granted_kind}
+use Rattle.geo_model.specs.Graph.{IsInOrder}
 use Rattle.geo_model.specs.Topology.{Topology, Provider, Consumer, provider_at}
 use Rattle.geo_model.specs.Rank.{rank}
 use Rattle.geo_model.specs.Place.{disk_of}
@@ -30,6 +31,7 @@ use Rattle.geo_state.specs.Sites.{AreFresh}
 use Rattle.geo_state.specs.Steps.{IsFirm}
 use Rattle.geo_state.specs.Trips.{trips, out_through}
 use Rattle.geo_state.specs.World.{world}
+use Rattle.geo_state.proofs.FirmLemmas.{firm-order}
 use Rattle.geo_state.proofs.Frames.{parts-self, under_read}
 use Rattle.geo_state.proofs.LawLemmas.{holds_after_effects}
 use Rattle.geo_state.proofs.OwedLemmas.{owed_are_few}
