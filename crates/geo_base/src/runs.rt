@@ -1,7 +1,7 @@
 //! Texts of bytes: runs `BB*N`, one for each stretch of equal bytes, with a space between.
 ghost use Rattle.std.specs.Prelude.{◌≡◌, ◌+◌, ◌++◌, ◌≤◌, ◌<◌, ◌^◌, ◌==◌, length, replicate, IfOk, OnOk, IfSome, MatchOption, MatchResult, None, Some, List, ℕ};
 ghost use Rattle.geo_base.specs.Runs.{hex_digit, run_text, runs_text, IsRuns, IsRunsRefusal};
-ghost use Rattle.geo_base.specs.RunsReader.{IsPlace, last_of, hex_digit_value, high_place, byte_place, times_place, ended_run, read_one_more};
+ghost use Rattle.geo_base.specs.RunsReader.{IsPlace, last_of, hex_digit_value, byte_place, times_place, ended_run, read_one_more};
 
 use crate::block::{Block, NoMemory};
 use crate::limits::MAX_RUNS_BYTES;
@@ -95,13 +95,6 @@ fn hex_value(b: u8) -> Option<u8>
     }
 }
 
-/// The place behind the first digit of a byte.
-fn high_place(b: u8) -> Option<Place>
-    ensures { result ≡ high_place (hex_digit_value b) }
-{
-    Some(Place::High(hex_value(b)?))
-}
-
 /// Whether the last byte is this one.
 fn ends_with(bytes: &[u8], byte: u8) -> bool
     ensures { result ≡ (last_of bytes.now == byte) }
@@ -179,7 +172,7 @@ fn read_on(bytes: &mut Vec<u8>, place: Place, b: u8) -> Result<Option<Place>, No
     match place {
         Place::Times(byte, times) if b == b' ' => end_run(bytes, byte, times),
         Place::Times(byte, times) => Ok(times_place(bytes.as_slice(), byte, times, b)),
-        Place::Start => Ok(high_place(b)),
+        Place::Start => Ok(hex_value(b).map(Place::High)),
         Place::High(high) => Ok(byte_place(bytes.as_slice(), high, hex_value(b))),
         Place::Byte(byte) => Ok(if b == b'*' {
             Some(Place::Times(byte, 0))

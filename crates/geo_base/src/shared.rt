@@ -58,7 +58,15 @@ impl SharedBytes {
         ensures { result ≡ self }
     {
         match self.cells {
-            Cells::Own(block) => shared(alloc, block),
+            Cells::Own(block) => {
+                let end = block.len();
+                match Arc::new(alloc, block) {
+                    Ok(all) => SharedBytes {
+                        cells: Cells::Shared { all, start: 0, end },
+                    },
+                    Err(failed) => SharedBytes::from_block(failed.value),
+                }
+            }
             cells => SharedBytes { cells },
         }
     }
@@ -124,16 +132,4 @@ impl SharedBytes {
             Cells::Shared { start, end, .. } => *end - *start,
         }
     }
-}
-
-// A block that is shared, if there is memory for it.
-fn shared(alloc: Global, block: Block) -> SharedBytes
-    ensures { result ≡ block }
-{
-    let end = block.len();
-    let cells = match Arc::new(alloc, block) {
-        Ok(all) => Cells::Shared { all, start: 0, end },
-        Err(failed) => Cells::Own(failed.value),
-    };
-    SharedBytes { cells }
 }
