@@ -63,16 +63,6 @@ fn is_header_word(word: &[u8]) -> bool
     word == b"ram".as_slice() || word == b"disk".as_slice() || word == b"actor".as_slice()
 }
 
-// The same command. The bytes of a write share the memory of those in the pool, if these begin with them.
-fn pooled(pool: &mut Pool, command: Command) -> Command
-    ensures { result ≡ command }
-{
-    match command {
-        Command::Write(handle, offset, bytes) => Command::Write(handle, offset, pool.once(bytes)),
-        other => other,
-    }
-}
-
 impl Draft {
     /// No disk, no actor and no command.
     pub fn new(alloc: Global) -> Draft
@@ -129,7 +119,7 @@ impl Draft {
         Ok(())
     }
 
-    /// A command line more.
+    /// A command line more. The bytes of a write share the memory of those in the pool, if these begin with them.
     pub fn add_command(
         &mut self,
         line: u32,
@@ -138,7 +128,12 @@ impl Draft {
     ) -> Result<(), LineRefusal>
         ensures { LineLeaves result self.new (add_command self.old line actor command) }
     {
-        let command = pooled(&mut self.written, command);
+        let command = match command {
+            Command::Write(handle, offset, bytes) => {
+                Command::Write(handle, offset, self.written.once(bytes))
+            }
+            other => other,
+        };
         self.commands.push(LineCommand {
             line,
             actor,

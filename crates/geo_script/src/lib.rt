@@ -4,7 +4,7 @@
 //! Contracts see a [`Plan`] as its disks in header order, its actors and its commands in rising order of lines, and
 //! [`Words`] as the words that are left of a line, which isn't copied. Each [`Plan`] keeps the rules of plans
 //! (`IsPlan`): limits, forms and ranges of the words, different names, declared actors, rising line numbers. Its
-//! accessors say so. It is made from vectors and gives them back without taking memory.
+//! accessors say so. It gives its vectors away without taking memory.
 //!
 //! [`parse`] answers the plan exactly where a text of fewer than 2^32 bytes is a script (the model's `script`), and
 //! else the first line with a fault and the cause that comes first there (`answer`). Each reader of a word, a form or

@@ -35,7 +35,11 @@ impl Model for Plan {
 
 impl Plan {
     /// The plan of these disks, actors and commands; it takes no memory.
-    pub fn from_parts(disks: Vec<DiskDecl>, actors: Vec<Name>, commands: Vec<LineCommand>) -> Plan
+    pub(crate) fn from_parts(
+        disks: Vec<DiskDecl>,
+        actors: Vec<Name>,
+        commands: Vec<LineCommand>,
+    ) -> Plan
         requires { IsPlan (record { disks = disks.items; actors = actors.items; commands = commands.items }) }
         ensures { result ≡ record { disks = disks.items; actors = actors.items; commands = commands.items } }
     {

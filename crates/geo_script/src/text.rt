@@ -24,10 +24,13 @@ pub fn first_line(text: &[u8]) -> (&[u8], &[u8])
     }
 }
 
-/// The plan of the lines of a text of fewer than 2^32 bytes.
-fn draft_of(alloc: Global, text: &[u8]) -> Result<Draft, ParseRefusal>
+/// The plan of a text of fewer than 2^32 bytes. `Fault` exactly where the text isn't a script, with the first line
+/// that is against the grammar and the first cause there. A line is passed over a fixed number of times, and none of
+/// its words is copied but into the plan.
+pub fn parse(alloc: Global, text: &[u8]) -> Result<Plan, ParseRefusal>
     requires { length text.now < 2 ^ 32 }
-    ensures { Parses result (script text.now) }
+    ensures answer { Parses result (script text.now) }
+    ensures plan { IfOk result IsPlan }
 {
     let mut draft = Draft::new(alloc);
     let mut number = 0u32;
@@ -38,17 +41,6 @@ fn draft_of(alloc: Global, text: &[u8]) -> Result<Draft, ParseRefusal>
         add_line(alloc, &mut draft, number, line)?;
         rest = behind;
     }
-    Ok(draft)
-}
-
-/// The plan of a text of fewer than 2^32 bytes. `Fault` exactly where the text isn't a script, with the first line
-/// that is against the grammar and the first cause there. A line is passed over a fixed number of times, and none of
-/// its words is copied but into the plan.
-pub fn parse(alloc: Global, text: &[u8]) -> Result<Plan, ParseRefusal>
-    requires { length text.now < 2 ^ 32 }
-    ensures answer { Parses result (script text.now) }
-    ensures plan { IfOk result IsPlan }
-{
-    let (disks, actors, commands) = draft_of(alloc, text)?.into_parts();
+    let (disks, actors, commands) = draft.into_parts();
     Ok(Plan::from_parts(disks, actors, commands))
 }

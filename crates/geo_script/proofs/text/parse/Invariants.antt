@@ -1,7 +1,7 @@
 use Rattle.std.proofs.Common.{◌≡◌, ◌+◌, ◌≤◌, length}
 use Rattle.geo_model.specs.Script.{script}
 use Rattle.geo_script.proofs.TextLemmas.{rest_read}
-use Rattle.geo_script.proofs.text.draft_of.Given as goal
+use Rattle.geo_script.proofs.text.parse.Given as goal
 
 -- the draft so far, with the lines that are left, makes the plan of the text; each line took a byte or more
 abbrev pub invariant-loop-rest : goal.invariant-loop-rest
