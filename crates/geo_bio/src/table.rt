@@ -241,18 +241,11 @@ fn delivery(bios: &Slots<Bio>, number: u64, place: u64, errno: Option<Errno>) ->
     ensures { IfSome (value_at bios.now.rows number) (λ x. result ≡ delivered_result x.cmd place errno) }
 {
     match bios.get(number) {
-        Some(bio) => held_of(bio.cmd, place, errno),
+        Some(bio) => match (errno, bio.cmd) {
+            (Some(errno), _) => Held::Failed(errno),
+            (None, BioCmd::Read) => Held::AtPlace(place),
+            (None, _) => Held::Done,
+        },
         None => Held::Done,
-    }
-}
-
-// What a bio holds once it is delivered.
-fn held_of(cmd: BioCmd, place: u64, errno: Option<Errno>) -> Held
-    ensures { result ≡ delivered_result cmd place errno }
-{
-    match (errno, cmd) {
-        (Some(errno), _) => Held::Failed(errno),
-        (None, BioCmd::Read) => Held::AtPlace(place),
-        (None, _) => Held::Done,
     }
 }
