@@ -1,6 +1,6 @@
 //! The requests of each actor's own lines.
 ghost use Rattle.std.specs.Prelude.{◌≡◌, ◌<◌, ◌≤◌, ◌^◌, IfSome, slice_get};
-ghost use Rattle.geo_state.specs.Own.{entered, left_by, lower};
+ghost use Rattle.geo_state.specs.Own.{entered, left_by};
 
 use crate::state::OwnBios;
 
@@ -10,19 +10,12 @@ pub fn enter(own: &mut Vec<OwnBios>, actor: u32, number: u64)
     ensures { own.new.items ≡ entered own.old.items actor number }
 {
     if let Some(bios) = own.get_mut(actor as usize) {
-        bios.low = lower(bios, number);
+        bios.low = if bios.count == 0 {
+            number
+        } else {
+            bios.low.min(number)
+        };
         bios.count += 1;
-    }
-}
-
-// A number below which the actor has no request once one of this number is out.
-fn lower(bios: &OwnBios, number: u64) -> u64
-    ensures { result ≡ lower bios.now.count bios.now.low number }
-{
-    if bios.count == 0 {
-        number
-    } else {
-        bios.low.min(number)
     }
 }
 

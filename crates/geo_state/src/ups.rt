@@ -1,21 +1,21 @@
 //! A request goes up to its owner (g_io_deliver, g_bio(9)).
-ghost use Rattle.std.specs.Prelude.{◌≡◌, ◌-◌, ◌≤◌, IsSome, IfSome, IfOk, OnOk, OnErr, IsTrue, option_map, slice_get};
+ghost use Rattle.std.specs.Prelude.{◌≡◌, ◌-◌, ◌≤◌, IsSome, IfSome, IfOk, OnOk, OnErr, IsTrue, option_map};
 ghost use Rattle.geo_model.specs.Topology.{consumer_at};
 ghost use Rattle.geo_model.specs.World.{is_up, bio_among};
 ghost use Rattle.geo_bio.specs.BioTable.{has_phase};
 ghost use Rattle.geo_bio.specs.Up.{told_of_up, after_up};
 ghost use Rattle.geo_slots.specs.Slots.{value_at};
 ghost use Rattle.geo_mesh.specs.Topo.{with_active};
-ghost use Rattle.geo_handles.specs.Handles.{HoldsAlone, handle_at, holding_handle};
+ghost use Rattle.geo_handles.specs.Handles.{HoldsAlone, holding_handle};
 ghost use Rattle.geo_state.specs.Holds.{Holds};
 ghost use Rattle.geo_state.specs.Ready.{refreshed};
-ghost use Rattle.geo_state.specs.Bios.{OnlyBios, CameThrough, CanLeave, own_left, own_after, taste_read_after};
+ghost use Rattle.geo_state.specs.Bios.{OnlyBios, CameThrough, CanLeave, own_after, taste_read_after};
 
 use crate::handles::refresh;
 use crate::own::leave;
 use crate::state::State;
 use crate::{LogBytes, Risen};
-use geo_base::{BioId, ConsId, HandleId, NoMemory};
+use geo_base::{BioId, ConsId, NoMemory};
 use geo_model::Owner;
 use std::alloc::Global;
 
@@ -81,21 +81,13 @@ fn leave_owner(state: &mut State, owner: Owner)
     ensures rest { state.new ≡ record state.old { own = state.new.own; read = state.new.read } }
 {
     match owner {
-        Owner::Line { handle, .. } => leave_line(state, handle),
+        Owner::Line { handle, .. } => {
+            if let Some(found) = state.handles.get(handle) {
+                let actor = found.actor;
+                leave(&mut state.own, actor);
+            }
+        }
         Owner::Taste => state.read = None,
         Owner::Child { .. } => {}
-    }
-}
-
-// A request through a handle is its actor's no more.
-fn leave_line(state: &mut State, handle: HandleId)
-    requires { IfSome (handle_at state.old.handles.handles handle) (λ h.
-        IfSome (slice_get state.old.own.items h.actor) (λ own. 1 ≤ own.count)) }
-    ensures own { state.new.own.items ≡ own_left state.old.own.items (handle_at state.old.handles.handles handle) }
-    ensures rest { state.new ≡ record state.old { own = state.new.own } }
-{
-    if let Some(found) = state.handles.get(handle) {
-        let actor = found.actor;
-        leave(&mut state.own, actor);
     }
 }
