@@ -12,11 +12,11 @@ ghost use Rattle.geo_state.specs.World.{HasBytes, world};
 
 use crate::disks::{disk_named, standing_geom};
 use crate::names::named_geom;
-use crate::reply::{done, refused};
 use crate::uses::is_in_use;
 use geo_base::{Errno, GeomId, Kind, Name};
 use geo_life::wither;
 use geo_model::Outcome;
+use geo_opens::{done, refused};
 use geo_state::State;
 
 /// A pull of the disk of a name: ENOENT where the header has none, ENXIO where no geom stands for it that doesn't

@@ -22,7 +22,7 @@ use crate::{append, concat, destroy, insert, listing, nop, pull, stripe};
 use geo_access::Steps;
 use geo_base::{BioCmd, Counts, Name, NoMemory};
 use geo_model::{Command, Outcome, Reply};
-use geo_opens::{close, open};
+use geo_opens::{close, done, open};
 use geo_requests::{Mark, write_record};
 use geo_state::State;
 use std::alloc::Global;
@@ -136,16 +136,6 @@ fn on_geoms<L: Ledger>(
         | Command::Sync
         | Command::Settle
         | Command::Mesh => unreachable!(),
-    }
-}
-
-// The command of a line is done.
-fn done(line: u32) -> Outcome
-    ensures { result ≡ outcomes.Replied line replies.Ok }
-{
-    Outcome::Replied {
-        line,
-        reply: Reply::Ok,
     }
 }
 

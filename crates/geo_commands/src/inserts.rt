@@ -7,10 +7,10 @@ ghost use Rattle.geo_state.specs.Steps.{Does, IsFirm, SameWorld};
 ghost use Rattle.geo_state.specs.World.{HasBytes};
 
 use crate::disks::{disk_named, insert_refusal};
-use crate::reply::{done, refused};
 use crate::stands::stand;
 use geo_base::{Errno, Name, NoMemory};
 use geo_model::Outcome;
+use geo_opens::{done, refused};
 use geo_state::State;
 
 /// An insert of the disk of a name: ENOENT where the header has none, EBUSY where its geom stands, withering or not,

@@ -15,11 +15,11 @@ use crate::assemblies::{
 };
 use crate::below::{Below, all_named, sector_below};
 use crate::makes::make;
-use crate::reply::{done, refused};
 use geo_base::{ConsId, MAX_COMPONENTS, Name, NoMemory, ProvId};
 use geo_class::Config;
 use geo_mesh::Topo;
 use geo_model::Outcome;
+use geo_opens::{done, refused};
 use geo_requests::{NewGeom, Offer};
 use geo_state::State;
 use std::alloc::Global;

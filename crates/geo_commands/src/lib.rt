@@ -47,7 +47,6 @@ mod names;
 mod nops;
 mod parts;
 mod refusals;
-mod reply;
 mod requests;
 mod stands;
 mod uses;

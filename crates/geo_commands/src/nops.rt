@@ -11,10 +11,10 @@ ghost use Rattle.geo_laws_texts.specs.Naming.{HaveNames};
 use crate::below::below_named;
 use crate::makes::make;
 use crate::refusals::nop_refusal;
-use crate::reply::{done, refused};
 use geo_base::{Errno, Kind, Name, NoMemory};
 use geo_class::Config;
 use geo_model::Outcome;
+use geo_opens::{done, refused};
 use geo_requests::{NewGeom, Offer};
 use geo_state::State;
 

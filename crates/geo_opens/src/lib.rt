@@ -10,8 +10,9 @@
 //! - [`close`]: the model's `close_handle`, with its refusals; it takes no memory.
 //! - [`reap_found`], [`reap`]: what is against a Reap, and the model's `reap`; it takes no memory.
 //!
-//! All but [`reap_found`] tick at most one step for each consumer below the provider (`bound`). There are no tests of
-//! its own: geo_tests_program and `rows/` run it. geo_commands calls it and hands it on. Read `src/opens.rt` first.
+//! All of these but [`reap_found`] tick at most one step for each consumer below the provider (`bound`). [`done`] and
+//! [`refused`] are the replies ok and no, of other commands too. There are no tests of its own: geo_tests_program and
+//! `rows/` run it. geo_commands calls it and hands it on. Read `src/opens.rt` first.
 #![tactic(auto)]
 
 mod closes;
@@ -24,3 +25,4 @@ mod reply;
 pub use closes::close;
 pub use opens::{open, open_refusal};
 pub use reaps::{reap, reap_found};
+pub use reply::{done, refused};
