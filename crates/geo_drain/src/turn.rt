@@ -1,7 +1,6 @@
 //! One turn: a step, and after a Take its Deliver.
 ghost use Rattle.std.specs.Prelude.{◌≡◌, ◌<◌, IsErrOf, IsOk, IsSomeAnd, IsTrue, OnErr, OnOk, length, map, slice_get};
 ghost use Rattle.geo_model.specs.declared.step.Outcome.{Outcome as OutcomeValue};
-ghost use Rattle.geo_model.specs.declared.step.Outcome.TheVariants as outcomes;
 ghost use Rattle.geo_model.specs.declared.step.Request.{Request as RequestValue};
 ghost use Rattle.geo_model.specs.declared.step.Step.TheVariants as steps;
 ghost use Rattle.geo_model.specs.Log.{is_full};
@@ -102,19 +101,11 @@ fn last_request(mesh: &Mesh) -> &Request
     ensures { EndsWithRequest mesh.now.log result.now }
 {
     match mesh.log().entries().last() {
-        Some(entry) => request_in(&entry.outcome),
+        Some(entry) => match &entry.outcome {
+            Outcome::Asked(request) => request,
+            _ => unreachable!(),
+        },
         None => unreachable!(),
-    }
-}
-
-// The request of an outcome that has one.
-fn request_in(outcome: &Outcome) -> &Request
-    requires { (q : RequestValue) × (outcome.now ≡ outcomes.Asked q) }
-    ensures { outcome.now ≡ outcomes.Asked result.now }
-{
-    match outcome {
-        Outcome::Asked(request) => request,
-        _ => unreachable!(),
     }
 }
 
