@@ -18,18 +18,9 @@ use Rattle.geo_state.specs.declared.state.State.{State}
 use Rattle.geo_state.specs.Bios.{IsNoHandles}
 use Rattle.geo_state.specs.Steps.{IsFirm, Makes}
 use Rattle.geo_requests.specs.declared.cut.Cut.{Cut}
-use Rattle.geo_requests.specs.Ways.{CanCount, CanGoDown, GoesBy, IsCut}
+use Rattle.geo_requests.specs.Ways.{CanCount, GoesBy, IsCut}
 use Rattle.geo_requests.specs.Started.{HasStarted}
-use Rattle.geo_requests.proofs.Started.{SplitsWell, can_go_down, splits_well, passes_well, makes_started, logged_started}
-
--- a bio that is there can go down
-pub can_go : (s : State) → IsFirm s → (b : ℕ)
-    → IfSome (bio_among s.traffic.bios b) (λ x. CanGoDown s.topo.topology x)
-can_go s firm b = by (bio_among s.traffic.bios b) refl
-  where
-    by : (o : Option (BioOf Held)) → bio_among s.traffic.bios b ≡ o → IfSome o (λ x. CanGoDown s.topo.topology x)
-    by None e = tt
-    by (Some x) e = can_go_down s firm b x e
+use Rattle.geo_requests.proofs.Started.{SplitsWell, splits_well, passes_well, makes_started, logged_started}
 
 module _ (s new : State) (b : ℕ) where
   -- the bio went its way, if the step is done

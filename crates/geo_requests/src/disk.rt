@@ -85,27 +85,19 @@ pub fn request_of(
     ensures { IfSome (bio_among bios.now.bios bio) (λ x. IfOk result (λ request.
         request ≡ device_request disk (sector_at topo.now.topology x.target) x)) }
 {
-    match bios.get(bio) {
-        Some(found) => device_request(alloc, sector_at(topo, found.to), disk, found),
-        None => Err(NoMemory),
-    }
-}
-
-// A bio as a request to its disk, in sectors of so many bytes.
-fn device_request(alloc: Global, sector: u32, disk: u32, bio: &Bio) -> Result<Request, NoMemory>
-    requires { 0 < sector }
-    ensures { IfOk result (λ request. request ≡ device_request disk sector (as_bio 0 bio.now)) }
-{
-    let sector = u64::from(sector);
-    let count = bio.span.len / sector;
+    let Some(found) = bios.get(bio) else {
+        return Err(NoMemory);
+    };
+    let sector = u64::from(sector_at(topo, found.to));
+    let count = found.span.len / sector;
     if count > u64::from(u32::MAX) {
         return Err(NoMemory);
     }
     Ok(Request {
         disk,
-        cmd: bio.cmd,
-        first: bio.span.offset / sector,
+        cmd: found.cmd,
+        first: found.span.offset / sector,
         count: count as u32,
-        bytes: bio.bytes.copy(alloc)?,
+        bytes: found.bytes.copy(alloc)?,
     })
 }

@@ -24,7 +24,6 @@ mod gate;
 mod mark;
 mod requests;
 mod returns;
-mod rises;
 mod serve;
 mod starts;
 mod ups;

@@ -3,7 +3,7 @@ ghost use Rattle.std.specs.Prelude.{◌≡◌, ◌≤◌, List, length, IfOk, If
 ghost use Rattle.std.specs.List.{AllByRecursion};
 ghost use Rattle.geo_model.specs.declared.step.Entry.{Entry};
 ghost use Rattle.geo_model.specs.World.{bio_at, is_down, bio_among};
-ghost use Rattle.geo_model.specs.Bios.{PieceTarget, Bounces, Fails, Sends, Splits, Passes, way_of};
+ghost use Rattle.geo_model.specs.Bios.{PieceTarget, Splits, Passes, way_of};
 ghost use Rattle.geo_model.specs.Step.{start_of};
 ghost use Rattle.geo_bio.specs.BioTable.{has_phase};
 ghost use Rattle.geo_state.specs.Bios.{IsNoHandles};
@@ -13,15 +13,13 @@ ghost use Rattle.geo_state.specs.Steps.{IsFirm, Makes, SameWorld};
 ghost use Rattle.geo_mesh.specs.Topo.{with_topology};
 ghost use Rattle.geo_model.specs.Topology.{note_started};
 ghost use Rattle.geo_requests.specs.Started.{HasStarted};
-ghost use Rattle.geo_requests.specs.Ways.{CanCount, CanGoDown, IsCut, IsModelWay};
+ghost use Rattle.geo_requests.specs.Ways.{CanCount, IsCut, IsModelWay};
 
 use crate::cut::Cut;
 use crate::way::{Way, way_of};
 use geo_base::{BioId, Errno, GeomId, NoMemory};
-use geo_class::Config;
-use geo_mesh::Topo;
 use geo_model::Outcome;
-use geo_state::{State, Traffic, bounce, send, split};
+use geo_state::{State, bounce, send, split};
 use std::alloc::Global;
 
 /// A bio that is Down goes its way: back with an error, to its disk, or in pieces to those below. What can't be
@@ -36,28 +34,14 @@ pub fn start(alloc: Global, state: &mut State, bio: BioId) -> Result<Outcome, No
     ensures same { OnErr result (SameWorld state.old state.new) }
     ensures logged { (log : List Entry) → HasBytes log state.old → HasBytes log state.new }
 {
-    let way = way_of_bio(alloc, &state.topo, &state.traffic, bio)?;
+    let Some(found) = state.traffic.get(bio) else {
+        return Err(NoMemory);
+    };
+    let way = way_of(alloc, &state.topo, found)?;
     go(alloc, state, bio, way)
 }
 
-// The way of a bio of the table.
-fn way_of_bio(
-    alloc: Global,
-    topo: &Topo<Config>,
-    bios: &Traffic,
-    bio: BioId,
-) -> Result<Way, NoMemory>
-    requires { IfSome (bio_among bios.now.bios bio) (λ x. CanGoDown topo.now.topology x) }
-    ensures { IfSome (bio_among bios.now.bios bio) (λ x. IfOk result (λ way.
-        IsModelWay topo.now.topology way (way_of topo.now.topology x))) }
-{
-    match bios.get(bio) {
-        Some(found) => way_of(alloc, topo, found),
-        None => Err(NoMemory),
-    }
-}
-
-// A bio goes a way.
+// A bio goes a way: back with an error, also as one that a NOP geom counts and fails, to its disk, or in pieces.
 fn go(alloc: Global, state: &mut State, bio: BioId, way: Way) -> Result<Outcome, NoMemory>
     requires kept { Holds state.old }
     requires firm { IsFirm state.old }
@@ -71,50 +55,22 @@ fn go(alloc: Global, state: &mut State, bio: BioId, way: Way) -> Result<Outcome,
     ensures bios_stay { OnErr result (state.new.traffic.bios ≡ state.old.traffic.bios) }
 {
     match way {
-        Way::Bounces(errno) => Ok(bounce_off(state, bio, errno)),
-        Way::Fails(geom) => Ok(fail_at(state, bio, geom)),
-        Way::Sends(disk) => Ok(send_down(state, bio, disk)),
+        Way::Bounces(errno) => {
+            bounce(state, bio, errno);
+            Ok(Outcome::Bounced)
+        }
+        Way::Fails(geom) => {
+            note_started(state, geom);
+            bounce(state, bio, Errno::EIO);
+            Ok(Outcome::Bounced)
+        }
+        Way::Sends(disk) => {
+            send(state, bio);
+            Ok(Outcome::Queued { disk })
+        }
         Way::Splits(cut) => split_by(alloc, state, bio, &cut),
         Way::Passes(geom, cut) => pass_by(alloc, state, bio, geom, &cut),
     }
-}
-
-// A bio goes back with an error.
-fn bounce_off(state: &mut State, bio: BioId, errno: Errno) -> Outcome
-    requires kept { Holds state.old }
-    requires down { IsTrue (has_phase is_down state.old.traffic.bios bio) }
-    ensures started { IfSome (bio_among state.old.traffic.bios bio) (λ x.
-        HasStarted state.old state.new bio x (Bounces errno) result) }
-    ensures kept { Holds state.new }
-{
-    bounce(state, bio, errno);
-    Outcome::Bounced
-}
-
-// A NOP geom counts a bio and fails it.
-fn fail_at(state: &mut State, bio: BioId, geom: GeomId) -> Outcome
-    requires kept { Holds state.old }
-    requires down { IsTrue (has_phase is_down state.old.traffic.bios bio) }
-    requires count { CanCount state.old.topo.topology geom }
-    ensures started { IfSome (bio_among state.old.traffic.bios bio) (λ x.
-        HasStarted state.old state.new bio x (Fails geom) result) }
-    ensures kept { Holds state.new }
-{
-    note_started(state, geom);
-    bounce(state, bio, Errno::EIO);
-    Outcome::Bounced
-}
-
-// A bio goes to its disk.
-fn send_down(state: &mut State, bio: BioId, disk: u32) -> Outcome
-    requires kept { Holds state.old }
-    requires down { IsTrue (has_phase is_down state.old.traffic.bios bio) }
-    ensures started { IfSome (bio_among state.old.traffic.bios bio) (λ x.
-        HasStarted state.old state.new bio x (Sends disk) result) }
-    ensures kept { Holds state.new }
-{
-    send(state, bio);
-    Outcome::Queued { disk }
 }
 
 // A bio is split into its pieces.

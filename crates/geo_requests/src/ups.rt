@@ -1,21 +1,22 @@
 //! A request goes up to its owner (g_io_deliver, g_bio(9)).
-ghost use Rattle.std.specs.Prelude.{◌≡◌, ◌+◌, ◌≤◌, List, IfOk, OnErr, IsTrue};
+ghost use Rattle.std.specs.Prelude.{◌≡◌, ◌+◌, ◌≤◌, List, IfOk, IfSome, OnErr, IsTrue};
 ghost use Rattle.geo_model.specs.declared.step.Entry.{Entry};
 ghost use Rattle.geo_model.specs.World.{bio_at, is_up, bio_among};
+ghost use Rattle.geo_model.specs.Bios.{reply_of_result};
 ghost use Rattle.geo_model.specs.Step.{up_of};
 ghost use Rattle.geo_bio.specs.BioTable.{has_phase};
 ghost use Rattle.geo_state.specs.Holds.{Holds};
 ghost use Rattle.geo_state.specs.World.{HasBytes};
 ghost use Rattle.geo_state.specs.Steps.{IsFirm, Makes, SameWorld};
 ghost use Rattle.geo_requests.specs.Returned.{is_taste_read, steps_up};
+ghost use Rattle.geo_requests.specs.Risen.{outcome_of_rise, owner_line};
 
 use crate::returns::hand_back;
-use crate::rises::rise;
 use geo_access::Steps;
 use geo_base::{BioId, NoMemory};
 use geo_log::Log;
-use geo_model::{Outcome, Owner};
-use geo_state::{State, Traffic};
+use geo_model::{BioResult, Outcome, Owner, Reply};
+use geo_state::{Risen, State, Traffic};
 use std::alloc::Global;
 use std::sync::ledger::Ledger;
 
@@ -43,7 +44,9 @@ pub fn up<L: Ledger>(
     if is_taste_read(&state.traffic, bio) {
         return hand_back(alloc, state, log, bio, steps);
     }
-    rise(alloc, state, log, bio)
+    let line = line_of(&state.traffic, bio);
+    let risen = geo_state::up(state, alloc, bio, log)?;
+    Ok(outcome_of(line, risen))
 }
 
 // Whether a bio is the taste's read.
@@ -56,5 +59,42 @@ fn is_taste_read(bios: &Traffic, bio: BioId) -> bool
             _ => false,
         },
         None => false,
+    }
+}
+
+// The line that a root answers.
+fn line_of(bios: &Traffic, bio: BioId) -> u32
+    ensures { IfSome (bio_among bios.now.bios bio) (λ x. result ≡ owner_line x.owner) }
+{
+    match bios.get(bio) {
+        Some(found) => match found.owner {
+            Owner::Line { line, .. } => line,
+            _ => 0,
+        },
+        None => 0,
+    }
+}
+
+// What comes of a rise.
+fn outcome_of(line: u32, risen: Risen) -> Outcome
+    ensures { result ≡ outcome_of_rise line risen }
+{
+    match risen {
+        Risen::InParent { parent, complete } => Outcome::Gathered { parent, complete },
+        Risen::Root(got) => Outcome::Replied {
+            line,
+            reply: reply_of(got),
+        },
+    }
+}
+
+// A result as the reply to a line.
+fn reply_of(got: BioResult) -> Reply
+    ensures { result ≡ reply_of_result got }
+{
+    match got {
+        BioResult::Done => Reply::Ok,
+        BioResult::Bytes(bytes) => Reply::Bytes(bytes),
+        BioResult::Failed(errno) => Reply::Refused(errno),
     }
 }

@@ -1,28 +1,59 @@
+use Rattle.std.proofs.Common.{sym, subst}
+use Rattle.std.specs.Prelude.{IsTrue}
+use Rattle.geo_base.proofs.Options.{if-any}
+use Rattle.geo_model.specs.declared.step.Outcome.TheVariants as outcomes
+use Rattle.geo_model.specs.World.{is_down, bio_among}
 use Rattle.geo_model.specs.Bios.{Bounces, Fails, Sends, Splits, Passes}
+use Rattle.geo_bio.specs.BioTable.{has_phase}
+use Rattle.geo_state.specs.declared.state.State.{State}
+use Rattle.geo_requests.specs.Started.{HasStarted}
 use Rattle.geo_requests.proofs.Going.{went_at_once, went_by, split_well, pass_well, fails_there, fails_counted, passes_there, passes_counted}
+use Rattle.geo_requests.proofs.Parting.{bounced_started, failed_started, sent_started}
 use Rattle.geo_requests.proofs.starts.go.Goals as goal
 
 -- for each way: the way that was found is the model's, and so is what the bio did
 pub returns-in-Bounces-clause-started : goal.returns-in-Bounces-clause-started
 returns-in-Bounces-clause-started c =
-    went_at_once c.args.state.now c.bounce_off.new.state c.args.bio (Bounces c.in-Bounces.errno) c.bounce_off.result
-    (rw c.in-Bounces.is at c.requires.way) c.bounce_off.ensures.started
+    let s = c.args.state.now in
+    let new = c.bounce.new.state in
+    let b = c.args.bio in
+    let e = c.in-Bounces.errno in
+    went_at_once s new b (Bounces e) outcomes.Bounced (rw c.in-Bounces.is at c.requires.way)
+    (if-any (bio_among s.traffic.bios b) (λ x. HasStarted s new b x (Bounces e) outcomes.Bounced)
+    (λ x. bounced_started s new b x e c.bounce.ensures.bounced))
 
 -- a way that fails was only found where one more request can be counted at the geom
-pub fail_at-requires-clause-count : goal.fail_at-requires-clause-count
-fail_at-requires-clause-count c =
+pub note_started-requires-clause-count : goal.note_started-requires-clause-count
+note_started-requires-clause-count c =
     fails_counted c.args.state.now c.args.bio c.in-Fails.geom (rw c.in-Fails.is at c.requires.way) c.requires.down
 
+-- what is counted at the geom changes no bio
+pub bounce-requires-in-Fails-clause-down : goal.bounce-requires-in-Fails-clause-down
+bounce-requires-in-Fails-clause-down c =
+    subst (λ (z : State). IsTrue (has_phase is_down z.traffic.bios c.args.bio)) (sym c.note_started.ensures.noted)
+    c.requires.down
+
+-- counting and bouncing touch different parts, so together they are what the model does
 pub returns-in-Fails-clause-started : goal.returns-in-Fails-clause-started
 returns-in-Fails-clause-started c =
-    went_at_once c.args.state.now c.fail_at.new.state c.args.bio (Fails c.in-Fails.geom) c.fail_at.result
-    (fails_there c.args.state.now c.args.bio c.in-Fails.geom (rw c.in-Fails.is at c.requires.way))
-    c.fail_at.ensures.started
+    let s = c.args.state.now in
+    let new = c.bounce-in-Fails.new.state in
+    let b = c.args.bio in
+    let g = c.in-Fails.geom in
+    went_at_once s new b (Fails g) outcomes.Bounced (fails_there s b g (rw c.in-Fails.is at c.requires.way))
+    (if-any (bio_among s.traffic.bios b) (λ x. HasStarted s new b x (Fails g) outcomes.Bounced)
+    (λ x. failed_started s c.note_started.new.state new b x g c.note_started.ensures.noted
+    c.bounce-in-Fails.ensures.bounced))
 
 pub returns-in-Sends-clause-started : goal.returns-in-Sends-clause-started
 returns-in-Sends-clause-started c =
-    went_at_once c.args.state.now c.send_down.new.state c.args.bio (Sends c.in-Sends.disk) c.send_down.result
-    (rw c.in-Sends.is at c.requires.way) c.send_down.ensures.started
+    let s = c.args.state.now in
+    let new = c.send.new.state in
+    let b = c.args.bio in
+    let disk = c.in-Sends.disk in
+    went_at_once s new b (Sends disk) (outcomes.Queued disk) (rw c.in-Sends.is at c.requires.way)
+    (if-any (bio_among s.traffic.bios b) (λ x. HasStarted s new b x (Sends disk) (outcomes.Queued disk))
+    (λ x. sent_started s new b x disk c.send.ensures.sent))
 
 -- for both cuts: the model's has a piece at least, a target for each, and goes through no handle's consumer
 pub split_by-requires : goal.split_by-requires

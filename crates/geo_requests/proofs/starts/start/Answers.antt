@@ -1,9 +1,30 @@
-use Rattle.std.proofs.Common.{length}
-use Rattle.geo_requests.proofs.Going.{can_go, start_made, start_logged}
+use Rattle.std.proofs.Common.{length, sym, subst, ◌∙◌}
+use Rattle.geo_base.proofs.Options.{if-with}
+use Rattle.geo_model.specs.Bios.{Way, way_of}
+use Rattle.geo_model.specs.World.{bio_among}
+use Rattle.geo_bio.specs.Rows.{as_bio}
+use Rattle.geo_requests.specs.Ways.{IsModelWay}
+use Rattle.geo_requests.proofs.Going.{start_made, start_logged}
+use Rattle.geo_requests.proofs.Started.{can_go_down}
+use Rattle.geo_requests.proofs.Ways.{way_plain}
 use Rattle.geo_requests.proofs.starts.start.Goals as goal
 
-pub way_of_bio-requires : goal.way_of_bio-requires
-way_of_bio-requires c = can_go c.args.state.now c.requires.firm c.args.bio
+-- a bio that is there can go down
+pub way_of-requires : goal.way_of-requires
+way_of-requires c =
+    can_go_down c.args.state.now c.requires.firm c.args.bio (as_bio c.args.bio c.in-Some.found.now)
+    (sym c.in-Some.ensures.found)
+
+-- what was found is the bio of the number, of which its way tells nothing
+pub go-requires-clause-way : goal.go-requires-clause-way
+go-requires-clause-way c =
+    let s = c.args.state.now in
+    let t = s.topo.topology in
+    if-with (bio_among s.traffic.bios c.args.bio) (λ x. IsModelWay t c.in_ok-way.way (way_of t x))
+    (as_bio c.args.bio c.in-Some.found.now) (sym c.in-Some.ensures.found)
+    (subst (λ (way : Way). IsModelWay t c.in_ok-way.way way)
+    (way_plain t (as_bio 0 c.in-Some.found.now) ∙ sym (way_plain t (as_bio c.args.bio c.in-Some.found.now)))
+    c.in_ok-way.ensures)
 
 -- the bio is found Down in the world too, and went the way that the model tells
 pub returns-clause-made : goal.returns-clause-made
