@@ -120,10 +120,11 @@ pub fn owed_after(state: &State, decision: &Decision) -> u64
     owed_by(places_owed(state), decision)
 }
 
-// How many places of the log are owed.
-fn places_owed(state: &State) -> u64
+/// How many places of the log are owed: one for the close of each handle, one for the Deliver of each Busy bio.
+pub fn places_owed(state: &State) -> u64
     requires { places_owed state.now < 2 ^ 63 }
-    ensures { result ≡ places_owed state.now }
+    ensures owed { result ≡ places_owed state.now }
+    ensures few { result < 2 ^ 63 }
 {
     state.handles.len() + state.traffic.busy()
 }

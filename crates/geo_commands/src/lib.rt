@@ -5,9 +5,9 @@
 //! (`does`), in a firm world, and keeps `Holds` (`kept`). Where memory is wanting the world stays the same (`same`).
 //!
 //! [`wait_found`] tells what a sync or a settle waits for. [`decide`] tells what refuses an open, and whether a close
-//! is answered ok. [`owed_after`] is how many places of the log are then owed. Each is as the model has it, and
-//! nothing changes. [`do_command`] is the model's command of the line; a close that is answered ok takes no memory
-//! (`no_memory`).
+//! is answered ok. [`places_owed`] is how many places of the log are owed, and [`owed_after`] how many are after it.
+//! Each is as the model has it, and nothing changes. [`do_command`] is the model's command of the line; a close that
+//! is answered ok takes no memory (`no_memory`).
 //!
 //! - [`stand`], [`insert`]: a disk of the header stands as a geom with a provider of its name (disk(9)); `insert` is
 //!   refused exactly as the model has it.
@@ -57,12 +57,12 @@ pub use appends::{append, join_component, longer};
 pub use below::{
     Below, all_named, any_errored, below_named, have_sector, rank_below, sector_below,
 };
-pub use decisions::{Decision, decide, owed_after};
+pub use decisions::{Decision, decide, owed_after, places_owed};
 pub use destroys::{destroy, pull};
 pub use dispatch::do_command;
 pub use geo_opens::{reap, reap_found};
 pub use geo_requests::{
-    deliver, deliver_found, start, start_found, take, take_found, up, up_found,
+    deliver, deliver_found, disk_at, sector_at, start, start_found, take, take_found, up, up_found,
 };
 pub use geoms::listing;
 pub use growths::{append_refusal, grow_provider, join_new};

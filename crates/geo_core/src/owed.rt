@@ -1,30 +1,20 @@
 //! The places of the log that are owed after a step.
-ghost use Rattle.std.specs.Prelude.{◌≡◌, ◌<◌, ◌^◌, Some};
+ghost use Rattle.std.specs.Prelude.{◌≡◌};
 ghost use Rattle.geo_state.specs.Holds.{Holds};
 ghost use Rattle.geo_state.specs.Steps.{IsFirm};
 ghost use Rattle.geo_core.specs.Left.{AreNext};
 ghost use Rattle.geo_core.specs.Mesh.{world_of};
 ghost use Rattle.geo_core.specs.Running.{seen, IsMesh};
-ghost use Rattle.geo_commands.specs.Decisions.{places_owed};
 ghost use Rattle.geo_core.specs.Goes.{IsReady, IsOwedAfter};
 
 use crate::left::Left;
 use crate::running::Running;
 use geo_access::Steps;
-use geo_commands::{Decision, decide, owed_after};
+use geo_commands::{Decision, decide, owed_after, places_owed};
 use geo_model::Step;
 use geo_script::Plan;
 use geo_state::State;
 use std::sync::ledger::Ledger;
-
-/// How many places are owed: one for the close of each handle, one for the Deliver of each Busy bio.
-fn owed(state: &State) -> u64
-    requires { places_owed state.now < 2 ^ 63 }
-    ensures owed { result ≡ places_owed state.now }
-    ensures few { result < 2 ^ 63 }
-{
-    state.handles.len() + state.traffic.busy()
-}
 
 /// What is decided of the command of a Go. Nothing changes.
 pub fn decide_step<L: Ledger>(
@@ -55,7 +45,7 @@ pub fn places_after(running: &Running, step: &Step, decision: &Option<Decision>)
     requires ready { IsReady running.now.plan.commands running.now.left running.now.state step.now decision.now }
     ensures { IsOwedAfter (world_of (seen running.now)) step.now result }
 {
-    let now = owed(&running.state);
+    let now = places_owed(&running.state);
     match step {
         Step::Go { .. } => match decision {
             Some(decision) => owed_after(&running.state, decision),

@@ -9,10 +9,10 @@ ghost use Rattle.geo_core.specs.Mesh.{bytes_read, world_of};
 ghost use Rattle.geo_core.specs.Running.{seen, is_idle, is_none_left, IsMesh};
 
 use crate::running::Running;
-use geo_base::{BioCmd, BioId, ProvId};
+use geo_base::{BioCmd, BioId};
 use geo_bio::Bio;
-use geo_mesh::Topo;
-use geo_state::{Config, State};
+use geo_commands::disk_at;
+use geo_state::State;
 
 /// Whether no command, bio, event or taste is left.
 pub fn is_idle(running: &Running) -> bool
@@ -39,19 +39,6 @@ pub fn disk_of(running: &Running, bio: BioId) -> u32
     match running.state.traffic.get(bio) {
         Some(found) => disk_at(&running.state.topo, found.to).unwrap_or(0),
         None => 0,
-    }
-}
-
-/// The disk of a provider, if it is one of a DISK geom.
-pub fn disk_at(topo: &Topo<Config>, prov: ProvId) -> Option<u32>
-    ensures { result ≡ disk_at topo.now.topology prov }
-{
-    match topo.provider(prov) {
-        Some(found) => match topo.geom(found.geom) {
-            Some(geom) => geom.config.disk_of(),
-            None => None,
-        },
-        None => None,
     }
 }
 

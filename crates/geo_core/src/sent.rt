@@ -1,21 +1,17 @@
 //! Where a bio goes that waits for its disk.
 ghost use Rattle.std.specs.Prelude.{◌≡◌, ◌<◌, ◌^◌};
-ghost use Rattle.geo_model.specs.Bios.{sector_at};
 ghost use Rattle.geo_bio.specs.Rows.{as_bio as bio_seen};
 ghost use Rattle.geo_core.specs.Mesh.{world_of};
 ghost use Rattle.geo_core.specs.Running.{seen, IsMesh};
 ghost use Rattle.geo_core.specs.Sent.{spot_in, spot_of};
 
-use crate::rest::disk_at;
 use crate::running::Running;
-use geo_base::{BioCmd, BioId, ProvId};
+use geo_base::{BioCmd, BioId};
 use geo_bio::Bio;
+use geo_commands::{disk_at, sector_at};
 use geo_mesh::Topo;
 use geo_model::Phase;
 use geo_state::Config;
-
-// The size of a sector where none is known.
-const SECTOR: u32 = 512;
 
 /// What a bio that waits for its disk will have the disk asked for: its command, and the sector at which it begins.
 #[derive(Clone, Copy, Debug, PartialEq, Eq)]
@@ -54,16 +50,5 @@ fn spot_in(topo: &Topo<Config>, bio: &Bio) -> Option<Spot>
             first: bio.span.offset / u64::from(sector_at(topo, bio.to)),
         }),
         None => None,
-    }
-}
-
-// The sector size of a provider.
-fn sector_at(topo: &Topo<Config>, prov: ProvId) -> u32
-    ensures sector { result ≡ sector_at topo.now.topology prov }
-    ensures some { 0 < result }
-{
-    match topo.provider(prov) {
-        Some(found) => found.sector,
-        None => SECTOR,
     }
 }

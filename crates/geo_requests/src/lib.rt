@@ -12,6 +12,7 @@
 //!   line. The read of a taste is handed to the taste, which gives back what it was granted.
 //! - [`request`], [`write_record`]: a request through a handle is refused exactly as the definitions say, in their
 //!   order, and else becomes one bio. A record is a WRITE at the last sector of the handle's provider.
+//! - [`disk_at`], [`sector_at`]: the disk of a provider, if it is one of a DISK geom, and the size of its sectors.
 //!
 //! There are no tests of its own: geo_tests_program and `rows/` run it. geo_commands calls it and hands its steps on
 //! to geo_core. Read `src/starts.rt`, `src/serve.rt` and `src/ups.rt` in this order.
@@ -29,6 +30,7 @@ mod starts;
 mod ups;
 mod way;
 
+pub use disk::{disk_at, sector_at};
 pub use found::{deliver_found, start_found, take_found, up_found};
 pub use geo_taste::{NewGeom, Offer, build};
 pub use mark::Mark;

@@ -7,5 +7,5 @@ use Rattle.geo_commands.proofs.decisions.owed_after.Goals as goal
 pub returns : goal.returns
 returns c actors log line actor command decided =
     c.owed_by.ensures
-    ∙ ap (λ n. owed_by n c.args.decision.now) c.places_owed.ensures
+    ∙ ap (λ n. owed_by n c.args.decision.now) c.places_owed.ensures.owed
     ∙ owes_after c.args.state.now c.requires.kept c.args.decision.now actors log line actor command decided

@@ -7,8 +7,8 @@ use Rattle.geo_core.proofs.Making.{ready_go}
 use Rattle.geo_core.proofs.Owing.{owed_few, owed_go, owed_none, owed_take, owed_deliver, owed_event, owed_judge, owed_reap, owed_wash, owed_start, owed_up}
 use Rattle.geo_core.proofs.owed.places_after.Goals as goal
 
-pub owed-now-requires : goal.owed-now-requires
-owed-now-requires c = owed_few c.args.running.now c.requires.mesh
+pub places_owed-now-requires : goal.places_owed-now-requires
+places_owed-now-requires c = owed_few c.args.running.now c.requires.mesh
 
 pub owed_after-requires-clause-few : goal.owed_after-requires-clause-few
 owed_after-requires-clause-few c = owed_few c.args.running.now c.requires.mesh
@@ -26,16 +26,16 @@ pub returns-in-None : goal.returns-in-None
 returns-in-None c =
     let r = c.args.running.now in
     let ready = ready_go r.plan.commands r.left r.state c.in-Go.is c.in-None.is c.requires.ready in
-    subst (λ (st : Step). IsOwedAfter (world_of (seen r)) st c.owed-now.result) (sym c.in-Go.is)
-    (owed_none r c.requires.mesh c.in-Go.actor c.owed-now.result ready)
+    subst (λ (st : Step). IsOwedAfter (world_of (seen r)) st c.places_owed-now.result) (sym c.in-Go.is)
+    (owed_none r c.requires.mesh c.in-Go.actor c.places_owed-now.result ready)
 
 -- a Take makes a bio Busy, whose Deliver is owed from now on
 pub returns-in-Take : goal.returns-in-Take
 returns-in-Take c =
     let r = c.args.running.now in
-    subst (λ (st : Step). IsOwedAfter (world_of (seen r)) st (c.owed-now.result + 1)) (sym c.in-Take.is)
-    (owed_take r c.requires.mesh c.in-Take.disk c.in-Take.bio (c.owed-now.result + 1)
-    (ap (λ n. n + 1) c.owed-now.ensures.owed))
+    subst (λ (st : Step). IsOwedAfter (world_of (seen r)) st (c.places_owed-now.result + 1)) (sym c.in-Take.is)
+    (owed_take r c.requires.mesh c.in-Take.disk c.in-Take.bio (c.places_owed-now.result + 1)
+    (ap (λ n. n + 1) c.places_owed-now.ensures.owed))
 
 -- a Deliver that is enabled pays one of the places, so there is one
 pub returns-in-Deliver : goal.returns-in-Deliver
@@ -43,41 +43,41 @@ returns-in-Deliver c =
     let r = c.args.running.now in
     subst (λ (st : Step). IsOwedAfter (world_of (seen r)) st c.saturating_sub.result) (sym c.in-Deliver.is)
     (owed_deliver r c.requires.mesh c.in-Deliver.bio c.saturating_sub.result c.in-Deliver.got
-    (let less = c.saturating_sub.ensures in let same = c.owed-now.ensures.owed in omega (arith, less, same)))
+    (let less = c.saturating_sub.ensures in let same = c.places_owed-now.ensures.owed in omega (arith, less, same)))
 
 -- Each other step: it begins to owe no place, and pays none
 pub returns-in-Event : goal.returns-in-Event
 returns-in-Event c =
     let r = c.args.running.now in
-    subst (λ (st : Step). IsOwedAfter (world_of (seen r)) st c.owed-now.result) (sym c.in-Event.is)
-    (owed_event r c.requires.mesh c.owed-now.result c.owed-now.ensures.owed)
+    subst (λ (st : Step). IsOwedAfter (world_of (seen r)) st c.places_owed-now.result) (sym c.in-Event.is)
+    (owed_event r c.requires.mesh c.places_owed-now.result c.places_owed-now.ensures.owed)
 
 pub returns-in-Judge : goal.returns-in-Judge
 returns-in-Judge c =
     let r = c.args.running.now in
-    subst (λ (st : Step). IsOwedAfter (world_of (seen r)) st c.owed-now.result) (sym c.in-Judge.is)
-    (owed_judge r c.requires.mesh c.owed-now.result c.owed-now.ensures.owed)
+    subst (λ (st : Step). IsOwedAfter (world_of (seen r)) st c.places_owed-now.result) (sym c.in-Judge.is)
+    (owed_judge r c.requires.mesh c.places_owed-now.result c.places_owed-now.ensures.owed)
 
 pub returns-in-Reap : goal.returns-in-Reap
 returns-in-Reap c =
     let r = c.args.running.now in
-    subst (λ (st : Step). IsOwedAfter (world_of (seen r)) st c.owed-now.result) (sym c.in-Reap.is)
-    (owed_reap r c.requires.mesh c.owed-now.result c.owed-now.ensures.owed)
+    subst (λ (st : Step). IsOwedAfter (world_of (seen r)) st c.places_owed-now.result) (sym c.in-Reap.is)
+    (owed_reap r c.requires.mesh c.places_owed-now.result c.places_owed-now.ensures.owed)
 
 pub returns-in-Wash : goal.returns-in-Wash
 returns-in-Wash c =
     let r = c.args.running.now in
-    subst (λ (st : Step). IsOwedAfter (world_of (seen r)) st c.owed-now.result) (sym c.in-Wash.is)
-    (owed_wash r c.requires.mesh c.owed-now.result c.owed-now.ensures.owed)
+    subst (λ (st : Step). IsOwedAfter (world_of (seen r)) st c.places_owed-now.result) (sym c.in-Wash.is)
+    (owed_wash r c.requires.mesh c.places_owed-now.result c.places_owed-now.ensures.owed)
 
 pub returns-in-Start : goal.returns-in-Start
 returns-in-Start c =
     let r = c.args.running.now in
-    subst (λ (st : Step). IsOwedAfter (world_of (seen r)) st c.owed-now.result) (sym c.in-Start.is)
-    (owed_start r c.requires.mesh c.in-Start.bio c.owed-now.result c.owed-now.ensures.owed)
+    subst (λ (st : Step). IsOwedAfter (world_of (seen r)) st c.places_owed-now.result) (sym c.in-Start.is)
+    (owed_start r c.requires.mesh c.in-Start.bio c.places_owed-now.result c.places_owed-now.ensures.owed)
 
 pub returns-in-Up : goal.returns-in-Up
 returns-in-Up c =
     let r = c.args.running.now in
-    subst (λ (st : Step). IsOwedAfter (world_of (seen r)) st c.owed-now.result) (sym c.in-Up.is)
-    (owed_up r c.requires.mesh c.in-Up.bio c.owed-now.result c.owed-now.ensures.owed)
+    subst (λ (st : Step). IsOwedAfter (world_of (seen r)) st c.places_owed-now.result) (sym c.in-Up.is)
+    (owed_up r c.requires.mesh c.in-Up.bio c.places_owed-now.result c.places_owed-now.ensures.owed)
