@@ -31,7 +31,7 @@ use Rattle.geo_core.specs.declared.running.Running.{Running}
 use Rattle.geo_core.specs.declared.twin.Spare.{Spare}
 use Rattle.geo_core.specs.Goes.{IsAdmitted, IsOwedAfter, HasRoomFor, PaysOff}
 use Rattle.geo_core.specs.Left.{left_of}
-use Rattle.geo_core.specs.Mesh.{MeshView, world_of, entry_of, Made, Refuses, Applies, IsSure}
+use Rattle.geo_core.specs.Mesh.{MeshView, world_of, entry_of, Made, Refuses, Applies, Advances, IsSure}
 use Rattle.geo_core.specs.Moves.{IsFound}
 use Rattle.geo_core.specs.Running.{seen, IsMesh}
 use Rattle.geo_core.specs.Twins.{HasOutcome, EndsWith}
@@ -166,12 +166,19 @@ refused_memory old mid new seat st d is same admitted stays =
     subst (λ (v : MeshView). Refuses refusals.NoMemory v new seat st) same
     (enabled mid is seat st admitted.found, admitted.place, stays)
 
--- what a call that was refused so answers
+-- what a call that was refused so answers, where it answers an outcome and where it doesn't
 pub applies_refusal : (result : Result Outcome ApplyRefusal) (refusal : ApplyRefusal) (old new : MeshView) (seat : ℕ)
     (st : Step)
     → IsErrAnd result (λ x. x ≡ refusal) → Refuses refusal old new seat st → Applies result old new seat st
 applies_refusal (Ok o) refusal old new seat st is refuses = absurd is
 applies_refusal (Err x) refusal old new seat st is refuses =
+    subst (λ (y : ApplyRefusal). Refuses y old new seat st) (sym is) refuses
+
+pub advances_refusal : (result : Result (Unit {0}) ApplyRefusal) (refusal : ApplyRefusal) (old new : MeshView)
+    (seat : ℕ) (st : Step)
+    → IsErrAnd result (λ x. x ≡ refusal) → Refuses refusal old new seat st → Advances result old new seat st
+advances_refusal (Ok done) refusal old new seat st is refuses = absurd is
+advances_refusal (Err x) refusal old new seat st is refuses =
     subst (λ (y : ApplyRefusal). Refuses y old new seat st) (sym is) refuses
 
 -- the last entry's outcome is there once more

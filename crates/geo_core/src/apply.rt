@@ -56,14 +56,9 @@ pub fn advance<L: Ledger>(
     ensures sure { IsSure (world_of (seen running.old)) seat step → IsOk result }
 {
     let mut steps: Steps<L> = Steps::new(blank);
-    let decision = match admit(running, seat, &step, &mut steps) {
-        Ok(decision) => decision,
-        Err(refusal) => return Err(refusal),
-    };
-    match carry(alloc, running, seat, step, decision, &mut steps) {
-        Ok(()) => Ok(()),
-        Err(NoMemory) => Err(ApplyRefusal::NoMemory),
-    }
+    let decision = admit(running, seat, &step, &mut steps)?;
+    carry(alloc, running, seat, step, decision, &mut steps)?;
+    Ok(())
 }
 
 /// Makes a step of a seat, keeps it in the log, and answers its outcome. What takes memory is copied before the step.

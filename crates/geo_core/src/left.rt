@@ -1,5 +1,5 @@
 //! Which commands each actor has left.
-ghost use Rattle.std.specs.Prelude.{◌≡◌, ◌==◌, ◌≤◌, length, map, IfOk, IsOk, MatchResult, Ok, Err, option_copied, slice_get, slice_set};
+ghost use Rattle.std.specs.Prelude.{◌≡◌, ◌==◌, ◌≤◌, length, map, IfOk, IsOk, MatchResult, Ok, Err, slice_get, slice_set};
 ghost use Rattle.std.specs.List.{list_all, range_with_len};
 ghost use Rattle.geo_model.specs.World.{commands_of};
 ghost use Rattle.geo_core.specs.Left.{commands_from, left_of, next_command_of, rest_of, AreNext, IsNext};
@@ -57,7 +57,7 @@ impl Left {
         let Some(place) = self.place_of(actor) else {
             return Err(Found::NoSuchActor);
         };
-        match command_at(plan.commands(), place) {
+        match plan.commands().get(place) {
             Some(command) => Ok(command),
             None => Err(Found::NoCommand),
         }
@@ -91,13 +91,6 @@ fn are_all(places: &[usize], end: usize) -> bool
     ensures { result ≡ list_all (λ place. place == end) places.now }
 {
     places.iter().all(|place| *place == end)
-}
-
-// The command at a place, if there is one.
-fn command_at(commands: &[LineCommand], place: usize) -> Option<&LineCommand>
-    ensures { option_copied result ≡ slice_get commands.now place }
-{
-    commands.get(place)
 }
 
 // The place of the actor's first command from a place on, or the number of the commands.

@@ -73,6 +73,12 @@ pub read_none : (text : List ℕ) → rest_read empty_plan 0 text ≡ script tex
 unfolding script
 read_none text = refl
 
+-- no line is left
+pub read_end : (plan : Plan) (n : ℕ) (rest : List ℕ) (all : Result Plan Fault) → length rest ≡ 0
+    → rest_read plan n rest ≡ all → all ≡ Ok plan
+read_end plan n [] all e whole = sym whole
+read_end plan n (b ∷ bs) all e whole = absurd (omega arith)
+
 -- a line isn't read
 pub read_refused : (plan new : Plan) (refusal : ParseRefusal) (n : ℕ) (rest line behind : List ℕ)
     (all : Result Plan Fault) →
