@@ -25,14 +25,7 @@ pub found_at : (commands : List LineCommand) (left : List ℕ) (s : State) (seat
     → against (step (world (left_of commands left) log s) seat st) ≡ f
 unfolding step
 found_at commands left s seat (steps.Go actor) f is log = is log
-found_at commands left s seat steps.Event f is log = is (left_of commands left) log
-found_at commands left s seat steps.Judge f is log = is (left_of commands left) log
-found_at commands left s seat steps.Reap f is log = is (left_of commands left) log
-found_at commands left s seat steps.Wash f is log = is (left_of commands left) log
-found_at commands left s seat (steps.Start b) f is log = is (left_of commands left) log
-found_at commands left s seat (steps.Take disk b) f is log = is (left_of commands left) log
-found_at commands left s seat (steps.Deliver b got) f is log = is (left_of commands left) log
-found_at commands left s seat (steps.Up b) f is log = is (left_of commands left) log
+found_at commands left s seat st f is log = is (left_of commands left) log
 
 -- what was found is what the step answers
 pub found_some : (a : Answer) (f : Found) → against a ≡ Some f → a ≡ Err f

@@ -148,13 +148,7 @@ sure_pays r is seat (steps.Go actor) closes =
     ap (λ (o : Option LineCommand). count (is_answered_ok is_open o out)) closes.is_next
     ∙ ap count answered.1 in
     record { after = closes.after; outcome = out; does = closes.is_ok; less = omega (arith, changes, paid, begun) }
-sure_pays r is seat steps.Event sure = absurd sure
-sure_pays r is seat steps.Judge sure = absurd sure
-sure_pays r is seat steps.Reap sure = absurd sure
-sure_pays r is seat steps.Wash sure = absurd sure
-sure_pays r is seat (steps.Start b) sure = absurd sure
-sure_pays r is seat (steps.Take disk b) sure = absurd sure
-sure_pays r is seat (steps.Up b) sure = absurd sure
+sure_pays r is seat st sure = absurd sure
 
 -- the answer, by what came
 

@@ -87,13 +87,7 @@ sure_is : (w : World) (seat : ℕ) (s : Step) → is_sure w seat s ≡ true → 
 unfolding is_sure
 sure_is w seat (steps.Deliver bio got) e = e
 sure_is w seat (steps.Go actor) e = closes_ok w seat actor e
-sure_is w seat steps.Event e = absurd (let bad : ⊥ = cc in bad)
-sure_is w seat steps.Judge e = absurd (let bad : ⊥ = cc in bad)
-sure_is w seat steps.Reap e = absurd (let bad : ⊥ = cc in bad)
-sure_is w seat steps.Wash e = absurd (let bad : ⊥ = cc in bad)
-sure_is w seat (steps.Start bio) e = absurd (let bad : ⊥ = cc in bad)
-sure_is w seat (steps.Take disk bio) e = absurd (let bad : ⊥ = cc in bad)
-sure_is w seat (steps.Up bio) e = absurd (let bad : ⊥ = cc in bad)
+sure_is w seat s e = absurd (let bad : ⊥ = cc in bad)
 
 -- so it isn't refused for want of memory
 pub takes_no_memory : (w : World) (seat : ℕ) (s : Step) (r : Result Outcome ApplyRefusal) → (IsSure w seat s → IsOk r)

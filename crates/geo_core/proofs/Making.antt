@@ -31,38 +31,18 @@ IsNoGo st = (actor : ℕ) → st ≡ steps.Go actor → ⊥
 
 pub turn_step : (st : Step) → IsNoGo st → IsTurn st
 turn_step (steps.Go actor) other = absurd (other actor refl)
-turn_step steps.Event other = tt
-turn_step steps.Judge other = tt
-turn_step steps.Reap other = tt
-turn_step steps.Wash other = tt
-turn_step (steps.Start b) other = tt
-turn_step (steps.Take disk b) other = tt
-turn_step (steps.Deliver b got) other = tt
-turn_step (steps.Up b) other = tt
+turn_step st other = tt
 
 pub turn_found : (commands : List LineCommand) (left : List ℕ) (s : State) (seat : ℕ) (st : Step) (f : Option Found)
     → IsNoGo st → IsFound commands left s seat st f → IsAgainst (λ w. step w seat st) s f
 turn_found commands left s seat (steps.Go actor) f other is = absurd (other actor refl)
-turn_found commands left s seat steps.Event f other is = is
-turn_found commands left s seat steps.Judge f other is = is
-turn_found commands left s seat steps.Reap f other is = is
-turn_found commands left s seat steps.Wash f other is = is
-turn_found commands left s seat (steps.Start b) f other is = is
-turn_found commands left s seat (steps.Take disk b) f other is = is
-turn_found commands left s seat (steps.Deliver b got) f other is = is
-turn_found commands left s seat (steps.Up b) f other is = is
+turn_found commands left s seat st f other is = is
 
 -- one that is never refused is a Deliver
 pub turn_sure : (w : World) (seat : ℕ) (st : Step) → IsNoGo st → IsSure w seat st → IsDeliver st
 turn_sure w seat (steps.Go actor) other sure = absurd (other actor refl)
-turn_sure w seat steps.Event other sure = sure
-turn_sure w seat steps.Judge other sure = sure
-turn_sure w seat steps.Reap other sure = sure
-turn_sure w seat steps.Wash other sure = sure
-turn_sure w seat (steps.Start b) other sure = sure
-turn_sure w seat (steps.Take disk b) other sure = sure
 turn_sure w seat (steps.Deliver b got) other sure = tt
-turn_sure w seat (steps.Up b) other sure = sure
+turn_sure w seat st other sure = sure
 
 -- it leaves the commands
 pub turn_moves : (commands : List LineCommand) (log : List Entry) (left : List ℕ) (old new : State) (seat : ℕ)

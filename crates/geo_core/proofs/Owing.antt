@@ -1,5 +1,5 @@
 -- How many places of the log are owed after a step.
-use Rattle.std.specs.Prelude.{◌≡◌, ℕ, ◌+◌, ◌-◌, ◌<◌, ◌≤◌, ◌^◌, List, [], ◌∷◌, length, Option, Some, None, Ok, slice_get, slice_set}
+use Rattle.std.specs.Prelude.{◌≡◌, Bool, true, false, ℕ, ◌+◌, ◌-◌, ◌<◌, ◌≤◌, ◌^◌, List, [], ◌∷◌, length, Option, Some, None, Ok, slice_get, slice_set}
 use Rattle.std.proofs.Common.{refl, sym, ◌∙◌, ap, subst, arith}
 use Rattle.geo_base.specs.declared.limits.TheConstants.{MAX_LOG_ENTRIES}
 use Rattle.geo_model.specs.declared.command.Command.{Command}
@@ -7,6 +7,7 @@ use Rattle.geo_model.specs.declared.command.LineCommand.{LineCommand}
 use Rattle.geo_model.specs.declared.step.DeviceResult.{DeviceResult}
 use Rattle.geo_model.specs.declared.step.Entry.{Entry}
 use Rattle.geo_model.specs.declared.step.Outcome.{Outcome}
+use Rattle.geo_model.specs.declared.step.Step.{Step}
 use Rattle.geo_model.specs.declared.step.Step.TheVariants as steps
 use Rattle.geo_model.specs.World.{World}
 use Rattle.geo_model.specs.Fitting.{Firm}
@@ -83,6 +84,13 @@ owed_none r is actor n ready seat after outcome e =
 
 -- another step owes by what it begins to owe and pays
 
+-- whether after the step as much is owed as before it
+abbrev owes_same : Step → Bool
+owes_same (steps.Go actor) = false
+owes_same (steps.Take disk b) = false
+owes_same (steps.Deliver b got) = false
+owes_same s = true
+
 module _ (r : Running) (is : IsMesh r) where
   firm : Firm (world_of (seen r))
   firm = subst Firm is.world (mesh_firm r is)
@@ -98,32 +106,20 @@ module _ (r : Running) (is : IsMesh r) where
       let changes = owed_changes (world_of (seen r)) seat (steps.Deliver b got) after outcome firm does in
       let same = owed_is r is in omega (arith, changes, same, e)
 
-  pub owed_event : (n : ℕ) → n ≡ places_owed r.state → IsOwedAfter (world_of (seen r)) steps.Event n
-  owed_event n e seat after outcome does =
-      let changes = owed_changes (world_of (seen r)) seat steps.Event after outcome firm does in
-      let same = owed_is r is in omega (arith, changes, same, e)
+  -- after a step that begins to owe no place, and pays none, as much is owed as before
+  as_before : (after : World) (n : ℕ) → owed after + 0 ≡ owed (world_of (seen r)) + 0 → n ≡ places_owed r.state
+      → n ≡ owed after
+  as_before after n changes e = let same = owed_is r is in omega (arith, changes, same, e)
 
-  pub owed_judge : (n : ℕ) → n ≡ places_owed r.state → IsOwedAfter (world_of (seen r)) steps.Judge n
-  owed_judge n e seat after outcome does =
-      let changes = owed_changes (world_of (seen r)) seat steps.Judge after outcome firm does in
-      let same = owed_is r is in omega (arith, changes, same, e)
+  kept_by : (it : Step) (n : ℕ) → owes_same it ≡ true → n ≡ places_owed r.state → IsOwedAfter (world_of (seen r)) it n
+  kept_by (steps.Go actor) n stays e seat after outcome does = absurd (let no : ⊥ = cc in no)
+  kept_by (steps.Take disk b) n stays e seat after outcome does = absurd (let no : ⊥ = cc in no)
+  kept_by (steps.Deliver b got) n stays e seat after outcome does = absurd (let no : ⊥ = cc in no)
+  kept_by it n stays e seat after outcome does =
+      as_before after n (owed_changes (world_of (seen r)) seat it after outcome firm does) e
 
-  pub owed_reap : (n : ℕ) → n ≡ places_owed r.state → IsOwedAfter (world_of (seen r)) steps.Reap n
-  owed_reap n e seat after outcome does =
-      let changes = owed_changes (world_of (seen r)) seat steps.Reap after outcome firm does in
-      let same = owed_is r is in omega (arith, changes, same, e)
-
-  pub owed_wash : (n : ℕ) → n ≡ places_owed r.state → IsOwedAfter (world_of (seen r)) steps.Wash n
-  owed_wash n e seat after outcome does =
-      let changes = owed_changes (world_of (seen r)) seat steps.Wash after outcome firm does in
-      let same = owed_is r is in omega (arith, changes, same, e)
-
-  pub owed_start : (b n : ℕ) → n ≡ places_owed r.state → IsOwedAfter (world_of (seen r)) (steps.Start b) n
-  owed_start b n e seat after outcome does =
-      let changes = owed_changes (world_of (seen r)) seat (steps.Start b) after outcome firm does in
-      let same = owed_is r is in omega (arith, changes, same, e)
-
-  pub owed_up : (b n : ℕ) → n ≡ places_owed r.state → IsOwedAfter (world_of (seen r)) (steps.Up b) n
-  owed_up b n e seat after outcome does =
-      let changes = owed_changes (world_of (seen r)) seat (steps.Up b) after outcome firm does in
-      let same = owed_is r is in omega (arith, changes, same, e)
+  -- so it is after one that a match shows to be such a step
+  pub owed_same : {st it : Step} → st ≡ it → owes_same it ≡ true → (n : ℕ) → n ≡ places_owed r.state
+      → IsOwedAfter (world_of (seen r)) st n
+  owed_same {it = it} same stays n e =
+      subst (λ (x : Step). IsOwedAfter (world_of (seen r)) x n) (sym same) (kept_by it n stays e)

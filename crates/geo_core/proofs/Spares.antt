@@ -17,7 +17,7 @@ use Rattle.geo_model.specs.Bios.{reply_of_result}
 use Rattle.geo_model.specs.declared.listing.GeomLine.{GeomLine}
 use Rattle.geo_model.specs.Commands.{do_command}
 use Rattle.geo_model.specs.Listing.{listing}
-use Rattle.geo_model.specs.Step.{step, go, event, judge_next, reap_next, wash_next, with_commands}
+use Rattle.geo_model.specs.Step.{step, with_commands}
 use Rattle.geo_model.specs.History.{first_command, next_command}
 use Rattle.geo_model.specs.Laws.{ClosesOk}
 use Rattle.geo_bio.specs.declared.bio.Held.{Held}
@@ -30,17 +30,17 @@ use Rattle.geo_state.specs.World.{world}
 use Rattle.geo_core.specs.declared.running.Running.{Running}
 use Rattle.geo_core.specs.declared.twin.Spare.{Spare}
 use Rattle.geo_core.specs.declared.twin.Spare.TheVariants as spares
-use Rattle.geo_core.specs.Left.{left_of, next_command_of, rest_of}
+use Rattle.geo_core.specs.Left.{left_of, next_command_of}
 use Rattle.geo_core.specs.Mesh.{world_of}
 use Rattle.geo_core.specs.Running.{seen, world_now, IsMesh}
 use Rattle.geo_core.specs.Twins.{HasReply, HasTwin, HasOutcome, HasCommand, HasReplyOf, HasRead, prints}
-use Rattle.geo_core.proofs.Twins.{TwinAnswer, twin_answer, event_twin, taste_twin, ran_twin, start_twin, take_twin, deliver_twin, HasLine, up_twin, go_twin, plain_command}
+use Rattle.geo_core.proofs.Twins.{twin_answer, HasLine, Has, step_twin, plain_command}
 
 -- what holds of the world for which a mesh stands holds of the world of its log
 here : (r : Running) → IsMesh r → (st : Step) (spare : Spare)
-    → ((seat : ℕ) → TwinAnswer (step (world_now r) seat st) spare) → HasOutcome (world_of (seen r)) st spare
-here r is st spare twins seat after outcome e =
-    twin_answer (step (world_now r) seat st) spare (twins seat) after outcome
+    → Has (world_now r) st spare → HasOutcome (world_of (seen r)) st spare
+here r is st spare has seat after outcome e =
+    twin_answer (step (world_now r) seat st) spare (step_twin (world_now r) spare seat st has) after outcome
     (subst (λ (w : World). step w seat st ≡ Ok (after, outcome)) (sym is.world) e)
 
 module _ (r : Running) (is : IsMesh r) where
@@ -59,24 +59,21 @@ module _ (r : Running) (is : IsMesh r) where
   pub spare_go : (actor : ℕ) (c : LineCommand) (spare : Spare)
       → next_command_of (slice_get (left_of r.plan.commands r.left) actor) ≡ Ok c → HasCommand r.state c.command spare
       → HasOutcome (world_of (seen r)) (steps.Go actor) spare
-  unfolding step go
   spare_go actor c spare next has =
-      let left = slice_get (left_of r.plan.commands r.left) actor in
-      let after : World = with_commands (world_now r) actor (rest_of left) in
-      here r is (steps.Go actor) spare (λ seat.
-      go_twin (world_now r) spare actor left (λ v d e.
-      let same : c ≡ d = cc (next, e) in
+      here r is (steps.Go actor) spare (λ d rest at.
+      let after : World = with_commands (world_now r) actor rest in
+      let first : next_command_of (Some (d ∷ rest)) ≡ Ok c = subst (λ o. next_command_of o ≡ Ok c) at next in
+      let same : c ≡ d = cc first in
       subst (λ (x : LineCommand). HasTwin (do_command after x.line actor x.command).1 spare) same
-      (has _ r.log.items c.line actor)))
+      (has _ r.log.items c.line actor))
 
   pub spare_no_go : (actor : ℕ) (f : Found) (spare : Spare)
       → next_command_of (slice_get (left_of r.plan.commands r.left) actor) ≡ Err f
       → HasOutcome (world_of (seen r)) (steps.Go actor) spare
-  unfolding step go
   spare_no_go actor f spare next =
-      here r is (steps.Go actor) spare (λ seat.
-      go_twin (world_now r) spare actor (slice_get (left_of r.plan.commands r.left) actor) (λ v d e.
-      absurd (let no : ⊥ = cc (next, e) in no)))
+      here r is (steps.Go actor) spare (λ d rest at.
+      let first : next_command_of (Some (d ∷ rest)) ≡ Err f = subst (λ o. next_command_of o ≡ Err f) at next in
+      absurd (let no : ⊥ = cc first in no))
 
   -- a Take, by the bytes of its bio
   asked_by : (o : Option (BioOf Held)) (spare : Spare) → IfSome o (λ x. spare ≡ spares.Bytes x.bytes)
@@ -86,12 +83,10 @@ module _ (r : Running) (is : IsMesh r) where
 
   take_has : (disk b : ℕ) (spare : Spare) → IfSome (bio_among bios b) (λ x. spare ≡ spares.Bytes x.bytes)
       → HasOutcome (world_of (seen r)) (steps.Take disk b) spare
-  unfolding step
   take_has disk b spare has =
-      here r is (steps.Take disk b) spare (λ seat.
-      take_twin (world_now r) spare seat disk (bio_at (world_now r) b)
+      here r is (steps.Take disk b) spare
       (subst (λ (o : Option Bio). IfSome o (λ x. spare ≡ spares.Bytes x.bytes)) (sym (there b))
-      (asked_by (bio_among bios b) spare has)))
+      (asked_by (bio_among bios b) spare has))
 
   -- for what comes of the copy
   taken_ok : (o : Option (BioOf Held)) (spare : Spare)
@@ -121,12 +116,10 @@ module _ (r : Running) (is : IsMesh r) where
 
   up_has : (b : ℕ) (spare : Spare) → IfSome (bio_among bios b) (λ x. HasRead log x spare)
       → HasOutcome (world_of (seen r)) (steps.Up b) spare
-  unfolding step
   up_has b spare has =
-      here r is (steps.Up b) spare (λ seat.
-      up_twin (world_now r) spare (bio_at (world_now r) b)
+      here r is (steps.Up b) spare
       (subst (λ (o : Option Bio). IfSome o (λ x. HasLine x x.owner spare)) (sym (there b))
-      (read_by (bio_among bios b) spare has)))
+      (read_by (bio_among bios b) spare has))
 
   read_ok : (o : Option (BioOf Held)) (spare : Spare)
       → IfSome o (λ x. let got : Result Spare NoMemory = Ok spare in IfOk got (λ (s : Spare). HasRead log x s))
@@ -144,22 +137,10 @@ module _ (r : Running) (is : IsMesh r) where
   pub spare_none : (st : Step) → ((actor : ℕ) → st ≡ steps.Go actor → ⊥)
       → ((disk b : ℕ) → st ≡ steps.Take disk b → ⊥) → ((b : ℕ) → st ≡ steps.Up b → ⊥)
       → HasOutcome (world_of (seen r)) st spares.Nothing
-  unfolding step event judge_next reap_next wash_next
   spare_none (steps.Go actor) go take up = absurd (go actor refl)
-  spare_none steps.Event go take up =
-      here r is steps.Event spares.Nothing (λ seat. event_twin (world_now r) spares.Nothing _ (world_now r).events)
-  spare_none steps.Judge go take up =
-      here r is steps.Judge spares.Nothing (λ seat. taste_twin (world_now r) spares.Nothing (world_now r).taste)
-  spare_none steps.Reap go take up = here r is steps.Reap spares.Nothing (λ seat. ran_twin _ spares.Nothing _ _)
-  spare_none steps.Wash go take up = here r is steps.Wash spares.Nothing (λ seat. ran_twin _ spares.Nothing _ _)
-  spare_none (steps.Start b) go take up =
-      here r is (steps.Start b) spares.Nothing (λ seat.
-      start_twin (world_now r) spares.Nothing (bio_at (world_now r) b))
   spare_none (steps.Take disk b) go take up = absurd (take disk b refl)
-  spare_none (steps.Deliver b got) go take up =
-      here r is (steps.Deliver b got) spares.Nothing (λ seat.
-      deliver_twin (world_now r) spares.Nothing seat got (bio_at (world_now r) b))
   spare_none (steps.Up b) go take up = absurd (up b refl)
+  spare_none s go take up = here r is s spares.Nothing tt
 
   -- a Go, by what comes of the copy
   pub spare_go_result : (actor : ℕ) (c : LineCommand) (result : Result Spare NoMemory)

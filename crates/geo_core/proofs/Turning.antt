@@ -1,7 +1,7 @@
 -- Steps that aren't commands: what is against them, and where they lead.
 use Rattle.std.specs.Prelude.{◌≡◌, ℕ, ◌∷◌, ◌++◌, [], Bool, true, false, List, Option, Some, None, Result, Ok, Err, IfOk, IsTrue}
 use Rattle.std.specs.Option.{option_map, option_map_or}
-use Rattle.std.proofs.Common.{refl, subst}
+use Rattle.std.proofs.Common.{refl, sym, subst}
 use Rattle.geo_base.specs.declared.block.NoMemory.{NoMemory}
 use Rattle.geo_model.specs.declared.command.LineCommand.{LineCommand}
 use Rattle.geo_model.specs.declared.step.DeviceResult.{DeviceResult}
@@ -10,8 +10,8 @@ use Rattle.geo_model.specs.declared.step.Found.TheVariants as found
 use Rattle.geo_model.specs.declared.step.Outcome.{Outcome}
 use Rattle.geo_model.specs.declared.step.Step.{Step}
 use Rattle.geo_model.specs.declared.step.Step.TheVariants as steps
-use Rattle.geo_model.specs.World.{World, Bio, BioOf, bio_at, is_down, is_up, bio_among}
-use Rattle.geo_model.specs.Step.{Answer, step, event, judge_next, reap_next, wash_next, start_of, take_of, deliver_of, up_of}
+use Rattle.geo_model.specs.World.{Bio, BioOf, bio_at, is_down, is_up, bio_among}
+use Rattle.geo_model.specs.Step.{step, start_of, deliver_of, up_of}
 use Rattle.geo_bio.specs.declared.bio.Held.{Held}
 use Rattle.geo_bio.specs.BioTable.{has_phase}
 use Rattle.geo_log.specs.Places.{delivered_at}
@@ -24,40 +24,23 @@ use Rattle.geo_state.specs.World.{world, HasBytes}
 use Rattle.geo_core.specs.Moves.{Turns}
 use Rattle.geo_core.proofs.Meshes.{turned}
 
--- Each step, by what it does
+-- What each step does
 
-module _ (log : List Entry) (old new : State) (seat : ℕ) (o : Outcome) (bytes : HasBytes log new) where
-  pub turns_event : Makes event log old new o → Turns log old new seat steps.Event o
-  unfolding step
-  turns_event makes actors e same = turned event log old new o makes bytes actors e
+-- a step does what the one does that a match shows it to be
+pub turns_by : (log : List Entry) (old new : State) (seat : ℕ) (o : Outcome) {st it : Step} → st ≡ it
+    → HasBytes log new → Makes (λ w. step w seat it) log old new o → Turns log old new seat st o
+turns_by log old new seat o {it = it} is bytes makes =
+    subst (λ (x : Step). Turns log old new seat x o) (sym is)
+    (λ actors e same. turned (λ w. step w seat it) log old new o makes bytes actors e)
 
-  pub turns_judge : Makes judge_next log old new o → Turns log old new seat steps.Judge o
-  unfolding step
-  turns_judge makes actors e same = turned judge_next log old new o makes bytes actors e
+-- by what comes of a call
+pub result_turns : (log : List Entry) (old new : State) (seat : ℕ) (result : Result Outcome NoMemory) {st it : Step}
+    → st ≡ it → HasBytes log new → IfOk result (λ o. Makes (λ w. step w seat it) log old new o)
+    → IfOk result (λ o. Turns log old new seat st o)
+result_turns log old new seat (Ok o) is bytes makes = turns_by log old new seat o is bytes makes
+result_turns log old new seat (Err e) is bytes makes = tt
 
-  pub turns_reap : Makes reap_next log old new o → Turns log old new seat steps.Reap o
-  unfolding step
-  turns_reap makes actors e same = turned reap_next log old new o makes bytes actors e
-
-  pub turns_wash : Makes wash_next log old new o → Turns log old new seat steps.Wash o
-  unfolding step
-  turns_wash makes actors e same = turned wash_next log old new o makes bytes actors e
-
-  pub turns_start : (b : ℕ) → Makes (λ w. start_of w (bio_at w b)) log old new o
-      → Turns log old new seat (steps.Start b) o
-  unfolding step
-  turns_start b makes actors e same = turned (λ w. start_of w (bio_at w b)) log old new o makes bytes actors e
-
-  pub turns_take : (disk b : ℕ) → Makes (λ w. take_of w seat disk (bio_at w b)) log old new o
-      → Turns log old new seat (steps.Take disk b) o
-  unfolding step
-  turns_take disk b makes actors e same =
-      turned (λ w. take_of w seat disk (bio_at w b)) log old new o makes bytes actors e
-
-  pub turns_up : (b : ℕ) → Makes (λ w. up_of w (bio_at w b)) log old new o → Turns log old new seat (steps.Up b) o
-  unfolding step
-  turns_up b makes actors e same = turned (λ w. up_of w (bio_at w b)) log old new o makes bytes actors e
-
+-- a Deliver, whose entry comes next
 pub turns_deliver : (log : List Entry) (old new : State) (seat b : ℕ) (got : DeviceResult) (o : Outcome)
     → ((e : Entry) → e.step ≡ steps.Deliver b got → (actors : List (List LineCommand))
     → deliver_of (world actors log old) seat got (bio_at (world actors log old) b)
@@ -69,31 +52,10 @@ turns_deliver log old new seat b got o makes actors e same = makes e same actors
 -- What is against each of them
 
 module _ (s : State) (seat : ℕ) where
-  pub against_event : IsAgainst (λ w. step w seat steps.Event) s None → IsAgainst event s None
-  unfolding step
-  against_event is = is
-
-  pub against_judge : IsAgainst (λ w. step w seat steps.Judge) s None → IsAgainst judge_next s None
-  unfolding step
-  against_judge is = is
-
-  pub against_reap : IsAgainst (λ w. step w seat steps.Reap) s None → IsAgainst reap_next s None
-  unfolding step
-  against_reap is = is
-
-  pub against_wash : IsAgainst (λ w. step w seat steps.Wash) s None → IsAgainst wash_next s None
-  unfolding step
-  against_wash is = is
-
-  pub against_take : (disk b : ℕ) → IsAgainst (λ w. step w seat (steps.Take disk b)) s None
-      → IsAgainst (λ w. take_of w seat disk (bio_at w b)) s None
-  unfolding step
-  against_take disk b is = is
-
-  pub against_deliver : (b : ℕ) (got : DeviceResult) → IsAgainst (λ w. step w seat (steps.Deliver b got)) s None
-      → IsAgainst (λ w. deliver_of w seat got (bio_at w b)) s None
-  unfolding step
-  against_deliver b got is = is
+  -- where nothing is against a step, nothing is against the one that a match shows it to be
+  pub none_by : {st it : Step} → st ≡ it → IsAgainst (λ w. step w seat st) s None
+      → IsAgainst (λ w. step w seat it) s None
+  none_by is none = subst (λ (x : Step). IsAgainst (λ w. step w seat x) s None) is none
 
   -- a bio that can start is Down, and one that can go up is Up
 
@@ -152,10 +114,3 @@ module _ (s : State) (seat : ℕ) where
       let none : against (up_of (world [] [] s) (bio_at (world [] [] s) b)) ≡ None = is first [] in
       up_of_bio (bio_among s.traffic.bios b)
       (subst (λ (x : Option Bio). against (up_of (world [] [] s) x) ≡ None) (at_world b) none)
-
--- by what comes of a call
-pub result_turns : (log : List Entry) (old new : State) (seat : ℕ) (st : Step) (f : World → Answer)
-    → ((o : Outcome) → Makes f log old new o → Turns log old new seat st o) → (result : Result Outcome NoMemory)
-    → IfOk result (λ o. Makes f log old new o) → IfOk result (λ o. Turns log old new seat st o)
-result_turns log old new seat st f turns (Ok o) makes = turns o makes
-result_turns log old new seat st f turns (Err e) makes = tt

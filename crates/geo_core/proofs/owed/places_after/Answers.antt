@@ -1,10 +1,10 @@
-use Rattle.std.proofs.Common.{◌+◌, ap, sym, subst, arith}
+use Rattle.std.proofs.Common.{◌+◌, refl, ap, sym, subst, arith}
 use Rattle.geo_model.specs.declared.step.Step.{Step}
 use Rattle.geo_core.specs.Goes.{IsOwedAfter}
 use Rattle.geo_core.specs.Mesh.{world_of}
 use Rattle.geo_core.specs.Running.{seen}
 use Rattle.geo_core.proofs.Making.{ready_go}
-use Rattle.geo_core.proofs.Owing.{owed_few, owed_go, owed_none, owed_take, owed_deliver, owed_event, owed_judge, owed_reap, owed_wash, owed_start, owed_up}
+use Rattle.geo_core.proofs.Owing.{owed_few, owed_go, owed_none, owed_take, owed_deliver, owed_same}
 use Rattle.geo_core.proofs.owed.places_after.Goals as goal
 
 pub places_owed-now-requires : goal.places_owed-now-requires
@@ -48,36 +48,29 @@ returns-in-Deliver c =
 -- Each other step: it begins to owe no place, and pays none
 pub returns-in-Event : goal.returns-in-Event
 returns-in-Event c =
-    let r = c.args.running.now in
-    subst (λ (st : Step). IsOwedAfter (world_of (seen r)) st c.places_owed-now.result) (sym c.in-Event.is)
-    (owed_event r c.requires.mesh c.places_owed-now.result c.places_owed-now.ensures.owed)
+    owed_same c.args.running.now c.requires.mesh c.in-Event.is refl c.places_owed-now.result
+    c.places_owed-now.ensures.owed
 
 pub returns-in-Judge : goal.returns-in-Judge
 returns-in-Judge c =
-    let r = c.args.running.now in
-    subst (λ (st : Step). IsOwedAfter (world_of (seen r)) st c.places_owed-now.result) (sym c.in-Judge.is)
-    (owed_judge r c.requires.mesh c.places_owed-now.result c.places_owed-now.ensures.owed)
+    owed_same c.args.running.now c.requires.mesh c.in-Judge.is refl c.places_owed-now.result
+    c.places_owed-now.ensures.owed
 
 pub returns-in-Reap : goal.returns-in-Reap
 returns-in-Reap c =
-    let r = c.args.running.now in
-    subst (λ (st : Step). IsOwedAfter (world_of (seen r)) st c.places_owed-now.result) (sym c.in-Reap.is)
-    (owed_reap r c.requires.mesh c.places_owed-now.result c.places_owed-now.ensures.owed)
+    owed_same c.args.running.now c.requires.mesh c.in-Reap.is refl c.places_owed-now.result
+    c.places_owed-now.ensures.owed
 
 pub returns-in-Wash : goal.returns-in-Wash
 returns-in-Wash c =
-    let r = c.args.running.now in
-    subst (λ (st : Step). IsOwedAfter (world_of (seen r)) st c.places_owed-now.result) (sym c.in-Wash.is)
-    (owed_wash r c.requires.mesh c.places_owed-now.result c.places_owed-now.ensures.owed)
+    owed_same c.args.running.now c.requires.mesh c.in-Wash.is refl c.places_owed-now.result
+    c.places_owed-now.ensures.owed
 
 pub returns-in-Start : goal.returns-in-Start
 returns-in-Start c =
-    let r = c.args.running.now in
-    subst (λ (st : Step). IsOwedAfter (world_of (seen r)) st c.places_owed-now.result) (sym c.in-Start.is)
-    (owed_start r c.requires.mesh c.in-Start.bio c.places_owed-now.result c.places_owed-now.ensures.owed)
+    owed_same c.args.running.now c.requires.mesh c.in-Start.is refl c.places_owed-now.result
+    c.places_owed-now.ensures.owed
 
 pub returns-in-Up : goal.returns-in-Up
 returns-in-Up c =
-    let r = c.args.running.now in
-    subst (λ (st : Step). IsOwedAfter (world_of (seen r)) st c.places_owed-now.result) (sym c.in-Up.is)
-    (owed_up r c.requires.mesh c.in-Up.bio c.places_owed-now.result c.places_owed-now.ensures.owed)
+    owed_same c.args.running.now c.requires.mesh c.in-Up.is refl c.places_owed-now.result c.places_owed-now.ensures.owed

@@ -1,14 +1,11 @@
-use Rattle.std.proofs.Common.{None, IfOk, sym, subst}
+use Rattle.std.proofs.Common.{sym, subst}
 use Rattle.geo_model.specs.declared.step.Outcome.TheVariants as outcomes
 use Rattle.geo_model.specs.declared.step.Step.{Step}
-use Rattle.geo_model.specs.declared.step.Step.TheVariants as steps
-use Rattle.geo_model.specs.World.{bio_at}
-use Rattle.geo_model.specs.Step.{step, event, judge_next, start_of, take_of, up_of}
-use Rattle.geo_state.specs.Steps.{IsAgainst}
+use Rattle.geo_model.specs.Step.{step}
 use Rattle.geo_core.specs.Moves.{Turns, IsTurn, IsDeliver}
 use Rattle.geo_core.proofs.Meshes.{longer_bytes}
 use Rattle.geo_core.proofs.Making.{more_bytes, all_bytes}
-use Rattle.geo_core.proofs.Turning.{turns_event, turns_judge, turns_reap, turns_wash, turns_start, turns_take, turns_up, turns_deliver, against_event, against_judge, against_reap, against_wash, against_take, against_deliver, is_down_now, is_up_now, result_turns}
+use Rattle.geo_core.proofs.Turning.{none_by, is_down_now, is_up_now, turns_by, result_turns, turns_deliver}
 use Rattle.geo_core.proofs.turns.turn.Goals as goal
 
 pub unreachable-requires : goal.unreachable-requires
@@ -16,66 +13,48 @@ unreachable-requires g c = subst IsTurn c.in-Go.is c.requires.turn
 
 -- For each step: what is enabled for the step of the seat is due for what it does
 pub do_event-requires-clause-due : goal.do_event-requires-clause-due
-do_event-requires-clause-due g c =
-    against_event c.args.state.now c.args.seat
-    (subst (λ (st : Step). IsAgainst (λ w. step w c.args.seat st) c.args.state.now None)
-    c.in-Event.is c.requires.enabled)
+unfolding step
+do_event-requires-clause-due g c = none_by c.args.state.now c.args.seat c.in-Event.is c.requires.enabled
 
 pub judge-requires-clause-due : goal.judge-requires-clause-due
-judge-requires-clause-due g c =
-    against_judge c.args.state.now c.args.seat
-    (subst (λ (st : Step). IsAgainst (λ w. step w c.args.seat st) c.args.state.now None)
-    c.in-Judge.is c.requires.enabled)
+unfolding step
+judge-requires-clause-due g c = none_by c.args.state.now c.args.seat c.in-Judge.is c.requires.enabled
 
 pub do_reap-requires-clause-due : goal.do_reap-requires-clause-due
-do_reap-requires-clause-due g c =
-    against_reap c.args.state.now c.args.seat
-    (subst (λ (st : Step). IsAgainst (λ w. step w c.args.seat st) c.args.state.now None)
-    c.in-Reap.is c.requires.enabled)
+unfolding step
+do_reap-requires-clause-due g c = none_by c.args.state.now c.args.seat c.in-Reap.is c.requires.enabled
 
 pub do_wash-requires-clause-due : goal.do_wash-requires-clause-due
-do_wash-requires-clause-due g c =
-    against_wash c.args.state.now c.args.seat
-    (subst (λ (st : Step). IsAgainst (λ w. step w c.args.seat st) c.args.state.now None)
-    c.in-Wash.is c.requires.enabled)
+unfolding step
+do_wash-requires-clause-due g c = none_by c.args.state.now c.args.seat c.in-Wash.is c.requires.enabled
 
 -- a bio in another phase, or none, would be against the Start
 pub start-requires-clause-down : goal.start-requires-clause-down
 start-requires-clause-down g c =
     is_down_now c.args.state.now c.args.seat c.in-Start.bio
-    (subst (λ (st : Step). IsAgainst (λ w. step w c.args.seat st) c.args.state.now None)
-    c.in-Start.is c.requires.enabled)
+    (none_by c.args.state.now c.args.seat c.in-Start.is c.requires.enabled)
 
 pub take-requires-clause-enabled : goal.take-requires-clause-enabled
-take-requires-clause-enabled g c =
-    against_take c.args.state.now c.args.seat c.in-Take.disk c.in-Take.bio
-    (subst (λ (st : Step). IsAgainst (λ w. step w c.args.seat st) c.args.state.now None)
-    c.in-Take.is c.requires.enabled)
+unfolding step
+take-requires-clause-enabled g c = none_by c.args.state.now c.args.seat c.in-Take.is c.requires.enabled
 
 pub deliver-requires-clause-enabled : goal.deliver-requires-clause-enabled
-deliver-requires-clause-enabled g c =
-    against_deliver c.args.state.now c.args.seat c.in-Deliver.bio c.in-Deliver.got
-    (subst (λ (st : Step). IsAgainst (λ w. step w c.args.seat st) c.args.state.now None)
-    c.in-Deliver.is c.requires.enabled)
+unfolding step
+deliver-requires-clause-enabled g c = none_by c.args.state.now c.args.seat c.in-Deliver.is c.requires.enabled
 
 -- a bio in another phase, or none, would be against the Up
 pub up-requires-clause-up : goal.up-requires-clause-up
 up-requires-clause-up g c =
     is_up_now c.args.state.now c.args.seat c.in-Up.bio
-    (subst (λ (st : Step). IsAgainst (λ w. step w c.args.seat st) c.args.state.now None)
-    c.in-Up.is c.requires.enabled)
+    (none_by c.args.state.now c.args.seat c.in-Up.is c.requires.enabled)
 
 -- From here on for each step that may want memory: what was made is what the step does in the model
 pub returns-in-Event-clause-made : goal.returns-in-Event-clause-made
+unfolding step
 returns-in-Event-clause-made g c =
     let log = c.args.log.now.items in
-    let old = c.args.state.now in
-    let new = c.do_event.new.state in
-    let bytes = c.do_event.ensures.logged log c.requires.logged in
-    subst (λ (st : Step). IfOk c.do_event.result (λ o. Turns log old new c.args.seat st o)) (sym c.in-Event.is)
-    (result_turns log old new c.args.seat steps.Event event
-    (λ o. turns_event log old new c.args.seat o bytes)
-    c.do_event.result (c.do_event.ensures.made log))
+    result_turns log c.args.state.now c.do_event.new.state c.args.seat c.do_event.result c.in-Event.is
+    (c.do_event.ensures.logged log c.requires.logged) (c.do_event.ensures.made log)
 
 -- the bytes that bios name in the log are there still with one entry more
 pub returns-in-Event-clause-logged : goal.returns-in-Event-clause-logged
@@ -92,15 +71,11 @@ pub returns-in-Event-clause-sure : goal.returns-in-Event-clause-sure
 returns-in-Event-clause-sure g c = λ is. absurd (subst IsDeliver c.in-Event.is is)
 
 pub returns-in-Judge-clause-made : goal.returns-in-Judge-clause-made
+unfolding step
 returns-in-Judge-clause-made g c =
     let log = c.args.log.now.items in
-    let old = c.args.state.now in
-    let new = c.judge.new.state in
-    let bytes = c.judge.ensures.logged log c.requires.logged in
-    subst (λ (st : Step). IfOk c.judge.result (λ o. Turns log old new c.args.seat st o)) (sym c.in-Judge.is)
-    (result_turns log old new c.args.seat steps.Judge judge_next
-    (λ o. turns_judge log old new c.args.seat o bytes)
-    c.judge.result (c.judge.ensures.made log))
+    result_turns log c.args.state.now c.judge.new.state c.args.seat c.judge.result c.in-Judge.is
+    (c.judge.ensures.logged log c.requires.logged) (c.judge.ensures.made log)
 
 pub returns-in-Judge-clause-logged : goal.returns-in-Judge-clause-logged
 returns-in-Judge-clause-logged g c =
@@ -116,16 +91,11 @@ pub returns-in-Judge-clause-sure : goal.returns-in-Judge-clause-sure
 returns-in-Judge-clause-sure g c = λ is. absurd (subst IsDeliver c.in-Judge.is is)
 
 pub returns-in-Start-clause-made : goal.returns-in-Start-clause-made
+unfolding step
 returns-in-Start-clause-made g c =
     let log = c.args.log.now.items in
-    let old = c.args.state.now in
-    let new = c.start.new.state in
-    let bytes = c.start.ensures.logged log c.requires.logged in
-    subst (λ (st : Step). IfOk c.start.result (λ o. Turns log old new c.args.seat st o)) (sym c.in-Start.is)
-    (result_turns log old new c.args.seat (steps.Start c.in-Start.bio)
-    (λ w. start_of w (bio_at w c.in-Start.bio))
-    (λ o. turns_start log old new c.args.seat o bytes c.in-Start.bio)
-    c.start.result (c.start.ensures.made log))
+    result_turns log c.args.state.now c.start.new.state c.args.seat c.start.result c.in-Start.is
+    (c.start.ensures.logged log c.requires.logged) (c.start.ensures.made log)
 
 pub returns-in-Start-clause-logged : goal.returns-in-Start-clause-logged
 returns-in-Start-clause-logged g c =
@@ -141,16 +111,11 @@ pub returns-in-Start-clause-sure : goal.returns-in-Start-clause-sure
 returns-in-Start-clause-sure g c = λ is. absurd (subst IsDeliver c.in-Start.is is)
 
 pub returns-in-Take-clause-made : goal.returns-in-Take-clause-made
+unfolding step
 returns-in-Take-clause-made g c =
     let log = c.args.log.now.items in
-    let old = c.args.state.now in
-    let new = c.take.new.state in
-    let bytes = c.take.ensures.logged log c.requires.logged in
-    subst (λ (st : Step). IfOk c.take.result (λ o. Turns log old new c.args.seat st o)) (sym c.in-Take.is)
-    (result_turns log old new c.args.seat (steps.Take c.in-Take.disk c.in-Take.bio)
-    (λ w. take_of w c.args.seat c.in-Take.disk (bio_at w c.in-Take.bio))
-    (λ o. turns_take log old new c.args.seat o bytes c.in-Take.disk c.in-Take.bio)
-    c.take.result (c.take.ensures.made log))
+    result_turns log c.args.state.now c.take.new.state c.args.seat c.take.result c.in-Take.is
+    (c.take.ensures.logged log c.requires.logged) (c.take.ensures.made log)
 
 pub returns-in-Take-clause-logged : goal.returns-in-Take-clause-logged
 returns-in-Take-clause-logged g c =
@@ -166,16 +131,11 @@ pub returns-in-Take-clause-sure : goal.returns-in-Take-clause-sure
 returns-in-Take-clause-sure g c = λ is. absurd (subst IsDeliver c.in-Take.is is)
 
 pub returns-in-Up-clause-made : goal.returns-in-Up-clause-made
+unfolding step
 returns-in-Up-clause-made g c =
     let log = c.args.log.now.items in
-    let old = c.args.state.now in
-    let new = c.up.new.state in
-    let bytes = c.up.ensures.logged log c.requires.logged in
-    subst (λ (st : Step). IfOk c.up.result (λ o. Turns log old new c.args.seat st o)) (sym c.in-Up.is)
-    (result_turns log old new c.args.seat (steps.Up c.in-Up.bio)
-    (λ w. up_of w (bio_at w c.in-Up.bio))
-    (λ o. turns_up log old new c.args.seat o bytes c.in-Up.bio)
-    c.up.result c.up.ensures.made)
+    result_turns log c.args.state.now c.up.new.state c.args.seat c.up.result c.in-Up.is
+    (c.up.ensures.logged log c.requires.logged) c.up.ensures.made
 
 pub returns-in-Up-clause-logged : goal.returns-in-Up-clause-logged
 returns-in-Up-clause-logged g c =
@@ -192,13 +152,11 @@ returns-in-Up-clause-sure g c = λ is. absurd (subst IsDeliver c.in-Up.is is)
 
 -- From here on a Reap and a Wash, which take no memory
 pub returns-in-Reap-clause-made : goal.returns-in-Reap-clause-made
+unfolding step
 returns-in-Reap-clause-made g c =
     let log = c.args.log.now.items in
-    let old = c.args.state.now in
-    let new = c.do_reap.new.state in
-    let bytes = c.do_reap.ensures.logged log c.requires.logged in
-    subst (λ (st : Step). Turns log old new c.args.seat st c.do_reap.result) (sym c.in-Reap.is)
-    (turns_reap log old new c.args.seat c.do_reap.result bytes (c.do_reap.ensures.made log))
+    turns_by log c.args.state.now c.do_reap.new.state c.args.seat c.do_reap.result c.in-Reap.is
+    (c.do_reap.ensures.logged log c.requires.logged) (c.do_reap.ensures.made log)
 
 pub returns-in-Reap-clause-logged : goal.returns-in-Reap-clause-logged
 returns-in-Reap-clause-logged g c = λ e.
@@ -209,13 +167,11 @@ pub returns-in-Reap-clause-sure : goal.returns-in-Reap-clause-sure
 returns-in-Reap-clause-sure g c = λ is. absurd (subst IsDeliver c.in-Reap.is is)
 
 pub returns-in-Wash-clause-made : goal.returns-in-Wash-clause-made
+unfolding step
 returns-in-Wash-clause-made g c =
     let log = c.args.log.now.items in
-    let old = c.args.state.now in
-    let new = c.do_wash.new.state in
-    let bytes = c.do_wash.ensures.logged log c.requires.logged in
-    subst (λ (st : Step). Turns log old new c.args.seat st c.do_wash.result) (sym c.in-Wash.is)
-    (turns_wash log old new c.args.seat c.do_wash.result bytes (c.do_wash.ensures.made log))
+    turns_by log c.args.state.now c.do_wash.new.state c.args.seat c.do_wash.result c.in-Wash.is
+    (c.do_wash.ensures.logged log c.requires.logged) (c.do_wash.ensures.made log)
 
 pub returns-in-Wash-clause-logged : goal.returns-in-Wash-clause-logged
 returns-in-Wash-clause-logged g c = λ e.
