@@ -245,17 +245,5 @@ goes_on order old new next before after later (steps.Take disk b) run due histor
 goes_on order old new next before after later (steps.Deliver b got) run due history turn =
     absurd (none_delivered (world_of new) b got run.none_busy
     (made_enabled new next (steps.Deliver b got) turn.outcome turn.made))
-goes_on order old new next before after later (steps.Go actor) run due history turn =
-    plain_turn order old new next before after later (steps.Go actor) refl refl run due history turn
-goes_on order old new next before after later steps.Event run due history turn =
-    plain_turn order old new next before after later steps.Event refl refl run due history turn
-goes_on order old new next before after later steps.Judge run due history turn =
-    plain_turn order old new next before after later steps.Judge refl refl run due history turn
-goes_on order old new next before after later steps.Reap run due history turn =
-    plain_turn order old new next before after later steps.Reap refl refl run due history turn
-goes_on order old new next before after later steps.Wash run due history turn =
-    plain_turn order old new next before after later steps.Wash refl refl run due history turn
-goes_on order old new next before after later (steps.Start b) run due history turn =
-    plain_turn order old new next before after later (steps.Start b) refl refl run due history turn
-goes_on order old new next before after later (steps.Up b) run due history turn =
-    plain_turn order old new next before after later (steps.Up b) refl refl run due history turn
+goes_on order old new next before after later s run due history turn =
+    plain_turn order old new next before after later s refl refl run due history turn
