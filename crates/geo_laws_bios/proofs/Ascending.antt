@@ -12,13 +12,12 @@ use Rattle.geo_model.specs.World.{World, Bio, bio_at, children_of, is_done, is_u
 use Rattle.geo_model.specs.Bios.{joined_result, child_results, complete_parent, is_complete, up_child}
 use Rattle.geo_model.specs.SoundBios.{IsFamilyInOrder}
 use Rattle.geo_model.specs.Steady.{ComesFromItsOwner, HasItsResult, FitsBio}
-use Rattle.geo_model.specs.Fitting.{Firm}
+use Rattle.geo_model.specs.Fitting.{Firm, BiosOf}
 use Rattle.geo_laws_graph.proofs.Lists.{filter-changed, map-changed}
 use Rattle.geo_laws_graph.proofs.Members.{find-Contains, filter-Contains, Contains-filter, Contains-map, All-from_contained, at_contained}
 use Rattle.geo_laws_graph.proofs.Numbered.{unique, at-unchanged, number_found}
 use Rattle.geo_laws_graph.proofs.Spared.{filter-untouched}
 use Rattle.geo_laws_counts.proofs.LimitFacts.{all_true}
-use Rattle.geo_laws_bios.specs.BioFrames.{BiosOf}
 use Rattle.geo_laws_bios.specs.BioSteps.{turned, turn}
 use Rattle.geo_laws_bios.specs.UpLaws.{ChildUpsStayFirm}
 use Rattle.geo_laws_bios.proofs.Apart.{bios_are_apart}

@@ -19,11 +19,11 @@ use Rattle.geo_model.specs.World.{World, Bio, bio_at, children_of, is_done, is_b
 use Rattle.geo_model.specs.Bios.{disk_of_bio}
 use Rattle.geo_model.specs.SoundBios.{IsRangeInside, IsBioInOrder, IsFamilyInOrder, HasItsParent, shape_of_child, NotBothBusy}
 use Rattle.geo_model.specs.Steady.{ComesFromItsOwner, HasItsResult, FitsBio}
+use Rattle.geo_model.specs.Fitting.{BiosOf}
 use Rattle.geo_laws_graph.proofs.Lists.{numbers-kept, numbers-changed, filter-changed, map-changed, any-changed, length-changed, found_itself}
 use Rattle.geo_laws_graph.proofs.Members.{find-Contains, Contains-filter, All-from_contained}
 use Rattle.geo_laws_graph.proofs.Numbered.{at-unchanged}
 use Rattle.geo_laws_graph.proofs.Spared.{IsSpared, filter-spared, find-spared, any-spared}
-use Rattle.geo_laws_bios.specs.BioFrames.{BiosOf}
 use Rattle.geo_laws_bios.specs.BioSteps.{turned}
 use Rattle.geo_laws_bios.proofs.Items.{all_both, pairs_map, all_changed, all-fewer, each_of}
 use Rattle.geo_laws_bios.proofs.Turned.{AreItsPieces, fits_turned, range_turned, ReadsSector}

@@ -15,12 +15,12 @@ use Rattle.geo_model.specs.World.{World, Bio, bio_at, children_of, is_root, is_d
 use Rattle.geo_model.specs.Bios.{disk_of_bio, is_complete, without_bio}
 use Rattle.geo_model.specs.SoundBios.{IsBioInOrder, IsFamilyInOrder, HasItsParent, shape_of_child, NotBothBusy}
 use Rattle.geo_model.specs.Steady.{ComesFromItsOwner, HasItsResult}
+use Rattle.geo_model.specs.Fitting.{BiosOf}
 use Rattle.geo_model.proofs.DemandLemmas.{all_weaker}
 use Rattle.geo_laws_graph.proofs.Lists.{numbers-kept}
 use Rattle.geo_laws_graph.proofs.Members.{find-Contains}
 use Rattle.geo_laws_graph.proofs.Numbered.{unique, at-kept}
 use Rattle.geo_laws_graph.proofs.Spared.{IsSpared, IsUntouched, filter-spared, any-spared, filter-untouched}
-use Rattle.geo_laws_bios.specs.BioFrames.{BiosOf}
 use Rattle.geo_laws_bios.specs.BioSteps.{turned, turn}
 use Rattle.geo_laws_bios.specs.UpLaws.{LineUpsStayFirm}
 use Rattle.geo_laws_bios.proofs.Apart.{bios_are_apart}

@@ -27,14 +27,14 @@ use Rattle.geo_model.specs.Acceptance.{taste_where}
 use Rattle.geo_model.specs.Sound.{RanksHold, StandsBare, ProvidersHold, NumbersHold, HandlesHold, IsTasting, IsOfItsClass, DifferInDisk, HasDiskSizes, IsPlaced, LeadsDown, IsTasteInOrder}
 use Rattle.geo_model.specs.SoundBios.{IsBioInOrder, IsFamilyInOrder, HasItsPieces, HasCountFor, shape_of_child, shape_of_piece, DisksHold}
 use Rattle.geo_model.specs.Steady.{HasItsComponents, WaitsForPlaces, has_open_provider}
-use Rattle.geo_model.specs.Fitting.{GraphHolds, DemandHolds, SizesHold, TasteHolds, Firm, FitsBelow, FitsPlaces, HasOneProvider, PlacesHold, HasItsSum, AsksThere, IsWholeIn, IsAskedInOrder}
+use Rattle.geo_model.specs.Fitting.{GraphHolds, DemandHolds, SizesHold, TasteHolds, Firm, FitsBelow, FitsPlaces, HasOneProvider, PlacesHold, HasItsSum, AsksThere, IsWholeIn, IsAskedInOrder, BiosOf}
 use Rattle.geo_laws_counts.specs.CountWords.{DemandStays, AnyConsumer, seen_by_counts}
 use Rattle.geo_laws_counts.proofs.SeenCounts.{seen_stays}
 use Rattle.geo_laws_graph.proofs.Living.{if_some_weaker}
 use Rattle.geo_laws_graph.specs.RankLaws.{AllRanksStay}
 use Rattle.geo_laws_graph.proofs.EdgeRanks.{stays_all}
 use Rattle.geo_laws_graph.proofs.KeptEdges.{parts-edges}
-use Rattle.geo_laws_bios.specs.BioFrames.{BiosOf, restart, restarted, RestartsStayFirm}
+use Rattle.geo_laws_bios.specs.BioFrames.{restart, restarted, RestartsStayFirm}
 use Rattle.geo_laws_bios.proofs.Items.{pairs_map}
 
 -- tests that agree

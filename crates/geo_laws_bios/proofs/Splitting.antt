@@ -22,12 +22,12 @@ use Rattle.geo_model.specs.World.{World, Bio, Config, bio_at, children_of, is_do
 use Rattle.geo_model.specs.Bios.{PieceTarget, piece_targets, piece_child, bytes_of_piece, disk_of_bio}
 use Rattle.geo_model.specs.SoundBios.{IsRangeInside, IsBioInOrder, IsFamilyInOrder, HasItsParent, HasItsPieces, HasCountFor, shape_of_child, shape_of_piece, NotBothBusy}
 use Rattle.geo_model.specs.Steady.{ComesFromItsOwner, HasItsResult}
+use Rattle.geo_model.specs.Fitting.{BiosOf}
 use Rattle.geo_model.proofs.FilterLists.{keeps_all}
 use Rattle.geo_laws_graph.proofs.Lists.{Rise, rise-from, rise-wider, numbers-from, filter-changed, map-changed, any-changed, length-changed, numbers-changed}
 use Rattle.geo_laws_graph.proofs.Living.{found-before}
 use Rattle.geo_laws_graph.proofs.Members.{find-Contains, filter-Contains, Contains-here, Contains-map}
 use Rattle.geo_laws_graph.proofs.Numbered.{at-here, at-unchanged}
-use Rattle.geo_laws_bios.specs.BioFrames.{BiosOf}
 use Rattle.geo_laws_bios.specs.BioSteps.{turned}
 use Rattle.geo_laws_bios.proofs.Items.{none_kept, pairs_map, all_changed, all-fewer}
 use Rattle.geo_laws_bios.proofs.Phases.{not_waiting}

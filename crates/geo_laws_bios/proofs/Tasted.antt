@@ -25,7 +25,7 @@ use Rattle.geo_model.specs.Bios.{disk_of_bio, up_taste}
 use Rattle.geo_model.specs.Sound.{IsTasting, HasItsConsumer, LeadsDown, IsPlaced, IsTasteInOrder, HasItsChain, ChainHolds, class_asked, IsOfItsClass}
 use Rattle.geo_model.specs.SoundBios.{IsBioInOrder, IsFamilyInOrder, HasCountFor, NotBothBusy}
 use Rattle.geo_model.specs.Steady.{HasItsComponents, ComesFromItsOwner, HasItsResult, FitsBio}
-use Rattle.geo_model.specs.Fitting.{DemandHolds, Firm, IsAskedInOrder, IsOneSector}
+use Rattle.geo_model.specs.Fitting.{DemandHolds, Firm, IsAskedInOrder, IsOneSector, BiosOf}
 use Rattle.geo_laws_counts.specs.CountWords.{IsAtMost, AreAtMost}
 use Rattle.geo_laws_counts.proofs.Sums.{at_most-same, at_most-zero, at_most-under, zero-test}
 use Rattle.geo_laws_counts.proofs.Levels.{have-at_most}
@@ -36,7 +36,6 @@ use Rattle.geo_laws_graph.proofs.Lists.{numbers-kept, filter-filter, found_itsel
 use Rattle.geo_laws_graph.proofs.Living.{if_some_weaker}
 use Rattle.geo_laws_graph.proofs.Members.{find-Contains, filter-Contains, Contains-filter, Contains-cases, nothing_in, at_contained}
 use Rattle.geo_laws_graph.proofs.Numbered.{any-contained, number_found}
-use Rattle.geo_laws_bios.specs.BioFrames.{BiosOf}
 use Rattle.geo_laws_bios.specs.UpLaws.{TasteUpsStayFirm}
 use Rattle.geo_laws_bios.proofs.Phases.{not_waiting}
 use Rattle.geo_laws_bios.proofs.Turning.{found_there}

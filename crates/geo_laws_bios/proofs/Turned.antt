@@ -20,10 +20,9 @@ use Rattle.geo_model.specs.World.{World, Bio, bio_at, children_of, is_root, is_d
 use Rattle.geo_model.specs.Bios.{piece_targets, disk_of_bio, busy_bio, is_complete}
 use Rattle.geo_model.specs.SoundBios.{IsRangeInside, IsBioInOrder, IsFamilyInOrder, HasItsParent, HasItsPieces, ChildShape, shape_of_child, shape_of_piece, NotBothBusy}
 use Rattle.geo_model.specs.Steady.{ComesFromItsOwner, FitsBio, HasItsResult}
-use Rattle.geo_model.specs.Fitting.{Firm}
+use Rattle.geo_model.specs.Fitting.{Firm, BiosOf}
 use Rattle.geo_laws_graph.proofs.Lists.{filter-changed, map-changed, any-changed, length-changed, numbers-changed}
 use Rattle.geo_laws_graph.proofs.Numbered.{at-unchanged}
-use Rattle.geo_laws_bios.specs.BioFrames.{BiosOf}
 use Rattle.geo_laws_bios.specs.BioSteps.{turned, turn}
 use Rattle.geo_laws_bios.proofs.Items.{pairs_map, all-fewer, all_changed, only_one}
 use Rattle.geo_laws_bios.proofs.Apart.{bios_are_apart}

@@ -2,13 +2,9 @@
 use Rattle.std.specs.Prelude.{ℕ, List, map, All}
 use Rattle.geo_model.specs.declared.command.LineCommand.{LineCommand}
 use Rattle.geo_model.specs.Topology.{Geom}
-use Rattle.geo_model.specs.World.{World, Config, Bio, granted_in}
+use Rattle.geo_model.specs.World.{World, Config, Bio}
 use Rattle.geo_model.specs.Plans.{IsCommand}
-use Rattle.geo_model.specs.Fitting.{BiosHold, Firm}
-
--- what a firm mesh has of its bios
-abbrev pub BiosOf : World → Type 0
-BiosOf w = BiosHold (granted_in w) w.topology w.handles w.taste w.bios w.next_bio
+use Rattle.geo_model.specs.Fitting.{BiosOf, Firm}
 
 -- the world with other bios
 abbrev pub with_bios : World → List Bio → ℕ → World

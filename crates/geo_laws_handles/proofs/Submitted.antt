@@ -16,11 +16,11 @@ use Rattle.geo_model.specs.World.{World, Bio, bio_at, children_of, is_waiting, i
 use Rattle.geo_model.specs.Bios.{piece_targets, disk_of_bio}
 use Rattle.geo_model.specs.SoundBios.{IsBioInOrder, IsFamilyInOrder, HasItsParent, shape_of_child, shape_of_piece, NotBothBusy}
 use Rattle.geo_model.specs.Steady.{ComesFromItsOwner, HasItsResult}
-use Rattle.geo_model.specs.Fitting.{Firm}
+use Rattle.geo_model.specs.Fitting.{Firm, BiosOf}
 use Rattle.geo_laws_graph.proofs.Lists.{numbers-push}
 use Rattle.geo_laws_graph.proofs.Living.{found-before}
 use Rattle.geo_laws_graph.proofs.Numbered.{filter-pushed, any-pushed}
-use Rattle.geo_laws_bios.specs.BioFrames.{BiosOf, with_bios}
+use Rattle.geo_laws_bios.specs.BioFrames.{with_bios}
 use Rattle.geo_laws_bios.proofs.Apart.{bios_are_apart}
 
 module _ (w : World) (x : Bio) (handle line : ℕ) (firm : Firm w) (number : x.number ≡ w.next_bio)

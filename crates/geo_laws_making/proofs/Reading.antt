@@ -17,7 +17,7 @@ use Rattle.geo_model.specs.Chain.{Chain}
 use Rattle.geo_model.specs.World.{World, Config, Handle, Taste, ReadOut, Bio, granted_in, taste_grant}
 use Rattle.geo_model.specs.Sound.{IsPlaced, LeadsDown, IsTasteInOrder}
 use Rattle.geo_model.specs.Steady.{HasItsComponents}
-use Rattle.geo_model.specs.Fitting.{Firm}
+use Rattle.geo_model.specs.Fitting.{Firm, BiosOf}
 use Rattle.geo_laws_graph.proofs.Members.{find-Contains, filter-Contains}
 use Rattle.geo_laws_graph.proofs.Lists.{found_itself}
 use Rattle.geo_laws_graph.proofs.Numbered.{number_found, any-contained}
@@ -30,7 +30,6 @@ use Rattle.geo_laws_counts.specs.DemandLaws.{DiffersAt, StaysAround}
 use Rattle.geo_laws_counts.specs.AllowedLaws.{IsAllowed}
 use Rattle.geo_laws_counts.proofs.Singles.{differing_stays}
 use Rattle.geo_laws_counts.proofs.Refusing.{allowed}
-use Rattle.geo_laws_bios.specs.BioFrames.{BiosOf}
 use Rattle.geo_laws_life.proofs.Found.{found-with, some-with, one-found}
 use Rattle.geo_laws_life.proofs.Killed.{grants-same}
 use Rattle.geo_laws_making.specs.TasteLaws.{IsAsking, IsGranted, taste_asking}

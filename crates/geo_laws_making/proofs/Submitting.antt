@@ -26,7 +26,7 @@ use Rattle.geo_model.specs.Bios.{piece_targets, disk_at, new_bio}
 use Rattle.geo_model.specs.Tasting.{submit_read}
 use Rattle.geo_model.specs.SoundBios.{IsRangeInside, IsBioInOrder, IsFamilyInOrder, HasItsParent, HasCountFor, shape_of_child, shape_of_piece, NotBothBusy}
 use Rattle.geo_model.specs.Steady.{ComesFromItsOwner, HasItsResult}
-use Rattle.geo_model.specs.Fitting.{Firm}
+use Rattle.geo_model.specs.Fitting.{Firm, BiosOf}
 use Rattle.geo_laws_graph.proofs.Members.{find-Contains}
 use Rattle.geo_laws_graph.proofs.Lists.{numbers-push}
 use Rattle.geo_laws_graph.proofs.Living.{found-before}
@@ -34,7 +34,6 @@ use Rattle.geo_laws_graph.proofs.Numbered.{filter-pushed, filter-pushed_hit, any
 use Rattle.geo_laws_counts.specs.CountWords.{IsAtMost}
 use Rattle.geo_laws_counts.proofs.Levels.{want-at_most}
 use Rattle.geo_laws_counts.proofs.Openers.{wants_grant}
-use Rattle.geo_laws_bios.specs.BioFrames.{BiosOf}
 use Rattle.geo_laws_life.proofs.Found.{found-with, some-with}
 use Rattle.geo_laws_making.specs.TasteLaws.{taste_asking, world_with_taste, IsAsking, IsGranted}
 use Rattle.geo_laws_making.proofs.Tasters.{tasting, taster, taster_found, taster_holds}

@@ -160,6 +160,10 @@ pub record BiosHold (granted : ℕ → Counts) (t : Topology Config) (hs : List 
   pub results : All HasItsResult bios
   pub read : TasteReadHolds t bios
 
+-- what a firm mesh has of its bios
+abbrev pub BiosOf : World → Type 0
+BiosOf w = BiosHold (granted_in w) w.topology w.handles w.taste w.bios w.next_bio
+
 -- all of it
 pub record Firm (w : World) : Type 0 where
   pub graph : GraphHolds w.topology w.disks
@@ -167,5 +171,5 @@ pub record Firm (w : World) : Type 0 where
   pub sizes : SizesHold w.topology w.disks
   pub handles : HandlesHold w.topology w.handles w.next_handle w.taste
   pub taste : TasteHolds w.topology w.events w.taste
-  pub bios : BiosHold (granted_in w) w.topology w.handles w.taste w.bios w.next_bio
+  pub bios : BiosOf w
   pub commands : All (All (λ c. IsCommand c.command)) w.actors
