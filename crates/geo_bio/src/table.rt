@@ -175,7 +175,9 @@ impl BioTable {
     /// A bio that isn't let down: it goes up with an error.
     pub fn bounce(&mut self, bio: BioId, errno: Errno)
         requires { IsTrue (has_phase is_down self.old.bios bio) }
-        ensures bounced { self.new ≡ record self.old { bios = change_number bio (up_with (Held.Failed errno)) self.old.bios } }
+        ensures bounced { self.new ≡ record self.old {
+          bios = change_number bio (up_with (Held.Failed errno)) self.old.bios;
+        } }
         ensures in_order { AreInOrder self.new }
     {
         end_with(&mut self.bios, bio.number(), Held::Failed(errno));
@@ -193,7 +195,9 @@ impl BioTable {
     /// A seat takes a bio for its disk.
     pub fn take(&mut self, bio: BioId, seat: u32)
         requires { IsTrue (has_phase is_sent self.old.bios bio) }
-        ensures taken { self.new ≡ record self.old { bios = change_number bio (with_phase (Phase.Busy seat)) self.old.bios } }
+        ensures taken { self.new ≡ record self.old {
+          bios = change_number bio (with_phase (Phase.Busy seat)) self.old.bios;
+        } }
         ensures in_order { AreInOrder self.new }
     {
         set_phase(&mut self.bios, bio.number(), Phase::Busy(seat));
@@ -202,7 +206,9 @@ impl BioTable {
     /// A bio's disk has answered: it goes up with the bytes at this place of the log, with success, or with an error.
     pub fn deliver(&mut self, bio: BioId, place: u64, errno: Option<Errno>)
         requires { IsTrue (has_phase is_busy self.old.bios bio) }
-        ensures delivered { self.new ≡ record self.old { bios = change_number bio (delivered place errno) self.old.bios } }
+        ensures delivered { self.new ≡ record self.old {
+          bios = change_number bio (delivered place errno) self.old.bios;
+        } }
         ensures in_order { AreInOrder self.new }
     {
         let number = bio.number();

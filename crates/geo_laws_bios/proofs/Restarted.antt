@@ -258,7 +258,8 @@ module _ (s : Geom Config → ℕ) where
         exclusive = demand_stays.exclusive demand.counts.exclusive;
         limited = demand_stays.limit demand.counts.limited;
       };
-      places = All-weaker (LeadsDown (granted_in w) t) (LeadsDown (granted_in w) u) leads_down t.providers demand.places;
+      places =
+          All-weaker (LeadsDown (granted_in w) t) (LeadsDown (granted_in w) u) leads_down t.providers demand.places;
       components = all_geoms (HasItsComponents (granted_in w) t) (HasItsComponents (granted_in w) u)
           (λ g has used. has (subst (λ (b : Bool). (g.withering ≡ false) ⊎ IsTrue b)
           (open_same g) used)) demand.components;

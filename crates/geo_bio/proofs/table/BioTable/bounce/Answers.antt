@@ -18,7 +18,8 @@ invariant_of-self c =
 -- the bio is there and down, so it alone goes up with the error
 pub returns : goal.returns
 returns c =
-    let left = one_changed c.self.inside.bios c.end_with.new.bios c.self.view_is c.self.invariant c.number.ensures is_down
+    let left =
+    one_changed c.self.inside.bios c.end_with.new.bios c.self.view_is c.self.invariant c.number.ensures is_down
     down_facts c.requires (up_with (held.Failed c.args.errno)) (up_holding (held.Failed c.args.errno))
     (λ x. record { owner = refl; undone = refl; idle = refl; changed = refl }) c.end_with.ensures in
     let new = c.end_with.new.bios in

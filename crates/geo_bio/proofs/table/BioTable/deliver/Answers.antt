@@ -11,7 +11,8 @@ invariant_of-self c =
 -- the bio is there and at its disk, so it alone goes up with what its command gets
 pub returns : goal.returns
 returns c =
-    let left = one_delivered c.self.inside.bios c.end_with.new.bios c.self.view_is c.self.invariant c.number-number.ensures
+    let left =
+    one_delivered c.self.inside.bios c.end_with.new.bios c.self.view_is c.self.invariant c.number-number.ensures
     c.requires c.args.place c.args.errno c.delivery-held.result c.delivery-held.ensures c.end_with.ensures in
     let new = c.end_with.new.bios in
     record { delivered = left.seen_is; in_order = in_order new.rows new.next new.spare left.table.rising }

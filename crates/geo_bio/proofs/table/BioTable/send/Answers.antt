@@ -18,7 +18,8 @@ invariant_of-self c =
 -- the bio is there and down, so it alone is sent
 pub returns : goal.returns
 returns c =
-    let left = one_changed c.self.inside.bios c.set_phase.new.bios c.self.view_is c.self.invariant c.number.ensures is_down
+    let left =
+    one_changed c.self.inside.bios c.set_phase.new.bios c.self.view_is c.self.invariant c.number.ensures is_down
     down_facts c.requires (with_phase phases.Sent) (at_phase phases.Sent)
     (λ x. record { owner = refl; undone = refl; idle = refl; changed = refl }) c.set_phase.ensures in
     let new = c.set_phase.new.bios in

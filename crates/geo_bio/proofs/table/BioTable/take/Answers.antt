@@ -18,7 +18,8 @@ invariant_of-self c =
 -- the bio is there and sent, so it alone is taken
 pub returns : goal.returns
 returns c =
-    let left = one_changed c.self.inside.bios c.set_phase.new.bios c.self.view_is c.self.invariant c.number.ensures is_sent
+    let left =
+    one_changed c.self.inside.bios c.set_phase.new.bios c.self.view_is c.self.invariant c.number.ensures is_sent
     sent_facts c.requires (with_phase (phases.Busy c.args.seat)) (at_phase (phases.Busy c.args.seat))
     (λ x. record { owner = refl; undone = refl; idle = refl; changed = refl }) c.set_phase.ensures in
     let new = c.set_phase.new.bios in

@@ -32,7 +32,8 @@ invariant_of-self c =
     let now = c.self.inside in
     let x = bio_seen is_busy now.bios c.self.view_is c.args.bio c.requires in
     let counted = from_busy_up now.bios.bios c.args.bio x.0 (table_rises now.bios c.self.invariant.in_order) x.1
-    now.down now.sent now.up now.busy now.live c.self.invariant.counted (delivered c.args.place c.args.errno) refl x.2 refl in
+    now.down now.sent now.up now.busy now.live c.self.invariant.counted (delivered c.args.place c.args.errno) refl x.2
+    refl in
     let bios = ap (λ (t : BioTableView). t.bios) c.deliver.ensures.delivered in
     let up = c.with_one-self-inside.ensures ∙ ap (with_one now.up) c.number.ensures in
     record {
