@@ -1,8 +1,8 @@
 -- What a mesh keeps makes its graph a sound one.
 use Rattle.std.specs.Prelude.{◌≡◌, ℕ, ◌+◌, ◌<◌, ◌==◌, Bool, true, false, List, [], ◌∷◌, find, filter, map, Option, Some, None, All, AllPairs, Contains, IfSome, IsSome, IsSomeAnd}
 use Rattle.std.specs.Option.{option_map}
-use Rattle.std.proofs.Common.{refl, sym, ◌∙◌, ap, subst, arith}
-use Rattle.std.proofs.lemmas.Bool.{eq-eqb}
+use Rattle.std.proofs.Common.{refl, sym, ◌∙◌, ap, subst, arith, inl, inr}
+use Rattle.std.proofs.lemmas.Bool.{eq-eqb, cases_Bool}
 use Rattle.std.proofs.lemmas.List.Elements.{recursion_from_All, All-from_recursion}
 use Rattle.std.proofs.lemmas.List.Kept.{AllPairs-cons}
 use Rattle.geo_model.specs.Words.{largest, same_name}
@@ -106,17 +106,13 @@ alike_found x y ys here passes none =
     absurd (nothing_in y
     (subst (λ zs. Contains zs y) (empty ys none) (Contains-filter (is_sound_named x.name) ys y here passes)))
   where
-    step : (z : Provider) (zs : List Provider) (b : Bool) → is_sound_named x.name z ≡ b
-        → find (is_sound_named x.name) (z ∷ zs) ≡ None
-        → (find (is_sound_named x.name) zs ≡ None → filter (is_sound_named x.name) zs ≡ [])
-        → filter (is_sound_named x.name) (z ∷ zs) ≡ []
-    step z zs true e none so = let never = rw e at none in absurd (cc)
-    step z zs false e none so = rw e (so (rw e at none))
-
     -- what isn't found isn't there
     empty : (zs : List Provider) → find (is_sound_named x.name) zs ≡ None → filter (is_sound_named x.name) zs ≡ []
     empty [] none = refl
-    empty (z ∷ zs) none = step z zs (is_sound_named x.name z) refl none (empty zs)
+    empty (z ∷ zs) none = elim (cases_Bool (is_sound_named x.name z)) [
+      | inl e ↦ let never = rw e at none in absurd (cc)
+      | inr e ↦ rw e (empty zs (rw e at none))
+    ]
 
 -- one of a name at most: two providers without an error differ in name
 names_differ : (ps : List Provider) → OneEach ps → AllPairs DifferInName ps

@@ -1,34 +1,25 @@
 -- The index after each change of the graph.
-use Rattle.std.proofs.Common.{◌≡◌, ℕ, ◌+◌, ◌==◌, List, [], ◌∷◌, map, Bool, true, false, Some, None, Option, sym, refl, ap, ◌∙◌, subst, inl, inr, not, filter, find, IsSome}
-use Rattle.std.proofs.lemmas.Bool.{cases_eq, eq-eqb, ne_eqb, eqb-true}
+use Rattle.std.proofs.Common.{arith, ◌≡◌, ℕ, ◌+◌, ◌==◌, List, [], ◌∷◌, map, Bool, true, false, Some, None, Option, sym, refl, ap, ◌∙◌, subst, not, filter, find, IsSome}
 use Rattle.std.proofs.lemmas.List.{map-append}
 use Rattle.std.proofs.Math.Bool.{and-false, and-true}
-use Rattle.std.specs.Prelude.{◌++◌, nat_le, IsSomeAnd, if◌then◌else◌}
+use Rattle.std.specs.Prelude.{◌++◌, nat_le, IsSomeAnd, if◌then◌else◌, ◌&&◌}
 use Rattle.std.specs.Option.{option_map}
 use Rattle.geo_model.specs.Kind.{Kind}
 use Rattle.geo_model.specs.Words.{change_where, names_number}
 use Rattle.geo_model.specs.Topology.{Topology, Geom, Provider, Consumer, add_geom, add_provider, add_consumer, remove_geom, remove_provider, remove_consumer, set_marks, attach, geom_at, provider_at, consumer_at, providers_of, consumers_of, attached_to, detach}
 use Rattle.geo_slots.specs.Slots.{with_value, without, value_at}
-use Rattle.geo_family.specs.Family.{names, is_parent, has_child, first_child}
+use Rattle.geo_family.specs.Family.{FamilyView, names, is_parent, has_child, first_child}
 use Rattle.geo_mesh.specs.declared.index.Index.{Index}
-use Rattle.std.specs.Prelude.{◌&&◌}
 use Rattle.geo_mesh.specs.Rows.{first_row}
 use Rattle.geo_mesh.specs.Topo.{first_provider, first_consumer}
-use Rattle.geo_mesh.specs.Index.{IsFamilyOf, IsIndexed, unless_dev, consumers_above, provider_numbers, with_rooms, with_geom_index, with_provider_index, with_consumer_index, without_geom_index, without_provider_index, without_consumer_index, attached_index, detached_index, geom_numbers}
+use Rattle.geo_mesh.specs.Index.{IsFamilyOf, IsIndexed, unless_dev, consumers_above, consumer_geoms, provider_numbers, family_with_rooms, with_parent, with_child, without_parent, with_rooms, with_geom_index, with_provider_index, with_consumer_index, without_geom_index, without_provider_index, without_consumer_index, attached_index, detached_index, geom_numbers}
 
 module _ {X Y : Type 0} (seen : X → Y) (test : X → Bool) (change : X → X) (same : (x : X)
     → seen (change x) ≡ seen x) where
-  -- one item more in front, changed or not, is seen as before
-  change_step : (x : X) (xs : List X) (b : Bool) → test x ≡ b
-      → map seen (change_where test change xs) ≡ map seen xs
-      → map seen (change_where test change (x ∷ xs)) ≡ map seen (x ∷ xs)
-  change_step x xs true e rest = rw (e, same x, rest) refl
-  change_step x xs false e rest = rw (e, rest) refl
-
   -- a change that isn't seen
   pub map-change_where : (xs : List X) → map seen (change_where test change xs) ≡ map seen xs
   map-change_where [] = refl
-  map-change_where (x ∷ xs) = change_step x xs (test x) refl (map-change_where xs)
+  map-change_where (x ∷ xs) = grind (arith, same x, map-change_where xs)
 
 -- a change of what stands under a number is another value under it
 map-change_number : {X : Type 0} (number : X → ℕ) (value : X → Option ℕ) (change : X → X) (n : ℕ) (v : Option ℕ)
@@ -38,89 +29,51 @@ map-change_number : {X : Type 0} (number : X → ℕ) (value : X → Option ℕ)
     ≡ map (λ x. (number x, value x)) (change_where (λ x. number x == n) change xs)
 map-change_number number value change n v same_number same_value [] = refl
 map-change_number number value change n v same_number same_value (x ∷ xs) =
-    elim (cases_eq (number x) n) [
-      | inl here ↦
-          rw (eq-eqb (number x) n here, same_number x, same_value x)
-          (λ i. (sym here i, v) ∷ map-change_number number value change n v same_number same_value xs i)
-      | inr other ↦
-          rw (ne_eqb (number x) n other)
-          (ap (λ rows. (number x, value x) ∷ rows)
-          (map-change_number number value change n v same_number same_value xs))
-    ]
+    grind (
+      arith,
+      same_number x,
+      same_value x,
+      map-change_number number value change n v same_number same_value xs,
+    )
 
 -- without a number, by what is seen
 map-filter_number : {X : Type 0} (number : X → ℕ) (n : ℕ) (xs : List X)
     → filter (λ m. not (m == n)) (map number xs) ≡ map number (filter (λ x. not (number x == n)) xs)
 map-filter_number number n [] = refl
-map-filter_number number n (x ∷ xs) =
-    elim (cases_eq (number x) n) [
-      | inl here ↦ rw (eq-eqb (number x) n here) (map-filter_number number n xs)
-      | inr other ↦ rw (ne_eqb (number x) n other) (ap (λ ns. number x ∷ ns) (map-filter_number number n xs))
-    ]
+map-filter_number number n (x ∷ xs) = grind (arith, map-filter_number number n xs)
 
 -- rows without a number, by what is seen
 pub map-filter_row : {X Y : Type 0} (number : X → ℕ) (value : X → Y) (n : ℕ) (xs : List X)
     → without (map (λ x. (number x, value x)) xs) n
     ≡ map (λ x. (number x, value x)) (filter (λ x. not (number x == n)) xs)
 map-filter_row number value n [] = refl
-map-filter_row number value n (x ∷ xs) =
-    elim (cases_eq (number x) n) [
-      | inl here ↦ rw (eq-eqb (number x) n here) (map-filter_row number value n xs)
-      | inr other ↦
-          rw (ne_eqb (number x) n other) (ap (λ rows. (number x, value x) ∷ rows) (map-filter_row number value n xs))
-    ]
+map-filter_row number value n (x ∷ xs) = grind (arith, map-filter_row number value n xs)
 
 -- one who is found stands among the numbers
 pub found_parent : {X : Type 0} (number : X → ℕ) (n : ℕ) (xs : List X) → IsSome (find (λ x. number x == n) xs)
     → is_parent (map number xs) n ≡ true
 found_parent number n [] never = absurd (cc)
-found_parent number n (x ∷ xs) found =
-    elim (cases_eq (number x) n) [
-      | inl here ↦ rw (eq-eqb (number x) n here) refl
-      | inr other ↦ rw (ne_eqb (number x) n other) (found_parent number n xs (rw (ne_eqb (number x) n other) at found))
-    ]
+found_parent number n (x ∷ xs) found = grind (arith, found_parent number n xs)
 
 -- the value of a number, by what is found
 pub value_at-map : {X : Type 0} (number : X → ℕ) (value : X → Option ℕ) (n : ℕ) (xs : List X)
     → value_at (map (λ x. (number x, value x)) xs) n ≡ option_map value (find (λ x. number x == n) xs)
 value_at-map number value n [] = refl
-value_at-map number value n (x ∷ xs) =
-    elim (cases_eq (number x) n) [
-      | inl here ↦ rw (eq-eqb (number x) n here) refl
-      | inr other ↦ rw (ne_eqb (number x) n other) (value_at-map number value n xs)
-    ]
+value_at-map number value n (x ∷ xs) = grind (arith, value_at-map number value n xs)
 
 module _ {X : Type 0} (number : X → ℕ) (value : X → Option ℕ) (p : ℕ) (test : X → Bool) (same : (x : X)
     → names (value x) p ≡ test x) where
-  -- one item more in front: whether it passes, and whether its number is past
-  first_step : (n : ℕ) (x : X) (xs : List X) (a b : Bool) → test x ≡ a → nat_le n (number x) ≡ b
-      → first_child (map (λ x. (number x, value x)) xs) p n
-      ≡ option_map number (find (λ x. nat_le n (number x)) (filter test xs))
-      → first_child (map (λ x. (number x, value x)) (x ∷ xs)) p n
-      ≡ option_map number (find (λ x. nat_le n (number x)) (filter test (x ∷ xs)))
-  first_step n x xs true true e f so = rw (same x, e, f) refl
-  first_step n x xs true false e f so = rw (same x, e, f) so
-  first_step n x xs false true e f so = rw (same x, e, f) so
-  first_step n x xs false false e f so = rw (same x, e, f) so
-
   -- the first child is the first of those that pass
   pub first_child-map : (n : ℕ) (xs : List X)
       → first_child (map (λ x. (number x, value x)) xs) p n
       ≡ option_map number (find (λ x. nat_le n (number x)) (filter test xs))
   first_child-map n [] = refl
-  first_child-map n (x ∷ xs) = first_step n x xs (test x) (nat_le n (number x)) refl refl (first_child-map n xs)
-
-  -- one item more in front, which doesn't pass, is no child either
-  childless_step : (x : X) (xs : List X) (a : Bool) → test x ≡ a → filter test (x ∷ xs) ≡ []
-      → (filter test xs ≡ [] → has_child (map (λ x. (number x, value x)) xs) p ≡ false)
-      → has_child (map (λ x. (number x, value x)) (x ∷ xs)) p ≡ false
-  childless_step x xs true e none so = let never : x ∷ filter test xs ≡ [] = rw e at none in absurd (cc)
-  childless_step x xs false e none so = rw (same x, e) (so (rw e at none))
+  first_child-map n (x ∷ xs) = grind (arith, same x, first_child-map n xs)
 
   -- where none passes, there is no child
   pub childless-map : (xs : List X) → filter test xs ≡ [] → has_child (map (λ x. (number x, value x)) xs) p ≡ false
   childless-map [] none = refl
-  childless-map (x ∷ xs) none = childless_step x xs (test x) refl none (λ h. childless-map xs h)
+  childless-map (x ∷ xs) none = grind (arith, same x, childless-map xs)
 
 -- whether one is named as the parent, as the model says it
 pub names-same : (o : Option ℕ) (p : ℕ) → names o p ≡ names_number o p
@@ -129,10 +82,7 @@ names-same (Some q) p = refl
 
 -- nothing is nothing, whoever's consumer it is
 none-above : (geom : ℕ) → unless_dev geom None ≡ None
-none-above geom = at (geom == 1) refl where
-  at : (b : Bool) → (geom == 1) ≡ b → unless_dev geom None ≡ None
-  at true e = rw e refl
-  at false e = rw e refl
+none-above geom = grind arith
 
 -- DEV's consumers are under no provider, another's under the one to which it is attached
 pub names-above : (geom : ℕ) (prov : Option ℕ) (p : ℕ)
@@ -148,13 +98,7 @@ names-above geom prov p = at prov (geom == 1) where
 pub filter-both : {X : Type 0} (one two : X → Bool) (xs : List X)
     → filter (λ x. one x && two x) xs ≡ filter two (filter one xs)
 filter-both one two [] = refl
-filter-both one two (x ∷ xs) = at (one x) refl (two x) refl (filter-both one two xs) where
-  at : (a : Bool) → one x ≡ a → (b : Bool) → two x ≡ b
-      → filter (λ y. one y && two y) xs ≡ filter two (filter one xs)
-      → filter (λ y. one y && two y) (x ∷ xs) ≡ filter two (filter one (x ∷ xs))
-  at true e true f rest = rw (e, f, rest) refl
-  at true e false f rest = rw (e, f, rest) refl
-  at false e b f rest = rw (e, rest) refl
+filter-both one two (x ∷ xs) = grind (arith, filter-both one two xs)
 
 -- each consumer of the number is the geom's
 abbrev pub OnlyOf : ℕ → ℕ → List Consumer → Type 0
@@ -166,15 +110,7 @@ above-by_dev : (cons prov geom : ℕ) → (geom == 1) ≡ true → (xs : List Co
     → consumers_above (change_where (λ x. x.number == cons) (λ x. record x { provider = Some prov }) xs)
     ≡ consumers_above xs
 above-by_dev cons prov geom dev [] only = refl
-above-by_dev cons prov geom dev (x ∷ xs) only =
-    at (x.number == cons) refl only.0 (above-by_dev cons prov geom dev xs only.1) where
-      at : (b : Bool) → (x.number == cons) ≡ b → ((x.number == cons) ≡ true → x.geom ≡ geom)
-          → consumers_above (change_where (λ y. y.number == cons) (λ y. record y { provider = Some prov }) xs)
-          ≡ consumers_above xs
-          → consumers_above (change_where (λ y. y.number == cons) (λ y. record y { provider = Some prov }) (x ∷ xs))
-          ≡ consumers_above (x ∷ xs)
-      at true e is rest = rw (e, is e, dev, rest) refl
-      at false e is rest = rw (e, rest) refl
+above-by_dev cons prov geom dev (x ∷ xs) only = grind (arith, only.0, dev, above-by_dev cons prov geom dev xs only.1)
 
 -- where another's consumer is attached, it comes above the provider
 above-by_other : (cons prov geom : ℕ) → (geom == 1) ≡ false → (xs : List Consumer) → OnlyOf cons geom xs
@@ -182,17 +118,7 @@ above-by_other : (cons prov geom : ℕ) → (geom == 1) ≡ false → (xs : List
     ≡ consumers_above (change_where (λ x. x.number == cons) (λ x. record x { provider = Some prov }) xs)
 above-by_other cons prov geom other [] only = refl
 above-by_other cons prov geom other (x ∷ xs) only =
-    at (x.number == cons) refl only.0 (above-by_other cons prov geom other xs only.1) where
-      at : (b : Bool) → (x.number == cons) ≡ b → ((x.number == cons) ≡ true → x.geom ≡ geom)
-          → with_value (consumers_above xs) cons (Some prov)
-          ≡ consumers_above (change_where (λ y. y.number == cons) (λ y. record y { provider = Some prov }) xs)
-          → with_value (consumers_above (x ∷ xs)) cons (Some prov)
-          ≡ consumers_above (change_where (λ y. y.number == cons) (λ y. record y { provider = Some prov }) (x ∷ xs))
-      at true e is rest =
-          let same : cons ≡ x.number = sym (eqb-true x.number cons e) in
-          rw (e, is e, other, rest) (ap (λ n. (n, Some prov)
-          ∷ consumers_above (change_where (λ y. y.number == cons) (λ y. record y { provider = Some prov }) xs)) same)
-      at false e is rest = rw (e, rest) refl
+    grind (arith, only.0, other, above-by_other cons prov geom other xs only.1)
 
 module _ {C : Type 0} (t : Topology C) (i : Index) (h : IsIndexed t i) where
   -- the look-ups
@@ -303,220 +229,151 @@ module _ {C : Type 0} (t : Topology C) (i : Index) (h : IsIndexed t i) where
       no_provider None never = absurd never
       no_provider (Some x) none = ap (λ p. Some (unless_dev x.geom p)) none ∙ ap (λ p. Some p) (none-above x.geom)
 
+module _ {v : FamilyView} {ps : List ℕ} {cs : List (ℕ × Option ℕ)} {p c : ℕ} (is : IsFamilyOf v ps cs p c) where
+  -- the parents and the children in other words
+  family-same : {qs : List ℕ} {ds : List (ℕ × Option ℕ)} → qs ≡ ps → ds ≡ cs → IsFamilyOf v qs ds p c
+  family-same parents children = record {
+    parents = is.parents ∙ sym parents;
+    children = is.children ∙ sym children;
+    next_parent = is.next_parent;
+    next_child = is.next_child;
+  }
+
+  -- with other room
+  family-rooms : (w : FamilyView) → IsFamilyOf (family_with_rooms v w) ps cs p c
+  family-rooms w = record {
+    parents = is.parents;
+    children = is.children;
+    next_parent = is.next_parent;
+    next_child = is.next_child;
+  }
+
+  -- with a parent more
+  family-parent : {qs : List ℕ} → qs ≡ ps ++ p ∷ [] → IsFamilyOf (with_parent v) qs cs (p + 1) c
+  family-parent more = record {
+    parents = rw (is.parents, is.next_parent) (sym more);
+    children = is.children;
+    next_parent = ap (λ n. n + 1) is.next_parent;
+    next_child = is.next_child;
+  }
+
+  -- with a child more
+  family-child : (o : Option ℕ) {ds : List (ℕ × Option ℕ)} → ds ≡ cs ++ (c, o) ∷ []
+      → IsFamilyOf (with_child v o) ps ds p (c + 1)
+  family-child o more = record {
+    parents = is.parents;
+    children = rw (is.children, is.next_child) (sym more);
+    next_parent = is.next_parent;
+    next_child = ap (λ n. n + 1) is.next_child;
+  }
+
+  -- with a parent less
+  family-without_parent : (n : ℕ) {qs : List ℕ} → filter (λ m. not (m == n)) ps ≡ qs
+      → IsFamilyOf (without_parent v n) qs cs p c
+  family-without_parent n less = record {
+    parents = rw is.parents less;
+    children = is.children;
+    next_parent = is.next_parent;
+    next_child = is.next_child;
+  }
+
+  -- with other children
+  family-children : {bs ds : List (ℕ × Option ℕ)} → (v.children ≡ cs → bs ≡ ds)
+      → IsFamilyOf (record v { children = bs }) ps ds p c
+  family-children so = record {
+    parents = is.parents;
+    children = so is.children;
+    next_parent = is.next_parent;
+    next_child = is.next_child;
+  }
+
+module _ {C : Type 0} (t : Topology C) (i : Index) (h : IsIndexed t i) where
   -- room changes nothing
   pub indexed-rooms : (j : Index) → j ≡ with_rooms i j → IsIndexed t j
   indexed-rooms j same =
       subst (λ k. IsIndexed t k) (sym same)
       (record {
-        offered = record {
-          parents = h.offered.parents;
-          children = h.offered.children;
-          next_parent = h.offered.next_parent;
-          next_child = h.offered.next_child;
-        };
-        owned =
-            record {
-              parents = h.owned.parents;
-              children = h.owned.children;
-              next_parent = h.owned.next_parent;
-              next_child = h.owned.next_child;
-            };
-        attached =
-            record {
-              parents = h.attached.parents;
-              children = h.attached.children;
-              next_parent = h.attached.next_parent;
-              next_child = h.attached.next_child;
-            };
-        above =
-            record {
-              parents = h.above.parents;
-              children = h.above.children;
-              next_parent = h.above.next_parent;
-              next_child = h.above.next_child;
-            };
+        offered = family-rooms h.offered j.offered;
+        owned = family-rooms h.owned j.owned;
+        attached = family-rooms h.attached j.attached;
+        above = family-rooms h.above j.above;
       })
 
   -- the index with a new geom is that of the graph with it
   pub indexed-add_geom : (kind : Kind) (name : List ℕ) (config : C) (automatic : Bool)
       → IsIndexed (add_geom t kind name config automatic) (with_geom_index i)
-  indexed-add_geom kind name config automatic =
-      let x : Geom C = record {
-        number = t.next_geom;
-        kind = kind;
-        name = name;
-        config = config;
-        automatic = automatic;
-        withering = false;
-        started = 0;
-      } in
-      record {
-        offered = record {
-          parents =
-              rw (h.offered.parents, h.offered.next_parent)
-              (sym (map-append (λ (x : Geom C). x.number) t.geoms (x ∷ [])));
-          children = h.offered.children;
-          next_parent = ap (λ n. n + 1) h.offered.next_parent;
-          next_child = h.offered.next_child;
-        };
-        owned = record {
-          parents =
-              rw (h.owned.parents, h.owned.next_parent)
-              (sym (map-append (λ (x : Geom C). x.number) t.geoms (x ∷ [])));
-          children = h.owned.children;
-          next_parent = ap (λ n. n + 1) h.owned.next_parent;
-          next_child = h.owned.next_child;
-        };
-        attached = h.attached;
-        above = h.above;
-      }
+  indexed-add_geom kind name config automatic = record {
+    offered = family-parent h.offered (map-append (λ (x : Geom C). x.number) t.geoms _);
+    owned = family-parent h.owned (map-append (λ (x : Geom C). x.number) t.geoms _);
+    attached = h.attached;
+    above = h.above;
+  }
 
   -- the index with a new provider is that of the graph with it
   pub indexed-add_provider : (geom : ℕ) (name : List ℕ) (size sector : ℕ)
       → IsIndexed (add_provider t geom name size sector) (with_provider_index i geom)
-  indexed-add_provider geom name size sector =
-      let x : Provider = record {
-        number = t.next_provider;
-        geom = geom;
-        name = name;
-        size = size;
-        sector = sector;
-        errored = false;
-      } in
-      record {
-        offered = record {
-          parents = h.offered.parents;
-          children =
-              rw (h.offered.children, h.offered.next_child)
-              (sym (map-append (λ (x : Provider). (x.number, Some x.geom)) t.providers (x ∷ [])));
-          next_parent = h.offered.next_parent;
-          next_child = ap (λ n. n + 1) h.offered.next_child;
-        };
-        owned = h.owned;
-        attached = record {
-          parents =
-              rw (h.attached.parents, h.attached.next_parent)
-              (sym (map-append (λ (x : Provider). x.number) t.providers (x ∷ [])));
-          children = h.attached.children;
-          next_parent = ap (λ n. n + 1) h.attached.next_parent;
-          next_child = h.attached.next_child;
-        };
-        above = record {
-          parents =
-              rw (h.above.parents, h.above.next_parent)
-              (sym (map-append (λ (x : Provider). x.number) t.providers (x ∷ [])));
-          children = h.above.children;
-          next_parent = ap (λ n. n + 1) h.above.next_parent;
-          next_child = h.above.next_child;
-        };
-      }
+  indexed-add_provider geom name size sector = record {
+    offered = family-child h.offered (Some geom)
+        (map-append (λ (x : Provider). (x.number, Some x.geom)) t.providers _);
+    owned = h.owned;
+    attached = family-parent h.attached (map-append (λ (x : Provider). x.number) t.providers _);
+    above = family-parent h.above (map-append (λ (x : Provider). x.number) t.providers _);
+  }
 
   -- the index with a new consumer is that of the graph with it
   pub indexed-add_consumer : (geom : ℕ) → IsIndexed (add_consumer t geom None) (with_consumer_index i geom)
-  indexed-add_consumer geom =
-      let x : Consumer = record { number = t.next_consumer; geom = geom; provider = None; spoiled = false } in
-      record {
-        offered = h.offered;
-        owned = record {
-          parents = h.owned.parents;
-          children =
-              rw (h.owned.children, h.owned.next_child)
-              (sym (map-append (λ (x : Consumer). (x.number, Some x.geom)) t.consumers (x ∷ [])));
-          next_parent = h.owned.next_parent;
-          next_child = ap (λ n. n + 1) h.owned.next_child;
-        };
-        attached = record {
-          parents = h.attached.parents;
-          children =
-              rw (h.attached.children, h.attached.next_child)
-              (sym (map-append (λ (x : Consumer). (x.number, x.provider)) t.consumers (x ∷ [])));
-          next_parent = h.attached.next_parent;
-          next_child = ap (λ n. n + 1) h.attached.next_child;
-        };
-        above = record {
-          parents = h.above.parents;
-          children =
-              rw (h.above.children, h.above.next_child)
-              (sym (map-append (λ (x : Consumer). (x.number, unless_dev x.geom x.provider)) t.consumers (x ∷ [])
-              ∙ ap (λ o. consumers_above t.consumers ++ (t.next_consumer, o) ∷ []) (none-above geom)));
-          next_parent = h.above.next_parent;
-          next_child = ap (λ n. n + 1) h.above.next_child;
-        };
-      }
+  indexed-add_consumer geom = record {
+    offered = h.offered;
+    owned = family-child h.owned (Some geom)
+        (map-append (λ (x : Consumer). (x.number, Some x.geom)) t.consumers _);
+    attached = family-child h.attached None (map-append (λ (x : Consumer). (x.number, x.provider)) t.consumers _);
+    above = family-child h.above None
+        (map-append (λ (x : Consumer). (x.number, unless_dev x.geom x.provider)) t.consumers _
+        ∙ ap (λ o. consumers_above t.consumers ++ (t.next_consumer, o) ∷ []) (none-above geom));
+  }
 
   -- the index without a geom is that of the graph without it
   pub indexed-remove_geom : (geom : ℕ) → IsIndexed (remove_geom t geom) (without_geom_index i geom)
   indexed-remove_geom geom = record {
-    offered = record {
-      parents = rw h.offered.parents (map-filter_number (λ (x : Geom C). x.number) geom t.geoms);
-      children = h.offered.children;
-      next_parent = h.offered.next_parent;
-      next_child = h.offered.next_child;
-    };
-    owned = record {
-      parents = rw h.owned.parents (map-filter_number (λ (x : Geom C). x.number) geom t.geoms);
-      children = h.owned.children;
-      next_parent = h.owned.next_parent;
-      next_child = h.owned.next_child;
-    };
+    offered = family-without_parent h.offered geom (map-filter_number (λ (x : Geom C). x.number) geom t.geoms);
+    owned = family-without_parent h.owned geom (map-filter_number (λ (x : Geom C). x.number) geom t.geoms);
     attached = h.attached;
     above = h.above;
   }
 
   -- the index without a provider is that of the graph without it
   pub indexed-remove_provider : (prov : ℕ) → IsIndexed (remove_provider t prov) (without_provider_index i prov)
-  indexed-remove_provider prov = record {
-    offered = record {
-      parents = h.offered.parents;
-      children =
-          rw h.offered.children (map-filter_row (λ (x : Provider). x.number) (λ x. Some x.geom) prov t.providers);
-      next_parent = h.offered.next_parent;
-      next_child = h.offered.next_child;
-    };
-    owned = h.owned;
-    attached = record {
-      parents =
-          rw h.attached.parents (map-filter_number (λ (x : Provider). x.number) prov t.providers);
-      children = h.attached.children;
-      next_parent = h.attached.next_parent;
-      next_child = h.attached.next_child;
-    };
-    above = record {
-      parents =
-          rw h.above.parents (map-filter_number (λ (x : Provider). x.number) prov t.providers);
-      children = h.above.children;
-      next_parent = h.above.next_parent;
-      next_child = h.above.next_child;
-    };
-  }
+  indexed-remove_provider prov =
+      let numbers = map-filter_number (λ (x : Provider). x.number) prov t.providers in
+      record {
+        offered = family-children h.offered (λ e.
+            rw e (map-filter_row (λ (x : Provider). x.number) (λ x. Some x.geom) prov t.providers));
+        owned = h.owned;
+        attached = family-without_parent h.attached prov numbers;
+        above = family-without_parent h.above prov numbers;
+      }
 
   -- the index without a consumer is that of the graph without it
   pub indexed-remove_consumer : (cons : ℕ) → IsIndexed (remove_consumer t cons) (without_consumer_index i cons)
   indexed-remove_consumer cons = record {
     offered = h.offered;
-    owned = record {
-      parents = h.owned.parents;
-      children =
-          rw h.owned.children (map-filter_row (λ (x : Consumer). x.number) (λ x. Some x.geom) cons t.consumers);
-      next_parent = h.owned.next_parent;
-      next_child = h.owned.next_child;
-    };
-    attached = record {
-      parents = h.attached.parents;
-      children =
-          rw h.attached.children (map-filter_row (λ (x : Consumer). x.number) (λ x. x.provider) cons t.consumers);
-      next_parent = h.attached.next_parent;
-      next_child = h.attached.next_child;
-    };
-    above = record {
-      parents = h.above.parents;
-      children =
-          rw h.above.children
-          (map-filter_row (λ (x : Consumer). x.number) (λ x. unless_dev x.geom x.provider) cons t.consumers);
-      next_parent = h.above.next_parent;
-      next_child = h.above.next_child;
-    };
+    owned = family-children h.owned (λ e.
+        rw e (map-filter_row (λ (x : Consumer). x.number) (λ x. Some x.geom) cons t.consumers));
+    attached = family-children h.attached (λ e.
+        rw e (map-filter_row (λ (x : Consumer). x.number) (λ x. x.provider) cons t.consumers));
+    above = family-children h.above (λ e.
+        rw e (map-filter_row (λ (x : Consumer). x.number) (λ x. unless_dev x.geom x.provider) cons t.consumers));
   }
+
+  -- the consumers' geoms stay where each consumer keeps its own
+  owned-same : (test : Consumer → Bool) (change : Consumer → Consumer)
+      → ((x : Consumer) → (change x).number ≡ x.number) → ((x : Consumer) → (change x).geom ≡ x.geom)
+      → IsFamilyOf i.owned (geom_numbers t.geoms) (consumer_geoms (change_where test change t.consumers))
+      t.next_geom t.next_consumer
+  owned-same test change number geom =
+      family-same h.owned refl
+      (map-change_where (λ (x : Consumer). (x.number, Some x.geom)) test change
+      (λ x. λ k. (number x k, Some (geom x k))) t.consumers)
 
   -- those above, where a consumer of a geom is attached
   above-attached : (cons prov geom : ℕ) (b : Bool) → (geom == 1) ≡ b → OnlyOf cons geom t.consumers
@@ -524,42 +381,20 @@ module _ {C : Type 0} (t : Topology C) (i : Index) (h : IsIndexed t i) where
         children = if b then i.above.children else with_value i.above.children cons (Some prov);
       }) (provider_numbers t.providers)
       (consumers_above (attach t cons prov).consumers) t.next_provider t.next_consumer
-  above-attached cons prov geom true e only = record {
-    parents = h.above.parents;
-    children = h.above.children ∙ sym (above-by_dev cons prov geom e t.consumers only);
-    next_parent = h.above.next_parent;
-    next_child = h.above.next_child;
-  }
-  above-attached cons prov geom false e only = record {
-    parents = h.above.parents;
-    children = rw h.above.children (above-by_other cons prov geom e t.consumers only);
-    next_parent = h.above.next_parent;
-    next_child = h.above.next_child;
-  }
+  above-attached cons prov geom true e only =
+      family-children h.above (λ is. is ∙ sym (above-by_dev cons prov geom e t.consumers only))
+  above-attached cons prov geom false e only =
+      family-children h.above (λ is. rw is (above-by_other cons prov geom e t.consumers only))
 
   -- the index with a consumer attached is that of the graph with it attached
   pub indexed-attach : (cons prov geom : ℕ) → OnlyOf cons geom t.consumers
       → IsIndexed (attach t cons prov) (attached_index i cons prov geom)
   indexed-attach cons prov geom only = record {
     offered = h.offered;
-    owned = record {
-      parents = h.owned.parents;
-      children =
-          h.owned.children
-          ∙ sym (map-change_where (λ (x : Consumer). (x.number, Some x.geom)) (λ x. x.number == cons)
-          (λ x. record x { provider = Some prov }) (λ x. refl) t.consumers);
-      next_parent = h.owned.next_parent;
-      next_child = h.owned.next_child;
-    };
-    attached = record {
-      parents = h.attached.parents;
-      children =
-          rw h.attached.children
-          (map-change_number (λ (x : Consumer). x.number) (λ x. x.provider)
-          (λ x. record x { provider = Some prov }) cons (Some prov) (λ x. refl) (λ x. refl) t.consumers);
-      next_parent = h.attached.next_parent;
-      next_child = h.attached.next_child;
-    };
+    owned = owned-same (λ x. x.number == cons) (λ x. record x { provider = Some prov }) (λ x. refl) (λ x. refl);
+    attached = family-children h.attached (λ e.
+        rw e (map-change_number (λ (x : Consumer). x.number) (λ x. x.provider)
+        (λ x. record x { provider = Some prov }) cons (Some prov) (λ x. refl) (λ x. refl) t.consumers));
     above = above-attached cons prov geom (geom == 1) refl only;
   }
 
@@ -567,115 +402,51 @@ module _ {C : Type 0} (t : Topology C) (i : Index) (h : IsIndexed t i) where
   pub indexed-detach : (cons : ℕ) → IsIndexed (detach t cons) (detached_index i cons)
   indexed-detach cons = record {
     offered = h.offered;
-    owned = record {
-      parents = h.owned.parents;
-      children =
-          h.owned.children
-          ∙ sym (map-change_where (λ (x : Consumer). (x.number, Some x.geom)) (λ x. x.number == cons)
-          (λ x. record x { provider = None }) (λ x. refl) t.consumers);
-      next_parent = h.owned.next_parent;
-      next_child = h.owned.next_child;
-    };
-    attached = record {
-      parents = h.attached.parents;
-      children =
-          rw h.attached.children
-          (map-change_number (λ (x : Consumer). x.number) (λ x. x.provider) (λ x. record x { provider = None })
-          cons None (λ x. refl) (λ x. refl) t.consumers);
-      next_parent = h.attached.next_parent;
-      next_child = h.attached.next_child;
-    };
-    above = record {
-      parents = h.above.parents;
-      children =
-          rw h.above.children
-          (map-change_number (λ (x : Consumer). x.number) (λ x. unless_dev x.geom x.provider)
-          (λ x. record x { provider = None }) cons None (λ x. refl) (λ x. none-above x.geom) t.consumers);
-      next_parent = h.above.next_parent;
-      next_child = h.above.next_child;
-    };
+    owned = owned-same (λ x. x.number == cons) (λ x. record x { provider = None }) (λ x. refl) (λ x. refl);
+    attached = family-children h.attached (λ e.
+        rw e (map-change_number (λ (x : Consumer). x.number) (λ x. x.provider) (λ x. record x { provider = None })
+        cons None (λ x. refl) (λ x. refl) t.consumers));
+    above = family-children h.above (λ e.
+        rw e (map-change_number (λ (x : Consumer). x.number) (λ x. unless_dev x.geom x.provider)
+        (λ x. record x { provider = None }) cons None (λ x. refl) (λ x. none-above x.geom) t.consumers));
   }
 
   -- a change of a provider that keeps its number and its geom leaves the index
   pub indexed-provider : (prov : ℕ) (change : Provider → Provider)
       → ((x : Provider) → (change x).number ≡ x.number) → ((x : Provider) → (change x).geom ≡ x.geom)
       → IsIndexed (record t { providers = change_where (λ x. x.number == prov) change t.providers }) i
-  indexed-provider prov change number geom = record {
-    offered = record {
-      parents = h.offered.parents;
-      children = h.offered.children
-          ∙ sym (map-change_where (λ (x : Provider). (x.number, Some x.geom)) (λ x. x.number == prov) change
-          (λ x. λ k. (number x k, Some (geom x k))) t.providers);
-      next_parent = h.offered.next_parent;
-      next_child = h.offered.next_child;
-    };
-    owned = h.owned;
-    attached = record {
-      parents = h.attached.parents
-          ∙ sym (map-change_where (λ (x : Provider). x.number) (λ x. x.number == prov) change number t.providers);
-      children = h.attached.children;
-      next_parent = h.attached.next_parent;
-      next_child = h.attached.next_child;
-    };
-    above = record {
-      parents = h.above.parents
-          ∙ sym (map-change_where (λ (x : Provider). x.number) (λ x. x.number == prov) change number t.providers);
-      children = h.above.children;
-      next_parent = h.above.next_parent;
-      next_child = h.above.next_child;
-    };
-  }
+  indexed-provider prov change number geom =
+      let numbers = map-change_where (λ (x : Provider). x.number) (λ x. x.number == prov) change number t.providers in
+      record {
+        offered = family-same h.offered refl
+            (map-change_where (λ (x : Provider). (x.number, Some x.geom)) (λ x. x.number == prov) change
+            (λ x. λ k. (number x k, Some (geom x k))) t.providers);
+        owned = h.owned;
+        attached = family-same h.attached numbers refl;
+        above = family-same h.above numbers refl;
+      }
 
   -- other marks of consumers leave the index
   pub indexed-set_marks : (test : Consumer → Bool) (marked : Bool) → IsIndexed (set_marks t test marked) i
   indexed-set_marks test marked = record {
     offered = h.offered;
-    owned = record {
-      parents = h.owned.parents;
-      children =
-          h.owned.children
-          ∙ sym (map-change_where (λ (x : Consumer). (x.number, Some x.geom)) test
-          (λ x. record x { spoiled = marked }) (λ x. refl) t.consumers);
-      next_parent = h.owned.next_parent;
-      next_child = h.owned.next_child;
-    };
-    attached = record {
-      parents = h.attached.parents;
-      children = h.attached.children
-          ∙ sym (map-change_where (λ (x : Consumer). (x.number, x.provider)) test
-          (λ x. record x { spoiled = marked }) (λ x. refl) t.consumers);
-      next_parent = h.attached.next_parent;
-      next_child = h.attached.next_child;
-    };
-    above = record {
-      parents = h.above.parents;
-      children = h.above.children
-          ∙ sym (map-change_where (λ (x : Consumer). (x.number, unless_dev x.geom x.provider)) test
-          (λ x. record x { spoiled = marked }) (λ x. refl) t.consumers);
-      next_parent = h.above.next_parent;
-      next_child = h.above.next_child;
-    };
+    owned = owned-same test (λ x. record x { spoiled = marked }) (λ x. refl) (λ x. refl);
+    attached = family-same h.attached refl
+        (map-change_where (λ (x : Consumer). (x.number, x.provider)) test
+        (λ x. record x { spoiled = marked }) (λ x. refl) t.consumers);
+    above = family-same h.above refl
+        (map-change_where (λ (x : Consumer). (x.number, unless_dev x.geom x.provider)) test
+        (λ x. record x { spoiled = marked }) (λ x. refl) t.consumers);
   }
 
   -- a change of a geom that keeps its number leaves the index
   pub indexed-geom : (geom : ℕ) (change : Geom C → Geom C) → ((x : Geom C) → (change x).number ≡ x.number)
       → IsIndexed (record t { geoms = change_where (λ x. x.number == geom) change t.geoms }) i
   indexed-geom geom change number =
-      let same : geom_numbers (change_where (λ (x : Geom C). x.number == geom) change t.geoms) ≡ geom_numbers t.geoms =
-      map-change_where (λ (x : Geom C). x.number) (λ (x : Geom C). x.number == geom) change number t.geoms in
+      let numbers = map-change_where (λ (x : Geom C). x.number) (λ x. x.number == geom) change number t.geoms in
       record {
-        offered = record {
-          parents = h.offered.parents ∙ sym same;
-          children = h.offered.children;
-          next_parent = h.offered.next_parent;
-          next_child = h.offered.next_child;
-        };
-        owned = record {
-          parents = h.owned.parents ∙ sym same;
-          children = h.owned.children;
-          next_parent = h.owned.next_parent;
-          next_child = h.owned.next_child;
-        };
+        offered = family-same h.offered numbers refl;
+        owned = family-same h.owned numbers refl;
         attached = h.attached;
         above = h.above;
       }
@@ -684,16 +455,8 @@ module _ {C : Type 0} (t : Topology C) (i : Index) (h : IsIndexed t i) where
 module _ {T X : Type 0} (seen : ℕ × T → X) (pair : X → ℕ × Option ℕ) (child : T → Option ℕ) (is : (row : ℕ × T)
     → pair (seen row) ≡ (row.0, child row.1)) (test : T → Bool) (parent at : ℕ) (same : (x : T)
     → names (child x) parent ≡ test x) where
-  -- one row more in front: it is the first child, or a later one is
-  kin_step : (row : ℕ × T) (rows : List (ℕ × T)) (b : Bool) → (nat_le at row.0 && test row.1) ≡ b
-      → first_child (map pair (map seen rows)) parent at ≡ option_map (λ r. r.0) (first_row test rows at)
-      → first_child (map pair (map seen (row ∷ rows))) parent at
-      ≡ option_map (λ r. r.0) (first_row test (row ∷ rows) at)
-  kin_step row rows true e rest = rw (is row, same row.1, e) refl
-  kin_step row rows false e rest = rw (is row, same row.1, e) rest
-
   -- over all rows, the first child is the number of the first row that passes
   pub first-kin : (rows : List (ℕ × T))
       → first_child (map pair (map seen rows)) parent at ≡ option_map (λ r. r.0) (first_row test rows at)
   first-kin [] = refl
-  first-kin (row ∷ rows) = kin_step row rows (nat_le at row.0 && test row.1) refl (first-kin rows)
+  first-kin (row ∷ rows) = grind (arith, is row, same row.1, first-kin rows)

@@ -5,6 +5,7 @@ use Rattle.std.proofs.lemmas.Bool.{eq-eqb, leb-true, le-leb, lt-leb, ne_eqb}
 use Rattle.std.proofs.Math.Bool.{and-false}
 use Rattle.geo_model.specs.Kind.{Kind}
 use Rattle.geo_model.specs.Words.{is_kind, same_name}
+use Rattle.geo_slots.proofs.RowLemmas.{IsRising_ends}
 use Rattle.geo_slots.specs.Slots.{IsRising, value_at}
 use Rattle.geo_names.specs.Names.{first_named}
 use Rattle.geo_mesh.specs.declared.records.GeomCell.{GeomCell}
@@ -30,32 +31,17 @@ pub record IsNamed {C : Type 0} (kind : Kind) (name : List ℕ) (rows : List (�
   pub behind : is_of_class kind cell ≡ false → first_number kind name rows at ≡ first_number kind name rows (n + 1)
 
 module _ {C : Type 0} (kind : Kind) (name : List ℕ) where
-  -- the end of rows whose numbers rise
-  top : (low high : ℕ) (rows : List (ℕ × GeomCell C)) → IsRising low rows high → low ≤ high
-  top low high [] rising = rising
-  top low high (row ∷ rows) rising = let rest = top (row.0 + 1) high rows rising.1 in omega (arith, rising.0)
-
   -- where all numbers come later, it doesn't matter from where the walk begins
   from_any : (a b low high : ℕ) (rows : List (ℕ × GeomCell C)) → IsRising low rows high → a ≤ low → b ≤ low
       → first_number kind name rows a ≡ first_number kind name rows b
   from_any a b low high [] rising one two = refl
   from_any a b low high (row ∷ rows) rising one two =
-      at (is_of kind name row.1) refl
-      (from_any a b (row.0 + 1) high rows rising.1 (omega (arith, rising.0)) (omega (arith, rising.0))) where
-        at : (k : Bool) → is_of kind name row.1 ≡ k → first_number kind name rows a ≡ first_number kind name rows b
-            → first_number kind name (row ∷ rows) a ≡ first_number kind name (row ∷ rows) b
-        at true e rest =
-            rw (
-              le-leb a row.0 (omega (arith, rising.0)),
-              le-leb b row.0 (omega (arith, rising.0)),
-              e,
-            ) refl
-        at false e rest =
-            rw (
-              le-leb a row.0 (omega (arith, rising.0)),
-              le-leb b row.0 (omega (arith, rising.0)),
-              e,
-            ) rest
+      grind (
+        arith,
+        le-leb a row.0 (omega (arith, rising.0)),
+        le-leb b row.0 (omega (arith, rising.0)),
+        from_any a b (row.0 + 1) high rows rising.1 (omega (arith, rising.0)) (omega (arith, rising.0)),
+      )
 
   -- a geom in front that is passed over
   front_step : (at n low high : ℕ) (row : ℕ × GeomCell C) (rows : List (ℕ × GeomCell C))
@@ -82,7 +68,7 @@ module _ {C : Type 0} (kind : Kind) (name : List ℕ) where
   named_step at n low high row rows true true d e f k rising first so =
       let found : Some row.0 ≡ Some n = rw (e, f) at first in
       let same : row.0 ≡ n = cc in
-      let rest = top (row.0 + 1) high rows rising.1 in
+      let rest = IsRising_ends (row.0 + 1) rows high rising.1 in
       record {
         cell = row.1;
         there = rw (eq-eqb row.0 n same) refl;
@@ -116,41 +102,16 @@ module _ {C : Type 0} (kind : Kind) (name : List ℕ) where
   named-by at n next names rows same rising first =
       named-first at n 1 next rows rising (ap (λ ns. first_named ns name at) (sym same) ∙ sym first)
 
-  -- one geom more in front, which isn't of the name or comes before
-  none_step : (at : ℕ) (row : ℕ × GeomCell C) (rows : List (ℕ × GeomCell C)) (a b : Bool)
-      → nat_le at row.0 ≡ a → same_name row.1.geom.name name ≡ b
-      → first_named (rows_with (geom_name {C = C}) (row ∷ rows)) name at ≡ None
-      → (first_named (rows_with (geom_name {C = C}) rows) name at ≡ None → first_number kind name rows at ≡ None)
-      → first_number kind name (row ∷ rows) at ≡ None
-  none_step at row rows true true e f none so = let never : Some row.0 ≡ None = rw (e, f) at none in absurd cc
-  none_step at row rows true false e f none so =
-      rw (e, f, and-false (is_kind row.1.geom.kind kind)) (so (rw (e, f) at none))
-  none_step at row rows false b e f none so = rw e (so (rw e at none))
-
   -- where none is of the name, none is of the class and of the name
   pub named-none : (at : ℕ) (rows : List (ℕ × GeomCell C))
       → first_named (rows_with (geom_name {C = C}) rows) name at ≡ None → first_number kind name rows at ≡ None
   named-none at [] none = refl
   named-none at (row ∷ rows) none =
-      none_step at row rows (nat_le at row.0) (same_name row.1.geom.name name) refl refl none (named-none at rows)
-
-  -- one geom more in front, in the graph
-  graph_step : (at : ℕ) (row : ℕ × GeomCell C) (rows : List (ℕ × GeomCell C)) (a b : Bool)
-      → nat_le at row.0 ≡ a → (is_kind row.1.geom.kind kind && same_name row.1.geom.name name) ≡ b
-      → first_number kind name rows at
-      ≡ first_geom (filter (λ x. is_kind x.kind kind && same_name x.name name) (map geom_row rows)) at
-      → first_number kind name (row ∷ rows) at
-      ≡ first_geom (filter (λ x. is_kind x.kind kind && same_name x.name name) (map geom_row (row ∷ rows))) at
-  graph_step at row rows true true e f rest = rw (e, f, e) refl
-  graph_step at row rows true false e f rest = rw (e, f) rest
-  graph_step at row rows false true e f rest = rw (e, f, e) rest
-  graph_step at row rows false false e f rest = rw (e, f) rest
+      grind (arith, and-false (is_kind row.1.geom.kind kind), named-none at rows)
 
   -- the first in the rows is the first in the graph
   pub named-graph : (at : ℕ) (rows : List (ℕ × GeomCell C))
       → first_number kind name rows at
       ≡ first_geom (filter (λ x. is_kind x.kind kind && same_name x.name name) (map geom_row rows)) at
   named-graph at [] = refl
-  named-graph at (row ∷ rows) =
-      graph_step at row rows (nat_le at row.0) (is_kind row.1.geom.kind kind && same_name row.1.geom.name name)
-      refl refl (named-graph at rows)
+  named-graph at (row ∷ rows) = grind (arith, named-graph at rows)

@@ -13,8 +13,8 @@ use Rattle.geo_mesh.specs.Marks.{MarksView}
 use Rattle.geo_mesh.specs.Cells.{risen_of, fallen_of}
 use Rattle.geo_names.specs.Names.{NamesView, with_name}
 use Rattle.geo_mesh.specs.Notes.{geom_name, HaveNoteRoom, IsSameNotes, AreNotes}
-use Rattle.geo_mesh.specs.Ranks.{bare, without_rank}
-use Rattle.geo_mesh.proofs.RowLemmas.{OnlyValue, only_value, map-with_value_same, rows_with-with_value, map-without}
+use Rattle.geo_mesh.specs.Ranks.{bare}
+use Rattle.geo_mesh.proofs.RowLemmas.{map-bare, rows_with-with_value, map-without, rows_kept}
 
 -- with one number more, without a mark
 abbrev pub with_mark : MarksView → MarksView
@@ -150,12 +150,9 @@ module _ {C : Type 0} (n : Notes) (gs : SlotsView (GeomCell C)) (ps : SlotsView 
       → w.provider.fallen ≡ v.provider.fallen → AreNotes n gs ps
       → AreNotes n gs (record ps { rows = with_value ps.rows k w })
   notes-provider_kept k v w rising at risen fallen are =
-      let is : OnlyValue k v ps.rows = only_value k 1 ps.next v ps.rows rising at in
       record {
-        risen = are.risen
-            ∙ sym (map-with_value_same (row_with risen_of) k v w (ap (λ (b : Bool). (k, b)) risen) ps.rows is);
-        fallen = are.fallen
-            ∙ sym (map-with_value_same (row_with fallen_of) k v w (ap (λ (b : Bool). (k, b)) fallen) ps.rows is);
+        risen = are.risen ∙ sym (rows_kept ps k v w rising at (row_with risen_of) (λ i. (k, risen i)));
+        fallen = are.fallen ∙ sym (rows_kept ps k v w rising at (row_with fallen_of) (λ i. (k, fallen i)));
         risen_next = are.risen_next;
         fallen_next = are.fallen_next;
         going_next = are.going_next;
@@ -163,15 +160,6 @@ module _ {C : Type 0} (n : Notes) (gs : SlotsView (GeomCell C)) (ps : SlotsView 
         named_next = are.named_next;
         room = are.room;
       }
-
-  -- a geom's cell of the same name keeps the names
-  named_kept : (k : ℕ) (v w : GeomCell C) → IsRising 1 gs.rows gs.next → value_at gs.rows k ≡ Some v
-      → w.geom.name ≡ v.geom.name → AreNotes n gs ps
-      → n.named.rows ≡ rows_with (geom_name {C = C}) (with_value gs.rows k w)
-  named_kept k v w rising at same are =
-      are.named
-      ∙ sym (map-with_value_same (row_with (geom_name {C = C})) k v w (ap (λ (b : List ℕ). (k, b)) same) gs.rows
-      (only_value k 1 gs.next v gs.rows rising at))
 
   -- with another cell of a geom of the same name
   pub notes-geom_kept : (k : ℕ) (v w : GeomCell C) → IsRising 1 gs.rows gs.next → value_at gs.rows k ≡ Some v
@@ -183,26 +171,17 @@ module _ {C : Type 0} (n : Notes) (gs : SlotsView (GeomCell C)) (ps : SlotsView 
         risen_next = are.risen_next;
         fallen_next = are.fallen_next;
         going_next = are.going_next;
-        named = named_kept k v w rising at same are;
+        named = are.named ∙ sym (rows_kept gs k v w rising at (row_with (geom_name {C = C})) (λ i. (k, same i)));
         named_next = are.named_next;
         room = are.room;
       }
-
--- the names of geoms are seen without the ranks
-names_rest : {C : Type 0} (rows : List (ℕ × GeomCell C))
-    → rows_with (geom_name {C = C}) rows
-    ≡ rows_with (λ (x : GeomRec C × Scratch). x.0.name) (rows_with (without_rank {C = C}) rows)
-names_rest [] = refl
-names_rest {C} (row ∷ rows) = ap (λ xs. (row.0, row.1.geom.name) ∷ xs) (names_rest {C = C} rows)
 
 -- other ranks in the cells leave the notes
 pub notes-bare : {C : Type 0} (n : Notes) (gs ns : SlotsView (GeomCell C)) (ps : SlotsView ProvCell)
     → bare ns ≡ bare gs → AreNotes n gs ps → AreNotes n ns ps
 notes-bare {C} n gs ns ps same are =
     let names : rows_with (geom_name {C = C}) ns.rows ≡ rows_with (geom_name {C = C}) gs.rows =
-    names_rest ns.rows
-    ∙ ap (λ (s : SlotsView (GeomRec C × Scratch)). rows_with (λ (x : GeomRec C × Scratch). x.0.name) s.rows) same
-    ∙ sym (names_rest gs.rows) in
+    map-bare (λ row. (row.0, row.1.0.name)) gs ns same in
     let next : ns.next ≡ gs.next = ap (λ (s : SlotsView (GeomRec C × Scratch)). s.next) same in
     let spare : ns.spare ≡ gs.spare = ap (λ (s : SlotsView (GeomRec C × Scratch)). s.spare) same in
     record {

@@ -1,5 +1,5 @@
 -- The first two geoms, on whose ranks no geom stands: the ranks of all geoms from those that stand in the cells.
-use Rattle.std.specs.Prelude.{◌≡◌, ◌≢◌, ◌⊎◌, ℕ, ◌+◌, ◌≤◌, ◌==◌, Bool, true, false, not, ◌&&◌, ◌||◌, List, [], ◌∷◌, Option, Some, None, IsSome, IsSomeAnd, map, filter, filter_map, length, if◌then◌else◌}
+use Rattle.std.specs.Prelude.{◌≡◌, ◌≢◌, ◌⊎◌, ℕ, ◌+◌, ◌≤◌, ◌==◌, Bool, true, false, not, ◌&&◌, ◌||◌, List, [], ◌∷◌, Option, Some, None, IsSome, IsSomeAnd, map, filter_map, length, All}
 use Rattle.std.specs.List.{AllByRecursion}
 use Rattle.std.specs.Option.{option_map}
 use Rattle.std.proofs.Common.{refl, sym, ap, ◌∙◌, subst, inl, inr, arith}
@@ -23,15 +23,14 @@ use Rattle.geo_mesh.specs.Rows.{rows_with, passes}
 use Rattle.geo_mesh.specs.Cells.{graph_of, geom_row, provider_row, consumer_row}
 use Rattle.geo_mesh.specs.Graph.{IsOffer, IsOrderly}
 use Rattle.geo_mesh.specs.Mending.{IsAmong, StandsAbove, above}
-use Rattle.std.specs.Prelude.{All}
 use Rattle.geo_model.specs.Graph.{AreNumbers}
 use Rattle.geo_mesh.specs.Index.{IsIndexed}
-use Rattle.geo_mesh.specs.Ranks.{IsKin, is_dev_or_taste, footing, ranked_link_of, links_of, ranked_links, links, offers, ranked_below, below, rank_from, is_high, is_attached, is_above, owner, user, bare, kind_of, owner_of, HaveDevAndTaste}
-use Rattle.geo_mesh.proofs.RowLemmas.{value_at-rows_with}
+use Rattle.geo_mesh.specs.Ranks.{IsKin, is_dev_or_taste, footing, ranked_link_of, links_of, ranked_links, links, offers, ranked_below, below, provs_of, rank_from, is_high, is_attached, is_above, owner, user, bare, kind_of, owner_of, HaveDevAndTaste}
+use Rattle.geo_mesh.proofs.RowLemmas.{map-bare, value_at-rows_with}
 use Rattle.geo_mesh.proofs.RankMend.{largest-same}
 use Rattle.geo_mesh.proofs.RankHeights.{local-few}
 use Rattle.geo_mesh.proofs.ViewLemmas.{geom_at-view}
-use Rattle.geo_mesh.proofs.RankRows.{all-at, kinds-bare}
+use Rattle.geo_mesh.proofs.RankRows.{all-at}
 
 -- the rank of a later geom stands on what its consumers are attached to
 pub footing-later : (g : ℕ) (o : Option ℕ) → is_dev_or_taste g ≡ false → footing g o ≡ o
@@ -43,74 +42,33 @@ footing-first g o first = rw first refl
 
 -- and so does that of a geom by a consumer that is attached to nothing
 pub footing-none : (g : ℕ) → footing g None ≡ None
-footing-none g = at (is_dev_or_taste g) refl where
-  at : (b : Bool) → is_dev_or_taste g ≡ b → footing g None ≡ None
-  at true e = rw e refl
-  at false e = rw e refl
+footing-none g = grind arith
 
 -- by a consumer that isn't attached to a provider it doesn't stand on that
 pub footing-unnamed : (g n : ℕ) (o : Option ℕ) → names_number o n ≡ false → names_number (footing g o) n ≡ false
-footing-unnamed g n o e = at (is_dev_or_taste g) refl where
-  at : (b : Bool) → is_dev_or_taste g ≡ b → names_number (footing g o) n ≡ false
-  at true first = rw first refl
-  at false later = rw later e
+footing-unnamed g n o e = grind (arith, e)
 
 -- where it stands on a provider, the geom is a later one
 pub footing-some : (g p : ℕ) (o : Option ℕ) → footing g o ≡ Some p → (is_dev_or_taste g ≡ false) × (o ≡ Some p)
-footing-some g p o there = at (is_dev_or_taste g) refl there where
-  at : (b : Bool) → is_dev_or_taste g ≡ b → (if b then None else o) ≡ Some p → (is_dev_or_taste g ≡ false)
-      × (o ≡ Some p)
-  at true e there = absurd (cc)
-  at false e there = (e, there)
+footing-some g p o there = elim (cases_Bool (is_dev_or_taste g)) [
+  | inl e ↦ let no : None ≡ Some p = rw e at there in absurd cc
+  | inr e ↦ (e, rw e at there)
+]
 
 module _ (g : ℕ) where
   -- the providers below a later geom, by either table
-  links_step : is_dev_or_taste g ≡ false → (row : ℕ × ConsCell) (rows : List (ℕ × ConsCell)) (b : Bool)
-      → (row.1.consumer.geom == g) ≡ b
-      → filter_map (λ (r : ℕ × (ℕ × Option ℕ)). r.1.1)
-      (filter (λ (r : ℕ × (ℕ × Option ℕ)). r.1.0 == g) (rows_with ranked_link_of rows))
-      ≡ filter_map (λ (r : ℕ × (ℕ × Option ℕ)). r.1.1)
-      (filter (λ (r : ℕ × (ℕ × Option ℕ)). r.1.0 == g) (rows_with links_of rows))
-      → filter_map (λ (r : ℕ × (ℕ × Option ℕ)). r.1.1)
-      (filter (λ (r : ℕ × (ℕ × Option ℕ)). r.1.0 == g) (rows_with ranked_link_of (row ∷ rows)))
-      ≡ filter_map (λ (r : ℕ × (ℕ × Option ℕ)). r.1.1)
-      (filter (λ (r : ℕ × (ℕ × Option ℕ)). r.1.0 == g) (rows_with links_of (row ∷ rows)))
-  links_step later row rows false e rest = rw e rest
-  links_step later row rows true e rest =
-      at row.1.consumer.prov
-      (footing-later row.1.consumer.geom row.1.consumer.prov (rw (eqb-true row.1.consumer.geom g e) later)) refl
-    where
-      at : (o : Option ℕ) → footing row.1.consumer.geom row.1.consumer.prov ≡ o → row.1.consumer.prov ≡ o
-          → filter_map (λ (r : ℕ × (ℕ × Option ℕ)). r.1.1)
-          (filter (λ (r : ℕ × (ℕ × Option ℕ)). r.1.0 == g) (rows_with ranked_link_of (row ∷ rows)))
-          ≡ filter_map (λ (r : ℕ × (ℕ × Option ℕ)). r.1.1)
-          (filter (λ (r : ℕ × (ℕ × Option ℕ)). r.1.0 == g) (rows_with links_of (row ∷ rows)))
-      at None foot is = rw (e, foot, is) rest
-      at (Some p) foot is = rw (e, foot, is) (ap (λ qs. p ∷ qs) rest)
-
-  -- over all rows
   links_same : is_dev_or_taste g ≡ false → (rows : List (ℕ × ConsCell))
-      → filter_map (λ (r : ℕ × (ℕ × Option ℕ)). r.1.1)
-      (filter (λ (r : ℕ × (ℕ × Option ℕ)). r.1.0 == g) (rows_with ranked_link_of rows))
-      ≡ filter_map (λ (r : ℕ × (ℕ × Option ℕ)). r.1.1)
-      (filter (λ (r : ℕ × (ℕ × Option ℕ)). r.1.0 == g) (rows_with links_of rows))
+      → provs_of (rows_with ranked_link_of rows) g ≡ provs_of (rows_with links_of rows) g
   links_same later [] = refl
-  links_same later (row ∷ rows) = links_step later row rows (row.1.consumer.geom == g) refl (links_same later rows)
+  links_same later (row ∷ rows) =
+      grind (arith, footing-later row.1.consumer.geom row.1.consumer.prov, links_same later rows)
 
   -- the first two stand on no provider
   no_footing : is_dev_or_taste g ≡ true → (rows : List (ℕ × ConsCell))
-      → filter_map (λ (r : ℕ × (ℕ × Option ℕ)). r.1.1)
-      (filter (λ (r : ℕ × (ℕ × Option ℕ)). r.1.0 == g) (rows_with ranked_link_of rows)) ≡ []
+      → provs_of (rows_with ranked_link_of rows) g ≡ []
   no_footing first [] = refl
-  no_footing first (row ∷ rows) = at (row.1.consumer.geom == g) refl (no_footing first rows) where
-    at : (b : Bool) → (row.1.consumer.geom == g) ≡ b
-        → filter_map (λ (r : ℕ × (ℕ × Option ℕ)). r.1.1)
-        (filter (λ (r : ℕ × (ℕ × Option ℕ)). r.1.0 == g) (rows_with ranked_link_of rows)) ≡ []
-        → filter_map (λ (r : ℕ × (ℕ × Option ℕ)). r.1.1)
-        (filter (λ (r : ℕ × (ℕ × Option ℕ)). r.1.0 == g) (rows_with ranked_link_of (row ∷ rows))) ≡ []
-    at true e rest =
-        rw (e, footing-first row.1.consumer.geom row.1.consumer.prov (rw (eqb-true row.1.consumer.geom g e) first)) rest
-    at false e rest = rw e rest
+  no_footing first (row ∷ rows) =
+      grind (arith, footing-first row.1.consumer.geom row.1.consumer.prov, no_footing first rows)
 
 module _ (edges : Edges) where
   -- a consumer by which a rank stands on a provider is of a later geom
@@ -199,19 +157,17 @@ module _ (edges : Edges) where
           → (IsAmong (filter_map (value_at (offers edges).rows) qs) h → is_dev_or_taste h ≡ false)
           → is_dev_or_taste h ≡ false
       at None e there so = so (rw e at there)
-      at (Some k) e there so = pick (rw e at there) where
-        pick : (k ≡ h) ⊎ IsAmong (filter_map (value_at (offers edges).rows) qs) h → is_dev_or_taste h ≡ false
-        pick (inl same) =
+      at (Some k) e there so = elim (rw e at there) [
+        | inl same ↦
             subst (λ n. is_dev_or_taste n ≡ false) same
             (all-at (λ (row : ℕ × ℕ). is_dev_or_taste row.1 ≡ false) (offers edges).rows q k bare e)
-        pick (inr rest) = so rest
+        | inr rest ↦ so rest
+      ]
 
     -- so what is directly below a geom is one
     pub below-later : (x h : ℕ) → IsAmong (below edges x) h → is_dev_or_taste h ≡ false
     below-later x h there =
-        offered_later
-        (filter_map (λ (r : ℕ × (ℕ × Option ℕ)). r.1.1)
-        (filter (λ (r : ℕ × (ℕ × Option ℕ)). r.1.0 == x) (links edges).rows)) h there
+        offered_later (provs_of (links edges).rows x) h there
 
     module _ (f : ℕ → ℕ) (local : (x : ℕ) → f x ≡ above (ranked_below edges) f x) where
       -- what is directly below a geom has the rank that stands in its cell
@@ -222,27 +178,26 @@ module _ (edges : Edges) where
 
       -- the ranks are one more than the highest directly below
       pub rank_from-local : (x : ℕ) → rank_from f edges x ≡ above (below edges) (rank_from f edges) x
-      rank_from-local x = at (cases_Bool (is_dev_or_taste x)) where
-        at : (is_dev_or_taste x ≡ true) ⊎ (is_dev_or_taste x ≡ false)
-            → rank_from f edges x ≡ above (below edges) (rank_from f edges) x
-        at (inl first) = (let here : rank_from f edges x ≡ 1 + largest (map f (below edges x)) = rw first refl in
+      rank_from-local x = elim (cases_Bool (is_dev_or_taste x)) [
+        | inl first ↦
+            (let here : rank_from f edges x ≡ 1 + largest (map f (below edges x)) = rw first refl in
             omega (arith, same_beneath x))
-        at (inr later) =
+        | inr later ↦
             let here : rank_from f edges x ≡ f x = rw later refl in
             let stands : f x ≡ 1 + largest (map f (below edges x)) =
             subst (λ ms. f x ≡ 1 + largest (map f ms)) (ranked-below x later) (local x) in
             omega (arith, same_beneath x)
+      ]
 
       -- and no more than one above the number of geoms
       pub rank_from-few : (numbers : List ℕ) → ((g : ℕ) → is_dev_or_taste g ≡ true → IsAmong numbers g)
           → ((g : ℕ) → 2 ≤ f g → IsAmong numbers g) → (x : ℕ) → rank_from f edges x ≤ length numbers + 1
       rank_from-few numbers listed stood x =
           local-few (rank_from f edges) (below edges) numbers rank_from-local
-          (λ g high. at g high (cases_Bool (is_dev_or_taste g))) x where
-            at : (g : ℕ) → 2 ≤ rank_from f edges g → (is_dev_or_taste g ≡ true) ⊎ (is_dev_or_taste g ≡ false)
-                → IsAmong numbers g
-            at g high (inl first) = listed g first
-            at g high (inr later) = (let here : rank_from f edges g ≡ f g = rw later refl in stood g (omega arith))
+          (λ g high. (elim (cases_Bool (is_dev_or_taste g)) [
+            | inl first ↦ listed g first
+            | inr later ↦ (let here : rank_from f edges g ≡ f g = rw later refl in stood g (omega arith))
+          ])) x
 
     -- what stands above a later geom does so by the ranks
     pub stands-down : (x g : ℕ) → is_dev_or_taste x ≡ false → StandsAbove (below edges) x g
@@ -274,48 +229,31 @@ module _ (edges : Edges) where
   -- what stands above a geom by the ranks does so by the graph
   pub stands-up : (x g : ℕ) → StandsAbove (ranked_below edges) x g → StandsAbove (below edges) x g
   stands-up x g stands =
-      λ has here so. stands has here (λ y h there is. at has so y h there is (cases_Bool (is_dev_or_taste y))) where
-        at : (has : ℕ → Bool) → ((y h : ℕ) → IsAmong (below edges y) h → has h ≡ true → has y ≡ true) → (y h : ℕ)
-            → IsAmong (ranked_below edges y) h → has h ≡ true
-            → (is_dev_or_taste y ≡ true) ⊎ (is_dev_or_taste y ≡ false) → has y ≡ true
-        at has so y h there is (inl first) = absurd (subst (λ ms. IsAmong ms h) (ranked_below-first y first) there)
-        at has so y h there is (inr later) = so y h (subst (λ ms. IsAmong ms h) (ranked-below y later) there) is
+      λ has here so. stands has here (λ y h there is. (elim (cases_Bool (is_dev_or_taste y)) [
+        | inl first ↦ absurd (subst (λ ms. IsAmong ms h) (ranked_below-first y first) there)
+        | inr later ↦ so y h (subst (λ ms. IsAmong ms h) (ranked-below y later) there) is
+      ]))
 
   -- the classes of the first two have no limit, so only the ranks in the cells can be too great
   pub rank_from-high : (f : ℕ → ℕ) (classes : List (ℕ × Kind))
       → AllByRecursion (λ row. is_dev_or_taste row.0 ≡ true → is_granted_kind row.1 ≡ true) classes
       → is_high classes (rank_from f edges) ≡ is_high classes f
   rank_from-high f [] granted = refl
-  rank_from-high f (row ∷ rows) granted =
-      at (cases_Bool (is_dev_or_taste row.0)) (rank_from-high f rows granted.1) where
-        at : (is_dev_or_taste row.0 ≡ true) ⊎ (is_dev_or_taste row.0 ≡ false)
-            → is_high rows (rank_from f edges) ≡ is_high rows f
-            → is_high (row ∷ rows) (rank_from f edges) ≡ is_high (row ∷ rows) f
-        at (inl first) rest = rw (granted.0 first, rest) refl
-        at (inr later) rest = rw (later, rest) refl
-
--- the numbers of rows that are seen otherwise
-numbers-with : {T U : Type 0} (h : T → U) (rows : List (ℕ × T))
-    → map (λ (row : ℕ × U). row.0) (rows_with h rows) ≡ map (λ (row : ℕ × T). row.0) rows
-numbers-with h [] = refl
-numbers-with h (row ∷ rows) = ap (λ ns. row.0 ∷ ns) (numbers-with h rows)
+  rank_from-high f (row ∷ rows) granted = grind (arith, granted.0, rank_from-high f rows granted.1)
 
 -- other ranks in the cells leave the numbers
 pub numbers-bare : {C : Type 0} (gs ns : SlotsView (GeomCell C)) → bare ns ≡ bare gs
     → map (λ (row : ℕ × GeomCell C). row.0) ns.rows ≡ map (λ (row : ℕ × GeomCell C). row.0) gs.rows
-numbers-bare {C} gs ns same =
-    sym (numbers-with (kind_of {C = C}) ns.rows) ∙ ap (map (λ (row : ℕ × Kind). row.0)) (kinds-bare gs ns same)
-    ∙ numbers-with (kind_of {C = C}) gs.rows
+numbers-bare = map-bare (λ row. row.0)
 
 -- a number with a value is among the numbers
 value-listed : {T : Type 0} (rows : List (ℕ × T)) (n : ℕ) → IsSome (value_at rows n)
     → IsAmong (map (λ (row : ℕ × T). row.0) rows) n
 value-listed [] n there = absurd (cc)
-value-listed (row ∷ rows) n there = at (row.0 == n) refl there (value-listed rows n) where
-  at : (b : Bool) → (row.0 == n) ≡ b → IsSome (value_at (row ∷ rows) n)
-      → (IsSome (value_at rows n) → IsAmong (map (λ r. r.0) rows) n) → IsAmong (map (λ r. r.0) (row ∷ rows)) n
-  at true e there so = inl (eqb-true row.0 n e)
-  at false e there so = inr (so (rw e at there))
+value-listed (row ∷ rows) n there = elim (cases_Bool (row.0 == n)) [
+  | inl e ↦ inl (eqb-true row.0 n e)
+  | inr e ↦ inr (value-listed rows n (rw e at there))
+]
 
 -- which are the first two
 first_is : (g : ℕ) → is_dev_or_taste g ≡ true → (g ≡ 1) ⊎ (g ≡ 2)
@@ -372,26 +310,26 @@ module _ {C : Type 0} (gs : SlotsView (GeomCell C)) (edges : Edges) (orderly : I
 
   -- the first two are there
   first_listed : (g : ℕ) → is_dev_or_taste g ≡ true → IsAmong (map (λ (row : ℕ × GeomCell C). row.0) gs.rows) g
-  first_listed g first = at (first_is g first) where
-    at : (g ≡ 1) ⊎ (g ≡ 2) → IsAmong (map (λ (row : ℕ × GeomCell C). row.0) gs.rows) g
-    at (inl dev) =
+  first_listed g first = elim (first_is g first) [
+    | inl dev ↦
         subst (λ n. IsAmong (map (λ (row : ℕ × GeomCell C). row.0) gs.rows) n) (sym dev)
         (value-listed gs.rows 1 (stands_there 1 (λ x. x.kind ≡ kinds.Dev) orderly.first.dev))
-    at (inr taste) =
+    | inr taste ↦
         subst (λ n. IsAmong (map (λ (row : ℕ × GeomCell C). row.0) gs.rows) n) (sym taste)
         (value-listed gs.rows 2 (stands_there 2 (λ x. x.kind ≡ kinds.Taste) orderly.first.taste))
+  ]
 
   -- their classes have no limit
   granted_of : (x : Geom C) → geom_at (graph_of gs edges) x.number ≡ Some x → is_dev_or_taste x.number ≡ true
       → is_granted_kind x.kind ≡ true
-  granted_of x found first = at (first_is x.number first) where
-    at : (x.number ≡ 1) ⊎ (x.number ≡ 2) → is_granted_kind x.kind ≡ true
-    at (inl dev) =
+  granted_of x found first = elim (first_is x.number first) [
+    | inl dev ↦
         (let is : x.kind ≡ kinds.Dev =
         rw (subst (λ n. geom_at (graph_of gs edges) n ≡ Some x) dev found) at orderly.first.dev in rw is refl)
-    at (inr taste) =
+    | inr taste ↦
         (let is : x.kind ≡ kinds.Taste =
         rw (subst (λ n. geom_at (graph_of gs edges) n ≡ Some x) taste found) at orderly.first.taste in rw is refl)
+  ]
 
   -- so for each row
   first_granted : (rows : List (ℕ × GeomCell C))

@@ -175,14 +175,13 @@ module _ (test : ℕ → Bool) where
       × (list_any test (f h) ≡ true)
   flat_any f [] passes = absurd cc
   flat_any f (m ∷ ms) passes =
-      pick (or_cases (list_any test (f m)) (list_any test (flat_map f ms))
-      (sym (list_any-append test (f m) (flat_map f ms)) ∙ passes)) (λ e. flat_any f ms e) where
-        pick : (list_any test (f m) ≡ true) ⊎ (list_any test (flat_map f ms) ≡ true)
-            → (list_any test (flat_map f ms) ≡ true → (h : ℕ) × IsAmong ms h × (list_any test (f h) ≡ true))
-            → (h : ℕ) × IsAmong (m ∷ ms) h × (list_any test (f h) ≡ true)
-        pick (inl first) so = (m, inl refl, first)
-        pick (inr rest) so = let found : (h : ℕ) × IsAmong ms h × (list_any test (f h) ≡ true) = so rest in
+      elim (or_cases (list_any test (f m)) (list_any test (flat_map f ms))
+      (sym (list_any-append test (f m) (flat_map f ms)) ∙ passes)) [
+        | inl first ↦ (m, inl refl, first)
+        | inr rest ↦
+            let found : (h : ℕ) × IsAmong ms h × (list_any test (f h) ≡ true) = (flat_any f ms rest) in
             (found.0, inr found.1, found.2)
+      ]
 
 module _ {C : Type 0} (t : Topology C) where
   -- a geom reaches itself over any number of levels
@@ -204,16 +203,13 @@ module _ {C : Type 0} (t : Topology C) where
   reached-stands zero y g there =
       λ has at so. (let same : y ≡ g = eqb-true y g (sym (or-false (y == g)) ∙ there) in rw same at)
   reached-stands (suc k) y g there =
-      pick (or_cases (y == g) (list_any (λ h. h == g) (flat_map (geoms_reached_within k t) (geoms_under t y)))
-      there) (λ h e. reached-stands k h g e) where
-        pick : ((y == g) ≡ true)
-            ⊎ (list_any (λ h. h == g) (flat_map (geoms_reached_within k t) (geoms_under t y)) ≡ true)
-            → ((h : ℕ) → reached_in t k h g ≡ true → StandsAbove (geoms_under t) h g) → StandsAbove (geoms_under t) y g
-        pick (inl here) deeper = λ has at so. (let same : y ≡ g = eqb-true y g here in rw same at)
-        pick (inr later) deeper =
+      elim (or_cases (y == g) (list_any (λ h. h == g) (flat_map (geoms_reached_within k t) (geoms_under t y))) there) [
+        | inl here ↦ λ has at so. (let same : y ≡ g = eqb-true y g here in rw same at)
+        | inr later ↦
             let found : (h : ℕ) × IsAmong (geoms_under t y) h × (reached_in t k h g ≡ true) =
             flat_any (λ h. h == g) (geoms_reached_within k t) (geoms_under t y) later in
-            λ has at so. so y found.0 found.1 (deeper found.0 found.2 has at so)
+            λ has at so. so y found.0 found.1 ((reached-stands k found.0 g found.2) has at so)
+      ]
 
   module _ (f : ℕ → ℕ) (climbs : ExceedsThoseBelow (geoms_under t) f) where
     -- what is reached is reached over as many levels as can be below

@@ -60,13 +60,11 @@ pub largest-is : (f : ℕ → ℕ) (ms : List ℕ) → (largest (map f ms) ≡ 0
 largest-is f [] = inl refl
 largest-is f (m ∷ ms) = elim (largest-is f ms) [
   | inl none ↦ inr (m, inl refl, omega arith)
-  | inr found ↦ pick found.0 found.1 found.2 (cases_eq (max (f m) (largest (map f ms))) (f m))
-] where
-  pick : (n : ℕ) → IsAmong ms n → f n ≡ largest (map f ms) → (max (f m) (largest (map f ms)) ≡ f m)
-      ⊎ (max (f m) (largest (map f ms)) ≡ f m → ⊥)
-      → (max (f m) (largest (map f ms)) ≡ 0) ⊎ ((n : ℕ) × IsAmong (m ∷ ms) n × (f n ≡ max (f m) (largest (map f ms))))
-  pick n there is (inl first) = inr (m, inl refl, sym first)
-  pick n there is (inr later) = inr (n, inr there, omega (arith, later))
+  | inr found ↦ (elim (cases_eq (max (f m) (largest (map f ms))) (f m)) [
+    | inl first ↦ inr (m, inl refl, sym first)
+    | inr later ↦ inr (found.0, inr found.1, omega (arith, later))
+  ])
+]
 
 module _ (below : ℕ → List ℕ) where
   -- what stands above another stands above what is below that one
@@ -142,10 +140,10 @@ module _ (below : ℕ → List ℕ) where
     grows x (inr differs) = omega (arith, others x differs, one.grows x)
 
     mended : (x h : ℕ) → IsAmong (below x) h → f h < r h → (h ≡ g) ⊎ (h ≡ g → ⊥) → r h < r x
-    mended x h i grew (inl same) = here x (rw same at i) (rw same at grew) same (cases_eq (m g) (r g)) where
-      here : (x : ℕ) → IsAmong (below x) g → f g < r g → h ≡ g → (m g ≡ r g) ⊎ (m g ≡ r g → ⊥) → r h < r x
-      here x i grew same (inl kept) = rw same (omega (arith, passed x i))
-      here x i grew same (inr more) = rw same (one.mended x g i (omega (arith, one.grows g, more)))
+    mended x h i grew (inl same) = elim (cases_eq (m g) (r g)) [
+      | inl kept ↦ rw same (omega (arith, passed x (rw same at i)))
+      | inr more ↦ rw same (one.mended x g (rw same at i) (omega (arith, one.grows g, more)))
+    ]
     mended x h i grew (inr differs) = one.mended x h i (omega (arith, others h differs))
 
     reached : (x : ℕ) → f x < r x → (x ≡ g) ⊎ (x ≡ g → ⊥) → StandsAbove below x g
@@ -162,31 +160,33 @@ module _ (below : ℕ → List ℕ) where
       → m g ≡ above below f g → ((x : ℕ) → (x ≡ g → ⊥) → m x ≡ f x)
       → ((x : ℕ) → m x ≤ f x) × ((x : ℕ) → above below m x ≤ m x) × (m g ≤ above below m g)
       × ((x : ℕ) → (IsAmong (below x) g → ⊥) → f x ≤ above below f x → m x ≤ above below m x)
-  lowered-store g f m apart enough high at others =
-      (falls, (λ x. enough_at x (cases_eq x g)), omega (arith, here), λ x far low. stays x far low (cases_eq x g)) where
-        falls_at : (x : ℕ) → (x ≡ g) ⊎ (x ≡ g → ⊥) → m x ≤ f x
-        falls_at x (inl same) = rw same (omega arith)
-        falls_at x (inr differs) = omega (arith, others x differs)
+  lowered-store g f m apart enough high at others = (
+    falls,
+    (λ x. (elim (cases_eq x g) [
+      | inl same ↦ rw same (omega (arith, here))
+      | inr differs ↦
+          let less : above below m x ≤ above below f x = above-grows m f x falls in
+          omega (arith, enough x, others x differs)
+    ])),
+    omega (arith, here),
+    λ x far low. stays x far low (cases_eq x g),
+  ) where
+    falls : (x : ℕ) → m x ≤ f x
+    falls x = elim (cases_eq x g) [
+      | inl same ↦ rw same (omega arith)
+      | inr differs ↦ omega (arith, others x differs)
+    ]
 
-        falls : (x : ℕ) → m x ≤ f x
-        falls x = falls_at x (cases_eq x g)
+    unseen : (x : ℕ) → (IsAmong (below x) g → ⊥) → largest (map m (below x)) ≡ largest (map f (below x))
+    unseen x far = largest-same m f (below x) (λ n i. others n (λ same. far (rw same at i)))
 
-        unseen : (x : ℕ) → (IsAmong (below x) g → ⊥) → largest (map m (below x)) ≡ largest (map f (below x))
-        unseen x far = largest-same m f (below x) (λ n i. others n (λ same. far (rw same at i)))
+    here : above below m g ≡ above below f g
+    here = ap (λ n. 1 + n) (unseen g apart)
 
-        here : above below m g ≡ above below f g
-        here = ap (λ n. 1 + n) (unseen g apart)
-
-        enough_at : (x : ℕ) → (x ≡ g) ⊎ (x ≡ g → ⊥) → above below m x ≤ m x
-        enough_at x (inl same) = rw same (omega (arith, here))
-        enough_at x (inr differs) =
-            let less : above below m x ≤ above below f x = above-grows m f x falls in
-            omega (arith, enough x, others x differs)
-
-        stays : (x : ℕ) → (IsAmong (below x) g → ⊥) → f x ≤ above below f x → (x ≡ g) ⊎ (x ≡ g → ⊥)
-            → m x ≤ above below m x
-        stays x far low (inl same) = rw same (omega (arith, here))
-        stays x far low (inr differs) = omega (arith, unseen x far, others x differs)
+    stays : (x : ℕ) → (IsAmong (below x) g → ⊥) → f x ≤ above below f x → (x ≡ g) ⊎ (x ≡ g → ⊥)
+        → m x ≤ above below m x
+    stays x far low (inl same) = rw same (omega (arith, here))
+    stays x far low (inr differs) = omega (arith, unseen x far, others x differs)
 
   -- once what stands directly above is lowered too, it is as if nothing had been stored
   pub lowered-whole : (g : ℕ) (f m r : ℕ → ℕ) → (IsAmong (below g) g → ⊥) → ((x : ℕ) → above below f x ≤ f x)
@@ -224,11 +224,11 @@ module _ (below : ℕ → List ℕ) (f : ℕ → ℕ) where
     pub lifted-enough : ((x : ℕ) → above below f x ≤ f x) → (x : ℕ) → above below r x ≤ r x
     lifted-enough enough x =
         let high : largest (map r (below x)) ≤ r x - 1 =
-        largest-most r (r x - 1) (below x) (λ h under. at h under (cases_eq (f h) (r h))) in
-        omega (arith, enough x, one.grows x) where
-          at : (h : ℕ) → IsAmong (below x) h → (f h ≡ r h) ⊎ (f h ≡ r h → ⊥) → r h ≤ r x - 1
-          at h under (inl same) = omega (arith, enough-climbs enough x h under, one.grows x)
-          at h under (inr differs) = omega (arith, one.mended x h under (omega (arith, one.grows h, differs)))
+        largest-most r (r x - 1) (below x) (λ h under. (elim (cases_eq (f h) (r h)) [
+          | inl same ↦ omega (arith, enough-climbs enough x h under, one.grows x)
+          | inr differs ↦ omega (arith, one.mended x h under (omega (arith, one.grows h, differs)))
+        ])) in
+        omega (arith, enough x, one.grows x)
 
     module _ (local : (x : ℕ) → f x ≡ above below f x) where
       -- after a lift no other geom has a greater value than it has to have
@@ -243,10 +243,10 @@ module _ (below : ℕ → List ℕ) (f : ℕ → ℕ) where
 
       -- a lift that is taken back leaves values that are one more than the largest below
       pub lifted-undone : (s : ℕ → ℕ) → Lowered below r s → s g ≤ above below s g → (x : ℕ) → s x ≡ above below s x
-      lifted-undone s two low x = at x (cases_eq x g) where
-        at : (x : ℕ) → (x ≡ g) ⊎ (x ≡ g → ⊥) → s x ≡ above below s x
-        at x (inl same) = (let there : s g ≡ above below s g = omega (arith, low, two.enough g) in rw same there)
-        at x (inr differs) = omega (arith, two.stays x (lifted-low x differs), two.enough x)
+      lifted-undone s two low x = elim (cases_eq x g) [
+        | inl same ↦ (let there : s g ≡ above below s g = omega (arith, low, two.enough g) in rw same there)
+        | inr differs ↦ omega (arith, two.stays x (lifted-low x differs), two.enough x)
+      ]
 
       module _ (q : ℕ) (asked : least ≡ f q + 1) where
         -- a lift that reached the geom that asked for it: that one stands above
@@ -270,13 +270,13 @@ module _ (below : ℕ → List ℕ) (f : ℕ → ℕ) where
         -- it below
         pub lifted-joined : (joined : ℕ → List ℕ) → Joined below joined g q → least ≤ r g → r q ≡ f q → (x : ℕ)
             → r x ≡ above joined r x
-        lifted-joined joined graph raised kept x = at x (cases_eq x g) where
-          at : (x : ℕ) → (x ≡ g) ⊎ (x ≡ g → ⊥) → r x ≡ above joined r x
-          at x (inl same) =
+        lifted-joined joined graph raised kept x = elim (cases_eq x g) [
+          | inl same ↦
               let up : above below f g ≤ above below r g = above-grows below f r g one.grows in
               let there : r g ≡ above joined r g = omega (arith, local g, one.here, enough_all g, graph.here r) in
               rw same there
-          at x (inr differs) = omega (arith, lifted-low x differs, enough_all x, graph.others r x differs)
+          | inr differs ↦ omega (arith, lifted-low x differs, enough_all x, graph.others r x differs)
+        ]
 
         -- so that one may be put below
         pub lifted-joinable : least ≤ r g → r q ≡ f q → IsJoinable below g q r
@@ -289,21 +289,21 @@ module _ (apart joined : ℕ → List ℕ) (g q : ℕ) (graph : Joined apart joi
     → f x ≡ above joined f x) where
   -- with one geom less below each value is still enough
   pub apart-enough : (x : ℕ) → above apart f x ≤ f x
-  apart-enough x = at x (cases_eq x g) where
-    at : (x : ℕ) → (x ≡ g) ⊎ (x ≡ g → ⊥) → above apart f x ≤ f x
-    at x (inl same) = (let there : above apart f g ≤ f g = omega (arith, local g, graph.here f) in rw same there)
-    at x (inr differs) = omega (arith, local x, graph.others f x differs)
+  apart-enough x = elim (cases_eq x g) [
+    | inl same ↦ (let there : above apart f g ≤ f g = omega (arith, local g, graph.here f) in rw same there)
+    | inr differs ↦ omega (arith, local x, graph.others f x differs)
+  ]
 
   -- once the geom is lowered, each is one more than the largest below
   pub apart-lowered : (s : ℕ → ℕ) → Lowered apart f s → s g ≤ above apart s g → (x : ℕ) → s x ≡ above apart s x
-  apart-lowered s one low x = at x (cases_eq x g) where
-    at : (x : ℕ) → (x ≡ g) ⊎ (x ≡ g → ⊥) → s x ≡ above apart s x
-    at x (inl same) = (let there : s g ≡ above apart s g = omega (arith, low, one.enough g) in rw same there)
-    at x (inr differs) = omega (arith, one.stays x (omega (arith, local x, graph.others f x differs)), one.enough x)
+  apart-lowered s one low x = elim (cases_eq x g) [
+    | inl same ↦ (let there : s g ≡ above apart s g = omega (arith, low, one.enough g) in rw same there)
+    | inr differs ↦ omega (arith, one.stays x (omega (arith, local x, graph.others f x differs)), one.enough x)
+  ]
 
   -- where what was below was low, nothing changes
   pub apart-kept : f q + 1 < f g → (x : ℕ) → f x ≡ above apart f x
-  apart-kept low x = at x (cases_eq x g) where
-    at : (x : ℕ) → (x ≡ g) ⊎ (x ≡ g → ⊥) → f x ≡ above apart f x
-    at x (inl same) = (let there : f g ≡ above apart f g = omega (arith, local g, graph.here f, low) in rw same there)
-    at x (inr differs) = omega (arith, local x, graph.others f x differs)
+  apart-kept low x = elim (cases_eq x g) [
+    | inl same ↦ (let there : f g ≡ above apart f g = omega (arith, local g, graph.here f, low) in rw same there)
+    | inr differs ↦ omega (arith, local x, graph.others f x differs)
+  ]

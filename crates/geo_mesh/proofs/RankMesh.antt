@@ -1,8 +1,8 @@
 -- The ranks that stand in the cells are the model's, and what an attach and a detach do to them.
-use Rattle.std.specs.Prelude.{◌≡◌, ℕ, ◌+◌, ◌-◌, ◌<◌, ◌≤◌, ◌==◌, nat_lt, max, Bool, true, false, not, ◌&&◌, List, [], ◌∷◌, ◌++◌, Option, Some, None, IsSome, IfSome, map, filter, filter_map, length, option_map, if◌then◌else◌}
+use Rattle.std.specs.Prelude.{◌≡◌, ℕ, ◌+◌, ◌-◌, ◌<◌, ◌≤◌, ◌==◌, nat_lt, max, Bool, true, false, not, ◌&&◌, List, [], ◌∷◌, ◌++◌, Option, Some, None, IsSome, IfSome, map, filter, filter_map, length, option_map}
 use Rattle.std.specs.List.{list_any, AllByRecursion}
 use Rattle.std.proofs.Common.{refl, sym, ap, ◌∙◌, subst, inl, inr, arith}
-use Rattle.std.proofs.lemmas.Bool.{eqb-true, eq-eqb, ne_eqb}
+use Rattle.std.proofs.lemmas.Bool.{eqb-true, eq-eqb, ne_eqb, cases_Bool}
 use Rattle.std.proofs.lemmas.List.{length-map, map-append, length-append}
 use Rattle.geo_model.specs.Kind.{Kind}
 use Rattle.geo_model.proofs.Tests.{filter_map-same}
@@ -12,46 +12,32 @@ use Rattle.geo_model.specs.Topology.{Geom, Provider, Consumer, geom_at, provider
 use Rattle.geo_model.specs.Rank.{rank, geoms_under, reaches, is_too_deep}
 use Rattle.geo_laws_graph.proofs.Living.{map_there}
 use Rattle.geo_slots.specs.Slots.{SlotsView, IsRising, value_at, with_value, without}
-use Rattle.geo_mesh.specs.declared.records.Scratch.{Scratch}
-use Rattle.geo_mesh.specs.declared.records.GeomRec.{GeomRec}
 use Rattle.geo_mesh.specs.declared.records.GeomCell.{GeomCell}
 use Rattle.geo_mesh.specs.declared.records.ProvCell.{ProvCell}
 use Rattle.geo_mesh.specs.declared.records.ConsCell.{ConsCell}
 use Rattle.geo_mesh.specs.declared.tables.Edges.{Edges}
 use Rattle.geo_mesh.specs.declared.tables.Tables.{Tables}
-use Rattle.geo_mesh.specs.Rows.{row_with, rows_with, passes}
-use Rattle.geo_mesh.specs.Cells.{graph_of, topo_view, put_consumer, put_provider, geom_seen, geom_scratch_of, geom_row, provider_row, consumer_row}
+use Rattle.geo_mesh.specs.Rows.{row_with, rows_with}
+use Rattle.geo_mesh.specs.Cells.{graph_of, topo_view, put_consumer, put_provider, geom_seen, geom_row, provider_row, consumer_row}
 use Rattle.geo_mesh.specs.Mending.{IsAmong, StandsAbove, ExceedsThoseBelow, Joined, above, height}
 use Rattle.geo_mesh.specs.Index.{no_index}
-use Rattle.geo_mesh.specs.Ranks.{IsKin, kind_of, rank_of, without_rank, owner, owner_of, ranked_link_of, links_of, kinds, ranks, stored, offers, ranked_links, rank_at, under, ranked_below, below, rank_from, footing, is_high, IsWalkable, HaveRanks, HaveDevAndTaste, bare}
-use Rattle.geo_mesh.proofs.RowLemmas.{OnlyValue, only_value, map-with_value_same, map-without, rows_with-with_value, value_at-rows_with}
-use Rattle.geo_mesh.proofs.ViewLemmas.{row_there, geom_at-view, provider_at-view, consumer_at-view, count_falls, count_stays}
+use Rattle.geo_mesh.specs.Ranks.{IsKin, provs_of, kind_of, rank_of, owner, owner_of, ranked_link_of, links_of, kinds, ranks, stored, offers, ranked_links, rank_at, under, ranked_below, below, rank_from, footing, is_high, IsWalkable, HaveRanks, HaveDevAndTaste, bare, OwnerLives, UserLives}
+use Rattle.geo_mesh.proofs.RowLemmas.{row_there, rows_kept, map-bare, map-without, rows_with-with_value, value_at-rows_with}
+use Rattle.geo_mesh.proofs.ViewLemmas.{geom_at-view, provider_at-view, consumer_at-view, count_falls, count-with_value}
 use Rattle.geo_mesh.proofs.RankHeights.{local-climbs, local-height, local-few, height-climbs, rank-height, reached-stands, stands-reached}
-use Rattle.geo_mesh.proofs.RankRows.{peak, peak-is, peak-with, adds, all-at, passing-between, rising-with, with_value-same, kinds-bare}
+use Rattle.geo_mesh.proofs.RankRows.{peak, peak-is, peak-with, adds, all-at, rising-with, with_value-same, kinds-bare, NotAttached, NotOwned, ranks-new_consumer, ranks-destroy_consumer, ranks-new_provider, ranks-destroy_provider, ranks-new_geom, ranks-destroy_geom}
 use Rattle.geo_mesh.proofs.RankWalk.{some_number}
 use Rattle.geo_mesh.proofs.RankFirst.{footing-none, footing-unnamed, rank_from-local, rank_from-few, rank_from-high}
-use Rattle.geo_mesh.proofs.RankKept.{ranks-new_consumer, ranks-destroy_consumer, ranks-new_provider, ranks-destroy_provider, ranks-new_geom, ranks-destroy_geom}
+use Rattle.geo_slots.proofs.RowLemmas.{value_at_next}
+use Rattle.geo_mesh.specs.declared.records.Scratch.{Scratch}
 
 module _ {C : Type 0} (gs : SlotsView (GeomCell C)) (edges : Edges) where
   -- the providers to which the consumers of a geom are attached, by the rows
   provs_under : (g : ℕ) (rows : List (ℕ × ConsCell))
       → filter_map (λ (x : Consumer). x.provider) (filter (λ (x : Consumer). x.geom == g) (map consumer_row rows))
-      ≡ filter_map (λ (row : ℕ × (ℕ × Option ℕ)). row.1.1)
-      (filter (λ (row : ℕ × (ℕ × Option ℕ)). row.1.0 == g) (rows_with links_of rows))
+      ≡ provs_of (rows_with links_of rows) g
   provs_under g [] = refl
-  provs_under g (row ∷ rows) = at (row.1.consumer.geom == g) refl row.1.consumer.prov refl (provs_under g rows) where
-    at : (b : Bool) → (row.1.consumer.geom == g) ≡ b → (o : Option ℕ) → row.1.consumer.prov ≡ o
-        → filter_map (λ (x : Consumer). x.provider)
-        (filter (λ (x : Consumer). x.geom == g) (map consumer_row rows))
-        ≡ filter_map (λ (row : ℕ × (ℕ × Option ℕ)). row.1.1)
-        (filter (λ (row : ℕ × (ℕ × Option ℕ)). row.1.0 == g) (rows_with links_of rows))
-        → filter_map (λ (x : Consumer). x.provider)
-        (filter (λ (x : Consumer). x.geom == g) (map consumer_row (row ∷ rows)))
-        ≡ filter_map (λ (row : ℕ × (ℕ × Option ℕ)). row.1.1)
-        (filter (λ (row : ℕ × (ℕ × Option ℕ)). row.1.0 == g) (rows_with links_of (row ∷ rows)))
-    at false e o k rest = rw e rest
-    at true e None k rest = rw (e, k) rest
-    at true e (Some p) k rest = rw (e, k) (ap (λ qs. p ∷ qs) rest)
+  provs_under g (row ∷ rows) = grind (arith, provs_under g rows)
 
   -- the geom of a provider, by the rows
   owner_seen : (p : ℕ)
@@ -77,12 +63,10 @@ module _ {C : Type 0} (gs : SlotsView (GeomCell C)) (edges : Edges) where
   pub stored-listed : (rows : List (ℕ × GeomCell C)) (g : ℕ) → 2 ≤ rank_at (rows_with (rank_of {C = C}) rows) g
       → IsAmong (map (λ row. row.0) rows) g
   stored-listed [] g high = absurd (omega arith)
-  stored-listed (row ∷ rows) g high = at (row.0 == g) refl high (λ more. stored-listed rows g more) where
-    at : (b : Bool) → (row.0 == g) ≡ b → 2 ≤ rank_at (rows_with (rank_of {C = C}) (row ∷ rows)) g
-        → (2 ≤ rank_at (rows_with (rank_of {C = C}) rows) g → IsAmong (map (λ row. row.0) rows) g)
-        → IsAmong (map (λ row. row.0) (row ∷ rows)) g
-    at true e high so = inl (eqb-true row.0 g e)
-    at false e high so = inr (so (rw e at high))
+  stored-listed (row ∷ rows) g high = elim (cases_Bool (row.0 == g)) [
+    | inl e ↦ inl (eqb-true row.0 g e)
+    | inr e ↦ inr (stored-listed rows g (rw e at high))
+  ]
 
   -- ranks that are one more than the highest below are at most one more than there are geoms
   pub stored-few : (users : ℕ → List ℕ) → ((x : ℕ) → stored gs x ≡ above users (stored gs) x) → (x : ℕ)
@@ -205,10 +189,13 @@ joined-users owners users c x p q high rising there owner = record { here = here
 pub all-with_value : {T : Type 0} (P : ℕ × T → Type 0) (n : ℕ) (w : T) (rows : List (ℕ × T)) → P (n, w)
     → AllByRecursion P rows → AllByRecursion P (with_value rows n w)
 all-with_value P n w [] here facts = tt
-all-with_value P n w (row ∷ rows) here facts = (at (row.0 == n) refl, all-with_value P n w rows here facts.1) where
-  at : (b : Bool) → (row.0 == n) ≡ b → P (if row.0 == n then (n, w) else row)
-  at true e = rw e here
-  at false e = rw e facts.0
+all-with_value P n w (row ∷ rows) here facts = (
+  (elim (cases_Bool (row.0 == n)) [
+    | inl e ↦ rw e here
+    | inr e ↦ rw e facts.0
+  ]),
+  all-with_value P n w rows here facts.1,
+)
 
 -- the same bound, by the classes
 pub stored-bound : {C : Type 0} (gs : SlotsView (GeomCell C)) (users : ℕ → List ℕ)
@@ -241,38 +228,34 @@ module _ {C : Type 0} (gs : SlotsView (GeomCell C)) (edges : Edges) (live n : �
   pub mesh-geom : (v w : GeomCell C) → IsRising 1 gs.rows gs.next → Some v ≡ value_at gs.rows n
       → kind_of w ≡ kind_of v → rank_of w ≡ rank_of v
       → HaveRanks (record gs { rows = with_value gs.rows n w }) edges live
-  mesh-geom v w rising at kind rank =
-      let is : OnlyValue n v gs.rows = only_value n 1 gs.next v gs.rows rising (sym at) in
-      let classes : rows_with (kind_of {C = C}) (with_value gs.rows n w) ≡ rows_with (kind_of {C = C}) gs.rows =
-      map-with_value_same (row_with (kind_of {C = C})) n v w (ap (λ (k : Kind). (n, k)) kind) gs.rows is in
-      let standing : rows_with (rank_of {C = C}) (with_value gs.rows n w) ≡ rows_with (rank_of {C = C}) gs.rows =
-      map-with_value_same (row_with (rank_of {C = C})) n v w (ap (λ (k : ℕ). (n, k)) rank) gs.rows is in
-      record { count = count_stays gs n w live mesh.count; standing = rw (classes, standing) mesh.standing }
+  mesh-geom v w rising at kind rank = record {
+    count = count-with_value n w gs.rows live mesh.count;
+    standing =
+        rw (
+          rows_kept gs n v w rising (sym at) (row_with (kind_of {C = C})) (λ i. (n, kind i)),
+          rows_kept gs n v w rising (sym at) (row_with (rank_of {C = C})) (λ i. (n, rank i)),
+        ) mesh.standing;
+  }
 
   -- after a change of a provider that leaves its geom
   pub mesh-provider : (v w : ProvCell) → IsRising 1 edges.providers.rows edges.providers.next
       → Some v ≡ value_at edges.providers.rows n → owner_of w ≡ owner_of v
       → HaveRanks gs (put_provider edges n w) live
-  mesh-provider v w rising at owner =
-      let is : OnlyValue n v edges.providers.rows =
-      only_value n 1 edges.providers.next v edges.providers.rows rising (sym at) in
-      let same : rows_with owner_of (with_value edges.providers.rows n w)
-      ≡ rows_with owner_of edges.providers.rows =
-      map-with_value_same (row_with owner_of) n v w (ap (λ (k : ℕ). (n, k)) owner) edges.providers.rows is in
-      record { count = mesh.count; standing = rw same mesh.standing }
+  mesh-provider v w rising at owner = record {
+    count = mesh.count;
+    standing =
+        rw (rows_kept edges.providers n v w rising (sym at) (row_with owner_of) (λ i. (n, owner i))) mesh.standing;
+  }
 
   -- after a change of a consumer that leaves its geom and where it is attached
   pub mesh-consumer : (v w : ConsCell) → IsRising 1 edges.consumers.rows edges.consumers.next
       → Some v ≡ value_at edges.consumers.rows n → ranked_link_of w ≡ ranked_link_of v
       → HaveRanks gs (put_consumer edges n w) live
-  mesh-consumer v w rising at ends =
-      let is : OnlyValue n v edges.consumers.rows =
-      only_value n 1 edges.consumers.next v edges.consumers.rows rising (sym at) in
-      let same : rows_with ranked_link_of (with_value edges.consumers.rows n w)
-      ≡ rows_with ranked_link_of edges.consumers.rows =
-      map-with_value_same (row_with ranked_link_of) n v w (ap (λ (k : ℕ × Option ℕ). (n, k)) ends)
-      edges.consumers.rows is in
-      record { count = mesh.count; standing = rw same mesh.standing }
+  mesh-consumer v w rising at ends = record {
+    count = mesh.count;
+    standing =
+        rw (rows_kept edges.consumers n v w rising (sym at) (row_with ranked_link_of) (λ i. (n, ends i))) mesh.standing;
+  }
 
 module _ {C : Type 0} (gs : SlotsView (GeomCell C)) (edges : Edges) (live : ℕ) where
   -- a geom that is there has a class
@@ -341,17 +324,9 @@ module _ {C : Type 0} (gs : SlotsView (GeomCell C)) (edges : Edges) (live : ℕ)
           };
           standing = rw (classes, standing)
               (ranks-new_geom (kinds gs) (ranks gs) (offers edges).rows (ranked_links edges).rows mesh.standing
-              gs.next (kind_of v) (none (value_at (ranks gs) gs.next) refl));
-        } where
-          none : (o : Option ℕ) → value_at (ranks gs) gs.next ≡ o → value_at (ranks gs) gs.next ≡ None
-          none None e = e
-          none (Some r) e =
-              let there : passes (λ x. true) (value_at (ranks gs) gs.next) ≡ true = rw e refl in
-              absurd (omega (
-                arith,
-                (passing-between (λ x. true) gs.next 1 gs.next (ranks gs)
-                    (rising-with (rank_of {C = C}) 1 gs.next gs.rows rising) there).1,
-              ))
+              gs.next (kind_of v) (value_at_next gs.next 1 (ranks gs) gs.next
+              (rising-with (rank_of {C = C}) 1 gs.next gs.rows rising) (omega arith)));
+        }
 
     -- the mesh stands without a consumer that is attached to nothing
     pub mesh-destroy_consumer : (n : ℕ) → IsRising 1 edges.consumers.rows edges.consumers.next
@@ -380,23 +355,16 @@ module _ {C : Type 0} (gs : SlotsView (GeomCell C)) (edges : Edges) (live : ℕ)
               ap (λ (e : ℕ × Option ℕ). e.1) (sym same) ∙ ap (footing v.consumer.geom) free
               ∙ footing-none v.consumer.geom
 
-    -- where no consumer is attached to a provider, no row is
-    none_attached : (n : ℕ) (rows : List (ℕ × ConsCell))
-        → filter (λ (x : Consumer). names_number x.provider n) (map consumer_row rows) ≡ []
-        → AllByRecursion (λ (row : ℕ × (ℕ × Option ℕ)). names_number row.1.1 n ≡ false)
-        (rows_with ranked_link_of rows)
-    none_attached n [] none = tt
-    none_attached n (row ∷ rows) none =
-        at (names_number row.1.consumer.prov n) refl none (λ e. none_attached n rows e) where
-          at : (b : Bool) → names_number row.1.consumer.prov n ≡ b
-              → filter (λ (x : Consumer). names_number x.provider n) (map consumer_row (row ∷ rows)) ≡ []
-              → (filter (λ (x : Consumer). names_number x.provider n) (map consumer_row rows) ≡ []
-              → AllByRecursion (λ (row : ℕ × (ℕ × Option ℕ)). names_number row.1.1 n ≡ false)
-              (rows_with ranked_link_of rows))
-              → AllByRecursion (λ (row : ℕ × (ℕ × Option ℕ)). names_number row.1.1 n ≡ false)
-              (rows_with ranked_link_of (row ∷ rows))
-          at true e none so = let no = rw e at none in absurd cc
-          at false e none so = (footing-unnamed row.1.consumer.geom n row.1.consumer.prov e, so (rw e at none))
+    -- where no consumer passes a test, what follows of each row holds
+    none_passes : (test : Consumer → Bool) (P : ℕ × (ℕ × Option ℕ) → Type 0)
+        → ((row : ℕ × ConsCell) → test (consumer_row row) ≡ false → P (row_with ranked_link_of row))
+        → (rows : List (ℕ × ConsCell)) → filter test (map consumer_row rows) ≡ []
+        → AllByRecursion P (rows_with ranked_link_of rows)
+    none_passes test P so [] none = tt
+    none_passes test P so (row ∷ rows) none = elim (cases_Bool (test (consumer_row row))) [
+      | inl e ↦ let no = rw e at none in absurd cc
+      | inr e ↦ (so row e, none_passes test P so rows (rw e at none))
+    ]
 
     -- the mesh stands without a provider to which nothing is attached
     pub mesh-destroy_provider : (n : ℕ) → attached_to (graph_of gs edges) n ≡ []
@@ -410,24 +378,10 @@ module _ {C : Type 0} (gs : SlotsView (GeomCell C)) (edges : Edges) (live : ℕ)
           count = mesh.count;
           standing =
               rw same (ranks-destroy_provider (kinds gs) (ranks gs) (offers edges).rows (ranked_links edges).rows
-              mesh.standing n (none_attached n edges.consumers.rows none));
+              mesh.standing n
+              (none_passes (λ x. names_number x.provider n) (NotAttached n)
+              (λ row e. footing-unnamed row.1.consumer.geom n row.1.consumer.prov e) edges.consumers.rows none));
         }
-
-    -- where a geom has no consumer, no row is one of the geom's
-    none_used : (n : ℕ) (rows : List (ℕ × ConsCell))
-        → filter (λ (x : Consumer). x.geom == n) (map consumer_row rows) ≡ []
-        → AllByRecursion (λ (row : ℕ × (ℕ × Option ℕ)). (row.1.0 == n) ≡ false) (rows_with ranked_link_of rows)
-    none_used n [] none = tt
-    none_used n (row ∷ rows) none = at (row.1.consumer.geom == n) refl none (λ e. none_used n rows e) where
-      at : (b : Bool) → (row.1.consumer.geom == n) ≡ b
-          → filter (λ (x : Consumer). x.geom == n) (map consumer_row (row ∷ rows)) ≡ []
-          → (filter (λ (x : Consumer). x.geom == n) (map consumer_row rows) ≡ []
-          → AllByRecursion (λ (row : ℕ × (ℕ × Option ℕ)). (row.1.0 == n) ≡ false)
-          (rows_with ranked_link_of rows))
-          → AllByRecursion (λ (row : ℕ × (ℕ × Option ℕ)). (row.1.0 == n) ≡ false)
-          (rows_with ranked_link_of (row ∷ rows))
-      at true e none so = let no = rw e at none in absurd cc
-      at false e none so = (e, so (rw e at none))
 
     -- the mesh stands without a geom that has no consumer
     pub mesh-destroy_geom : (n next spare : ℕ) (v : GeomCell C) → IsRising 1 gs.rows gs.next
@@ -442,7 +396,7 @@ module _ {C : Type 0} (gs : SlotsView (GeomCell C)) (edges : Edges) (live : ℕ)
           count = count_falls gs n live v rising at mesh.count;
           standing = rw (classes, standing)
               (ranks-destroy_geom (kinds gs) (ranks gs) (offers edges).rows (ranked_links edges).rows mesh.standing
-              n (none_used n edges.consumers.rows none));
+              n (none_passes (λ x. x.geom == n) (NotOwned n) (λ row e. e) edges.consumers.rows none));
         }
 
     -- another value of a consumer's ends, and other ranks
@@ -469,14 +423,13 @@ module _ {C : Type 0} (gs : SlotsView (GeomCell C)) (edges : Edges) (live : ℕ)
             local = local;
             low = rw classes low;
             owned = rw (users, classes)
-                (all-with_value (λ (row : ℕ × (ℕ × Option ℕ)). IsSome (value_at (kinds gs) row.1.0)) n
+                (all-with_value (UserLives (kinds gs)) n
                 (v.consumer.geom, o) (rows_with ranked_link_of edges.consumers.rows)
-                (all-at (λ (row : ℕ × (ℕ × Option ℕ)). IsSome (value_at (kinds gs) row.1.0))
+                (all-at (UserLives (kinds gs))
                 (rows_with ranked_link_of edges.consumers.rows) n (ranked_link_of v)
                 mesh.standing.owned found) mesh.standing.owned);
             attached = rw users
-                (all-with_value (λ (row : ℕ × (ℕ × Option ℕ)).
-                IfSome row.1.1 (λ p. IsSome (value_at (offers edges).rows p))) n (v.consumer.geom, o)
+                (all-with_value (OwnerLives (offers edges).rows) n (v.consumer.geom, o)
                 (rows_with ranked_link_of edges.consumers.rows) offered mesh.standing.attached);
           };
         }
@@ -511,33 +464,13 @@ pub same-cells : (edges : Edges) (n : ℕ) (v : ConsCell) → IsRising 1 edges.c
 same-cells edges n v rising at =
     rw (with_value-same n 1 edges.consumers.next v edges.consumers.rows rising (sym at)) refl
 
--- the geoms are seen without the ranks
-geoms_rest : {C : Type 0} (rows : List (ℕ × GeomCell C))
-    → map geom_row rows
-    ≡ map (λ (row : ℕ × (GeomRec C × Scratch)). geom_seen row.0 row.1.0) (rows_with (without_rank {C = C}) rows)
-geoms_rest [] = refl
-geoms_rest (row ∷ rows) = ap (λ xs. geom_row row ∷ xs) (geoms_rest rows)
-
--- and so is their scratch
-scratch_rest : {C : Type 0} (rows : List (ℕ × GeomCell C))
-    → rows_with (geom_scratch_of {C = C}) rows
-    ≡ rows_with (λ (x : GeomRec C × Scratch). x.1) (rows_with (without_rank {C = C}) rows)
-scratch_rest [] = refl
-scratch_rest {C} (row ∷ rows) = ap (λ xs. (row.0, row.1.scratch) ∷ xs) (scratch_rest {C = C} rows)
-
 -- the mesh is seen without the ranks
 pub view-bare : {C : Type 0} (t : Tables C) (ns : SlotsView (GeomCell C)) → bare ns ≡ bare t.geoms
     → topo_view (record t { geoms = ns }) ≡ topo_view t
 view-bare {C} t ns same =
-    let geoms : map geom_row ns.rows ≡ map geom_row t.geoms.rows =
-    geoms_rest ns.rows
-    ∙ ap (λ (s : SlotsView (GeomRec C × Scratch)).
-    map (λ (row : ℕ × (GeomRec C × Scratch)). geom_seen row.0 row.1.0) s.rows) same
-    ∙ sym (geoms_rest t.geoms.rows) in
-    let scratches : rows_with (geom_scratch_of {C = C}) ns.rows ≡ rows_with (geom_scratch_of {C = C}) t.geoms.rows =
-    scratch_rest ns.rows
-    ∙ ap (λ (s : SlotsView (GeomRec C × Scratch)). rows_with (λ (x : GeomRec C × Scratch). x.1) s.rows) same
-    ∙ sym (scratch_rest t.geoms.rows) in
-    let next : ns.next ≡ t.geoms.next = ap (λ (s : SlotsView (GeomRec C × Scratch)). s.next) same in
-    let spare : ns.spare ≡ t.geoms.spare = ap (λ (s : SlotsView (GeomRec C × Scratch)). s.spare) same in
-    rw (geoms, scratches, next, spare) refl
+    rw (
+      map-bare {Y = Geom C} (λ row. geom_seen row.0 row.1.0) t.geoms ns same,
+      map-bare {Y = ℕ × Scratch} (λ row. (row.0, row.1.1)) t.geoms ns same,
+      ap (λ s. s.next) same,
+      ap (λ s. s.spare) same,
+    ) refl

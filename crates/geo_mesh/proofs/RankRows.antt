@@ -1,22 +1,21 @@
 -- The rows in which ranks stand, and the graph below them: after a change of one row, and walked over.
-use Rattle.std.specs.Prelude.{◌≡◌, ◌⊎◌, ℕ, ◌+◌, ◌<◌, ◌≤◌, ◌^◌, ◌==◌, nat_le, nat_lt, max, Bool, true, false, not, ◌&&◌, ◌||◌, List, [], ◌∷◌, Option, Some, None, IsSome, map, option_map, if◌then◌else◌}
-use Rattle.std.specs.List.{AllByRecursion}
+use Rattle.std.specs.Prelude.{◌≡◌, ◌⊎◌, ℕ, ◌+◌, ◌<◌, ◌≤◌, ◌^◌, ◌==◌, nat_le, nat_lt, max, Bool, true, false, not, ◌&&◌, ◌||◌, List, [], ◌∷◌, Option, Some, None, IsSome, map, option_map, if◌then◌else◌, filter_map, ◌++◌, IfSome}
+use Rattle.std.specs.List.{AllByRecursion, cons_option}
 use Rattle.std.proofs.Common.{refl, sym, ap, ◌∙◌, subst, inl, inr, arith}
-use Rattle.std.proofs.lemmas.Bool.{eqb-true, eqb-false, eq-eqb, ne_eqb, leb-true, leb-false, le-leb, ltb-true, lt-ltb, and_parts}
-use Rattle.std.proofs.Math.Bool.{or_assoc}
+use Rattle.std.proofs.lemmas.Bool.{eqb-true, eqb-false, eq-eqb, ne_eqb, leb-true, leb-false, le-leb, ltb-true, lt-ltb, and_parts, cases_Bool, cases_eq, le-ltb, or_parts}
+use Rattle.std.proofs.Math.Bool.{or_assoc, or-false, and-false}
 use Rattle.geo_model.specs.Kind.{Kind}
 use Rattle.geo_model.specs.TheConstants.{MAX_RANK}
-use Rattle.geo_model.specs.Words.{largest, is_granted_kind}
+use Rattle.geo_model.specs.Words.{largest, is_granted_kind, names_number}
 use Rattle.geo_slots.specs.Slots.{SlotsView, IsRising, value_at, with_value, without}
 use Rattle.geo_mesh.specs.Rows.{row_with, rows_with, first_row, passes}
 use Rattle.geo_mesh.specs.Mending.{IsAmong}
-use Rattle.geo_mesh.specs.declared.records.Scratch.{Scratch}
-use Rattle.geo_mesh.specs.declared.records.GeomRec.{GeomRec}
 use Rattle.geo_mesh.specs.declared.records.GeomCell.{GeomCell}
-use Rattle.geo_mesh.proofs.RankMend.{largest-among, largest-most}
-use Rattle.geo_mesh.proofs.MarkLemmas.{value_at-set}
-use Rattle.geo_mesh.proofs.RowLemmas.{OnlyValue, only_value, map-with_value_same, value_at-rows_with}
-use Rattle.geo_mesh.specs.Ranks.{kind_of, rank_of, without_rank, kinds, bare, stored, number_or, under, rank_through, rank_under, belongs, is_high, IsFirst, FirstIs}
+use Rattle.geo_mesh.proofs.RankMend.{largest-among, largest-most, largest-same}
+use Rattle.geo_slots.proofs.RowLemmas.{IsRising_ends, with_value_below, without_below, value_at-set, value_at-kept, value_at-behind, value_at-without, value_at-gone}
+use Rattle.geo_mesh.proofs.RowLemmas.{map-bare, value_at-rows_with, rows_kept}
+use Rattle.geo_mesh.specs.Ranks.{rank_of, without_rank, kinds, bare, stored, number_or, under, rank_through, rank_under, belongs, is_high, IsFirst, FirstIs, provs_of, rank_at, AreRanks, OwnerLives, UserLives}
+use Rattle.geo_model.proofs.DemandLemmas.{kept_by}
 
 module _ {T : Type 0} where
   -- a value that passes stands under a number between the bounds
@@ -24,76 +23,49 @@ module _ {T : Type 0} where
       → passes test (value_at rows m) ≡ true → (low ≤ m) × (m < high)
   passing-between test m low high [] rising there = absurd cc
   passing-between test m low high (row ∷ rows) rising there =
-      at (row.0 == m) refl there (λ e. passing-between test m (row.0 + 1) high rows rising.1 e) where
-        top : (low : ℕ) (rows : List (ℕ × T)) → IsRising low rows high → low ≤ high
-        top low [] rising = rising
-        top low (row ∷ rows) rising = let rest = top (row.0 + 1) rows rising.1 in omega (arith, rising.0)
-
-        at : (b : Bool) → (row.0 == m) ≡ b → passes test (value_at (row ∷ rows) m) ≡ true
-            → (passes test (value_at rows m) ≡ true → (row.0 + 1 ≤ m) × (m < high)) → (low ≤ m) × (m < high)
-        at true e there so = let same : row.0 ≡ m = eqb-true row.0 m e in let rest = top (row.0 + 1) rows rising.1 in
+      elim (cases_Bool (row.0 == m)) [
+        | inl e ↦
+            let same : row.0 ≡ m = eqb-true row.0 m e in let rest = IsRising_ends (row.0 + 1) rows high rising.1 in
             (omega (arith, rising.0), omega arith)
-        at false e there so = let later = so (rw e at there) in (omega (arith, rising.0, later.0), later.1)
+        | inr e ↦
+            let later = (passing-between test m (row.0 + 1) high rows rising.1 (rw e at there)) in
+            (omega (arith, rising.0, later.0), later.1)
+      ]
 
   -- a value under a number passes the test that all pass
   pub there-passes : (rows : List (ℕ × T)) (m : ℕ) (v : T) → value_at rows m ≡ Some v
       → passes (λ x. true) (value_at rows m) ≡ true
   there-passes rows m v there = rw there refl
 
-  -- the values under the other numbers stay
-  pub value_at-other : (n m : ℕ) (w : T) (rows : List (ℕ × T)) → (m ≡ n → ⊥)
-      → value_at (with_value rows n w) m ≡ value_at rows m
-  value_at-other n m w [] other = refl
-  value_at-other n m w (row ∷ rows) other = at (row.0 == n) refl (value_at-other n m w rows other) where
-    at : (b : Bool) → (row.0 == n) ≡ b → value_at (with_value rows n w) m ≡ value_at rows m
-        → value_at (with_value (row ∷ rows) n w) m ≡ value_at (row ∷ rows) m
-    at true e rest =
-        let same : row.0 ≡ n = eqb-true row.0 n e in
-        let here : (n == m) ≡ false = ne_eqb n m (λ k. other (sym k)) in
-        let there : (row.0 == m) ≡ false = ne_eqb row.0 m (λ k. other (sym k ∙ same)) in
-        rw (e, here, there) rest
-    at false e rest = under (row.0 == m) refl rest where
-      under : (c : Bool) → (row.0 == m) ≡ c → value_at (with_value rows n w) m ≡ value_at rows m
-          → value_at (with_value (row ∷ rows) n w) m ≡ value_at (row ∷ rows) m
-      under true k rest = rw (e, k) refl
-      under false k rest = rw (e, k) rest
-
   -- putting the value there that stands there changes nothing
   pub with_value-same : (n low high : ℕ) (v : T) (rows : List (ℕ × T)) → IsRising low rows high
       → value_at rows n ≡ Some v → with_value rows n v ≡ rows
   with_value-same n low high v [] rising there = refl
   with_value-same n low high v (row ∷ rows) rising there =
-      at (row.0 == n) refl there (λ e. with_value-same n (row.0 + 1) high v rows rising.1 e) where
-        past : (low : ℕ) (rows : List (ℕ × T)) → IsRising low rows high → n < low → with_value rows n v ≡ rows
-        past low [] rising less = refl
-        past low (row ∷ rows) rising less =
-            let other : (row.0 == n) ≡ false = ne_eqb row.0 n (λ k. omega (arith, rising.0)) in
-            rw (other, past (row.0 + 1) rows rising.1 (omega (arith, rising.0))) refl
-
-        at : (b : Bool) → (row.0 == n) ≡ b → value_at (row ∷ rows) n ≡ Some v
-            → (value_at rows n ≡ Some v → with_value rows n v ≡ rows) → with_value (row ∷ rows) n v ≡ row ∷ rows
-        at true e there so =
+      elim (cases_Bool (row.0 == n)) [
+        | inl e ↦
             let same : row.0 ≡ n = eqb-true row.0 n e in
             let found : Some row.1 ≡ Some v = rw e at there in
             let value : row.1 ≡ v = cc in
             let whole : (n, v) ≡ row = (let k : (n, v) ≡ (row.0, row.1) = rw (same, value) refl in k) in
-            rw (e, past (row.0 + 1) rows rising.1 (omega arith)) (ap (λ (r : ℕ × T). r ∷ rows) whole)
-        at false e there so = rw (e, so (rw e at there)) refl
+            rw (e, with_value_below n (row.0 + 1) v rows high rising.1 (omega arith))
+            (ap (λ (r : ℕ × T). r ∷ rows) whole)
+        | inr e ↦ rw (e, with_value-same n (row.0 + 1) high v rows rising.1 (rw e at there)) refl
+      ]
 
   -- a fact of each row, at the value under a number
   pub all-at : (P : ℕ × T → Type 0) (rows : List (ℕ × T)) (n : ℕ) (v : T) → AllByRecursion P rows
       → value_at rows n ≡ Some v → P (n, v)
   all-at P [] n v all there = absurd cc
-  all-at P (row ∷ rows) n v all there = at (row.0 == n) refl there (λ e. all-at P rows n v all.1 e) where
-    at : (b : Bool) → (row.0 == n) ≡ b → value_at (row ∷ rows) n ≡ Some v
-        → (value_at rows n ≡ Some v → P (n, v)) → P (n, v)
-    at true e there so =
+  all-at P (row ∷ rows) n v all there = elim (cases_Bool (row.0 == n)) [
+    | inl e ↦
         let same : row.0 ≡ n = eqb-true row.0 n e in
         let found : Some row.1 ≡ Some v = rw e at there in
         let value : row.1 ≡ v = cc in
         let whole : (row.0, row.1) ≡ (n, v) = rw (same, value) refl in
         subst P whole all.0
-    at false e there so = so (rw e at there)
+    | inr e ↦ all-at P rows n v all.1 (rw e at there)
+  ]
 
   -- rows seen otherwise rise too
   pub rising-with : {U : Type 0} (h : T → U) (low high : ℕ) (rows : List (ℕ × T)) → IsRising low rows high
@@ -106,14 +78,7 @@ module _ {T : Type 0} where
       → option_map (λ row. row.0) (first_row (λ x. test (h x)) rows at)
       ≡ option_map (λ row. row.0) (first_row test (rows_with h rows) at)
   first-with h test at [] = refl
-  first-with h test at (row ∷ rows) = here (nat_le at row.0 && test (h row.1)) refl (first-with h test at rows) where
-    here : (b : Bool) → (nat_le at row.0 && test (h row.1)) ≡ b
-        → option_map (λ row. row.0) (first_row (λ x. test (h x)) rows at)
-        ≡ option_map (λ row. row.0) (first_row test (rows_with h rows) at)
-        → option_map (λ row. row.0) (first_row (λ x. test (h x)) (row ∷ rows) at)
-        ≡ option_map (λ row. row.0) (first_row test (rows_with h (row ∷ rows)) at)
-    here true e rest = rw e refl
-    here false e rest = rw e rest
+  first-with h test at (row ∷ rows) = grind (arith, first-with h test at rows)
 
 module _ {T : Type 0} (test : T → Bool) (at : ℕ) where
   -- what the first row that passes is
@@ -219,22 +184,33 @@ module _ (owners : List (ℕ × ℕ)) where
   step_prov row users x None own at = inl (rw (own, at) refl)
   step_prov row users x (Some p) own at = step_owner row users x p (value_at owners p) own at refl
 
-  -- what it puts there, by whether its consumer is the geom's
-  step_user : (row : ℕ × (ℕ × Option ℕ)) (users : List (ℕ × (ℕ × Option ℕ))) (x : ℕ) (b : Bool)
-      → (row.1.0 == x) ≡ b → Step row users x
-  step_user row users x true own = step_prov row users x row.1.1 own refl
-  step_user row users x false own = inl (rw own refl)
-
   -- so for any row
   step : (row : ℕ × (ℕ × Option ℕ)) (users : List (ℕ × (ℕ × Option ℕ))) (x : ℕ) → Step row users x
-  step row users x = step_user row users x (row.1.0 == x) refl
+  step row users x = elim (cases_Bool (row.1.0 == x)) [
+    | inl own ↦ step_prov row users x row.1.1 own refl
+    | inr own ↦ inl (rw own refl)
+  ]
 
   -- a geom below another is there by a consumer and a provider
   pub under-way : (low high : ℕ) (users : List (ℕ × (ℕ × Option ℕ))) → IsRising low users high → (x h : ℕ)
       → IsAmong (under owners users x) h → IsWay users x h
   under-way low high [] rising x h there = absurd there
   under-way low high (row ∷ users) rising x h there =
-      at (step row users x) there (λ e. under-way (row.0 + 1) high users rising.1 x h e) where
+      elim (step row users x) [
+        | inl same ↦ later (under-way (row.0 + 1) high users rising.1 x h (subst (λ ms. IsAmong ms h) same there))
+        | inr found ↦
+            elim (subst (λ ms. IsAmong ms h) found.4 there) [
+              | inl same ↦
+                  let self : (row.0 == row.0) ≡ true = eq-eqb row.0 row.0 refl in
+                  record {
+                    cons = row.0;
+                    prov = found.1;
+                    user = rw self (ap (λ (e : ℕ × Option ℕ). Some e) found.2);
+                    owner = found.3 ∙ ap (λ (n : ℕ). Some n) same;
+                  }
+              | inr deeper ↦ later (under-way (row.0 + 1) high users rising.1 x h deeper)
+            ]
+      ] where
         later : IsWay users x h → IsWay (row ∷ users) x h
         later way =
             let above : row.0 + 1 ≤ way.cons =
@@ -242,21 +218,6 @@ module _ (owners : List (ℕ × ℕ)) where
             (there-passes users way.cons (x, Some way.prov) way.user)).0 in
             let other : (row.0 == way.cons) ≡ false = ne_eqb row.0 way.cons (λ k. omega arith) in
             record { cons = way.cons; prov = way.prov; user = rw other way.user; owner = way.owner }
-
-        at : Step row users x → IsAmong (under owners (row ∷ users) x) h
-            → (IsAmong (under owners users x) h → IsWay users x h) → IsWay (row ∷ users) x h
-        at (inl same) there so = later (so (subst (λ ms. IsAmong ms h) same there))
-        at (inr found) there so = pick (subst (λ ms. IsAmong ms h) found.4 there) where
-          pick : IsAmong (found.0 ∷ under owners users x) h → IsWay (row ∷ users) x h
-          pick (inl same) =
-              let self : (row.0 == row.0) ≡ true = eq-eqb row.0 row.0 refl in
-              record {
-                cons = row.0;
-                prov = found.1;
-                user = rw self (ap (λ (e : ℕ × Option ℕ). Some e) found.2);
-                owner = found.3 ∙ ap (λ (n : ℕ). Some n) same;
-              }
-          pick (inr deeper) = later (so deeper)
 
   -- a consumer attached to a provider puts the provider's geom below its own
   pub way-under : (users : List (ℕ × (ℕ × Option ℕ))) (c p x h : ℕ) → value_at users c ≡ Some (x, Some p)
@@ -273,10 +234,10 @@ module _ (owners : List (ℕ × ℕ)) where
         let prov : row.1.1 ≡ Some p = ap (λ (e : ℕ × Option ℕ). e.1) value in
         let own : (row.1.0 == x) ≡ true = eq-eqb row.1.0 x geom in
         rw (own, prov, owner) (inl refl)
-    at false e user so = more (step row users x) (so (rw e at user)) where
-      more : Step row users x → IsAmong (under owners users x) h → IsAmong (under owners (row ∷ users) x) h
-      more (inl same) there = subst (λ ms. IsAmong ms h) (sym same) there
-      more (inr found) there = subst (λ ms. IsAmong ms h) (sym found.4) (inr there)
+    at false e user so = elim (step row users x) [
+      | inl same ↦ subst (λ ms. IsAmong ms h) (sym same) (so (rw e at user))
+      | inr found ↦ subst (λ ms. IsAmong ms h) (sym found.4) (inr (so (rw e at user)))
+    ]
 
   module _ (f : ℕ → ℕ) (x : ℕ) where
     -- what a row adds below a geom
@@ -288,42 +249,27 @@ module _ (owners : List (ℕ × ℕ)) where
     peak [] = 0
     peak (row ∷ users) = max (adds row.1) (peak users)
 
-    -- the largest with one row more, by whether the provider has a geom
-    peak_owner : (row : ℕ × (ℕ × Option ℕ)) (users : List (ℕ × (ℕ × Option ℕ))) (p : ℕ) (o : Option ℕ)
-        → (row.1.0 == x) ≡ true → row.1.1 ≡ Some p → value_at owners p ≡ o
-        → largest (map f (under owners users x)) ≡ peak users
-        → largest (map f (under owners (row ∷ users) x)) ≡ peak (row ∷ users)
-    peak_owner row users p None own at offer rest = rw (own, at, offer, rest) (omega arith)
-    peak_owner row users p (Some h) own at offer rest = rw (own, at, offer, rest) refl
-
-    -- the largest with one row more, by whether its consumer is attached
-    peak_prov : (row : ℕ × (ℕ × Option ℕ)) (users : List (ℕ × (ℕ × Option ℕ))) (o : Option ℕ)
-        → (row.1.0 == x) ≡ true → row.1.1 ≡ o
-        → largest (map f (under owners users x)) ≡ peak users
-        → largest (map f (under owners (row ∷ users) x)) ≡ peak (row ∷ users)
-    peak_prov row users None own at rest = rw (own, at, rest) (omega arith)
-    peak_prov row users (Some p) own at rest = peak_owner row users p (value_at owners p) own at refl rest
-
-    -- the largest with one row more, by whether its consumer is the geom's
-    peak_user : (row : ℕ × (ℕ × Option ℕ)) (users : List (ℕ × (ℕ × Option ℕ))) (b : Bool) → (row.1.0 == x) ≡ b
-        → largest (map f (under owners users x)) ≡ peak users
-        → largest (map f (under owners (row ∷ users) x)) ≡ peak (row ∷ users)
-    peak_user row users true own rest = peak_prov row users row.1.1 own refl rest
-    peak_user row users false own rest = rw (own, rest) (omega arith)
+    -- the largest with one provider more
+    largest-through : (o : Option ℕ) (qs : List ℕ)
+        → largest (map f (filter_map (value_at owners) (cons_option o qs)))
+        ≡ max (rank_through f owners o) (largest (map f (filter_map (value_at owners) qs)))
+    largest-through None qs = omega arith
+    largest-through (Some p) qs = at (value_at owners p) where
+      at : (o : Option ℕ)
+          → largest (map f (cons_option o (filter_map (value_at owners) qs)))
+          ≡ max (number_or 0 (option_map f o)) (largest (map f (filter_map (value_at owners) qs)))
+      at None = omega arith
+      at (Some h) = refl
 
     -- the largest value below a geom, row by row
     pub peak-is : (users : List (ℕ × (ℕ × Option ℕ))) → largest (map f (under owners users x)) ≡ peak users
     peak-is [] = refl
-    peak-is (row ∷ users) = peak_user row users (row.1.0 == x) refl (peak-is users)
-
-    -- past the number the rows stay as they are
-    pub past_peak : (c low high : ℕ) (e : ℕ × Option ℕ) (users : List (ℕ × (ℕ × Option ℕ)))
-        → IsRising low users high → c < low → (with_value users c e ≡ users) × (without users c ≡ users)
-    past_peak c low high e [] rising less = (refl, refl)
-    past_peak c low high e (row ∷ users) rising less =
-        let other : (row.0 == c) ≡ false = ne_eqb row.0 c (λ k. omega (arith, rising.0)) in
-        let rest = past_peak c (row.0 + 1) high e users rising.1 (omega (arith, rising.0)) in
-        (rw (other, rest.0) refl, rw (other, rest.1) refl)
+    peak-is (row ∷ users) = elim (cases_Bool (row.1.0 == x)) [
+      | inl own ↦
+          rw own (largest-through row.1.1 (provs_of users x)
+          ∙ ap (λ m. max (rank_through f owners row.1.1) m) (peak-is users))
+      | inr own ↦ rw (own, peak-is users) (omega arith)
+    ]
 
     -- with another value in one row
     pub peak-with : (c low high : ℕ) (e : ℕ × Option ℕ) (users : List (ℕ × (ℕ × Option ℕ)))
@@ -331,25 +277,12 @@ module _ (owners : List (ℕ × ℕ)) where
         → peak (with_value users c e) ≡ max (adds e) (peak (without users c))
     peak-with c low high e [] rising there = absurd cc
     peak-with c low high e (row ∷ users) rising there =
-        at (row.0 == c) refl there (λ k. peak-with c (row.0 + 1) high e users rising.1 k) where
-          at : (b : Bool) → (row.0 == c) ≡ b → IsSome (value_at (row ∷ users) c)
-              → (IsSome (value_at users c) → peak (with_value users c e) ≡ max (adds e) (peak (without users c)))
-              → peak (with_value (row ∷ users) c e) ≡ max (adds e) (peak (without (row ∷ users) c))
-          at true k there so =
-              let number : row.0 ≡ c = eqb-true row.0 c k in
-              let rest = past_peak c (row.0 + 1) high e users rising.1 (omega arith) in
-              rw (k, rest.0, rest.1) refl
-          at false k there so =
-              let rest : peak (with_value users c e) ≡ max (adds e) (peak (without users c)) = so (rw k at there) in
-              rw (k, rest) (omega arith)
-
-module _ {T U : Type 0} (h : T → U) where
-  -- something stands under a number where it does in the rows seen otherwise
-  pub seen-some : (n : ℕ) (rows : List (ℕ × T)) → IsSome (value_at (rows_with h rows) n) → IsSome (value_at rows n)
-  seen-some n rows there = pick (value_at rows n) (rw (value_at-rows_with h n rows) at there) where
-    pick : (o : Option T) → IsSome (option_map h o) → IsSome o
-    pick None there = there
-    pick (Some v) there = refl
+        grind (
+          arith,
+          with_value_below c (row.0 + 1) e users high rising.1,
+          without_below c (row.0 + 1) users high rising.1,
+          peak-with c (row.0 + 1) high e users rising.1,
+        )
 
 module _ {C : Type 0} (gs : SlotsView (GeomCell C)) (n r : ℕ) (v : GeomCell C)
     (rising : IsRising 1 gs.rows gs.next) (at : Some v ≡ value_at gs.rows n) where
@@ -357,8 +290,7 @@ module _ {C : Type 0} (gs : SlotsView (GeomCell C)) (n r : ℕ) (v : GeomCell C)
   pub store-same : bare (record gs { rows = with_value gs.rows n (record v { rank = r }) }) ≡ bare gs
   store-same =
       let w : GeomCell C = record v { rank = r } in
-      let is : OnlyValue n v gs.rows = only_value n 1 gs.next v gs.rows rising (sym at) in
-      rw (map-with_value_same (row_with (without_rank {C = C})) n v w refl gs.rows is) refl
+      rw (rows_kept gs n v w rising (sym at) (row_with (without_rank {C = C})) refl) refl
 
   -- and the rank stands there
   pub store-here : stored (record gs { rows = with_value gs.rows n (record v { rank = r }) }) n ≡ r
@@ -375,7 +307,7 @@ module _ {C : Type 0} (gs : SlotsView (GeomCell C)) (n r : ℕ) (v : GeomCell C)
       let w : GeomCell C = record v { rank = r } in
       rw (
         value_at-rows_with (rank_of {C = C}) x (with_value gs.rows n w),
-        value_at-other n x w gs.rows other,
+        value_at-kept n x w gs.rows other,
         value_at-rows_with (rank_of {C = C}) x gs.rows,
       ) refl
 
@@ -390,16 +322,7 @@ module _ (f : ℕ → ℕ) where
 
   -- with a geom in front whose value grew, one is above the limit where one was or this one is now
   high_same : (k a b : Bool) → (a ≡ true → b ≡ true) → (x : Bool) → ((k && b) || x) ≡ (((k && a) || x) || (b && k))
-  high_same true true true so x = refl
-  high_same true true false so x = let no : false ≡ true = so refl in absurd cc
-  high_same true false true so true = refl
-  high_same true false true so false = refl
-  high_same true false false so true = refl
-  high_same true false false so false = refl
-  high_same false a true so true = refl
-  high_same false a true so false = refl
-  high_same false a false so true = refl
-  high_same false a false so false = refl
+  high_same k a b so x = grind arith
 
   -- whether a geom is above the limit, once one has a greater value
   pub high-more : (r : ℕ → ℕ) (n low high : ℕ) (classes : List (ℕ × Kind)) → IsRising low classes high
@@ -408,27 +331,20 @@ module _ (f : ℕ → ℕ) where
       ≡ (is_high classes f || (nat_lt MAX_RANK (r n) && not (passes is_granted_kind (value_at classes n))))
   high-more r n low high [] rising there more others = absurd cc
   high-more r n low high (row ∷ classes) rising there more others =
-      at (row.0 == n) refl there (λ e. high-more r n (row.0 + 1) high classes rising.1 e more others) where
-        at : (b : Bool) → (row.0 == n) ≡ b → IsSome (value_at (row ∷ classes) n)
-            → (IsSome (value_at classes n)
-            → is_high classes r
-            ≡ (is_high classes f
-            || (nat_lt MAX_RANK (r n) && not (passes is_granted_kind (value_at classes n)))))
-            → is_high (row ∷ classes) r
-            ≡ (is_high (row ∷ classes) f
-            || (nat_lt MAX_RANK (r n) && not (passes is_granted_kind (value_at (row ∷ classes) n))))
-        at true k there so =
+      elim (cases_Bool (row.0 == n)) [
+        | inl k ↦
             let same : row.0 ≡ n = eqb-true row.0 n k in
             let rest : is_high classes r ≡ is_high classes f =
             high_past classes r n (row.0 + 1) high rising.1 (omega arith) others in
             rw (k, same, rest)
             (high_same (not (is_granted_kind row.1)) (nat_lt MAX_RANK (f n)) (nat_lt MAX_RANK (r n))
             (λ e. lt-ltb MAX_RANK (r n) (omega (arith, ltb-true MAX_RANK (f n) e))) (is_high classes f))
-        at false k there so =
+        | inr k ↦
             let here : r row.0 ≡ f row.0 = others row.0 (eqb-false row.0 n k) in
-            rw (k, here, so (rw k at there))
+            rw (k, here, high-more r n (row.0 + 1) high classes rising.1 (rw k at there) more others)
             (sym (or_assoc (not (is_granted_kind row.1) && nat_lt MAX_RANK (f row.0)) (is_high classes f)
             (nat_lt MAX_RANK (r n) && not (passes is_granted_kind (value_at classes n)))))
+      ]
 
   -- where no geom is above the limit, none is with smaller values
   pub high-less : (r : ℕ → ℕ) (classes : List (ℕ × Kind)) → ((x : ℕ) → r x ≤ f x) → is_high classes f ≡ false
@@ -441,25 +357,12 @@ module _ (f : ℕ → ℕ) where
       (λ e. high-less r classes less e) where
         at : (k a b x y : Bool) → (b ≡ true → a ≡ true) → ((k && a) || x) ≡ false → (x ≡ false → y ≡ false)
             → ((k && b) || y) ≡ false
-        at true true b x y so none rest = absurd cc
-        at true false true x y so none rest = let no : false ≡ true = so refl in absurd cc
-        at true false false x y so none rest = rest none
-        at false a b x y so none rest = rest none
+        at k a b x y so none rest = grind arith
 
 module _ {C : Type 0} where
-  -- the classes are those of the rows without the ranks
-  kinds-rest : (rows : List (ℕ × GeomCell C))
-      → rows_with (kind_of {C = C}) rows
-      ≡ rows_with (λ (x : GeomRec C × Scratch). x.0.kind) (rows_with (without_rank {C = C}) rows)
-  kinds-rest [] = refl
-  kinds-rest (row ∷ rows) = rw (kinds-rest rows) refl
-
   -- the classes stand beside the ranks
   pub kinds-bare : (gs ns : SlotsView (GeomCell C)) → bare ns ≡ bare gs → kinds ns ≡ kinds gs
-  kinds-bare gs ns same =
-      kinds-rest ns.rows
-      ∙ ap (λ (s : SlotsView (GeomRec C × Scratch)). rows_with (λ (x : GeomRec C × Scratch). x.0.kind) s.rows)
-      same ∙ sym (kinds-rest gs.rows)
+  kinds-bare = map-bare (λ row. (row.0, row.1.0.kind))
 
 module _ (f : ℕ → ℕ) (owners : List (ℕ × ℕ)) (users : List (ℕ × (ℕ × Option ℕ))) (g : ℕ) where
   -- the value below a consumer of a geom is at most the largest below the geom
@@ -490,3 +393,226 @@ module _ (f : ℕ → ℕ) (owners : List (ℕ × ℕ)) (users : List (ℕ × (�
             let own : passes (belongs g) (value_at users way.cons) ≡ true = rw way.user (eq-eqb g g refl) in
             let value : rank_under f owners (value_at users way.cons) ≡ f h = rw (way.user, way.owner) refl in
             omega (arith, so way.cons own)
+
+-- The ranks that stand in the cells, after a change of one row that leaves the graph of geoms.
+
+-- the row's consumer isn't attached to the provider
+abbrev pub NotAttached : ℕ → ℕ × (ℕ × Option ℕ) → Type 0
+NotAttached n row = names_number row.1.1 n ≡ false
+
+-- the row's consumer isn't the geom's
+abbrev pub NotOwned : ℕ → ℕ × (ℕ × Option ℕ) → Type 0
+NotOwned n row = (row.1.0 == n) ≡ false
+
+-- the provider on which the rank stands by the row's consumer, if there is one, is of the same geom
+abbrev SameOwner : List (ℕ × ℕ) → List (ℕ × ℕ) → ℕ × (ℕ × Option ℕ) → Type 0
+SameOwner others owners row = IfSome row.1.1 (λ p. value_at others p ≡ value_at owners p)
+
+-- a fact of each of two lists
+pub all-append : {X : Type 0} (P : X → Type 0) (xs ys : List X) → AllByRecursion P xs → AllByRecursion P ys
+    → AllByRecursion P (xs ++ ys)
+all-append P [] ys one two = two
+all-append P (x ∷ xs) ys one two = (one.0, all-append P xs ys one.1 two)
+
+-- a fact of each item that follows from another and a third
+pub all-both : {X : Type 0} (P Q R : X → Type 0) → ((x : X) → P x → Q x → R x) → (xs : List X)
+    → AllByRecursion P xs → AllByRecursion Q xs → AllByRecursion R xs
+all-both P Q R so [] one two = tt
+all-both P Q R so (x ∷ xs) one two = (so x one.0 two.0, all-both P Q R so xs one.1 two.1)
+
+-- so from another alone
+all-each : {X : Type 0} (P R : X → Type 0) → ((x : X) → P x → R x) → (xs : List X) → AllByRecursion P xs
+    → AllByRecursion R xs
+all-each P R so xs facts = all-both P P R (λ x fact again. so x fact) xs facts facts
+
+-- a number that is 0 where a test passes, and else 0
+zero_either : (b : Bool) (z : ℕ) → z ≡ 0 → (if b then z else 0) ≡ 0
+zero_either true z e = e
+zero_either false z e = refl
+
+module _ (classes : List (ℕ × Kind)) (standing owners : List (ℕ × ℕ)) (users : List (ℕ × (ℕ × Option ℕ)))
+    (ranks : AreRanks classes standing owners users) where
+  -- another graph with the same largest values below
+  pub ranks-graph : (owners2 : List (ℕ × ℕ)) (users2 : List (ℕ × (ℕ × Option ℕ)))
+      → ((f : ℕ → ℕ) (x : ℕ) → largest (map f (under owners2 users2 x)) ≡ largest (map f (under owners users x)))
+      → AllByRecursion (UserLives classes) users2
+      → AllByRecursion (OwnerLives owners2) users2
+      → AreRanks classes standing owners2 users2
+  ranks-graph owners2 users2 same owned attached = record {
+    local = λ x. omega (arith, ranks.local x, same (rank_at standing) x);
+    low = ranks.low;
+    owned = owned;
+    attached = attached;
+  }
+
+  -- other rows of geoms with the same ranks
+  pub ranks-geoms : (classes2 : List (ℕ × Kind)) (standing2 : List (ℕ × ℕ))
+      → ((x : ℕ) → rank_at standing2 x ≡ rank_at standing x)
+      → is_high classes2 (rank_at standing2) ≡ false
+      → AllByRecursion (UserLives classes2) users → AreRanks classes2 standing2 owners users
+  ranks-geoms classes2 standing2 same low owned = record {
+    local = λ x.
+        (let below = largest-same (rank_at standing2) (rank_at standing) (under owners users x) (λ n i. same n) in
+        omega (arith, ranks.local x, same x, below));
+    low = low;
+    owned = owned;
+    attached = ranks.attached;
+  }
+
+  -- with a new consumer that is attached to nothing
+  pub ranks-new_consumer : (n g : ℕ) → IsSome (value_at classes g)
+      → AreRanks classes standing owners (users ++ (n, (g, None)) ∷ [])
+  ranks-new_consumer n g lives =
+      ranks-graph owners (users ++ (n, (g, None)) ∷ [])
+      (λ f x. peak-is owners f x (users ++ (n, (g, None)) ∷ []) ∙ peak_same f x users ∙ sym (peak-is owners f x users))
+      (all-append (UserLives classes) users ((n, (g, None)) ∷ [])
+      ranks.owned (lives, tt))
+      (all-append (OwnerLives owners) users
+      ((n, (g, None)) ∷ []) ranks.attached (tt, tt)) where
+        peak_same : (f : ℕ → ℕ) (x : ℕ) (users : List (ℕ × (ℕ × Option ℕ)))
+            → peak owners f x (users ++ (n, (g, None)) ∷ []) ≡ peak owners f x users
+        peak_same f x [] = omega (arith, zero_either (g == x) 0 refl)
+        peak_same f x (row ∷ users) = ap (λ m. max (adds owners f x row.1) m) (peak_same f x users)
+
+  -- without a consumer that is attached to nothing
+  pub ranks-destroy_consumer : (c high : ℕ) → IsRising 1 users high
+      → ((e : ℕ × Option ℕ) → value_at users c ≡ Some e → e.1 ≡ None)
+      → AreRanks classes standing owners (without users c)
+  ranks-destroy_consumer c high rising free =
+      ranks-graph owners (without users c)
+      (λ f x. peak-is owners f x (without users c) ∙ peak_same f x 1 users rising free ∙ sym (peak-is owners f x users))
+      (kept_by (UserLives classes) (UserLives classes) (λ row. not (row.0 == c)) (λ row e fact. fact) users ranks.owned)
+      (kept_by (OwnerLives owners) (OwnerLives owners)
+      (λ row. not (row.0 == c)) (λ row e fact. fact) users ranks.attached) where
+        free_adds : (f : ℕ → ℕ) (x : ℕ) (e : ℕ × Option ℕ) → e.1 ≡ None → adds owners f x e ≡ 0
+        free_adds f x e is = rw is (zero_either (e.0 == x) 0 refl)
+
+        peak_same : (f : ℕ → ℕ) (x low : ℕ) (users : List (ℕ × (ℕ × Option ℕ))) → IsRising low users high
+            → ((e : ℕ × Option ℕ) → value_at users c ≡ Some e → e.1 ≡ None)
+            → peak owners f x (without users c) ≡ peak owners f x users
+        peak_same f x low [] rising free = refl
+        peak_same f x low (row ∷ users) rising free =
+            elim (cases_Bool (row.0 == c)) [
+              | inl e ↦
+                  let number : row.0 ≡ c = eqb-true row.0 c e in
+                  let here : row.1.1 ≡ None = free row.1 (rw e refl) in
+                  let rest = without_below c (row.0 + 1) users high rising.1 (omega arith) in
+                  let nothing : adds owners f x row.1 ≡ 0 = free_adds f x row.1 here in
+                  rw (e, rest) (omega arith)
+              | inr e ↦
+                  rw e (ap (λ m. max (adds owners f x row.1) m)
+                  (peak_same f x (row.0 + 1) users rising.1 (λ v found. free v (rw e found))))
+            ]
+
+  -- other providers, where each rank stands on the provider of the same geom
+  ranks-owners : (others : List (ℕ × ℕ)) → AllByRecursion (SameOwner others owners) users
+      → AreRanks classes standing others users
+  ranks-owners others same =
+      ranks-graph others users
+      (λ f x. peak-is others f x users ∙ peak_same f x users same ∙ sym (peak-is owners f x users))
+      ranks.owned
+      (all-both (SameOwner others owners) (OwnerLives owners) (OwnerLives others)
+      (λ row is fact. still row.1.1 is fact) users same ranks.attached) where
+        still : (o : Option ℕ) → IfSome o (λ p. value_at others p ≡ value_at owners p)
+            → IfSome o (λ p. IsSome (value_at owners p)) → IfSome o (λ p. IsSome (value_at others p))
+        still None is fact = tt
+        still (Some p) is fact = rw is fact
+
+        through : (f : ℕ → ℕ) (o : Option ℕ) → IfSome o (λ p. value_at others p ≡ value_at owners p)
+            → rank_through f others o ≡ rank_through f owners o
+        through f None is = refl
+        through f (Some p) is = rw is refl
+
+        peak_same : (f : ℕ → ℕ) (x : ℕ) (users : List (ℕ × (ℕ × Option ℕ)))
+            → AllByRecursion (SameOwner others owners) users → peak others f x users ≡ peak owners f x users
+        peak_same f x [] facts = refl
+        peak_same f x (row ∷ users) facts = rw (through f row.1.1 facts.0, peak_same f x users facts.1) refl
+
+  -- with a new provider
+  pub ranks-new_provider : (n g : ℕ) → AreRanks classes standing (owners ++ (n, g) ∷ []) users
+  ranks-new_provider n g =
+      ranks-owners (owners ++ (n, g) ∷ [])
+      (all-each (OwnerLives owners) (SameOwner (owners ++ (n, g) ∷ []) owners) (λ row. same row.1.1) users
+      ranks.attached) where
+        same : (o : Option ℕ) → IfSome o (λ p. IsSome (value_at owners p))
+            → IfSome o (λ p. value_at (owners ++ (n, g) ∷ []) p ≡ value_at owners p)
+        same None lives = tt
+        same (Some p) lives = value_at-behind n p g owners lives
+
+  -- without a provider to which nothing is attached
+  pub ranks-destroy_provider : (n : ℕ) → AllByRecursion (NotAttached n) users
+      → AreRanks classes standing (without owners n) users
+  ranks-destroy_provider n free =
+      ranks-owners (without owners n)
+      (all-each (NotAttached n) (SameOwner (without owners n) owners) (λ row. same row.1.1) users free) where
+        same : (o : Option ℕ) → names_number o n ≡ false
+            → IfSome o (λ p. value_at (without owners n) p ≡ value_at owners p)
+        same None other = tt
+        same (Some p) other = value_at-without n p owners (eqb-false p n other)
+
+  -- a new geom has rank 1
+  pub ranks-new_geom : (n : ℕ) (k : Kind) → value_at standing n ≡ None
+      → AreRanks (classes ++ (n, k) ∷ []) (standing ++ (n, 1) ∷ []) owners users
+  ranks-new_geom n k none =
+      ranks-geoms (classes ++ (n, k) ∷ []) (standing ++ (n, 1) ∷ []) (same standing)
+      (low classes ranks.low)
+      (all-each (UserLives classes) (UserLives (classes ++ (n, k) ∷ []))
+      (λ row fact. rw (value_at-behind n row.1.0 k classes fact) fact) users ranks.owned) where
+        same : (standing : List (ℕ × ℕ)) (x : ℕ) → rank_at (standing ++ (n, 1) ∷ []) x ≡ rank_at standing x
+        same [] x = grind arith
+        same (row ∷ standing) x = grind (arith, same standing x)
+
+        here : rank_at (standing ++ (n, 1) ∷ []) n ≡ 1
+        here = same standing n ∙ ap (λ (o : Option ℕ). number_or 1 o) none
+
+        low : (classes : List (ℕ × Kind)) → is_high classes (rank_at standing) ≡ false
+            → is_high (classes ++ (n, k) ∷ []) (rank_at (standing ++ (n, 1) ∷ [])) ≡ false
+        low [] e =
+            let small : nat_lt MAX_RANK (rank_at (standing ++ (n, 1) ∷ []) n) ≡ false =
+            le-ltb MAX_RANK (rank_at (standing ++ (n, 1) ∷ []) n) (omega (arith, here)) in
+            rw small (or-false (not (is_granted_kind k) && false) ∙ and-false (not (is_granted_kind k)))
+        low (row ∷ classes) e =
+            rw (same standing row.0)
+            (let parts = or_parts (not (is_granted_kind row.1) && nat_lt MAX_RANK (rank_at standing row.0))
+            (is_high classes (rank_at standing)) e in
+            rw parts.0 (low classes parts.1))
+
+  -- a geom that has no consumer is taken away
+  pub ranks-destroy_geom : (n : ℕ) → AllByRecursion (NotOwned n) users
+      → AreRanks (without classes n) (without standing n) owners users
+  ranks-destroy_geom n free =
+      ranks-geoms (without classes n) (without standing n) (λ x. same x (cases_eq x n)) (low classes ranks.low)
+      (all-both (NotOwned n) (UserLives classes) (UserLives (without classes n))
+      (λ row other fact. rw (value_at-without n row.1.0 classes (eqb-false row.1.0 n other)) fact) users free
+      ranks.owned) where
+        nothing : (f : ℕ → ℕ) (users : List (ℕ × (ℕ × Option ℕ)))
+            → AllByRecursion (NotOwned n) users → peak owners f n users ≡ 0
+        nothing f [] facts = refl
+        nothing f (row ∷ users) facts = rw (facts.0, nothing f users facts.1) (omega arith)
+
+        alone : rank_at standing n ≡ 1
+        alone =
+            let below : largest (map (rank_at standing) (under owners users n)) ≡ 0 =
+            peak-is owners (rank_at standing) n users ∙ nothing (rank_at standing) users free in
+            omega (arith, ranks.local n)
+
+        same : (x : ℕ) → (x ≡ n) ⊎ (x ≡ n → ⊥) → rank_at (without standing n) x ≡ rank_at standing x
+        same x (inl e) =
+            (let here : rank_at (without standing n) n ≡ rank_at standing n =
+            rw (value_at-gone n standing) (sym alone) in rw e here)
+        same x (inr differs) = rw (value_at-without n x standing differs) refl
+
+        low : (classes : List (ℕ × Kind)) → is_high classes (rank_at standing) ≡ false
+            → is_high (without classes n) (rank_at (without standing n)) ≡ false
+        low [] e = refl
+        low (row ∷ classes) e =
+            elim (cases_Bool (row.0 == n)) [
+              | inl k ↦
+                  rw k (low classes
+                  (or_parts (not (is_granted_kind row.1) && nat_lt MAX_RANK (rank_at standing row.0))
+                  (is_high classes (rank_at standing)) e).1)
+              | inr k ↦
+                  let parts = or_parts (not (is_granted_kind row.1) && nat_lt MAX_RANK (rank_at standing row.0))
+                  (is_high classes (rank_at standing)) e in
+                  rw (k, same row.0 (inr (eqb-false row.0 n k)), parts.0) (low classes parts.1)
+            ]

@@ -1,7 +1,7 @@
 -- What an attach and a detach do to the mesh that stands.
-use Rattle.std.specs.Prelude.{◌≡◌, ℕ, ◌+◌, ◌≤◌, Bool, true, false, [], Option, Some, None, IsSome, IfSome, IsSomeAnd, length, map, option_map}
-use Rattle.std.proofs.Common.{refl, sym, ap, ◌∙◌, subst, arith}
-use Rattle.std.proofs.lemmas.Bool.{false_from_ne_true}
+use Rattle.std.specs.Prelude.{◌≡◌, ℕ, ◌+◌, ◌≤◌, ◌==◌, true, false, [], Option, Some, None, IsSome, IfSome, IsSomeAnd, length, map, option_map}
+use Rattle.std.proofs.Common.{refl, sym, ap, ◌∙◌, subst, arith, inl, inr}
+use Rattle.std.proofs.lemmas.Bool.{false_from_ne_true, cases_Bool}
 use Rattle.std.proofs.lemmas.List.{length-map}
 use Rattle.geo_model.specs.Errno.TheVariants.{ELOOP, EDEEP}
 use Rattle.geo_model.specs.Words.{largest}
@@ -19,13 +19,12 @@ use Rattle.geo_mesh.specs.declared.index.Index.{Index}
 use Rattle.geo_mesh.specs.Rows.{row_with, rows_with}
 use Rattle.geo_mesh.specs.Cells.{graph_of, put_consumer, consumer_row, provider_row}
 use Rattle.geo_mesh.specs.Mending.{IsAmong, StandsAbove, Joined, IsJoinable, Lowered, above}
-use Rattle.geo_mesh.specs.Ranks.{IsKin, kind_of, ranked_link_of, owner_of, kinds, bare, offers, ranked_links, stored, ranked_below, owner, user, ranks, is_dev_or_taste, below, rank_from, is_high, IsRefusedFor, IsWalkable, IsAdmitted, HaveDevAndTaste, HaveRanks}
-use Rattle.geo_mesh.proofs.RowLemmas.{rows_with-with_value, value_at-rows_with}
-use Rattle.geo_mesh.proofs.ViewLemmas.{consumer_at-view, provider_at-view, attach-graph}
+use Rattle.geo_mesh.specs.Ranks.{IsKin, kind_of, ranked_link_of, owner_of, kinds, bare, offers, ranked_links, stored, ranked_below, owner, user, ranks, is_dev_or_taste, below, rank_from, is_high, IsRefusedFor, IsWalkable, IsAdmitted, HaveDevAndTaste, HaveRanks, OwnerLives, UserLives}
+use Rattle.geo_mesh.proofs.RowLemmas.{rows_changed, rows_with-with_value, value_at-rows_with}
+use Rattle.geo_mesh.proofs.ViewLemmas.{consumer_at-view, provider_at-view}
 use Rattle.geo_mesh.proofs.RankMend.{enough-climbs, apart-enough, apart-lowered, apart-kept}
 use Rattle.geo_mesh.proofs.RankHeights.{height-climbs}
-use Rattle.geo_mesh.proofs.RankRows.{all-at, high-less, kinds-bare}
-use Rattle.geo_mesh.proofs.RankKept.{ranks-geoms}
+use Rattle.geo_mesh.proofs.RankRows.{all-at, high-less, kinds-bare, ranks-geoms}
 use Rattle.geo_mesh.proofs.RankFirst.{footing-none, footing-later, footing-first, ranked_below-first, rank_from-local, rank_from-few, rank_from-high, stands-down, stands-up, below-later, owner-later, numbers-bare}
 use Rattle.geo_mesh.proofs.RankMesh.{all-with_value, same-cells, mesh-consumer, mesh-switch, mesh-low, switch-joined, stored-bound, stored-listed, rank_from-most, rank-is, deep-is, stands-reaches, reaches-stands}
 
@@ -50,15 +49,15 @@ mesh-kept {C} gs ns edges live mesh same kept =
 pub above-later : {C : Type 0} (gs : SlotsView (GeomCell C)) (edges : Edges) (live : ℕ) → HaveRanks gs edges live
     → (under upper : ℕ) {low high : ℕ} → low ≡ stored gs under → high ≡ stored gs upper → low + 1 ≡ high
     → is_dev_or_taste upper ≡ false
-above-later gs edges live mesh under upper low_is high_is just_above = pick (is_dev_or_taste upper) refl where
-  pick : (b : Bool) → is_dev_or_taste upper ≡ b → is_dev_or_taste upper ≡ false
-  pick false e = e
-  pick true e =
+above-later gs edges live mesh under upper low_is high_is just_above = elim (cases_Bool (is_dev_or_taste upper)) [
+  | inl e ↦
       let alone : stored gs upper ≡ 1 + largest (map (stored gs) []) =
       subst (λ ms. stored gs upper ≡ 1 + largest (map (stored gs) ms)) (ranked_below-first edges upper e)
       (mesh.standing.local upper) in
       let first : stored gs upper ≡ 1 = alone in
       absurd (omega (arith, mesh.standing.local under))
+  | inr e ↦ e
+]
 
 module _ {C : Type 0} (gs : SlotsView (GeomCell C)) (edges : Edges) (live : ℕ) (mesh : HaveRanks gs edges live)
     (n p : ℕ) (v : ConsCell) (rising : IsRising 1 edges.consumers.rows edges.consumers.next) (at : Some v
@@ -78,7 +77,7 @@ module _ {C : Type 0} (gs : SlotsView (GeomCell C)) (edges : Edges) (live : ℕ)
   -- the consumer's geom is there
   pub user-stands : IsSome (value_at (kinds gs) v.consumer.geom)
   user-stands =
-      all-at (λ (row : ℕ × (ℕ × Option ℕ)). IsSome (value_at (kinds gs) row.1.0))
+      all-at (UserLives (kinds gs))
       (rows_with ranked_link_of edges.consumers.rows) n (ranked_link_of v) mesh.standing.owned seen_row
 
   -- attached to what it is attached to, the consumers are as they were
@@ -104,7 +103,7 @@ module _ {C : Type 0} (gs : SlotsView (GeomCell C)) (edges : Edges) (live : ℕ)
     -- the provider to which it is attached is there
     offered : IsSome (value_at (offers edges).rows p)
     offered = rw (later, is) at
-        (all-at (λ (row : ℕ × (ℕ × Option ℕ)). IfSome row.1.1 (λ p. IsSome (value_at (offers edges).rows p)))
+        (all-at (OwnerLives (offers edges).rows)
         (rows_with ranked_link_of edges.consumers.rows) n (ranked_link_of v) mesh.standing.attached seen_row)
 
     -- the graph is that after the detach, with the provider's geom below the consumer's
@@ -137,7 +136,7 @@ module _ {C : Type 0} (gs : SlotsView (GeomCell C)) (edges : Edges) (live : ℕ)
               (enough-climbs (ranked_below (switched None)) (stored gs) off-enough)
               (λ x. omega (arith, mesh.standing.local x)) (length (kinds gs))
               (stored-bound gs (ranked_below edges) mesh.standing.local);
-          owned = rw users (all-with_value (λ (row : ℕ × (ℕ × Option ℕ)). IsSome (value_at (kinds gs) row.1.0)) n
+          owned = rw users (all-with_value (UserLives (kinds gs)) n
               (v.consumer.geom, None) (rows_with ranked_link_of edges.consumers.rows) user-stands mesh.standing.owned);
           few = omega (arith, mesh.count.counted, mesh.count.few);
         }
@@ -165,14 +164,17 @@ module _ {C : Type 0} (gs : SlotsView (GeomCell C)) (edges : Edges) (live : ℕ)
   -- the mesh stands after a detach where the geom below wasn't the highest, or the rank doesn't stand on it
   pub off-stays : v.consumer.prov ≡ Some p → (stored gs (owner edges p) + 1 ≡ stored gs v.consumer.geom → ⊥)
       → HaveRanks gs (switched None) live
-  off-stays is differs = pick (is_dev_or_taste v.consumer.geom) refl where
-    pick : (b : Bool) → is_dev_or_taste v.consumer.geom ≡ b → HaveRanks gs (switched None) live
-    pick true e = first-switched None e
-    pick false e = off-kept is e differs
+  off-stays is differs = elim (cases_Bool (is_dev_or_taste v.consumer.geom)) [
+    | inl e ↦ first-switched None e
+    | inr e ↦ off-kept is e differs
+  ]
 
   -- the graph with the consumer's row attached is that after an attach
   on-graph : graph_of gs (switched (Some p)) ≡ attach (graph_of gs edges) n p
-  on-graph = attach-graph gs edges n p v rising (sym at)
+  on-graph =
+      ap (λ cs. record (graph_of gs edges) { consumers = cs })
+      (rows_changed edges.consumers n v (put (Some p)) rising (sym at) consumer_row (λ x. x.number == n) (λ row. refl)
+      (λ x. record x { provider = Some p }) refl)
 
   -- the consumer of the number, by its row
   consumer_seen_at : consumer_at (graph_of gs edges) n ≡ Some (consumer_row (n, v))
@@ -303,26 +305,22 @@ module _ {C : Type 0} (gs : SlotsView (GeomCell C)) (edges : Edges) (live : ℕ)
 
     -- the mesh stands with the consumer attached
     pub admitted-mesh : HaveRanks ns (switched (Some p)) live
-    admitted-mesh = pick (is_dev_or_taste v.consumer.geom) refl admitted where
-      pick : (b : Bool) → is_dev_or_taste v.consumer.geom ≡ b
-          → IsAdmitted b (ranked_below edges) v.consumer.geom (owner edges p) (stored gs) (stored ns)
-          → HaveRanks ns (switched (Some p)) live
-      pick true e kept = mesh-kept gs ns (switched (Some p)) live (first-switched (Some p) e) same kept
-      pick false e joinable = on-mesh is offered first e ns same joinable low
+    admitted-mesh = elim (cases_Bool (is_dev_or_taste v.consumer.geom)) [
+      | inl e ↦ mesh-kept gs ns (switched (Some p)) live (first-switched (Some p) e) same (rw e at admitted)
+      | inr e ↦ on-mesh is offered first e ns same (rw e at admitted) low
+    ]
 
     -- and the attach isn't refused, where the provider carries no error
     pub admitted-free : is_errored (graph_of gs edges) p ≡ false → attach_refusal (graph_of gs edges) n p ≡ None
-    admitted-free sound = pick (is_dev_or_taste v.consumer.geom) refl admitted where
-      pick : (b : Bool) → is_dev_or_taste v.consumer.geom ≡ b
-          → IsAdmitted b (ranked_below edges) v.consumer.geom (owner edges p) (stored gs) (stored ns)
-          → attach_refusal (graph_of gs edges) n p ≡ None
-      pick true e kept =
+    admitted-free sound = elim (cases_Bool (is_dev_or_taste v.consumer.geom)) [
+      | inl e ↦
           let deep : is_too_deep (attach (graph_of gs edges) n p) ≡ false =
           rw on-graph at
           (mesh-low gs (switched (Some p)) live (first-switched (Some p) e)
           (record { listed = first.listed; granted = first.granted; bare = first.bare })) in
           rw (sound, loop_is offered, first_unreached e, deep) refl
-      pick false e joinable = on-free is offered first e ns sound same joinable low
+      | inr e ↦ on-free is offered first e ns sound same (rw e at admitted) low
+    ]
 
 module _ {C : Type 0} (gs : SlotsView (GeomCell C)) (edges : Edges) where
   -- a consumer that is attached to nothing has its cell

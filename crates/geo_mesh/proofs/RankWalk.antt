@@ -1,7 +1,7 @@
 -- The walks that mend ranks: what their loops keep.
-use Rattle.std.specs.Prelude.{◌≡◌, ◌⊎◌, ℕ, ◌+◌, ◌<◌, ◌==◌, Bool, true, false, List, Option, Some, None, IsSome, nat_le}
+use Rattle.std.specs.Prelude.{◌≡◌, ℕ, ◌+◌, ◌<◌, ◌==◌, Bool, true, List, Option, Some, None, IsSome, nat_le}
 use Rattle.std.proofs.Common.{refl, sym, ap, subst, inl, inr, arith}
-use Rattle.std.proofs.lemmas.Bool.{cases_eq, eqb-true, eq-eqb, leb-true, leb-false}
+use Rattle.std.proofs.lemmas.Bool.{cases_eq, eqb-true, eq-eqb, leb-true, leb-false, cases_Bool}
 use Rattle.geo_model.specs.Kind.{Kind}
 use Rattle.geo_model.proofs.DemandLemmas.{names_some}
 use Rattle.geo_slots.specs.Slots.{SlotsView, IsRising, value_at}
@@ -75,10 +75,11 @@ pub walk-more : {T : Type 0} (test : T → Bool) (rows : List (ℕ × T)) (next 
     → IsFirst test rows next at n
     → ((m : ℕ) → m < at → passes test (value_at rows m) ≡ true → P m) → P n → (m : ℕ) → m < n + 1
     → passes test (value_at rows m) ≡ true → P m
-walk-more test rows next at n P first so here m low there = pick (cases_eq m n) where
-  pick : (m ≡ n) ⊎ (m ≡ n → ⊥) → P m
-  pick (inl same) = subst P (sym same) here
-  pick (inr differs) = under (nat_le at m) refl where
-    under : (b : Bool) → nat_le at m ≡ b → P m
-    under true e = absurd (omega (arith, first.least m (leb-true at m e) there, differs))
-    under false e = so m (leb-false at m e) there
+walk-more test rows next at n P first so here m low there = elim (cases_eq m n) [
+  | inl same ↦ subst P (sym same) here
+  | inr differs ↦
+      elim (cases_Bool (nat_le at m)) [
+        | inl e ↦ absurd (omega (arith, first.least m (leb-true at m e) there, differs))
+        | inr e ↦ so m (leb-false at m e) there
+      ]
+]

@@ -1,20 +1,19 @@
 -- The mesh that the rows stand for, after a change of one row.
-use Rattle.std.specs.Prelude.{◌≡◌, ℕ, ◌+◌, ◌-◌, ◌≤◌, ◌==◌, nat_le, min, max, Bool, true, false, ◌&&◌, List, [], ◌∷◌, Option, Some, None, IsSome, map, find, filter, option_map, is_some, suc, ◌<◌, length, if◌then◌else◌}
+use Rattle.std.specs.Prelude.{◌≡◌, ℕ, ◌+◌, ◌-◌, ◌≤◌, ◌==◌, nat_le, min, max, Bool, false, ◌&&◌, List, [], ◌∷◌, Option, Some, None, IsSome, map, find, filter, option_map, is_some, ◌<◌, length, if◌then◌else◌}
 use Rattle.std.specs.List.{last_or, list_any}
 use Rattle.std.specs.Option.{option_or}
 use Rattle.std.proofs.Common.{arith, ap, ◌∙◌, subst, refl, sym}
-use Rattle.std.proofs.lemmas.Bool.{eqb-true, ne_eqb}
-use Rattle.std.proofs.Math.Bool.{or-false}
-use Rattle.geo_mesh.specs.Cells.{IsCount, geom_row, provider_row, consumer_row, have_of, risen_of, fallen_of, want_of, active_of, geom_scratch_of, provider_scratch_of, consumer_scratch_of, graph_of, graph, topo_view, put_consumer, with_geom_cell, with_provider_cell, with_consumer_cell}
+use Rattle.std.proofs.lemmas.Bool.{ne_eqb}
+use Rattle.geo_mesh.specs.Cells.{IsCount, made_provider, made_consumer, geom_row, provider_row, consumer_row, have_of, risen_of, fallen_of, want_of, active_of, geom_scratch_of, provider_scratch_of, consumer_scratch_of, graph_of, graph, topo_view, with_geom_cell, with_provider_cell, with_consumer_cell}
 use Rattle.geo_mesh.specs.declared.names.Names.{Names}
 use Rattle.geo_names.specs.Names.{last_named}
 use Rattle.geo_mesh.specs.Names.{AreNames, sound_of, is_sound_named}
-use Rattle.geo_mesh.proofs.NamesKept.{newest-names}
+use Rattle.geo_mesh.proofs.NameLemmas.{newest-names}
 use Rattle.std.proofs.lemmas.List.{map-append, length-map}
-use Rattle.geo_model.specs.Words.{same_name}
+use Rattle.geo_model.specs.Words.{same_name, change_where}
 use Rattle.geo_model.specs.Counts.{Counts}
 use Rattle.geo_model.proofs.Tests.{is_some-map}
-use Rattle.geo_model.specs.Topology.{Geom, Provider, Consumer, geom_at, provider_at, consumer_at, set_error, set_size, set_withering, set_marks, set_config, note_started, find_provider, attach, detach}
+use Rattle.geo_model.specs.Topology.{Geom, Provider, Consumer, geom_at, provider_at, consumer_at, find_provider}
 use Rattle.geo_slots.specs.Slots.{SlotsView, IsRising, value_at, with_value, without, first_from, with_insert}
 use Rattle.geo_mesh.specs.declared.records.Scratch.{Scratch}
 use Rattle.geo_mesh.specs.declared.records.GeomCell.{GeomCell}
@@ -23,15 +22,10 @@ use Rattle.geo_mesh.specs.declared.records.ConsCell.{ConsCell}
 use Rattle.geo_mesh.specs.declared.tables.Edges.{Edges}
 use Rattle.geo_mesh.specs.declared.tables.Tables.{Tables}
 use Rattle.geo_mesh.specs.Whole.{IsRoomier}
-use Rattle.geo_mesh.specs.Rows.{row_with, passes}
-use Rattle.geo_mesh.specs.Topo.{TopoView, Room, no_counts, no_scratch, first_geom, first_provider, first_consumer, with_provider, with_consumer, with_topology, with_want, with_have, with_notes, with_active, with_geom_scratch, with_provider_scratch, with_consumer_scratch, without_geom, without_provider, without_consumer, IsButForRoom}
-use Rattle.geo_mesh.proofs.RowLemmas.{OnlyValue, only_value, map-with_value, map-with_value_same, rows_with-with_value, rows_with-change_at, map-without, find-map}
-use Rattle.geo_mesh.proofs.WalkLemmas.{first-map}
-
--- what is seen is there
-pub row_there : {X Y : Type 0} (f : X → Y) (o : Option X) → IsSome (option_map f o) → IsSome o
-row_there f None there = there
-row_there f (Some v) there = refl
+use Rattle.geo_mesh.specs.Rows.{row_with, passes, rows_with}
+use Rattle.geo_mesh.specs.Topo.{TopoView, Room, first_geom, first_provider, first_consumer, with_provider, with_consumer, with_topology, with_want, with_have, with_notes, with_active, with_geom_scratch, with_provider_scratch, with_consumer_scratch, without_geom, without_provider, without_consumer, IsButForRoom}
+use Rattle.geo_mesh.proofs.RowLemmas.{only_value, rows_with-with_value, rows_with-change_at, map-without, find-map, row_there, rows_changed, rows_kept, first-map, value_at-rows_with}
+use Rattle.geo_slots.proofs.RowLemmas.{without_below}
 
 module _ {C : Type 0} (gs : SlotsView (GeomCell C)) (edges : Edges) (n : ℕ) where
   -- the geom of a number
@@ -62,276 +56,177 @@ module _ {C : Type 0} (gs : SlotsView (GeomCell C)) (edges : Edges) (n : ℕ) wh
   consumer_there lives =
       row_there (λ v. consumer_row (n, v)) (value_at edges.consumers.rows n) (rw consumer_at-view at lives)
 
-  -- the graph after a consumer is attached
-  pub attach-graph : (p : ℕ) (v : ConsCell) → IsRising 1 edges.consumers.rows edges.consumers.next
-      → value_at edges.consumers.rows n ≡ Some v
-      → graph_of gs (put_consumer edges n (record v { consumer = record v.consumer { prov = Some p } }))
-      ≡ attach (graph_of gs edges) n p
-  attach-graph p v rising at =
-      let w : ConsCell = record v { consumer = record v.consumer { prov = Some p } } in
-      let is : OnlyValue n v edges.consumers.rows =
-      only_value n 1 edges.consumers.next v edges.consumers.rows rising at in
-      rw (map-with_value consumer_row n (λ (x : Consumer). x.number == n) (λ x. record x { provider = Some p }) v w
-      (λ row. refl) refl edges.consumers.rows is) refl
+-- what a provider's cell holds beside the provider, and a consumer's beside the consumer
+abbrev pub provider_beside : ProvCell → Counts × Bool × Bool × Scratch
+provider_beside x = (have_of x, risen_of x, fallen_of x, x.scratch)
 
-module _ {C : Type 0} (t : Tables C) (n : ℕ) where
-  -- the mesh after a provider gets an error
-  pub set_error-view : (v : ProvCell) → IsRising 1 t.edges.providers.rows t.edges.providers.next
-      → value_at t.edges.providers.rows n ≡ Some v
-      → topo_view (with_provider_cell t n (record v { provider = record v.provider { errored = true } }))
-      ≡ with_topology (topo_view t) (set_error (graph t) n)
-  set_error-view v rising at =
-      let w : ProvCell = record v { provider = record v.provider { errored = true } } in
-      let is : OnlyValue n v t.edges.providers.rows =
-      only_value n 1 t.edges.providers.next v t.edges.providers.rows rising at in
-      rw (
-        map-with_value provider_row n (λ (x : Provider). x.number == n) (λ x. record x { errored = true }) v w
-            (λ row. refl) refl t.edges.providers.rows is,
-        map-with_value_same (row_with have_of) n v w refl t.edges.providers.rows is,
-        map-with_value_same (row_with risen_of) n v w refl t.edges.providers.rows is,
-        map-with_value_same (row_with fallen_of) n v w refl t.edges.providers.rows is,
-        map-with_value_same (row_with provider_scratch_of) n v w refl t.edges.providers.rows is,
-      ) refl
+-- what a consumer's cell holds beside the consumer
+abbrev pub consumer_beside : ConsCell → Counts × ℕ × Scratch
+consumer_beside x = (want_of x, active_of x, x.scratch)
 
-  -- the mesh after a provider gets another media size
-  pub set_size-view : (size : ℕ) (v : ProvCell) → IsRising 1 t.edges.providers.rows t.edges.providers.next
-      → value_at t.edges.providers.rows n ≡ Some v
-      → topo_view (with_provider_cell t n (record v { provider = record v.provider { size = size } }))
-      ≡ with_topology (topo_view t) (set_size (graph t) n size)
-  set_size-view size v rising at =
-      let w : ProvCell = record v { provider = record v.provider { size = size } } in
-      let is : OnlyValue n v t.edges.providers.rows =
-      only_value n 1 t.edges.providers.next v t.edges.providers.rows rising at in
+module _ {C : Type 0} (t : Tables C) (n : ℕ) (v : GeomCell C) (rising : IsRising 1 t.geoms.rows t.geoms.next)
+    (at : value_at t.geoms.rows n ≡ Some v) where
+  -- the mesh after a geom changes
+  pub geom-view : (change : Geom C → Geom C) (w : GeomCell C) → geom_row (n, w) ≡ change (geom_row (n, v))
+      → w.scratch ≡ v.scratch
+      → topo_view (with_geom_cell t n w)
+      ≡ with_topology (topo_view t)
+      (record (graph t) { geoms = change_where (λ x. x.number == n) change (graph t).geoms })
+  geom-view change w so same =
       rw (
-        map-with_value provider_row n (λ (x : Provider). x.number == n) (λ x. record x { size = size }) v w
-            (λ row. refl) refl t.edges.providers.rows is,
-        map-with_value_same (row_with have_of) n v w refl t.edges.providers.rows is,
-        map-with_value_same (row_with risen_of) n v w refl t.edges.providers.rows is,
-        map-with_value_same (row_with fallen_of) n v w refl t.edges.providers.rows is,
-        map-with_value_same (row_with provider_scratch_of) n v w refl t.edges.providers.rows is,
-      ) refl
-
-  -- the mesh after a geom begins to wither
-  pub set_withering-view : (v : GeomCell C) → IsRising 1 t.geoms.rows t.geoms.next → value_at t.geoms.rows n ≡ Some v
-      → topo_view (with_geom_cell t n (record v { geom = record v.geom { withering = true } }))
-      ≡ with_topology (topo_view t) (set_withering (graph t) n)
-  set_withering-view v rising at =
-      let w : GeomCell C = record v { geom = record v.geom { withering = true } } in
-      let is : OnlyValue n v t.geoms.rows = only_value n 1 t.geoms.next v t.geoms.rows rising at in
-      rw (
-        map-with_value geom_row n (λ (x : Geom C). x.number == n) (λ x. record x { withering = true }) v w
-            (λ row. refl) refl t.geoms.rows is,
-        map-with_value_same (row_with (geom_scratch_of {C = C})) n v w refl t.geoms.rows is,
-      ) refl
-
-  -- the mesh after a consumer is marked as spoiled, or unmarked
-  pub set_spoiled-view : (marked : Bool) (v : ConsCell) → IsRising 1 t.edges.consumers.rows t.edges.consumers.next
-      → value_at t.edges.consumers.rows n ≡ Some v
-      → topo_view (with_consumer_cell t n (record v { consumer = record v.consumer { spoiled = marked } }))
-      ≡ with_topology (topo_view t) (set_marks (graph t) (λ x. x.number == n) marked)
-  set_spoiled-view marked v rising at =
-      let w : ConsCell = record v { consumer = record v.consumer { spoiled = marked } } in
-      let is : OnlyValue n v t.edges.consumers.rows =
-      only_value n 1 t.edges.consumers.next v t.edges.consumers.rows rising at in
-      rw (
-        map-with_value consumer_row n (λ (x : Consumer). x.number == n) (λ x. record x { spoiled = marked }) v w
-            (λ row. refl) refl t.edges.consumers.rows is,
-        map-with_value_same (row_with want_of) n v w refl t.edges.consumers.rows is,
-        map-with_value_same (row_with active_of) n v w refl t.edges.consumers.rows is,
-        map-with_value_same (row_with consumer_scratch_of) n v w refl t.edges.consumers.rows is,
-      ) refl
-
-  -- the mesh after one more request is out through a consumer
-  pub note_active-view : (v : ConsCell) → IsRising 1 t.edges.consumers.rows t.edges.consumers.next
-      → value_at t.edges.consumers.rows n ≡ Some v
-      → topo_view (with_consumer_cell t n
-      (record v { consumer = record v.consumer { active = v.consumer.active + 1 } }))
-      ≡ with_active (topo_view t) n (λ m. m + 1)
-  note_active-view v rising at =
-      let w : ConsCell = record v { consumer = record v.consumer { active = v.consumer.active + 1 } } in
-      let is : OnlyValue n v t.edges.consumers.rows =
-      only_value n 1 t.edges.consumers.next v t.edges.consumers.rows rising at in
-      rw (
-        map-with_value_same consumer_row n v w refl t.edges.consumers.rows is,
-        map-with_value_same (row_with want_of) n v w refl t.edges.consumers.rows is,
-        rows_with-change_at active_of n (λ m. m + 1) v w refl t.edges.consumers.rows is,
-        map-with_value_same (row_with consumer_scratch_of) n v w refl t.edges.consumers.rows is,
-      ) refl
-
-  -- the mesh after one request less is out through a consumer
-  pub note_back-view : (v : ConsCell) → IsRising 1 t.edges.consumers.rows t.edges.consumers.next
-      → value_at t.edges.consumers.rows n ≡ Some v
-      → topo_view (with_consumer_cell t n
-      (record v { consumer = record v.consumer { active = v.consumer.active - 1 } }))
-      ≡ with_active (topo_view t) n (λ m. m - 1)
-  note_back-view v rising at =
-      let w : ConsCell = record v { consumer = record v.consumer { active = v.consumer.active - 1 } } in
-      let is : OnlyValue n v t.edges.consumers.rows =
-      only_value n 1 t.edges.consumers.next v t.edges.consumers.rows rising at in
-      rw (
-        map-with_value_same consumer_row n v w refl t.edges.consumers.rows is,
-        map-with_value_same (row_with want_of) n v w refl t.edges.consumers.rows is,
-        rows_with-change_at active_of n (λ m. m - 1) v w refl t.edges.consumers.rows is,
-        map-with_value_same (row_with consumer_scratch_of) n v w refl t.edges.consumers.rows is,
-      ) refl
-
-  -- the mesh after a consumer gets other counts
-  pub set_want-view : (want : Counts) (v : ConsCell) → IsRising 1 t.edges.consumers.rows t.edges.consumers.next
-      → value_at t.edges.consumers.rows n ≡ Some v
-      → topo_view (with_consumer_cell t n (record v { consumer = record v.consumer { want = want } }))
-      ≡ with_want (topo_view t) n want
-  set_want-view want v rising at =
-      let w : ConsCell = record v { consumer = record v.consumer { want = want } } in
-      let is : OnlyValue n v t.edges.consumers.rows =
-      only_value n 1 t.edges.consumers.next v t.edges.consumers.rows rising at in
-      rw (
-        map-with_value_same consumer_row n v w refl t.edges.consumers.rows is,
-        rows_with-with_value want_of n w t.edges.consumers.rows,
-        map-with_value_same (row_with active_of) n v w refl t.edges.consumers.rows is,
-        map-with_value_same (row_with consumer_scratch_of) n v w refl t.edges.consumers.rows is,
-      ) refl
-
-  -- the mesh after a provider gets other counts
-  pub set_have-view : (have : Counts) (v : ProvCell) → IsRising 1 t.edges.providers.rows t.edges.providers.next
-      → value_at t.edges.providers.rows n ≡ Some v
-      → topo_view (with_provider_cell t n (record v { provider = record v.provider { have = have } }))
-      ≡ with_have (topo_view t) n have
-  set_have-view have v rising at =
-      let w : ProvCell = record v { provider = record v.provider { have = have } } in
-      let is : OnlyValue n v t.edges.providers.rows =
-      only_value n 1 t.edges.providers.next v t.edges.providers.rows rising at in
-      rw (
-        map-with_value_same provider_row n v w refl t.edges.providers.rows is,
-        rows_with-with_value have_of n w t.edges.providers.rows,
-        map-with_value_same (row_with risen_of) n v w refl t.edges.providers.rows is,
-        map-with_value_same (row_with fallen_of) n v w refl t.edges.providers.rows is,
-        map-with_value_same (row_with provider_scratch_of) n v w refl t.edges.providers.rows is,
-      ) refl
-
-  -- the mesh after a provider gets other notes
-  pub set_noted-view : (risen : Bool) (fallen : Bool) (v : ProvCell)
-      → IsRising 1 t.edges.providers.rows t.edges.providers.next → value_at t.edges.providers.rows n ≡ Some v
-      → topo_view (with_provider_cell t n
-      (record v { provider = record v.provider { risen = risen; fallen = fallen } }))
-      ≡ with_notes (topo_view t) n risen fallen
-  set_noted-view risen fallen v rising at =
-      let w : ProvCell = record v { provider = record v.provider { risen = risen; fallen = fallen } } in
-      let is : OnlyValue n v t.edges.providers.rows =
-      only_value n 1 t.edges.providers.next v t.edges.providers.rows rising at in
-      rw (
-        map-with_value_same provider_row n v w refl t.edges.providers.rows is,
-        map-with_value_same (row_with have_of) n v w refl t.edges.providers.rows is,
-        rows_with-with_value risen_of n w t.edges.providers.rows,
-        rows_with-with_value fallen_of n w t.edges.providers.rows,
-        map-with_value_same (row_with provider_scratch_of) n v w refl t.edges.providers.rows is,
+        rows_changed t.geoms n v w rising at geom_row (λ x. x.number == n) (λ row. refl) change so,
+        rows_kept t.geoms n v w rising at (row_with (geom_scratch_of {C = C})) (λ i. (n, same i)),
       ) refl
 
   -- the mesh after a geom gets other scratch
-  pub set_geom_scratch-view : (scratch : Scratch) (v : GeomCell C) → IsRising 1 t.geoms.rows t.geoms.next
-      → value_at t.geoms.rows n ≡ Some v
+  pub set_geom_scratch-view : (scratch : Scratch)
       → topo_view (with_geom_cell t n (record v { scratch = scratch })) ≡ with_geom_scratch (topo_view t) n scratch
-  set_geom_scratch-view scratch v rising at =
+  set_geom_scratch-view scratch =
       let w : GeomCell C = record v { scratch = scratch } in
-      let is : OnlyValue n v t.geoms.rows = only_value n 1 t.geoms.next v t.geoms.rows rising at in
       rw (
-        map-with_value_same geom_row n v w refl t.geoms.rows is,
+        rows_kept t.geoms n v w rising at geom_row refl,
         rows_with-with_value (geom_scratch_of {C = C}) n w t.geoms.rows,
       ) refl
 
+module _ {C : Type 0} (t : Tables C) (n : ℕ) (v : ProvCell)
+    (rising : IsRising 1 t.edges.providers.rows t.edges.providers.next)
+    (at : value_at t.edges.providers.rows n ≡ Some v) where
+  -- a part of the cell that is kept is seen as before
+  provider_part : {Y : Type 0} (w : ProvCell) (f : ProvCell → Y) → f w ≡ f v
+      → rows_with f (with_value t.edges.providers.rows n w) ≡ rows_with f t.edges.providers.rows
+  provider_part w f same = rows_kept t.edges.providers n v w rising at (row_with f) (λ i. (n, same i))
+
+  -- the mesh after a provider changes
+  pub provider-view : (change : Provider → Provider) (w : ProvCell)
+      → provider_row (n, w) ≡ change (provider_row (n, v)) → provider_beside w ≡ provider_beside v
+      → topo_view (with_provider_cell t n w)
+      ≡ with_topology (topo_view t)
+      (record (graph t) { providers = change_where (λ x. x.number == n) change (graph t).providers })
+  provider-view change w so same =
+      rw (
+        rows_changed t.edges.providers n v w rising at provider_row (λ x. x.number == n) (λ row. refl) change so,
+        provider_part w have_of (ap (λ b. b.0) same),
+        provider_part w risen_of (ap (λ b. b.1) same),
+        provider_part w fallen_of (ap (λ b. b.2) same),
+        provider_part w provider_scratch_of (ap (λ b. b.3) same),
+      ) refl
+
+  -- the mesh after a provider gets other counts
+  pub set_have-view : (have : Counts)
+      → topo_view (with_provider_cell t n (record v { provider = record v.provider { have = have } }))
+      ≡ with_have (topo_view t) n have
+  set_have-view have =
+      let w : ProvCell = record v { provider = record v.provider { have = have } } in
+      rw (
+        rows_kept t.edges.providers n v w rising at provider_row refl,
+        rows_with-with_value have_of n w t.edges.providers.rows,
+        provider_part w risen_of refl,
+        provider_part w fallen_of refl,
+        provider_part w provider_scratch_of refl,
+      ) refl
+
+  -- the mesh after a provider gets other notes
+  pub set_noted-view : (risen : Bool) (fallen : Bool)
+      → topo_view (with_provider_cell t n
+      (record v { provider = record v.provider { risen = risen; fallen = fallen } }))
+      ≡ with_notes (topo_view t) n risen fallen
+  set_noted-view risen fallen =
+      let w : ProvCell = record v { provider = record v.provider { risen = risen; fallen = fallen } } in
+      rw (
+        rows_kept t.edges.providers n v w rising at provider_row refl,
+        provider_part w have_of refl,
+        rows_with-with_value risen_of n w t.edges.providers.rows,
+        rows_with-with_value fallen_of n w t.edges.providers.rows,
+        provider_part w provider_scratch_of refl,
+      ) refl
+
   -- the mesh after a provider gets other scratch
-  pub set_provider_scratch-view : (scratch : Scratch) (v : ProvCell)
-      → IsRising 1 t.edges.providers.rows t.edges.providers.next → value_at t.edges.providers.rows n ≡ Some v
+  pub set_provider_scratch-view : (scratch : Scratch)
       → topo_view (with_provider_cell t n (record v { scratch = scratch }))
       ≡ with_provider_scratch (topo_view t) n scratch
-  set_provider_scratch-view scratch v rising at =
+  set_provider_scratch-view scratch =
       let w : ProvCell = record v { scratch = scratch } in
-      let is : OnlyValue n v t.edges.providers.rows =
-      only_value n 1 t.edges.providers.next v t.edges.providers.rows rising at in
       rw (
-        map-with_value_same provider_row n v w refl t.edges.providers.rows is,
-        map-with_value_same (row_with have_of) n v w refl t.edges.providers.rows is,
-        map-with_value_same (row_with risen_of) n v w refl t.edges.providers.rows is,
-        map-with_value_same (row_with fallen_of) n v w refl t.edges.providers.rows is,
+        rows_kept t.edges.providers n v w rising at provider_row refl,
+        provider_part w have_of refl,
+        provider_part w risen_of refl,
+        provider_part w fallen_of refl,
         rows_with-with_value provider_scratch_of n w t.edges.providers.rows,
       ) refl
 
+module _ {C : Type 0} (t : Tables C) (n : ℕ) (v : ConsCell)
+    (rising : IsRising 1 t.edges.consumers.rows t.edges.consumers.next)
+    (at : value_at t.edges.consumers.rows n ≡ Some v) where
+  -- a part of the cell that is kept is seen as before
+  consumer_part : {Y : Type 0} (w : ConsCell) (f : ConsCell → Y) → f w ≡ f v
+      → rows_with f (with_value t.edges.consumers.rows n w) ≡ rows_with f t.edges.consumers.rows
+  consumer_part w f same = rows_kept t.edges.consumers n v w rising at (row_with f) (λ i. (n, same i))
+
+  -- the mesh after a consumer changes
+  pub consumer-view : (change : Consumer → Consumer) (w : ConsCell)
+      → consumer_row (n, w) ≡ change (consumer_row (n, v)) → consumer_beside w ≡ consumer_beside v
+      → topo_view (with_consumer_cell t n w)
+      ≡ with_topology (topo_view t)
+      (record (graph t) { consumers = change_where (λ x. x.number == n) change (graph t).consumers })
+  consumer-view change w so same =
+      rw (
+        rows_changed t.edges.consumers n v w rising at consumer_row (λ x. x.number == n) (λ row. refl) change so,
+        consumer_part w want_of (ap (λ b. b.0) same),
+        consumer_part w active_of (ap (λ b. b.1) same),
+        consumer_part w consumer_scratch_of (ap (λ b. b.2) same),
+      ) refl
+
+  -- the mesh after another number of requests is out through a consumer
+  pub active-view : (change : ℕ → ℕ)
+      → topo_view (with_consumer_cell t n
+      (record v { consumer = record v.consumer { active = change v.consumer.active } }))
+      ≡ with_active (topo_view t) n change
+  active-view change =
+      let w : ConsCell = record v { consumer = record v.consumer { active = change v.consumer.active } } in
+      rw (
+        rows_kept t.edges.consumers n v w rising at consumer_row refl,
+        consumer_part w want_of refl,
+        rows_with-change_at active_of n change v w refl t.edges.consumers.rows
+            (only_value n 1 t.edges.consumers.next v t.edges.consumers.rows rising at),
+        consumer_part w consumer_scratch_of refl,
+      ) refl
+
+  -- the mesh after a consumer gets other counts
+  pub set_want-view : (want : Counts)
+      → topo_view (with_consumer_cell t n (record v { consumer = record v.consumer { want = want } }))
+      ≡ with_want (topo_view t) n want
+  set_want-view want =
+      let w : ConsCell = record v { consumer = record v.consumer { want = want } } in
+      rw (
+        rows_kept t.edges.consumers n v w rising at consumer_row refl,
+        rows_with-with_value want_of n w t.edges.consumers.rows,
+        consumer_part w active_of refl,
+        consumer_part w consumer_scratch_of refl,
+      ) refl
+
   -- the mesh after a consumer gets other scratch
-  pub set_consumer_scratch-view : (scratch : Scratch) (v : ConsCell)
-      → IsRising 1 t.edges.consumers.rows t.edges.consumers.next → value_at t.edges.consumers.rows n ≡ Some v
+  pub set_consumer_scratch-view : (scratch : Scratch)
       → topo_view (with_consumer_cell t n (record v { scratch = scratch }))
       ≡ with_consumer_scratch (topo_view t) n scratch
-  set_consumer_scratch-view scratch v rising at =
+  set_consumer_scratch-view scratch =
       let w : ConsCell = record v { scratch = scratch } in
-      let is : OnlyValue n v t.edges.consumers.rows =
-      only_value n 1 t.edges.consumers.next v t.edges.consumers.rows rising at in
       rw (
-        map-with_value_same consumer_row n v w refl t.edges.consumers.rows is,
-        map-with_value_same (row_with want_of) n v w refl t.edges.consumers.rows is,
-        map-with_value_same (row_with active_of) n v w refl t.edges.consumers.rows is,
+        rows_kept t.edges.consumers n v w rising at consumer_row refl,
+        consumer_part w want_of refl,
+        consumer_part w active_of refl,
         rows_with-with_value consumer_scratch_of n w t.edges.consumers.rows,
       ) refl
 
-  -- the mesh with one more started request at a geom
-  pub note_started-view : (v : GeomCell C) → IsRising 1 t.geoms.rows t.geoms.next → value_at t.geoms.rows n ≡ Some v
-      → topo_view (with_geom_cell t n (record v { geom = record v.geom { started = v.geom.started + 1 } }))
-      ≡ with_topology (topo_view t) (note_started (graph t) n)
-  note_started-view v rising at =
-      let w : GeomCell C = record v { geom = record v.geom { started = v.geom.started + 1 } } in
-      let is : OnlyValue n v t.geoms.rows = only_value n 1 t.geoms.next v t.geoms.rows rising at in
-      rw (
-        map-with_value geom_row n (λ (x : Geom C). x.number == n) (λ x. record x { started = x.started + 1 }) v w
-            (λ row. refl) refl t.geoms.rows is,
-        map-with_value_same (row_with (geom_scratch_of {C = C})) n v w refl t.geoms.rows is,
-      ) refl
+  -- the mesh after a consumer is attached to a provider, or to nothing
+  pub switch-view : (o : Option ℕ)
+      → topo_view (with_consumer_cell t n (record v { consumer = record v.consumer { prov = o } }))
+      ≡ with_topology (topo_view t) (record (graph t) {
+        consumers = change_where (λ x. x.number == n) (λ x. record x { provider = o }) (graph t).consumers;
+      })
+  switch-view o =
+      consumer-view (λ x. record x { provider = o }) (record v { consumer = record v.consumer { prov = o } }) refl refl
 
-  -- the mesh after a consumer is detached
-  pub detach-view : (v : ConsCell) → IsRising 1 t.edges.consumers.rows t.edges.consumers.next
-      → value_at t.edges.consumers.rows n ≡ Some v
-      → topo_view (with_consumer_cell t n (record v { consumer = record v.consumer { prov = None } }))
-      ≡ with_topology (topo_view t) (detach (graph t) n)
-  detach-view v rising at =
-      let w : ConsCell = record v { consumer = record v.consumer { prov = None } } in
-      let is : OnlyValue n v t.edges.consumers.rows =
-      only_value n 1 t.edges.consumers.next v t.edges.consumers.rows rising at in
-      rw (
-        map-with_value consumer_row n (λ (x : Consumer). x.number == n) (λ x. record x { provider = None }) v w
-            (λ row. refl) refl t.edges.consumers.rows is,
-        map-with_value_same (row_with want_of) n v w refl t.edges.consumers.rows is,
-        map-with_value_same (row_with active_of) n v w refl t.edges.consumers.rows is,
-        map-with_value_same (row_with consumer_scratch_of) n v w refl t.edges.consumers.rows is,
-      ) refl
-
-  -- the mesh after a consumer is attached
-  pub attach-view : (p : ℕ) (v : ConsCell) → IsRising 1 t.edges.consumers.rows t.edges.consumers.next
-      → value_at t.edges.consumers.rows n ≡ Some v
-      → topo_view (with_consumer_cell t n (record v { consumer = record v.consumer { prov = Some p } }))
-      ≡ with_topology (topo_view t) (attach (graph t) n p)
-  attach-view p v rising at =
-      let w : ConsCell = record v { consumer = record v.consumer { prov = Some p } } in
-      let is : OnlyValue n v t.edges.consumers.rows =
-      only_value n 1 t.edges.consumers.next v t.edges.consumers.rows rising at in
-      rw (
-        map-with_value consumer_row n (λ (x : Consumer). x.number == n) (λ x. record x { provider = Some p }) v w
-            (λ row. refl) refl t.edges.consumers.rows is,
-        map-with_value_same (row_with want_of) n v w refl t.edges.consumers.rows is,
-        map-with_value_same (row_with active_of) n v w refl t.edges.consumers.rows is,
-        map-with_value_same (row_with consumer_scratch_of) n v w refl t.edges.consumers.rows is,
-      ) refl
-
-  -- the mesh after a geom gets another configuration
-  pub swap_config-view : (config : C) (v : GeomCell C) → IsRising 1 t.geoms.rows t.geoms.next
-      → value_at t.geoms.rows n ≡ Some v
-      → topo_view (with_geom_cell t n (record v { geom = record v.geom { config = config } }))
-      ≡ with_topology (topo_view t) (set_config (graph t) n config)
-  swap_config-view config v rising at =
-      let w : GeomCell C = record v { geom = record v.geom { config = config } } in
-      let is : OnlyValue n v t.geoms.rows = only_value n 1 t.geoms.next v t.geoms.rows rising at in
-      rw (
-        map-with_value geom_row n (λ (x : Geom C). x.number == n) (λ x. record x { config = config }) v w
-            (λ row. refl) refl t.geoms.rows is,
-        map-with_value_same (row_with (geom_scratch_of {C = C})) n v w refl t.geoms.rows is,
-      ) refl
-
+module _ {C : Type 0} (t : Tables C) (n : ℕ) where
   -- the mesh without a geom
   pub without_geom-view : (less : ℕ)
       → IsButForRoom (topo_view (record t { geoms = record t.geoms { rows = without t.geoms.rows n }; live = less }))
@@ -416,23 +311,12 @@ module _ {C : Type 0} (t : Tables C) where
       topo_view (record t {
         edges =
             record t.edges {
-              consumers =
-                  with_insert (record t.edges.consumers { spare = room })
-                  (record {
-                    consumer =
-                        record { geom = geom; prov = None; want = no_counts; active = 0; spoiled = false };
-                    scratch = no_scratch;
-                  });
+              consumers = with_insert (record t.edges.consumers { spare = room }) (made_consumer geom);
             };
       })
       ≡ record (with_consumer (topo_view t) geom) { room = record (topo_view t).room { consumers = room - 1 } }
   with_consumer-view geom room =
-      let cell : ConsCell =
-      record {
-        consumer = record { geom = geom; prov = None; want = no_counts; active = 0; spoiled = false };
-        scratch = no_scratch;
-      } in
-      let row : List (ℕ × ConsCell) = (t.edges.consumers.next, cell) ∷ [] in
+      let row : List (ℕ × ConsCell) = (t.edges.consumers.next, made_consumer geom) ∷ [] in
       rw (
         map-append consumer_row t.edges.consumers.rows row,
         map-append (row_with want_of) t.edges.consumers.rows row,
@@ -446,42 +330,14 @@ module _ {C : Type 0} (t : Tables C) where
         edges =
             record t.edges {
               providers =
-                  with_insert (record t.edges.providers { spare = room })
-                  (record {
-                    provider =
-                        record {
-                          geom = geom;
-                          name = name;
-                          size = size;
-                          sector = sector;
-                          errored = false;
-                          have = no_counts;
-                          risen = false;
-                          fallen = false;
-                        };
-                    scratch = no_scratch;
-                  });
+                  with_insert (record t.edges.providers { spare = room }) (made_provider geom name size sector);
             };
       })
       ≡ record (with_provider (topo_view t) geom name size sector) {
         room = record (topo_view t).room { providers = room - 1 };
       }
   with_provider-view geom name size sector room =
-      let cell : ProvCell =
-      record {
-        provider = record {
-          geom = geom;
-          name = name;
-          size = size;
-          sector = sector;
-          errored = false;
-          have = no_counts;
-          risen = false;
-          fallen = false;
-        };
-        scratch = no_scratch;
-      } in
-      let row : List (ℕ × ProvCell) = (t.edges.providers.next, cell) ∷ [] in
+      let row : List (ℕ × ProvCell) = (t.edges.providers.next, made_provider geom name size sector) ∷ [] in
       rw (
         map-append provider_row t.edges.providers.rows row,
         map-append (row_with have_of) t.edges.providers.rows row,
@@ -491,45 +347,12 @@ module _ {C : Type 0} (t : Tables C) where
       ) refl
 
 module _ {C : Type 0} (gs : SlotsView (GeomCell C)) (n : ℕ) where
-  -- another value under a number leaves as many rows
-  length-with_value : (w : GeomCell C) (rows : List (ℕ × GeomCell C)) → length (with_value rows n w) ≡ length rows
-  length-with_value w [] = refl
-  length-with_value w (row ∷ rows) = ap (λ k. suc k) (length-with_value w rows)
-
-  -- as many geoms after one is changed
-  pub count_stays : (w : GeomCell C) (live : ℕ) → IsCount (length gs.rows) live
-      → IsCount (length (with_value gs.rows n w)) live
-  count_stays w live counted = record {
-    counted = counted.counted ∙ sym (length-with_value w gs.rows);
-    few = counted.few;
-  }
-
-  -- past the number no row is taken away
-  all_stay : (low high : ℕ) (rows : List (ℕ × GeomCell C)) → IsRising low rows high → n < low → without rows n ≡ rows
-  all_stay low high [] rising below = refl
-  all_stay low high (row ∷ rows) rising below =
-      rw (
-        ne_eqb row.0 n (λ same. omega (arith, same, rising.0)),
-        all_stay (row.0 + 1) high rows rising.1 (omega (arith, rising.0)),
-      ) refl
-
-  -- one row more in front: it is taken away, or a later one
-  taken_step : (low high : ℕ) (v : GeomCell C) (row : ℕ × GeomCell C) (rows : List (ℕ × GeomCell C)) (b : Bool)
-      → (row.0 == n) ≡ b → IsRising low (row ∷ rows) high
-      → Some v ≡ value_at (row ∷ rows) n → (Some v ≡ value_at rows n → length (without rows n) + 1 ≡ length rows)
-      → length (without (row ∷ rows) n) + 1 ≡ length (row ∷ rows)
-  taken_step low high v row rows true e rising at so =
-      let same : row.0 ≡ n = eqb-true row.0 n e in
-      rw (e, all_stay (row.0 + 1) high rows rising.1 (omega arith)) (omega arith)
-  taken_step low high v row rows false e rising at so = let rest = so (rw e at at) in rw e (omega (arith, rest))
-
   -- one less where one is taken away
   pub length-without : (low high : ℕ) (v : GeomCell C) (rows : List (ℕ × GeomCell C)) → IsRising low rows high
       → Some v ≡ value_at rows n → length (without rows n) + 1 ≡ length rows
   length-without low high v [] rising at = absurd cc
   length-without low high v (row ∷ rows) rising at =
-      taken_step low high v row rows (row.0 == n) refl rising at
-      (λ h. length-without (row.0 + 1) high v rows rising.1 h)
+      grind (arith, without_below n (row.0 + 1) rows high rising.1, length-without (row.0 + 1) high v rows rising.1)
 
   -- one geom less
   pub count_falls : (live : ℕ) (v : GeomCell C) → IsRising 1 gs.rows gs.next → Some v ≡ value_at gs.rows n
@@ -538,78 +361,51 @@ module _ {C : Type 0} (gs : SlotsView (GeomCell C)) (n : ℕ) where
       let one : length (without gs.rows n) + 1 ≡ length gs.rows = length-without 1 gs.next v gs.rows rising at in
       record { counted = omega (arith, one, counted.counted); few = omega (arith, counted.few) }
 
-module _ (n : ℕ) where
-  -- past the number no provider of it carries an error
-  unmarked : (low high : ℕ) (rows : List (ℕ × ProvCell)) → IsRising low rows high → n < low
-      → list_any (λ (x : Provider). (x.number == n) && x.errored) (map provider_row rows) ≡ false
-  unmarked low high [] rising below = refl
-  unmarked low high (row ∷ rows) rising below =
+-- what is seen of a row has its number, and a flag where its value passes
+module _ {T X : Type 0} (seen : ℕ × T → X) (number : X → ℕ) (flag : X → Bool) (test : T → Bool) (n : ℕ)
+    (is : (row : ℕ × T) → number (seen row) ≡ row.0) (same : (row : ℕ × T) → flag (seen row) ≡ test row.1) where
+  -- past the number none of it has the flag
+  unflagged : (low high : ℕ) (rows : List (ℕ × T)) → IsRising low rows high → n < low
+      → list_any (λ x. (number x == n) && flag x) (map seen rows) ≡ false
+  unflagged low high [] rising below = refl
+  unflagged low high (row ∷ rows) rising below =
       rw (
+        is row,
         ne_eqb row.0 n (λ same. omega (arith, same, rising.0)),
-        unmarked (row.0 + 1) high rows rising.1 (omega (arith, rising.0)),
+        unflagged (row.0 + 1) high rows rising.1 (omega (arith, rising.0)),
       ) refl
 
-  -- one row more in front: it is the provider of the number, or a later one may be
-  error_step : (low high : ℕ) (row : ℕ × ProvCell) (rows : List (ℕ × ProvCell)) (b : Bool) → (row.0 == n) ≡ b
-      → IsRising low (row ∷ rows) high
-      → list_any (λ (x : Provider). (x.number == n) && x.errored) (map provider_row rows)
-      ≡ passes (λ (x : ProvCell). x.provider.errored) (value_at rows n)
-      → list_any (λ (x : Provider). (x.number == n) && x.errored) (map provider_row (row ∷ rows))
-      ≡ passes (λ (x : ProvCell). x.provider.errored) (value_at (row ∷ rows) n)
-  error_step low high row rows true e rising rest =
-      let same : row.0 ≡ n = eqb-true row.0 n e in
-      rw (e, unmarked (row.0 + 1) high rows rising.1 (omega arith)) (or-false row.1.provider.errored)
-  error_step low high row rows false e rising rest = rw e rest
+  -- whether what is seen of the number has the flag, by its row
+  pub flag-rows : (low high : ℕ) (rows : List (ℕ × T)) → IsRising low rows high
+      → list_any (λ x. (number x == n) && flag x) (map seen rows) ≡ passes test (value_at rows n)
+  flag-rows low high [] rising = refl
+  flag-rows low high (row ∷ rows) rising =
+      grind (
+        arith,
+        is row,
+        same row,
+        unflagged (row.0 + 1) high rows rising.1,
+        flag-rows (row.0 + 1) high rows rising.1,
+      )
 
-  -- whether the provider of a number carries an error, by its row
-  pub is_errored-rows : (low high : ℕ) (rows : List (ℕ × ProvCell)) → IsRising low rows high
-      → list_any (λ (x : Provider). (x.number == n) && x.errored) (map provider_row rows)
-      ≡ passes (λ (x : ProvCell). x.provider.errored) (value_at rows n)
-  is_errored-rows low high [] rising = refl
-  is_errored-rows low high (row ∷ rows) rising =
-      error_step low high row rows (row.0 == n) refl rising (is_errored-rows (row.0 + 1) high rows rising.1)
+-- whether the provider of a number carries an error, by its row
+pub is_errored-rows : (n low high : ℕ) (rows : List (ℕ × ProvCell)) → IsRising low rows high
+    → list_any (λ (x : Provider). (x.number == n) && x.errored) (map provider_row rows)
+    ≡ passes (λ (x : ProvCell). x.provider.errored) (value_at rows n)
+is_errored-rows n =
+    flag-rows provider_row (λ x. x.number) (λ x. x.errored) (λ v. v.provider.errored) n (λ row. refl) (λ row. refl)
 
-module _ {C : Type 0} (n : ℕ) where
-  -- past the number no geom of it withers
-  unwithered : (low high : ℕ) (rows : List (ℕ × GeomCell C)) → IsRising low rows high → n < low
-      → list_any (λ (x : Geom C). (x.number == n) && x.withering) (map geom_row rows) ≡ false
-  unwithered low high [] rising below = refl
-  unwithered low high (row ∷ rows) rising below =
-      rw (
-        ne_eqb row.0 n (λ same. omega (arith, same, rising.0)),
-        unwithered (row.0 + 1) high rows rising.1 (omega (arith, rising.0)),
-      ) refl
-
-  -- one row more in front: it is the geom of the number, or a later one may be
-  wither_step : (low high : ℕ) (row : ℕ × GeomCell C) (rows : List (ℕ × GeomCell C)) (b : Bool) → (row.0 == n) ≡ b
-      → IsRising low (row ∷ rows) high
-      → list_any (λ (x : Geom C). (x.number == n) && x.withering) (map geom_row rows)
-      ≡ passes (λ (x : GeomCell C). x.geom.withering) (value_at rows n)
-      → list_any (λ (x : Geom C). (x.number == n) && x.withering) (map geom_row (row ∷ rows))
-      ≡ passes (λ (x : GeomCell C). x.geom.withering) (value_at (row ∷ rows) n)
-  wither_step low high row rows true e rising rest =
-      let same : row.0 ≡ n = eqb-true row.0 n e in
-      rw (e, unwithered (row.0 + 1) high rows rising.1 (omega arith)) (or-false row.1.geom.withering)
-  wither_step low high row rows false e rising rest = rw e rest
-
-  -- whether the geom of a number withers, by its row
-  pub is_withering-rows : (low high : ℕ) (rows : List (ℕ × GeomCell C)) → IsRising low rows high
-      → list_any (λ (x : Geom C). (x.number == n) && x.withering) (map geom_row rows)
-      ≡ passes (λ (x : GeomCell C). x.geom.withering) (value_at rows n)
-  is_withering-rows low high [] rising = refl
-  is_withering-rows low high (row ∷ rows) rising =
-      wither_step low high row rows (row.0 == n) refl rising (is_withering-rows (row.0 + 1) high rows rising.1)
-
--- one item more in front: it passes, or a later one may
-any_found_step : {X : Type 0} (test : X → Bool) (x : X) (xs : List X) (b : Bool) → test x ≡ b
-    → list_any test xs ≡ is_some (find test xs) → list_any test (x ∷ xs) ≡ is_some (find test (x ∷ xs))
-any_found_step test x xs true e rest = rw e refl
-any_found_step test x xs false e rest = rw e rest
+-- whether the geom of a number withers, by its row
+pub is_withering-rows : {C : Type 0} (n low high : ℕ) (rows : List (ℕ × GeomCell C)) → IsRising low rows high
+    → list_any (λ (x : Geom C). (x.number == n) && x.withering) (map geom_row rows)
+    ≡ passes (λ (x : GeomCell C). x.geom.withering) (value_at rows n)
+is_withering-rows n =
+    flag-rows geom_row (λ x. x.number) (λ x. x.withering) (λ v. v.geom.withering) n (λ row. refl) (λ row. refl)
 
 -- one passes just where one is found
 any_found : {X : Type 0} (test : X → Bool) (xs : List X) → list_any test xs ≡ is_some (find test xs)
 any_found test [] = refl
-any_found test (x ∷ xs) = any_found_step test x xs (test x) refl (any_found test xs)
+any_found test (x ∷ xs) = grind (arith, any_found test xs)
 
 -- whether a name is taken, by the names
 pub name_taken : (ps : List Provider) (next : ℕ) (n : Names) → AreNames ps next n → (name : List ℕ)
@@ -672,3 +468,36 @@ module _ {C : Type 0} (t u : Tables C) {v : TopoView C} (seen : topo_view t ≡ 
       let geoms : u.geoms.spare ≡ t.geoms.spare = omega (arith, roomier.geoms_stay) in
       let providers : u.edges.providers.spare ≡ t.edges.providers.spare = omega (arith, roomier.providers_stay) in
       rw (← seen, roomier.live, geoms, providers) refl
+
+-- What the mesh shows of a provider and of a consumer, by their cells.
+
+-- what is shown under a number, where this is the cell that stands there, if one does
+pub record ShowsProvider {C : Type 0} (v : TopoView C) (k : ℕ) (o : Option ProvCell) : Type 0 where
+  pub provider : provider_at v.topology k ≡ option_map (λ x. provider_row (k, x)) o
+  pub have : value_at v.haves k ≡ option_map have_of o
+  pub risen : value_at v.risen k ≡ option_map risen_of o
+  pub fallen : value_at v.fallen k ≡ option_map fallen_of o
+
+-- so of a consumer
+pub record ShowsConsumer {C : Type 0} (v : TopoView C) (k : ℕ) (o : Option ConsCell) : Type 0 where
+  pub consumer : consumer_at v.topology k ≡ option_map (λ x. consumer_row (k, x)) o
+  pub want : value_at v.wants k ≡ option_map want_of o
+  pub active : value_at v.active k ≡ option_map active_of o
+
+module _ {C : Type 0} (t : Tables C) (v : TopoView C) (seen : topo_view t ≡ v) (n k : ℕ) (same : n ≡ k) where
+  -- a provider shows as its cell says
+  pub shows-provider : (o : Option ProvCell) → o ≡ value_at t.edges.providers.rows n → ShowsProvider v k o
+  shows-provider o at = record {
+    provider = rw (← seen, ← same, provider_at-view t.geoms t.edges n, ← at) refl;
+    have = rw (← seen, ← same, value_at-rows_with have_of n t.edges.providers.rows, ← at) refl;
+    risen = rw (← seen, ← same, value_at-rows_with risen_of n t.edges.providers.rows, ← at) refl;
+    fallen = rw (← seen, ← same, value_at-rows_with fallen_of n t.edges.providers.rows, ← at) refl;
+  }
+
+  -- and a consumer
+  pub shows-consumer : (o : Option ConsCell) → o ≡ value_at t.edges.consumers.rows n → ShowsConsumer v k o
+  shows-consumer o at = record {
+    consumer = rw (← seen, ← same, consumer_at-view t.geoms t.edges n, ← at) refl;
+    want = rw (← seen, ← same, value_at-rows_with want_of n t.edges.consumers.rows, ← at) refl;
+    active = rw (← seen, ← same, value_at-rows_with active_of n t.edges.consumers.rows, ← at) refl;
+  }

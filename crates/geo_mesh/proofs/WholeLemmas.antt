@@ -1,36 +1,180 @@
 -- What a mesh keeps as a whole, after each call.
-use Rattle.std.specs.Prelude.{◌≡◌, ℕ, ◌==◌, ◌≤◌, max, Bool, true, Some, map}
-use Rattle.std.proofs.Common.{refl, sym, ◌∙◌, ap, subst}
+use Rattle.std.specs.Prelude.{◌≡◌, ℕ, ◌==◌, ◌≤◌, max, Bool, true, Some, map, length}
+use Rattle.std.proofs.Common.{refl, sym, ◌∙◌, ap, subst, ◌+◌, ◌<◌, List, [], ◌∷◌, ◌++◌, false, None, arith, length-append}
 use Rattle.std.proofs.lemmas.Bool.{ne_eqb}
-use Rattle.geo_slots.specs.Slots.{IsRising, value_at, with_value}
+use Rattle.geo_slots.specs.Slots.{IsRising, value_at, with_insert}
 use Rattle.geo_model.specs.Words.{change_where}
-use Rattle.geo_model.specs.Topology.{Geom, Provider, Consumer, set_marks, set_error}
+use Rattle.geo_model.specs.Topology.{Geom, Provider, Consumer, set_marks, provider_at, add_geom, add_provider, add_consumer}
 use Rattle.geo_mesh.specs.declared.records.GeomCell.{GeomCell}
 use Rattle.geo_mesh.specs.declared.records.ProvCell.{ProvCell}
 use Rattle.geo_mesh.specs.declared.records.ConsCell.{ConsCell}
 use Rattle.geo_mesh.specs.declared.names.Names.{Names}
 use Rattle.geo_mesh.specs.declared.tables.Tables.{Tables}
 use Rattle.geo_mesh.specs.Topo.{is_provider_size}
-use Rattle.geo_mesh.specs.Graph.{IsOrderly}
-use Rattle.geo_mesh.specs.Cells.{graph, geom_row, provider_row, consumer_row, with_geom_cell, with_provider_cell, with_consumer_cell}
-use Rattle.geo_mesh.specs.Index.{IsIndexed, HaveRoom, with_rooms}
+use Rattle.geo_mesh.specs.Graph.{IsOffer, IsOrderly}
+use Rattle.geo_mesh.specs.Cells.{graph, geom_row, provider_row, consumer_row, with_geom_cell, with_provider_cell, with_consumer_cell, IsCount, graph_of, put_consumer}
+use Rattle.geo_mesh.specs.Index.{IsIndexed, HaveRoom, with_rooms, attached_index, detached_index}
 use Rattle.geo_mesh.specs.Names.{AreNames, HaveNameRoom, SameNames, RetiresName}
 use Rattle.geo_mesh.specs.declared.tables.Notes.{Notes}
 use Rattle.geo_mesh.specs.Notes.{AreNotes, HaveNoteRoom, IsSameNotes}
-use Rattle.geo_mesh.proofs.NoteLemmas.{notes-reserved, note_room_for, notes-geom_kept, notes-provider_kept}
+use Rattle.geo_mesh.proofs.NoteLemmas.{notes-reserved, note_room_for, notes-geom_kept, notes-provider_kept, notes-bare}
 use Rattle.geo_mesh.specs.Mesh.{IsMesh}
-use Rattle.geo_mesh.specs.Ranks.{HaveRanks, footing}
+use Rattle.geo_mesh.specs.Ranks.{HaveRanks, footing, kind_of, kinds, bare}
 use Rattle.geo_mesh.specs.Going.{AreGoing, AreGoingBut, is_idle_cell, is_free_in, going_rows}
 use Rattle.geo_mesh.specs.Whole.{IsWhole, IsWholeBut, IsRoomier}
-use Rattle.geo_mesh.proofs.RowLemmas.{only_value, map-with_value}
-use Rattle.geo_mesh.proofs.IndexLemmas.{indexed-rooms, indexed-geom, indexed-provider, indexed-set_marks}
-use Rattle.geo_mesh.proofs.NamesKept.{names-same, names-changed}
-use Rattle.geo_mesh.proofs.ViewLemmas.{count-with_value, set_error-view}
+use Rattle.geo_mesh.proofs.RowLemmas.{rows_changed, only_value, OnlyValue}
+use Rattle.geo_mesh.proofs.IndexLemmas.{indexed-rooms, indexed-geom, indexed-provider, indexed-set_marks, OnlyOf, indexed-attach, indexed-detach}
+use Rattle.geo_mesh.proofs.ViewLemmas.{count-with_value, provider_at-view, switch-view}
 use Rattle.geo_mesh.proofs.Orderly.{orderly-geom, orderly-provider, orderly-set_marks}
-use Rattle.geo_mesh.proofs.MeshLemmas.{room_for, name_room_for, found_provider, names-errored}
-use Rattle.geo_mesh.proofs.GoingLemmas.{free-provider_cell, free-consumer_kept, free-consumer_cell}
-use Rattle.geo_mesh.proofs.GoingRows.{going-free, going-cell, going-withers, free_once}
+use Rattle.geo_mesh.proofs.GoingLemmas.{free-provider_cell, free-consumer_kept, free-consumer_cell, going-free, going-cell, going-withers, free_once}
 use Rattle.geo_mesh.proofs.RankMesh as ranks
+use Rattle.std.specs.Option.{option_map}
+use Rattle.std.proofs.lemmas.List.{map-append, length-map}
+use Rattle.geo_mesh.specs.declared.index.Index.{Index}
+use Rattle.geo_mesh.specs.Rows.{row_with}
+use Rattle.geo_mesh.proofs.NameLemmas.{only_provider, names-same, names-changed, names-marked}
+use Rattle.geo_mesh.proofs.RankRows.{kinds-bare}
+use Rattle.geo_mesh.proofs.RankMesh.{view-bare}
+
+-- What the tables, the count and the index of a mesh keep, after each call.
+
+-- room for what there was room for, and for more of it
+pub room_for : (a b c d e f g p q : ℕ) (i : Index) → HaveRoom a b c i → HaveRoom d e f i → g ≤ max a d
+    → p ≤ max b e → q ≤ max c f → HaveRoom g p q i
+room_for a b c d e f g p q i one two most_g most_p most_q = record {
+  offered_parents = omega (arith, one.offered_parents, two.offered_parents, most_g);
+  offered_children = omega (arith, one.offered_children, two.offered_children, most_p);
+  owned_parents = omega (arith, one.owned_parents, two.owned_parents, most_g);
+  owned_children = omega (arith, one.owned_children, two.owned_children, most_q);
+  attached_parents = omega (arith, one.attached_parents, two.attached_parents, most_p);
+  above_parents = omega (arith, one.above_parents, two.above_parents, most_p);
+  attached_children = omega (arith, one.attached_children, two.attached_children, most_q);
+  above_children = omega (arith, one.above_children, two.above_children, most_q);
+}
+
+-- room for names, for what there was room for, and for more of it
+pub name_room_for : (a b p : ℕ) (m : Names) → HaveNameRoom a m → HaveNameRoom b m → p ≤ max a b → HaveNameRoom p m
+name_room_for a b p m one two most = record {
+  in_sound = omega (arith, one.in_sound, two.in_sound, most);
+  in_all = omega (arith, one.in_all, two.in_all, most);
+}
+
+-- each consumer of the number of the one cell is of its geom
+pub only_of : (n : ℕ) (v : ConsCell) (rows : List (ℕ × ConsCell)) → OnlyValue n v rows
+    → OnlyOf n v.consumer.geom (map consumer_row rows)
+only_of n v [] only = tt
+only_of n v (row ∷ rows) only =
+    ((λ here. ap (λ (r : ℕ × ConsCell). r.1.consumer.geom) (only.0 here)), only_of n v rows only.1)
+
+-- names that aren't touched
+pub untouched : (m : Names) → SameNames m m
+untouched m = record { sound = λ q. refl; all = refl }
+
+-- one geom more
+pub count_rises : {C : Type 0} (rows : List (ℕ × GeomCell C)) (row : ℕ × GeomCell C) (live : ℕ)
+    → IsCount (length rows) live → live < 4294967294
+    → IsCount (length (rows ++ row ∷ [])) (live + 1)
+count_rises rows row live count few =
+    record { counted = simp length-append (omega (arith, count.counted)); few = omega arith }
+
+module _ {C : Type 0} (t : Tables C) (mesh : IsMesh t) where
+  -- the graph with a new provider's row is the graph with a new provider
+  pub graph-provider : (v : ProvCell) → v.provider.errored ≡ false
+      → graph_of t.geoms (record t.edges { providers = with_insert t.edges.providers v })
+      ≡ add_provider (graph t) v.provider.geom v.provider.name v.provider.size v.provider.sector
+  graph-provider v sound =
+      rw (map-append provider_row t.edges.providers.rows ((t.edges.providers.next, v) ∷ []), sound) refl
+
+  -- the graph with a new consumer's row is the graph with a new consumer
+  pub graph-consumer : (v : ConsCell) → v.consumer.prov ≡ None → v.consumer.spoiled ≡ false
+      → graph_of t.geoms (record t.edges { consumers = with_insert t.edges.consumers v })
+      ≡ add_consumer (graph t) v.consumer.geom None
+  graph-consumer v free clean =
+      rw (map-append consumer_row t.edges.consumers.rows ((t.edges.consumers.next, v) ∷ []), free, clean) refl
+
+  -- the graph with a new geom's row is the graph with a new geom
+  pub graph-geom : (v : GeomCell C) → v.geom.withering ≡ false → v.geom.started ≡ 0
+      → graph_of (with_insert t.geoms v) t.edges
+      ≡ add_geom (graph t) v.geom.kind v.geom.name v.geom.config v.geom.automatic
+  graph-geom v stays none = rw (map-append geom_row t.geoms.rows ((t.geoms.next, v) ∷ []), stays, none) refl
+
+  -- the provider of a number is that of the row under it
+  pub found_provider : (k : ℕ) (v : ProvCell) → value_at t.edges.providers.rows k ≡ Some v
+      → provider_at (graph t) k ≡ Some (provider_row (k, v))
+  found_provider k v at = provider_at-view t.geoms t.edges k ∙ ap (option_map (λ w. provider_row (k, w))) at
+
+  -- with a consumer attached
+  pub mesh-attached : (k p : ℕ) (v : ConsCell) → IsRising 1 t.edges.consumers.rows t.edges.consumers.next
+      → value_at t.edges.consumers.rows k ≡ Some v
+      → IsMesh (record t {
+        edges = record (put_consumer t.edges k (record v { consumer = record v.consumer { prov = Some p } }))
+            { index = attached_index t.edges.index k p v.consumer.geom };
+      })
+  mesh-attached k p v rising at = record {
+    notes = mesh.notes;
+    names_are = mesh.names_are;
+    names_room = mesh.names_room;
+    count = mesh.count;
+    indexed =
+        subst (λ g. IsIndexed g (attached_index t.edges.index k p v.consumer.geom))
+        (sym (ap (λ v. v.topology) (switch-view t k v rising at (Some p))))
+        (indexed-attach (graph t) t.edges.index mesh.indexed k p v.consumer.geom
+        (only_of k v t.edges.consumers.rows
+        (only_value k 1 t.edges.consumers.next v t.edges.consumers.rows rising at)));
+    room = mesh.room;
+  }
+
+  -- with a consumer detached
+  pub mesh-detached : (k : ℕ) (v : ConsCell) → IsRising 1 t.edges.consumers.rows t.edges.consumers.next
+      → value_at t.edges.consumers.rows k ≡ Some v
+      → IsMesh (record t {
+        edges = record (put_consumer t.edges k (record v { consumer = record v.consumer { prov = None } }))
+            { index = detached_index t.edges.index k };
+      })
+  mesh-detached k v rising at = record {
+    notes = mesh.notes;
+    names_are = mesh.names_are;
+    names_room = mesh.names_room;
+    count = mesh.count;
+    indexed =
+        subst (λ g. IsIndexed g (detached_index t.edges.index k))
+        (sym (ap (λ v. v.topology) (switch-view t k v rising at None)))
+        (indexed-detach (graph t) t.edges.index mesh.indexed k);
+    room = mesh.room;
+  }
+
+  -- with an error at a provider
+  pub names-errored : (k : ℕ) (v : ProvCell) → IsRising 1 t.edges.providers.rows t.edges.providers.next
+      → value_at t.edges.providers.rows k ≡ Some v
+      → (m : Names) → RetiresName t.names m v.provider.name v.provider.errored
+      → AreNames (change_where (λ x. x.number == k) (λ x. record x { errored = true })
+      (map provider_row t.edges.providers.rows)) t.edges.providers.next m
+  names-errored k v rising at m retires =
+      names-marked (map provider_row t.edges.providers.rows) t.edges.providers.next t.names m mesh.names_are k
+      (provider_row (k, v))
+      (only_provider k v t.edges.providers.rows
+      (only_value k 1 t.edges.providers.next v t.edges.providers.rows rising at)) (found_provider k v at)
+      retires.sound retires.all
+
+  -- other ranks in the cells leave the tables as they are
+  pub mesh-bare : (ns : _) → bare ns ≡ bare t.geoms → IsMesh (record t { geoms = ns })
+  mesh-bare ns same =
+      let count : length (kinds ns) ≡ length (kinds t.geoms) = ap length (kinds-bare t.geoms ns same) in
+      let here : length (kinds t.geoms) ≡ length t.geoms.rows = length-map t.geoms.rows (row_with (kind_of {C = C})) in
+      let there : length (kinds ns) ≡ length ns.rows = length-map ns.rows (row_with (kind_of {C = C})) in
+      let spare : ns.spare ≡ t.geoms.spare = ap (λ s. s.spare) same in
+      record {
+        notes = notes-bare t.notes t.geoms ns t.edges.providers same mesh.notes;
+        count = record { counted = omega (arith, mesh.count.counted); few = mesh.count.few };
+        indexed = subst (λ g. IsIndexed g t.edges.index) (sym (ap (λ v. v.topology) (view-bare t ns same)))
+            mesh.indexed;
+        room = subst (λ k. HaveRoom k t.edges.providers.spare t.edges.consumers.spare t.edges.index)
+            (sym spare) mesh.room;
+        names_are = mesh.names_are;
+        names_room = mesh.names_room;
+      }
+
+-- The whole
 
 -- what index, names and ranks read of a geom's cell is as it was
 pub record KeepsGeom {C : Type 0} (v w : GeomCell C) : Type 0 where
@@ -166,12 +310,10 @@ module _ {C : Type 0} (t : Tables C) (whole : IsWhole t) where
         started = w.geom.started;
       } in
       let seen : geom_row (n, w) ≡ change (geom_row (n, v)) = λ i. record (geom_row (n, w)) { kind = keeps.kind i } in
-      let same : map geom_row (with_value t.geoms.rows n w) ≡ change_where (λ x. x.number == n) change (graph t).geoms =
-      map-with_value geom_row n (λ (x : Geom C). x.number == n) change v w (λ row. refl) seen t.geoms.rows
-      (only_value n 1 t.geoms.next v t.geoms.rows rising at) in
       let changed : graph (with_geom_cell t n w)
       ≡ record (graph t) { geoms = change_where (λ x. x.number == n) change (graph t).geoms } =
-      ap (λ xs. record (graph t) { geoms = xs }) same in
+      ap (λ xs. record (graph t) { geoms = xs })
+      (rows_changed t.geoms n v w rising at geom_row (λ x. x.number == n) (λ row. refl) change seen) in
       record {
         tables = record {
           count = count-with_value n w t.geoms.rows t.live whole.tables.count;
@@ -219,6 +361,42 @@ module _ {C : Type 0} (t : Tables C) (whole : IsWhole t) where
       (λ g. free-provider_cell t.edges.providers.rows t.edges.consumers.rows g n v w same
       (only_value n 1 t.edges.providers.next v t.edges.providers.rows rising at))
 
+  -- another cell of a provider keeps the whole, where it fits the names and the notes
+  provider_changed : (n : ℕ) (v w : ProvCell) (m : Names) (notes : Notes) (change : Provider → Provider)
+      → IsRising 1 t.edges.providers.rows t.edges.providers.next → value_at t.edges.providers.rows n ≡ Some v
+      → provider_row (n, w) ≡ change (provider_row (n, v)) → ((x : Provider) → (change x).number ≡ x.number)
+      → ((x : Provider) → (change x).geom ≡ x.geom)
+      → (IsOffer (provider_row (n, v)) → IsOffer (change (provider_row (n, v))))
+      → AreNames (change_where (λ x. x.number == n) change (graph t).providers) t.edges.providers.next m
+      → HaveNameRoom t.edges.providers.spare m
+      → AreNotes notes t.geoms (with_provider_cell t n w).edges.providers → notes.going ≡ t.notes.going
+      → IsWhole (record (with_provider_cell t n w) { names = m; notes = notes })
+  provider_changed n v w m notes change rising at seen number geom offers names_are names_room are unmarked =
+      let same = rows_changed t.edges.providers n v w rising at provider_row (λ x. x.number == n) (λ row. refl) change
+      seen in
+      let changed : graph (with_provider_cell t n w)
+      ≡ record (graph t) { providers = change_where (λ x. x.number == n) change (graph t).providers } =
+      ap (λ xs. record (graph t) { providers = xs }) same in
+      let owner : w.provider.geom ≡ v.provider.geom = ap (λ x. x.geom) seen ∙ geom (provider_row (n, v)) in
+      record {
+        tables = record {
+          count = whole.tables.count;
+          indexed =
+              subst (λ g. IsIndexed g t.edges.index) (sym changed)
+              (indexed-provider (graph t) t.edges.index whole.tables.indexed n change number geom);
+          room = whole.tables.room;
+          names_are = subst (λ xs. AreNames xs t.edges.providers.next m) (sym same) names_are;
+          names_room = names_room;
+          notes = are;
+        };
+        ranks = ranks.mesh-provider t.geoms t.edges t.live n whole.ranks v w rising (sym at) owner;
+        graph =
+            subst (λ g. IsOrderly g) (sym changed)
+            (orderly-provider (graph t) whole.graph n change number geom (provider_row (n, v))
+            (found_provider t whole.tables n v at) offers);
+        going = ap (λ m. m.rows) unmarked ∙ provider_going n v w rising at owner;
+      }
+
   -- another cell of a provider that keeps what is read of it keeps the whole
   pub whole-provider_noted : (n : ℕ) (v w : ProvCell) (notes : Notes)
       → IsRising 1 t.edges.providers.rows t.edges.providers.next
@@ -229,40 +407,11 @@ module _ {C : Type 0} (t : Tables C) (whole : IsWhole t) where
       let change : Provider → Provider = λ x. record x { size = w.provider.size; sector = w.provider.sector } in
       let seen : provider_row (n, w) ≡ change (provider_row (n, v)) =
       λ i. record (provider_row (n, w)) { geom = keeps.geom i; name = keeps.name i; errored = keeps.errored i } in
-      let same : map provider_row (with_value t.edges.providers.rows n w)
-      ≡ change_where (λ x. x.number == n) change (graph t).providers =
-      map-with_value provider_row n (λ (x : Provider). x.number == n) change v w (λ row. refl) seen
-      t.edges.providers.rows
-      (only_value n 1 t.edges.providers.next v t.edges.providers.rows rising at) in
-      let changed : graph (with_provider_cell t n w)
-      ≡ record (graph t) { providers = change_where (λ x. x.number == n) change (graph t).providers } =
-      ap (λ xs. record (graph t) { providers = xs }) same in
-      record {
-        tables = record {
-          count = whole.tables.count;
-          indexed =
-              subst (λ g. IsIndexed g t.edges.index) (sym changed)
-              (indexed-provider (graph t) t.edges.index whole.tables.indexed n change (λ x. refl) (λ x. refl));
-          room = whole.tables.room;
-          names_are =
-              subst (λ xs. AreNames xs t.edges.providers.next t.names) (sym same)
-              (names-changed (graph t).providers t.edges.providers.next t.names t.names whole.tables.names_are n
-              change (λ x. refl) (λ x. refl) (λ x. refl));
-          names_room = whole.tables.names_room;
-          notes = are;
-        };
-        ranks = ranks.mesh-provider t.geoms t.edges t.live n whole.ranks v w rising (sym at) keeps.geom;
-        graph =
-            subst (λ g. IsOrderly g) (sym changed)
-            (orderly-provider (graph t) whole.graph n change (λ x. refl) (λ x. refl) (provider_row (n, v))
-            (found_provider t whole.tables n v at)
-            (λ offer. record {
-              not_dev = offer.not_dev;
-              not_taste = offer.not_taste;
-              sizes = keeps.sizes offer.sizes;
-            }));
-        going = ap (λ m. m.rows) unmarked ∙ provider_going n v w rising at keeps.geom;
-      }
+      provider_changed n v w t.names notes change rising at seen (λ x. refl) (λ x. refl)
+      (λ offer. record { not_dev = offer.not_dev; not_taste = offer.not_taste; sizes = keeps.sizes offer.sizes })
+      (names-changed (graph t).providers t.edges.providers.next t.names t.names whole.tables.names_are n change
+      (λ x. refl) (λ x. refl) (λ x. refl))
+      whole.tables.names_room are unmarked
 
   -- so where the provider is noted as before
   pub whole-provider_cell : (n : ℕ) (v w : ProvCell) → IsRising 1 t.edges.providers.rows t.edges.providers.next
@@ -280,13 +429,9 @@ module _ {C : Type 0} (t : Tables C) (whole : IsWhole t) where
       let change : Consumer → Consumer = λ x. record x { spoiled = w.consumer.spoiled } in
       let seen : consumer_row (n, w) ≡ change (consumer_row (n, v)) =
       λ i. record (consumer_row (n, w)) { geom = keeps.geom i; provider = keeps.provider i } in
-      let same : map consumer_row (with_value t.edges.consumers.rows n w)
-      ≡ change_where (λ x. x.number == n) change (graph t).consumers =
-      map-with_value consumer_row n (λ (x : Consumer). x.number == n) change v w (λ row. refl) seen
-      t.edges.consumers.rows
-      (only_value n 1 t.edges.consumers.next v t.edges.consumers.rows rising at) in
       let changed : graph (with_consumer_cell t n w) ≡ set_marks (graph t) (λ x. x.number == n) w.consumer.spoiled =
-      ap (λ xs. record (graph t) { consumers = xs }) same in
+      ap (λ xs. record (graph t) { consumers = xs })
+      (rows_changed t.edges.consumers n v w rising at consumer_row (λ x. x.number == n) (λ row. refl) change seen) in
       record {
         tables = record {
           count = whole.tables.count;
@@ -336,28 +481,7 @@ module _ {C : Type 0} (t : Tables C) (whole : IsWhole t) where
       { names = m })
   whole-errored n v m rising at retires name_room =
       let w : ProvCell = record v { provider = record v.provider { errored = true } } in
-      let changed : graph (with_provider_cell t n w) ≡ set_error (graph t) n =
-      ap (λ v. v.topology) (set_error-view t n v rising at) in
-      record {
-        tables = record {
-          count = whole.tables.count;
-          indexed =
-              subst (λ g. IsIndexed g t.edges.index) (sym changed)
-              (indexed-provider (graph t) t.edges.index whole.tables.indexed n (λ x. record x { errored = true })
-              (λ x. refl) (λ x. refl));
-          room = whole.tables.room;
-          names_are =
-              subst (λ g. AreNames g.providers t.edges.providers.next m) (sym changed)
-              (names-errored t whole.tables n v rising at m retires);
-          names_room = name_room;
-          notes = notes-provider_kept t.notes t.geoms t.edges.providers n v w rising at refl refl whole.tables.notes;
-        };
-        ranks = ranks.mesh-provider t.geoms t.edges t.live n whole.ranks v w rising (sym at) refl;
-        graph =
-            subst (λ g. IsOrderly g) (sym changed)
-            (orderly-provider (graph t) whole.graph n (λ x. record x { errored = true }) (λ x. refl) (λ x. refl)
-            (provider_row (n, v))
-            (found_provider t whole.tables n v at)
-            (λ offer. record { not_dev = offer.not_dev; not_taste = offer.not_taste; sizes = offer.sizes }));
-        going = provider_going n v w rising at refl;
-      }
+      provider_changed n v w m t.notes (λ x. record x { errored = true }) rising at refl (λ x. refl) (λ x. refl)
+      (λ offer. record { not_dev = offer.not_dev; not_taste = offer.not_taste; sizes = offer.sizes })
+      (names-errored t whole.tables n v rising at m retires) name_room
+      (notes-provider_kept t.notes t.geoms t.edges.providers n v w rising at refl refl whole.tables.notes) refl

@@ -1,11 +1,11 @@
 -- What a mesh keeps as a whole, where a part comes or goes, and where a consumer is attached or detached.
-use Rattle.std.specs.Prelude.{◌≡◌, ◌≢◌, ℕ, ◌+◌, ◌-◌, ◌<◌, ◌≤◌, ◌^◌, ◌==◌, true, false, [], ◌∷◌, ◌++◌, Option, Some, None, find, map, option_map, IsSome, IfSome}
+use Rattle.std.specs.Prelude.{◌≡◌, ◌≢◌, ℕ, ◌+◌, ◌-◌, ◌<◌, ◌≤◌, ◌^◌, ◌==◌, true, false, [], ◌∷◌, ◌++◌, Option, Some, None, find, map, option_map, IsSome, IfSome, Bool, IsSomeAnd}
 use Rattle.std.specs.List.{AllByRecursion}
-use Rattle.std.proofs.Common.{refl, sym, ◌∙◌, ap, subst}
+use Rattle.std.proofs.Common.{refl, sym, ◌∙◌, ap, subst, arith}
 use Rattle.std.proofs.lemmas.Bool.{ne_eqb}
 use Rattle.geo_model.specs.Words.{names_number}
 use Rattle.geo_slots.specs.Slots.{SlotsView, IsRising, value_at, without, with_insert}
-use Rattle.geo_model.specs.Topology.{geom_at, provider_at, consumer_at, providers_of, consumers_of, attached_to}
+use Rattle.geo_model.specs.Topology.{geom_at, provider_at, consumer_at, providers_of, consumers_of, attached_to, Provider, is_errored}
 use Rattle.geo_mesh.specs.declared.records.GeomCell.{GeomCell}
 use Rattle.geo_mesh.specs.declared.records.ProvCell.{ProvCell}
 use Rattle.geo_mesh.specs.declared.records.ConsCell.{ConsCell}
@@ -14,24 +14,29 @@ use Rattle.geo_mesh.specs.declared.names.Names.{Names}
 use Rattle.geo_mesh.specs.declared.tables.Edges.{Edges}
 use Rattle.geo_mesh.specs.declared.tables.Tables.{Tables}
 use Rattle.geo_names.specs.Names.{NamesView, with_name}
-use Rattle.geo_mesh.specs.Topo.{is_provider_size}
+use Rattle.geo_mesh.specs.Topo.{is_provider_size, TopoView}
 use Rattle.geo_mesh.specs.Graph.{IsOrderly}
-use Rattle.geo_mesh.specs.Cells.{graph, provider_row, put_consumer}
-use Rattle.geo_mesh.specs.Index.{with_geom_index, with_provider_index, with_consumer_index, without_geom_index, without_provider_index, without_consumer_index, attached_index, detached_index}
-use Rattle.geo_mesh.specs.Names.{HaveNameRoom, AddsName, RemovesName, is_sound_named}
-use Rattle.geo_mesh.specs.Ranks.{HaveRanks, bare, stored, owner, owner_of, number_or}
+use Rattle.geo_mesh.specs.Cells.{graph, provider_row, put_consumer, topo_view}
+use Rattle.geo_mesh.specs.Index.{with_geom_index, with_provider_index, with_consumer_index, without_geom_index, without_provider_index, without_consumer_index, attached_index, detached_index, IsIndexed}
+use Rattle.geo_mesh.specs.Names.{HaveNameRoom, AddsName, RemovesName, is_sound_named, AreNames}
+use Rattle.geo_mesh.specs.Ranks.{HaveRanks, bare, stored, owner, owner_of, number_or, kinds, user, ranked_below, is_dev_or_taste, is_high, IsRefusedFor, IsAdmitted}
 use Rattle.geo_mesh.specs.Whole.{IsWhole, IsWholeBut}
 use Rattle.geo_mesh.specs.Going.{AreGoingBut, is_free_in}
-use Rattle.geo_mesh.proofs.RankFirst.{footing-none, kin-of}
-use Rattle.geo_mesh.proofs.RowLemmas.{only_value, value_at-rows_with}
-use Rattle.geo_mesh.proofs.GoingLemmas.{under-each, free-new_provider, free-new_consumer, free-without_provider, free-without_consumer, free-switched}
-use Rattle.geo_mesh.proofs.GoingRows.{going-push, going-without, going-bare}
-use Rattle.geo_mesh.proofs.NoteLemmas.{with_mark, without_mark}
+use Rattle.geo_mesh.proofs.RankFirst.{footing-none, kin-of, first-two}
+use Rattle.geo_mesh.proofs.RowLemmas.{map-without, only_value, value_at-rows_with}
+use Rattle.geo_mesh.proofs.GoingLemmas.{under-each, free-new_provider, free-new_consumer, free-without_provider, free-without_consumer, free-switched, going-push, going-without, going-bare}
+use Rattle.geo_mesh.proofs.NoteLemmas.{with_mark, without_mark, notes-geom, notes-provider, notes-without_geom, notes-without_provider}
 use Rattle.geo_mesh.proofs.RankMesh as ranks
-use Rattle.geo_mesh.proofs.RankSwitch.{mesh-kept}
-use Rattle.geo_mesh.proofs.ViewLemmas.{consumer_at-view, count_falls, without_geom-view, without_provider-view, without_consumer-view, attach-view, detach-view}
+use Rattle.geo_mesh.proofs.RankSwitch.{mesh-kept, free-cell, free-at, user-cell, user-stands, provider-offered, admitted-mesh, admitted-free, on-refused}
+use Rattle.geo_mesh.proofs.ViewLemmas.{consumer_at-view, count_falls, without_geom-view, without_provider-view, without_consumer-view, switch-view}
 use Rattle.geo_mesh.proofs.Orderly.{orderly-add_geom, orderly-add_provider, orderly-add_consumer, orderly-remove_geom, orderly-remove_provider, orderly-remove_consumer, orderly-attach, orderly-detach}
-use Rattle.geo_mesh.proofs.MeshLemmas.{graph-geom, graph-provider, graph-consumer, mesh-geom, mesh-provider, mesh-consumer, mesh-without_geom, mesh-without_provider, mesh-without_consumer, mesh-attached, mesh-detached, mesh-bare}
+use Rattle.geo_mesh.proofs.WholeLemmas.{graph-geom, graph-provider, graph-consumer, mesh-attached, mesh-detached, mesh-bare, count_rises, found_provider}
+use Rattle.geo_mesh.proofs.IndexLemmas.{indexed-add_consumer, indexed-add_geom, indexed-add_provider, indexed-remove_consumer, indexed-remove_geom, indexed-remove_provider}
+use Rattle.std.proofs.lemmas.List.{map-append}
+use Rattle.geo_mesh.proofs.NameLemmas.{only_provider, names-added, names-removed}
+use Rattle.geo_model.specs.Rank.{attach_refusal}
+use Rattle.geo_mesh.specs.declared.records.AttachRefusal.{AttachRefusal}
+use Rattle.geo_mesh.specs.Refusals.{attach_errno}
 
 -- the ranks don't see the index
 beside_index : {C : Type 0} (gs : SlotsView (GeomCell C)) (edges : Edges) (live : ℕ) (i : Index)
@@ -51,7 +56,26 @@ module _ {C : Type 0} (t : Tables C) (whole : IsWhole t) where
         notes = record t.notes { going = with_mark t.notes.going; named = m };
       })
   whole-new_geom v m stays none rank rising few fits added room = record {
-    tables = mesh-geom t whole.tables v m stays none few added room;
+    tables = record {
+      notes = notes-geom t.notes t.geoms t.edges.providers v m whole.tables.notes added room;
+      names_are = whole.tables.names_are;
+      names_room = whole.tables.names_room;
+      count = count_rises t.geoms.rows (t.geoms.next, v) t.live whole.tables.count few;
+      indexed =
+          subst (λ g. IsIndexed g (with_geom_index t.edges.index)) (sym (graph-geom t whole.tables v stays none))
+          (indexed-add_geom (graph t) t.edges.index whole.tables.indexed v.geom.kind v.geom.name v.geom.config
+          v.geom.automatic);
+      room = record {
+        offered_parents = omega (arith, whole.tables.room.offered_parents);
+        offered_children = whole.tables.room.offered_children;
+        owned_parents = omega (arith, whole.tables.room.owned_parents);
+        owned_children = whole.tables.room.owned_children;
+        attached_parents = whole.tables.room.attached_parents;
+        above_parents = whole.tables.room.above_parents;
+        attached_children = whole.tables.room.attached_children;
+        above_children = whole.tables.room.above_children;
+      };
+    };
     ranks =
         beside_index (with_insert t.geoms v) t.edges (t.live + 1) (with_geom_index t.edges.index)
         (ranks.mesh-new_geom t.geoms t.edges t.live whole.ranks (t.geoms.next + 1) (t.geoms.spare - 1) v rank
@@ -82,7 +106,32 @@ module _ {C : Type 0} (t : Tables C) (whole : IsWhole t) where
         notes = record t.notes { risen = with_mark t.notes.risen; fallen = with_mark t.notes.fallen };
       })
   whole-new_provider v m sound risen fallen free adds name_room lives not_dev not_taste sizes fits = record {
-    tables = mesh-provider t whole.tables v sound risen fallen m free adds name_room;
+    tables = record {
+      notes = notes-provider t.notes t.geoms t.edges.providers v whole.tables.notes risen fallen;
+      names_are =
+          subst (λ xs. AreNames xs (t.edges.providers.next + 1) m)
+          (sym (map-append provider_row t.edges.providers.rows ((t.edges.providers.next, v) ∷ [])))
+          (names-added (map provider_row t.edges.providers.rows) t.edges.providers.next t.names m whole.tables.names_are
+          (provider_row (t.edges.providers.next, v)) sound refl free adds);
+      names_room = name_room;
+      count = whole.tables.count;
+      indexed =
+          subst (λ g. IsIndexed g (with_provider_index t.edges.index v.provider.geom))
+          (sym (graph-provider t whole.tables v sound))
+          (indexed-add_provider (graph t) t.edges.index whole.tables.indexed v.provider.geom v.provider.name
+          v.provider.size
+          v.provider.sector);
+      room = record {
+        offered_parents = whole.tables.room.offered_parents;
+        offered_children = omega (arith, whole.tables.room.offered_children);
+        owned_parents = whole.tables.room.owned_parents;
+        owned_children = whole.tables.room.owned_children;
+        attached_parents = omega (arith, whole.tables.room.attached_parents);
+        above_parents = omega (arith, whole.tables.room.above_parents);
+        attached_children = whole.tables.room.attached_children;
+        above_children = whole.tables.room.above_children;
+      };
+    };
     ranks =
         beside_index t.geoms (record t.edges { providers = with_insert t.edges.providers v }) t.live
         (with_provider_index t.edges.index v.provider.geom)
@@ -112,7 +161,26 @@ module _ {C : Type 0} (t : Tables C) (whole : IsWhole t) where
             };
       })
   whole-new_consumer v free clean lives fits = record {
-    tables = mesh-consumer t whole.tables v free clean;
+    tables = record {
+      notes = whole.tables.notes;
+      names_are = whole.tables.names_are;
+      names_room = whole.tables.names_room;
+      count = whole.tables.count;
+      indexed =
+          subst (λ g. IsIndexed g (with_consumer_index t.edges.index v.consumer.geom))
+          (sym (graph-consumer t whole.tables v free clean))
+          (indexed-add_consumer (graph t) t.edges.index whole.tables.indexed v.consumer.geom);
+      room = record {
+        offered_parents = whole.tables.room.offered_parents;
+        offered_children = whole.tables.room.offered_children;
+        owned_parents = whole.tables.room.owned_parents;
+        owned_children = omega (arith, whole.tables.room.owned_children);
+        attached_parents = whole.tables.room.attached_parents;
+        above_parents = whole.tables.room.above_parents;
+        attached_children = omega (arith, whole.tables.room.attached_children);
+        above_children = omega (arith, whole.tables.room.above_children);
+      };
+    };
     ranks =
         beside_index t.geoms (record t.edges { consumers = with_insert t.edges.consumers v }) t.live
         (with_consumer_index t.edges.index v.consumer.geom)
@@ -144,8 +212,17 @@ module _ {C : Type 0} (t : Tables C) (whole : IsWhole t) where
         notes = record t.notes { going = without_mark t.notes.going n; named = m };
       })
   whole-without_geom n v m rising at not_dev not_taste no_provider no_consumer removed room = record {
-    tables = mesh-without_geom t whole.tables n (t.live - 1) m
-        (count_falls t.geoms n t.live v rising (sym at) whole.tables.count) removed room;
+    tables = record {
+      notes = notes-without_geom t.notes t.geoms t.edges.providers n m whole.tables.notes removed room;
+      names_are = whole.tables.names_are;
+      names_room = whole.tables.names_room;
+      count = count_falls t.geoms n t.live v rising (sym at) whole.tables.count;
+      indexed =
+          subst (λ g. IsIndexed g (without_geom_index t.edges.index n))
+          (sym (ap (λ v. v.topology) (without_geom-view t n (t.live - 1))))
+          (indexed-remove_geom (graph t) t.edges.index whole.tables.indexed n);
+      room = whole.tables.room;
+    };
     ranks =
         beside_index (record t.geoms { rows = without t.geoms.rows n }) t.edges (t.live - 1)
         (without_geom_index t.edges.index n)
@@ -172,7 +249,26 @@ module _ {C : Type 0} (t : Tables C) (whole : IsWhole t) where
         notes = record t.notes { risen = without_mark t.notes.risen n; fallen = without_mark t.notes.fallen n };
       })
   whole-without_provider n v m rising at removes name_room none = record {
-    tables = mesh-without_provider t whole.tables n v rising at m removes name_room;
+    tables = record {
+      notes = notes-without_provider t.notes t.geoms t.edges.providers n whole.tables.notes;
+      names_are =
+          subst (λ xs. AreNames xs t.edges.providers.next m)
+          (sym (map-without provider_row n (λ (x : Provider). x.number == n) (λ row. refl) t.edges.providers.rows))
+          (names-removed (map provider_row t.edges.providers.rows) t.edges.providers.next t.names m
+          whole.tables.names_are n
+          (provider_row (n, v))
+          (only_provider n v t.edges.providers.rows
+          (only_value n 1 t.edges.providers.next v t.edges.providers.rows rising at))
+          (found_provider t whole.tables n v at)
+          removes.sound removes);
+      names_room = name_room;
+      count = whole.tables.count;
+      indexed =
+          subst (λ g. IsIndexed g (without_provider_index t.edges.index n))
+          (sym (ap (λ v. v.topology) (without_provider-view t n)))
+          (indexed-remove_provider (graph t) t.edges.index whole.tables.indexed n);
+      room = whole.tables.room;
+    };
     ranks =
         beside_index t.geoms
         (record t.edges { providers = record t.edges.providers { rows = without t.edges.providers.rows n } }) t.live
@@ -200,7 +296,17 @@ module _ {C : Type 0} (t : Tables C) (whole : IsWhole t) where
         };
       })
   whole-without_consumer n v rising at free = record {
-    tables = mesh-without_consumer t whole.tables n;
+    tables = record {
+      notes = whole.tables.notes;
+      names_are = whole.tables.names_are;
+      names_room = whole.tables.names_room;
+      count = whole.tables.count;
+      indexed =
+          subst (λ g. IsIndexed g (without_consumer_index t.edges.index n))
+          (sym (ap (λ v. v.topology) (without_consumer-view t n)))
+          (indexed-remove_consumer (graph t) t.edges.index whole.tables.indexed n);
+      room = whole.tables.room;
+    };
     ranks =
         beside_index t.geoms
         (record t.edges { consumers = record t.edges.consumers { rows = without t.edges.consumers.rows n } }) t.live
@@ -272,13 +378,14 @@ module _ {C : Type 0} (t : Tables C) (whole : IsWhole t) where
         })
     whole-attached p free are lives =
         let edges : Edges = put_consumer t.edges n (record v { consumer = record v.consumer { prov = Some p } }) in
-        let after : Tables C = record t { edges = record edges { index = attached_index t.edges.index n p v.consumer.geom } } in
+        let after : Tables C = record t
+        { edges = record edges { index = attached_index t.edges.index n p v.consumer.geom } } in
         record {
           tables = mesh-bare after (mesh-attached t whole.tables n p v rising at) ns same;
           ranks = beside_index ns edges t.live (attached_index t.edges.index n p v.consumer.geom) are;
           graph =
               subst (λ g. IsOrderly g)
-              (sym (ap (λ v. v.topology) (ranks.view-bare after ns same ∙ attach-view t n p v rising at)))
+              (sym (ap (λ v. v.topology) (ranks.view-bare after ns same ∙ switch-view t n v rising at (Some p))))
               (orderly-attach (graph t) whole.graph n p lives);
           going = switched_going p (Some p) (attached_index t.edges.index n p v.consumer.geom)
               (λ q apart. rw free (ne_eqb p q (λ e. apart (sym e))));
@@ -301,8 +408,110 @@ module _ {C : Type 0} (t : Tables C) (whole : IsWhole t) where
           ranks = beside_index ns edges t.live (detached_index t.edges.index n) are;
           graph =
               subst (λ g. IsOrderly g)
-              (sym (ap (λ v. v.topology) (ranks.view-bare after ns same ∙ detach-view t n v rising at)))
+              (sym (ap (λ v. v.topology) (ranks.view-bare after ns same ∙ switch-view t n v rising at None)))
               (orderly-detach (graph t) whole.graph n);
           going = switched_going p None (detached_index t.edges.index n)
               (λ q apart. rw bound (sym (ne_eqb p q (λ e. apart (sym e)))));
         }
+
+-- What an attach asks of a mesh and does to it, by the numbers that are read there.
+
+-- the consumer is attached to nothing, the provider is there, and these are their geoms
+pub record IsAsked {C : Type 0} (t : Tables C) (v : TopoView C) (n p upper under : ℕ) : Type 0 where
+  pub whole : IsWhole t
+  pub seen : topo_view t ≡ v
+  pub loose : IsSomeAnd (consumer_at v.topology n) (λ x. x.provider ≡ None)
+  pub offered : IsSome (provider_at v.topology p)
+  pub user_is : upper ≡ user t.edges n
+  pub owner_is : under ≡ owner t.edges p
+
+-- so it is where the geoms were read under the same numbers
+pub attach-asked : {C : Type 0} (t : Tables C) {v : TopoView C} {n p k m upper under : ℕ} → IsWhole t
+    → topo_view t ≡ v → k ≡ n → upper ≡ user t.edges k → m ≡ p → under ≡ owner t.edges m
+    → IsSomeAnd (consumer_at v.topology n) (λ x. x.provider ≡ None) → IsSome (provider_at v.topology p)
+    → IsAsked t v n p upper under
+attach-asked t whole seen same user_is alike owner_is loose offered = record {
+  whole = whole;
+  seen = seen;
+  loose = loose;
+  offered = offered;
+  user_is = user_is ∙ ap (user t.edges) same;
+  owner_is = owner_is ∙ ap (owner t.edges) alike;
+}
+
+module _ {C : Type 0} {t : Tables C} {v : TopoView C} {n p upper under : ℕ} (asked : IsAsked t v n p upper under) where
+  -- the consumer is attached to nothing in the tables too
+  loose_there : IsSomeAnd (consumer_at (graph t) n) (λ x. x.provider ≡ None)
+  loose_there = rw (← asked.seen) at asked.loose
+
+  -- and the provider is offered there
+  offered_there : IsSome (provider_at (graph t) p)
+  offered_there = rw (← asked.seen) at asked.offered
+
+  -- the upper geom is that of the consumer's cell
+  upper_is : (cell : ConsCell) → Some cell ≡ value_at t.edges.consumers.rows n → upper ≡ cell.consumer.geom
+  upper_is cell at = asked.user_is ∙ user-cell t.geoms t.edges n cell at
+
+  -- the upper geom is there
+  pub upper-lives : IsSome (value_at (kinds t.geoms) upper)
+  upper-lives =
+      let found = free-cell t.geoms t.edges n loose_there in
+      let kin = kin-of t.geoms t.edges asked.whole.graph asked.whole.tables.indexed in
+      subst (λ g. IsSome (value_at (kinds t.geoms) g)) (sym (upper_is found.0 found.1))
+      (user-stands t.geoms t.edges t.live asked.whole.ranks n p found.0 kin.consumers_rise found.1)
+
+  -- the provider carries no error there
+  sound_there : {error : Bool} → error ≡ is_errored v.topology p → error ≡ false → is_errored (graph t) p ≡ false
+  sound_there error_is none = rw (← asked.seen) at (sym error_is ∙ none)
+
+  -- why an attach is refused is what the model answers
+  pub refused-answer : {error : Bool} → error ≡ is_errored v.topology p → error ≡ false → (e : AttachRefusal)
+      → is_dev_or_taste upper ≡ false → IsRefusedFor e t.geoms (ranked_below t.edges) upper under
+      → attach_refusal v.topology n p ≡ Some (attach_errno e)
+  refused-answer error_is none e later why =
+      let found = free-cell t.geoms t.edges n loose_there in
+      let kin = kin-of t.geoms t.edges asked.whole.graph asked.whole.tables.indexed in
+      let here = upper_is found.0 found.1 in
+      rw (← asked.seen)
+      (on-refused t.geoms t.edges t.live asked.whole.ranks n p found.0 kin.consumers_rise found.1 found.2
+      (provider-offered t.geoms t.edges p offered_there) (first-two t.geoms t.edges asked.whole.graph)
+      (subst (λ g. is_dev_or_taste g ≡ false) here later) e (sound_there error_is none)
+      (subst (λ g. IsRefusedFor e t.geoms (ranked_below t.edges) found.0.consumer.geom g) asked.owner_is
+      (subst (λ g. IsRefusedFor e t.geoms (ranked_below t.edges) g under) here why)))
+
+  module _ (cell : ConsCell) (rising : IsRising 1 t.edges.consumers.rows t.edges.consumers.next)
+      (at : value_at t.edges.consumers.rows n ≡ Some cell) (ns : SlotsView (GeomCell C)) (same : bare ns ≡ bare t.geoms)
+      (admitted : IsAdmitted (is_dev_or_taste upper) (ranked_below t.edges) upper under (stored t.geoms) (stored ns))
+      (low : is_high (kinds t.geoms) (stored ns) ≡ false) where
+    -- the ranks admit the consumer's geom by its cell
+    admitted_there : IsAdmitted (is_dev_or_taste cell.consumer.geom) (ranked_below t.edges) cell.consumer.geom
+        (owner t.edges p) (stored t.geoms) (stored ns)
+    admitted_there =
+        subst (λ g. IsAdmitted (is_dev_or_taste cell.consumer.geom) (ranked_below t.edges) cell.consumer.geom g
+        (stored t.geoms) (stored ns)) asked.owner_is
+        (subst (λ g. IsAdmitted (is_dev_or_taste g) (ranked_below t.edges) g under (stored t.geoms) (stored ns))
+        (upper_is cell (sym at)) admitted)
+
+    -- an attach that is admitted isn't refused by the model
+    pub admitted-answer : {error : Bool} → error ≡ is_errored v.topology p → error ≡ false
+        → attach_refusal v.topology n p ≡ None
+    admitted-answer error_is none =
+        rw (← asked.seen)
+        (admitted-free t.geoms t.edges t.live asked.whole.ranks n p cell rising (sym at)
+        (free-at t.geoms t.edges n cell loose_there (sym at)) (provider-offered t.geoms t.edges p offered_there)
+        (first-two t.geoms t.edges asked.whole.graph) ns same admitted_there low
+        (sound_there error_is none))
+
+    -- and the mesh is whole with the consumer attached, but for the mark of the lower geom
+    pub admitted-whole : IsWholeBut under (record t {
+      geoms = ns;
+      edges = record (put_consumer t.edges n (record cell { consumer = record cell.consumer { prov = Some p } }))
+          { index = attached_index t.edges.index n p upper };
+    })
+    admitted-whole =
+        let loose : cell.consumer.prov ≡ None = free-at t.geoms t.edges n cell loose_there (sym at) in
+        rw (asked.owner_is, upper_is cell (sym at))
+        (whole-attached t asked.whole n cell rising at ns same p loose
+        (admitted-mesh t.geoms t.edges t.live asked.whole.ranks n p cell rising (sym at) loose
+        (provider-offered t.geoms t.edges p offered_there) (first-two t.geoms t.edges asked.whole.graph) ns same
+        admitted_there low) offered_there)

@@ -1,5 +1,5 @@
 -- The mesh that the rows of geoms, providers and consumers stand for.
-use Rattle.std.specs.Prelude.{◌≡◌, ℕ, ◌-◌, ◌≤◌, min, Bool, false, List, map}
+use Rattle.std.specs.Prelude.{◌≡◌, ℕ, ◌-◌, ◌≤◌, min, Bool, false, List, None, map}
 use Rattle.geo_model.specs.Kind.{Kind}
 use Rattle.geo_model.specs.Counts.{Counts}
 use Rattle.geo_model.specs.Topology.{Topology, Geom, Provider, Consumer}
@@ -14,7 +14,7 @@ use Rattle.geo_mesh.specs.declared.records.ConsCell.{ConsCell}
 use Rattle.geo_mesh.specs.declared.tables.Edges.{Edges}
 use Rattle.geo_mesh.specs.declared.tables.Tables.{Tables}
 use Rattle.geo_mesh.specs.Rows.{rows_with}
-use Rattle.geo_mesh.specs.Topo.{TopoView, no_scratch}
+use Rattle.geo_mesh.specs.Topo.{TopoView, no_counts, no_scratch}
 
 -- the geom that stands under a number
 abbrev pub geom_seen : {C : Type 0} → ℕ → GeomRec C → Geom C
@@ -92,6 +92,29 @@ abbrev pub made_cell : {C : Type 0} → Kind → List ℕ → C → Bool → Geo
 made_cell kind name config automatic = record {
   geom = record { kind = kind; name = name; config = config; automatic = automatic; withering = false; started = 0 };
   rank = 1;
+  scratch = no_scratch;
+}
+
+-- a provider that was just made, with no counts
+abbrev pub made_provider : ℕ → List ℕ → ℕ → ℕ → ProvCell
+made_provider geom name size sector = record {
+  provider = record {
+    geom = geom;
+    name = name;
+    size = size;
+    sector = sector;
+    errored = false;
+    have = no_counts;
+    risen = false;
+    fallen = false;
+  };
+  scratch = no_scratch;
+}
+
+-- a consumer that was just made, attached to nothing
+abbrev pub made_consumer : ℕ → ConsCell
+made_consumer geom = record {
+  consumer = record { geom = geom; prov = None; want = no_counts; active = 0; spoiled = false };
   scratch = no_scratch;
 }
 

@@ -36,21 +36,41 @@ module _ {C : Type 0} where
   abbrev pub can_go : TopoView C → Geom C → Bool
   can_go t g = g.withering && is_free t g.number
 
+-- whether the row's consumer is attached to the provider
+abbrev pub is_on : ℕ → ℕ × ConsCell → Bool
+is_on p row = names_number row.1.consumer.prov p
+
 -- whether a consumer is attached to the provider, by the rows
 abbrev pub has_consumer : List (ℕ × ConsCell) → ℕ → Bool
-has_consumer cs p = list_any (λ row. names_number row.1.consumer.prov p) cs
+has_consumer cs p = list_any (is_on p) cs
 
 -- whether the consumer of the cell holds no count, and no request is out through it
 abbrev pub is_idle_cell : ConsCell → Bool
 is_idle_cell x = is_zero x.consumer.want && (x.consumer.active == 0)
 
+-- whether the row's provider is of the geom
+abbrev pub is_provider_of : ℕ → ℕ × ProvCell → Bool
+is_provider_of g row = row.1.provider.geom == g
+
+-- whether the row's consumer is of the geom
+abbrev pub is_consumer_of : ℕ → ℕ × ConsCell → Bool
+is_consumer_of g row = row.1.consumer.geom == g
+
+-- whether the row's provider is of the geom, and nothing is attached to it
+abbrev pub is_lone : List (ℕ × ConsCell) → ℕ → ℕ × ProvCell → Bool
+is_lone cs g row = (row.1.provider.geom == g) && not (has_consumer cs row.0)
+
+-- whether the row's consumer is of the geom, and idle
+abbrev pub is_idle_at : ℕ → ℕ × ConsCell → Bool
+is_idle_at g row = (row.1.consumer.geom == g) && is_idle_cell row.1
+
 -- whether something of the geom, or the geom itself, is free to go, by the rows of providers and consumers
 unfoldable pub is_free_by : List (ℕ × ProvCell) → List (ℕ × ConsCell) → ℕ → Bool
 is_free_by ps cs g =
-    list_any (λ row. (row.1.provider.geom == g) && not (has_consumer cs row.0)) ps
-    || (list_any (λ row. (row.1.consumer.geom == g) && is_idle_cell row.1) cs
-    || (not (list_any (λ row. row.1.provider.geom == g) ps)
-    && not (list_any (λ row. row.1.consumer.geom == g) cs)))
+    list_any (is_lone cs g) ps
+    || (list_any (is_idle_at g) cs
+    || (not (list_any (is_provider_of g) ps)
+    && not (list_any (is_consumer_of g) cs)))
 
 module _ {C : Type 0} where
   -- each geom's number, with whether it withers and this says that it is free

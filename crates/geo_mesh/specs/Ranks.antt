@@ -100,9 +100,13 @@ rank_at rows g = number_or 1 (value_at rows g)
 abbrev pub stored : {C : Type 0} → SlotsView (GeomCell C) → ℕ → ℕ
 stored gs g = rank_at (ranks gs) g
 
+-- the providers to which the consumers of a geom are attached
+abbrev pub provs_of : List (ℕ × (ℕ × Option ℕ)) → ℕ → List ℕ
+provs_of users g = filter_map (λ row. row.1.1) (filter (λ row. row.1.0 == g) users)
+
 -- the geoms directly below a geom
 abbrev pub under : List (ℕ × ℕ) → List (ℕ × (ℕ × Option ℕ)) → ℕ → List ℕ
-under owners users g = filter_map (value_at owners) (filter_map (λ row. row.1.1) (filter (λ row. row.1.0 == g) users))
+under owners users g = filter_map (value_at owners) (provs_of users g)
 
 -- the geoms on which the stored rank of a geom stands: those directly below it, but none for the first two geoms
 abbrev pub ranked_below : Edges → ℕ → List ℕ
@@ -200,14 +204,22 @@ pub record IsWalkable (classes : List (ℕ × Kind)) (edges : Edges) : Type 0 wh
   pub owned : AllByRecursion (λ row. IsSome (value_at classes row.1.0)) (ranked_links edges).rows
   pub few : length classes ≤ 4294967294
 
+-- the geom of the row's consumer is there
+abbrev pub UserLives : List (ℕ × Kind) → ℕ × (ℕ × Option ℕ) → Type 0
+UserLives classes row = IsSome (value_at classes row.1.0)
+
+-- the provider on which the rank stands by the row's consumer, if there is one, has a geom
+abbrev pub OwnerLives : List (ℕ × ℕ) → ℕ × (ℕ × Option ℕ) → Type 0
+OwnerLives owners row = IfSome row.1.1 (λ p. IsSome (value_at owners p))
+
 -- each rank that stands in a cell is one more than the highest below, no geom other than DEV and TASTE is above the
 -- limit, and each consumer's geom and each attached provider are there
 pub record AreRanks (classes : List (ℕ × Kind)) (standing owners : List (ℕ × ℕ))
     (users : List (ℕ × (ℕ × Option ℕ))) : Type 0 where
   pub local : AreLocal (under owners users) (rank_at standing)
   pub low : is_high classes (rank_at standing) ≡ false
-  pub owned : AllByRecursion (λ row. IsSome (value_at classes row.1.0)) users
-  pub attached : AllByRecursion (λ row. IfSome row.1.1 (λ p. IsSome (value_at owners p))) users
+  pub owned : AllByRecursion (UserLives classes) users
+  pub attached : AllByRecursion (OwnerLives owners) users
 
 -- the mesh that stands: its geoms are counted, and their ranks stand in their cells
 pub record HaveRanks {C : Type 0} (gs : SlotsView (GeomCell C)) (edges : Edges) (live : ℕ) : Type 0 where

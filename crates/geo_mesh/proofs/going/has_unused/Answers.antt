@@ -1,7 +1,7 @@
 use Rattle.geo_model.specs.Topology.{Consumer, consumers_of}
 use Rattle.geo_mesh.specs.Cells.{graph, topo_view}
 use Rattle.geo_mesh.specs.Going.{is_unused}
-use Rattle.geo_mesh.proofs.GoingLook.{any-begin}
+use Rattle.geo_mesh.proofs.GoingLemmas.{any-begin}
 use Rattle.geo_mesh.proofs.going.has_unused.Goals as goal
 
 pub loop-cons-init : goal.loop-cons-init

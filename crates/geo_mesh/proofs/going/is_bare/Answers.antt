@@ -2,7 +2,7 @@ use Rattle.std.proofs.Common.{sym, ap, ◌∙◌}
 use Rattle.std.specs.Prelude.{◌&&◌, ◌==◌, length}
 use Rattle.geo_model.specs.Topology.{consumers_of}
 use Rattle.geo_mesh.specs.Cells.{graph}
-use Rattle.geo_mesh.proofs.GoingLook.{offers-none, owns-none}
+use Rattle.geo_mesh.proofs.GoingLemmas.{offers-none, owns-none}
 use Rattle.geo_mesh.proofs.going.is_bare.Goals as goal
 
 -- it has no provider, so that its consumers decide

@@ -3,7 +3,7 @@ use Rattle.std.specs.Prelude.{is_none}
 use Rattle.geo_model.specs.Topology.{Consumer, attached_to}
 use Rattle.geo_mesh.specs.Cells.{graph}
 use Rattle.geo_mesh.proofs.IndexLemmas.{attached_first}
-use Rattle.geo_mesh.proofs.GoingLook.{none-first, told_none}
+use Rattle.geo_mesh.proofs.GoingLemmas.{none-first, told_none}
 use Rattle.geo_mesh.proofs.going.is_unattached.Goals as goal
 
 -- the index has a first consumer under the provider unless none is attached to it

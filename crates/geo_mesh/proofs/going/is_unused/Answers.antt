@@ -1,5 +1,5 @@
 use Rattle.std.proofs.Common.{rules}
-use Rattle.geo_mesh.proofs.GoingRows.{unused-cell}
+use Rattle.geo_mesh.proofs.GoingLemmas.{unused-cell}
 use Rattle.geo_mesh.proofs.going.is_unused.Goals as goal
 
 pub returns : goal.returns

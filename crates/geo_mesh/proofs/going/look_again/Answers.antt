@@ -1,5 +1,5 @@
 use Rattle.std.proofs.Common.{sym, ◌∙◌}
-use Rattle.geo_mesh.proofs.GoingLook.{mark-there, marked, settled}
+use Rattle.geo_mesh.proofs.GoingLemmas.{mark-there, marked, settled}
 use Rattle.geo_mesh.proofs.going.look_again.Goals as goal
 
 -- the geom withers, so it stands, and each geom that stands has a mark or none

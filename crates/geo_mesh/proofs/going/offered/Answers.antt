@@ -4,7 +4,7 @@ use Rattle.geo_laws_graph.specs.LookupLaws.{WalksMeetAll}
 use Rattle.geo_laws_graph.proofs.Walks.{walks-meet}
 use Rattle.geo_mesh.specs.Cells.{graph}
 use Rattle.geo_mesh.proofs.IndexLemmas.{offered_first}
-use Rattle.geo_mesh.proofs.GoingLook.{walk-next}
+use Rattle.geo_mesh.proofs.GoingLemmas.{walk-next}
 use Rattle.geo_mesh.proofs.going.offered.Goals as goal
 
 -- the index gives the first of the geom's providers that is left; numbers rise, so the rest comes behind it

@@ -1,5 +1,5 @@
 use Rattle.std.proofs.Common.{◌≡◌, ◌⊎◌, ℕ, ◌+◌, ◌<◌, ◌≤◌, Bool, true, false, nat_le, refl, sym, ◌∙◌, subst, inl, inr, arith}
-use Rattle.std.proofs.lemmas.Bool.{cases_eq, leb-true, leb-false}
+use Rattle.std.proofs.lemmas.Bool.{cases_eq, leb-true, leb-false, cases_Bool}
 use Rattle.geo_slots.specs.Slots.{value_at}
 use Rattle.geo_mesh.specs.Rows.{passes}
 use Rattle.geo_mesh.specs.Ranks.{ranked_links, links, user, is_dev_or_taste, is_attached, is_above, IsFirst}
@@ -67,10 +67,10 @@ loop-cons-preserved c =
 
 -- none from `at` on is attached to the provider but DEV's, and none before `at` counts
 pub returns : goal.returns
-returns c = λ m there. pick m there (nat_le c.args.from m) refl where
-  pick : (m : ℕ) → passes (is_attached c.args.prov) (value_at (ranked_links c.args.edges.now).rows m) ≡ true
-      → (b : Bool) → nat_le c.args.from m ≡ b → m < c.args.from
-  pick m there true e =
-      let before : m < c.loop-cons.at = c.in_default.ensures m (attached-above c.args.edges.now c.args.prov m there) in
+returns c = λ m there. (elim (cases_Bool (nat_le c.args.from m)) [
+  | inl e ↦
+      let before : m < c.loop-cons.at = c.in_default.ensures m
+      (attached-above c.args.edges.now c.args.prov m there) in
       absurd (c.loop-cons.invariant.none m (leb-true c.args.from m e) before there)
-  pick m there false e = leb-false c.args.from m e
+  | inr e ↦ leb-false c.args.from m e
+])

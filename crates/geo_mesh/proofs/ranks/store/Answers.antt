@@ -1,6 +1,7 @@
 use Rattle.geo_mesh.specs.Ranks.{kind_of}
 use Rattle.std.proofs.Common.{sym}
-use Rattle.geo_mesh.proofs.RankRows.{seen-some, store-same, store-here, store-others}
+use Rattle.geo_mesh.proofs.RowLemmas.{seen-some}
+use Rattle.geo_mesh.proofs.RankRows.{store-same, store-here, store-others}
 use Rattle.geo_mesh.proofs.ranks.store.Goals as goal
 
 pub cell_mut-requires : goal.cell_mut-requires

@@ -2,7 +2,9 @@ use Rattle.std.specs.Prelude.{Some, None}
 use Rattle.std.specs.Option.{is_some}
 use Rattle.std.proofs.Common.{refl}
 use Rattle.geo_mesh.proofs.RowLemmas.{rows_with-with_value}
-use Rattle.geo_mesh.proofs.MarkLemmas.{number_there, under-set, value_at-set, with_value-twice}
+use Rattle.geo_slots.proofs.RowLemmas.{value_at-set, with_value-twice}
+use Rattle.geo_mesh.proofs.RowLemmas.{seen-some}
+use Rattle.geo_mesh.proofs.MarkLemmas.{under-set}
 use Rattle.geo_mesh.proofs.marks.Marks.set.Goals as goal
 
 -- the number was unlinked just before, so it has no parent
@@ -10,7 +12,7 @@ pub link-requires-clause-free : goal.link-requires-clause-free
 link-requires-clause-free c =
     rw c.unlink.ensures
     (value_at-set c.args.number None c.self.inside.family.children
-    (number_there c.args.number c.self.inside.family.children (rw (← c.self.view_is) at c.requires)))
+    (seen-some is_some c.args.number c.self.inside.family.children (rw (← c.self.view_is) at c.requires)))
 
 -- the number is linked to 1, the one parent that a number may have
 pub invariant_of-self : goal.invariant_of-self

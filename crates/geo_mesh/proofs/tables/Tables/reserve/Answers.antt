@@ -1,7 +1,6 @@
 use Rattle.std.proofs.Common.{refl, arith}
-use Rattle.geo_mesh.proofs.MeshLemmas.{untouched}
 use Rattle.geo_mesh.proofs.NoteLemmas.{unnoted}
-use Rattle.geo_mesh.proofs.WholeLemmas.{roomier, whole-reserved, whole-grown}
+use Rattle.geo_mesh.proofs.WholeLemmas.{roomier, whole-reserved, whole-grown, untouched}
 use Rattle.geo_mesh.proofs.tables.Tables.reserve.Goals as goal
 
 -- the index alone was asked

@@ -4,9 +4,8 @@ use Rattle.geo_mesh.proofs.IndexLemmas.{attached_free, attached_parent, above_fr
 use Rattle.geo_mesh.proofs.RankFirst.{kin-of}
 use Rattle.geo_mesh.proofs.RankMesh.{view-bare, mesh-walkable}
 use Rattle.geo_mesh.proofs.RankSwitch.{free-cell}
-use Rattle.geo_mesh.proofs.ViewLemmas.{attach-view, consumer_at-view}
-use Rattle.geo_mesh.proofs.WholeParts.{whole-kept}
-use Rattle.geo_mesh.proofs.Attaching.{attach-asked, upper-lives, refused-answer, admitted-answer, admitted-whole}
+use Rattle.geo_mesh.proofs.ViewLemmas.{switch-view, consumer_at-view}
+use Rattle.geo_mesh.proofs.WholeParts.{whole-kept, attach-asked, upper-lives, refused-answer, admitted-answer, admitted-whole}
 use Rattle.geo_mesh.proofs.topo.Topo.attach.Goals as goal
 
 -- the graph of a mesh has no loop, so the walks that mend its ranks come to an end
@@ -90,8 +89,8 @@ returns-clause-attached g c =
           })) { index = c.attach.new.self };
     })
     c.admit.new.geoms c.admit.ensures.same
-    ∙ (rw (← c.self.view_is) (attach-view c.self.inside.tables c.args.cons c.args.prov c.consumer_mut.result.now
-    c.consumer_mut.ensures.rising c.consumer_mut.ensures.cell))
+    ∙ (rw (← c.self.view_is) (switch-view c.self.inside.tables c.args.cons c.consumer_mut.result.now
+    c.consumer_mut.ensures.rising c.consumer_mut.ensures.cell (Some c.args.prov)))
 
 -- what `admit` did to the ranks doesn't show in the mesh
 pub returns-in-Err-clause-same : goal.returns-in-Err-clause-same

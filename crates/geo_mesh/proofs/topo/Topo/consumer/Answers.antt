@@ -1,5 +1,5 @@
 use Rattle.std.proofs.Common.{rules}
-use Rattle.geo_mesh.proofs.SeenLemmas.{shows-consumer}
+use Rattle.geo_mesh.proofs.ViewLemmas.{shows-consumer}
 use Rattle.geo_mesh.proofs.GraphLemmas.{sound-graph}
 use Rattle.geo_mesh.proofs.topo.Topo.consumer.Goals as goal
 

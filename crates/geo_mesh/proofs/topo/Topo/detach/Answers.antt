@@ -3,12 +3,12 @@ use Rattle.geo_mesh.specs.Cells.{graph, put_consumer}
 use Rattle.geo_mesh.specs.Index.{detached_index}
 use Rattle.geo_mesh.specs.Graph.{IsOrderly}
 use Rattle.geo_mesh.specs.Ranks.{stored, is_dev_or_taste}
-use Rattle.geo_mesh.proofs.MeshLemmas.{mesh-detached}
+use Rattle.geo_mesh.proofs.WholeLemmas.{mesh-detached}
 use Rattle.geo_mesh.proofs.Orderly.{orderly-detach}
 use Rattle.geo_mesh.proofs.RankFirst.{kin-of}
 use Rattle.geo_mesh.proofs.RankMesh.{view-bare, mesh-few}
 use Rattle.geo_mesh.proofs.RankSwitch.{bound-at, user-stands, above-later, off-enough, off-walkable, off-lowered, off-stays}
-use Rattle.geo_mesh.proofs.ViewLemmas.{detach-view}
+use Rattle.geo_mesh.proofs.ViewLemmas.{switch-view}
 use Rattle.geo_mesh.proofs.WholeParts.{whole-detached}
 use Rattle.geo_mesh.proofs.topo.Topo.detach.Goals.{then-stored, else-stored}
 use Rattle.geo_mesh.proofs.topo.Topo.detach.Goals as goal
@@ -47,8 +47,8 @@ lower-requires-clause-walkable g c =
     let orderly =
     subst (λ t. IsOrderly t)
     (sym (ap (λ v. v.topology)
-    (detach-view c.self.inside.tables c.args.cons c.consumer_mut-cell.result.now
-    c.consumer_mut-cell.ensures.rising c.consumer_mut-cell.ensures.cell)))
+    (switch-view c.self.inside.tables c.args.cons c.consumer_mut-cell.result.now
+    c.consumer_mut-cell.ensures.rising c.consumer_mut-cell.ensures.cell None)))
     (orderly-detach (graph c.self.inside.tables) c.self.invariant.graph c.args.cons) in
     rw (c.detach.ensures, c.number.ensures)
     (off-walkable c.self.inside.tables.geoms c.self.inside.tables.edges c.self.inside.tables.live
@@ -125,10 +125,10 @@ returns g c =
           })
           w.lower.new.geoms w.lower.ensures.same
           ∙ (rw (← c.self.view_is)
-          (detach-view c.self.inside.tables c.args.cons c.consumer_mut-cell.result.now
-          c.consumer_mut-cell.ensures.rising c.consumer_mut-cell.ensures.cell)))
+          (switch-view c.self.inside.tables c.args.cons c.consumer_mut-cell.result.now
+          c.consumer_mut-cell.ensures.rising c.consumer_mut-cell.ensures.cell None)))
       | else-stored w ↦
           rw (w.self-inside-is, ← c.self.view_is)
-          (detach-view c.self.inside.tables c.args.cons c.consumer_mut-cell.result.now
-          c.consumer_mut-cell.ensures.rising c.consumer_mut-cell.ensures.cell)
+          (switch-view c.self.inside.tables c.args.cons c.consumer_mut-cell.result.now
+          c.consumer_mut-cell.ensures.rising c.consumer_mut-cell.ensures.cell None)
     ])

@@ -1,5 +1,5 @@
 use Rattle.std.proofs.Common.{◌≤◌, ap, refl, arith, rules}
-use Rattle.geo_mesh.proofs.FirstGraph.{orderly-first, first_ranks}
+use Rattle.geo_mesh.proofs.Orderly.{orderly-first, first_ranks}
 use Rattle.geo_mesh.proofs.topo.Topo.new.Goals as goal
 
 -- DEV and TASTE alone, with rank 1 and nothing below: all is empty but for their two rows, names and marks

@@ -27,7 +27,8 @@ invariant_of-self-2 g c =
     c.add-2.ensures.added c.add-2.ensures.room)
 
 pub returns-then-self-ge-MOST_GEOMS-clause-sound : goal.returns-then-self-ge-MOST_GEOMS-clause-sound
-returns-then-self-ge-MOST_GEOMS-clause-sound g c = rw (← c.self.view_is) (sound-graph c.self.inside.tables c.self.invariant)
+returns-then-self-ge-MOST_GEOMS-clause-sound g c =
+    rw (← c.self.view_is) (sound-graph c.self.inside.tables c.self.invariant)
 
 pub returns-in_err-reserve-clause-sound : goal.returns-in_err-reserve-clause-sound
 returns-in_err-reserve-clause-sound g c = rw (← c.self.view_is) (sound-graph c.self.inside.tables c.self.invariant)

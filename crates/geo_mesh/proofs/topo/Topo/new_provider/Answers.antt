@@ -1,33 +1,16 @@
-use Rattle.std.proofs.Common.{◌≡◌, ℕ, ◌-◌, List, false, find, map, None, refl, sym, ap, subst, ◌∙◌, IsSome}
+use Rattle.std.proofs.Common.{◌≡◌, ◌-◌, false, find, map, None, refl, sym, ap, subst, ◌∙◌, IsSome}
 use Rattle.geo_model.specs.Topology.{geom_at, is_name_taken, is_withering}
 use Rattle.geo_slots.specs.Slots.{IsRising}
-use Rattle.geo_mesh.specs.declared.records.ProvCell.{ProvCell}
-use Rattle.geo_mesh.specs.Topo.{with_provider, no_counts, no_scratch}
-use Rattle.geo_mesh.specs.Cells.{graph, topo_view, provider_row}
+use Rattle.geo_mesh.specs.Topo.{with_provider}
+use Rattle.geo_mesh.specs.Cells.{made_provider, graph, topo_view, provider_row}
 use Rattle.geo_mesh.specs.Names.{AddsName, is_sound_named}
 use Rattle.geo_mesh.proofs.IndexLemmas.{offered_parent}
 use Rattle.geo_mesh.proofs.ViewLemmas.{with_provider-view, roomier-view, roomier-graph, room-providers, is_withering-rows}
 use Rattle.geo_laws_graph.proofs.Numbered.{find-none}
 use Rattle.geo_mesh.proofs.RankFirst.{geoms-rise}
-use Rattle.geo_mesh.proofs.GoingLook.{settled}
+use Rattle.geo_mesh.proofs.GoingLemmas.{settled}
 use Rattle.geo_mesh.proofs.WholeParts.{whole-new_provider}
 use Rattle.geo_mesh.proofs.topo.Topo.new_provider.Goals as goal
-
--- a provider that was just made
-abbrev made_provider : ℕ → List ℕ → ℕ → ℕ → ProvCell
-made_provider geom name size sector = record {
-  provider = record {
-    geom = geom;
-    name = name;
-    size = size;
-    sector = sector;
-    errored = false;
-    have = no_counts;
-    risen = false;
-    fallen = false;
-  };
-  scratch = no_scratch;
-}
 
 -- Each way out: room was asked for providers alone, so that of geoms and consumers is as it was
 pub returns-in_err-reserve-clause-other_room : goal.returns-in_err-reserve-clause-other_room

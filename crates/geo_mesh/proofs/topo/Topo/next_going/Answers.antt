@@ -4,7 +4,7 @@ use Rattle.geo_mesh.specs.Cells.{topo_view}
 use Rattle.geo_mesh.specs.Going.{can_go, is_free_in}
 use Rattle.geo_mesh.proofs.RankFirst.{kin-of}
 use Rattle.geo_mesh.proofs.GraphLemmas.{sound-graph}
-use Rattle.geo_mesh.proofs.GoingRows.{first-going, free-rows}
+use Rattle.geo_mesh.proofs.GoingLemmas.{first-going, free-rows}
 use Rattle.geo_mesh.proofs.topo.Topo.next_going.Goals as goal
 
 -- the marks are those of the withering geoms of which something can go, in the order of the geoms

@@ -1,7 +1,7 @@
-use Rattle.std.proofs.Common.{refl, ◌∙◌}
+use Rattle.std.proofs.Common.{◌-◌, refl, ◌∙◌}
 use Rattle.geo_mesh.specs.Cells.{active_of}
 use Rattle.geo_mesh.proofs.RowLemmas.{value_at-rows_with}
-use Rattle.geo_mesh.proofs.ViewLemmas.{note_back-view}
+use Rattle.geo_mesh.proofs.ViewLemmas.{active-view}
 use Rattle.geo_mesh.proofs.WholeLemmas.{whole-consumer_used}
 use Rattle.geo_mesh.proofs.topo.Topo.note_back.Goals as goal
 
@@ -21,8 +21,8 @@ pub returns : goal.returns
 returns g c =
     c.look_again.ensures.same
     ∙ (rw (← c.self.view_is)
-    (note_back-view c.self.inside.tables c.args.cons c.consumer_mut-cell.result.now c.consumer_mut-cell.ensures.rising
-    c.consumer_mut-cell.ensures.cell))
+    (active-view c.self.inside.tables c.args.cons c.consumer_mut-cell.result.now c.consumer_mut-cell.ensures.rising
+    c.consumer_mut-cell.ensures.cell (λ m. m - 1)))
 
 -- the count in the cell is the one that shows, of which the caller says that it isn't 0
 pub overflow_sub-cell : goal.overflow_sub-cell

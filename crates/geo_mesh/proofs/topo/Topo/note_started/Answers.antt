@@ -1,5 +1,5 @@
-use Rattle.std.proofs.Common.{◌<◌, ◌^◌, rules, refl}
-use Rattle.geo_mesh.proofs.ViewLemmas.{note_started-view, geom_at-view}
+use Rattle.std.proofs.Common.{◌+◌, ◌<◌, ◌^◌, rules, refl}
+use Rattle.geo_mesh.proofs.ViewLemmas.{geom-view, geom_at-view}
 use Rattle.geo_mesh.proofs.WholeLemmas.{whole-geom_cell}
 use Rattle.geo_mesh.proofs.topo.Topo.note_started.Goals as goal
 
@@ -9,8 +9,8 @@ geom_mut-requires g c = rw (← c.self.view_is) at c.requires.lives
 pub returns : goal.returns
 returns g c =
     rw (← c.self.view_is)
-    (note_started-view c.self.inside.tables c.args.geom c.geom_mut.result.now c.geom_mut.ensures.rising
-    c.geom_mut.ensures.cell)
+    (geom-view c.self.inside.tables c.args.geom c.geom_mut.result.now c.geom_mut.ensures.rising
+    c.geom_mut.ensures.cell (λ x. record x { started = x.started + 1 }) _ refl refl)
 
 -- names, ranks and marks don't read how many requests a geom started
 pub invariant_of-self : goal.invariant_of-self

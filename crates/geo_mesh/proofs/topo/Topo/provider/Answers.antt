@@ -1,5 +1,5 @@
 use Rattle.std.proofs.Common.{rules}
-use Rattle.geo_mesh.proofs.SeenLemmas.{shows-provider}
+use Rattle.geo_mesh.proofs.ViewLemmas.{shows-provider}
 use Rattle.geo_mesh.proofs.GraphLemmas.{sound-graph}
 use Rattle.geo_mesh.proofs.topo.Topo.provider.Goals as goal
 

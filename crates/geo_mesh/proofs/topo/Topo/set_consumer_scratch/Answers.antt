@@ -9,8 +9,8 @@ consumer_mut-requires g c = rw (← c.self.view_is) at c.requires
 pub returns : goal.returns
 returns g c =
     rw (← c.self.view_is)
-    (set_consumer_scratch-view c.self.inside.tables c.args.cons c.args.scratch c.consumer_mut.result.now
-    c.consumer_mut.ensures.rising c.consumer_mut.ensures.cell)
+    (set_consumer_scratch-view c.self.inside.tables c.args.cons c.consumer_mut.result.now c.consumer_mut.ensures.rising
+    c.consumer_mut.ensures.cell c.args.scratch)
 
 -- the scratch is read by nothing that a mesh keeps
 pub invariant_of-self : goal.invariant_of-self

@@ -1,6 +1,6 @@
-use Rattle.std.proofs.Common.{◌≡◌, Some, sym, ◌∙◌, subst}
+use Rattle.std.proofs.Common.{◌≡◌, Some, refl, sym, ◌∙◌, subst, true}
 use Rattle.geo_mesh.specs.Names.{RetiresName}
-use Rattle.geo_mesh.proofs.ViewLemmas.{set_error-view}
+use Rattle.geo_mesh.proofs.ViewLemmas.{provider-view}
 use Rattle.geo_mesh.proofs.WholeLemmas.{whole-errored}
 use Rattle.geo_mesh.proofs.topo.Topo.set_error.Goals as goal
 
@@ -13,8 +13,8 @@ provider_mut-requires g c = rw (← c.self.view_is) at c.requires
 pub returns : goal.returns
 returns g c =
     rw (← c.self.view_is)
-    (set_error-view c.self.inside.tables c.args.prov c.provider_mut.result.now c.provider_mut.ensures.rising
-    c.provider_mut.ensures.cell)
+    (provider-view c.self.inside.tables c.args.prov c.provider_mut.result.now c.provider_mut.ensures.rising
+    c.provider_mut.ensures.cell (λ x. record x { errored = true }) _ refl refl)
 
 -- the names gave the provider up before it carries the error; the cell that was read is the one that is changed
 pub invariant_of-self : goal.invariant_of-self

@@ -9,8 +9,8 @@ geom_mut-requires g c = rw (← c.self.view_is) at c.requires
 pub returns : goal.returns
 returns g c =
     rw (← c.self.view_is)
-    (set_geom_scratch-view c.self.inside.tables c.args.geom c.args.scratch c.geom_mut.result.now
-    c.geom_mut.ensures.rising c.geom_mut.ensures.cell)
+    (set_geom_scratch-view c.self.inside.tables c.args.geom c.geom_mut.result.now c.geom_mut.ensures.rising
+    c.geom_mut.ensures.cell c.args.scratch)
 
 -- the scratch is read by nothing that a mesh keeps
 pub invariant_of-self : goal.invariant_of-self

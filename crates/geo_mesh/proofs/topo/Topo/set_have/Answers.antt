@@ -9,8 +9,8 @@ provider_mut-requires g c = rw (← c.self.view_is) at c.requires
 pub returns : goal.returns
 returns g c =
     rw (← c.self.view_is)
-    (set_have-view c.self.inside.tables c.args.prov c.args.have c.provider_mut.result.now
-    c.provider_mut.ensures.rising c.provider_mut.ensures.cell)
+    (set_have-view c.self.inside.tables c.args.prov c.provider_mut.result.now c.provider_mut.ensures.rising
+    c.provider_mut.ensures.cell c.args.have)
 
 -- a provider's counts are read by nothing that a mesh keeps
 pub invariant_of-self : goal.invariant_of-self

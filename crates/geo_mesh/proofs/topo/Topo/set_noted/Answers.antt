@@ -31,8 +31,8 @@ set-requires-2 g c =
 pub returns : goal.returns
 returns g c =
     rw (← c.self.view_is)
-    (set_noted-view c.self.inside.tables c.args.prov c.args.risen c.args.fallen c.provider_mut-cell.result.now
-    c.provider_mut-cell.ensures.rising c.provider_mut-cell.ensures.cell)
+    (set_noted-view c.self.inside.tables c.args.prov c.provider_mut-cell.result.now c.provider_mut-cell.ensures.rising
+    c.provider_mut-cell.ensures.cell c.args.risen c.args.fallen)
 
 -- the marks of this provider are set to what its cell says, and what else is read of the cell stays
 pub invariant_of-self : goal.invariant_of-self

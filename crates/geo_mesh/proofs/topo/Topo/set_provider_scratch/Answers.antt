@@ -9,8 +9,8 @@ provider_mut-requires g c = rw (← c.self.view_is) at c.requires
 pub returns : goal.returns
 returns g c =
     rw (← c.self.view_is)
-    (set_provider_scratch-view c.self.inside.tables c.args.prov c.args.scratch c.provider_mut.result.now
-    c.provider_mut.ensures.rising c.provider_mut.ensures.cell)
+    (set_provider_scratch-view c.self.inside.tables c.args.prov c.provider_mut.result.now c.provider_mut.ensures.rising
+    c.provider_mut.ensures.cell c.args.scratch)
 
 -- the scratch is read by nothing that a mesh keeps
 pub invariant_of-self : goal.invariant_of-self

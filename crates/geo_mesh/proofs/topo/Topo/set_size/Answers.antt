@@ -2,9 +2,8 @@ use Rattle.std.proofs.Common.{◌≡◌, Some, true, refl}
 use Rattle.geo_model.specs.Topology.{provider_at}
 use Rattle.geo_mesh.specs.Topo.{is_provider_size}
 use Rattle.geo_mesh.specs.Cells.{graph, provider_row}
-use Rattle.geo_mesh.proofs.MeshLemmas.{found_provider}
-use Rattle.geo_mesh.proofs.ViewLemmas.{set_size-view}
-use Rattle.geo_mesh.proofs.WholeLemmas.{whole-provider_cell}
+use Rattle.geo_mesh.proofs.ViewLemmas.{provider-view}
+use Rattle.geo_mesh.proofs.WholeLemmas.{whole-provider_cell, found_provider}
 use Rattle.geo_mesh.proofs.topo.Topo.set_size.Goals as goal
 
 pub provider_mut-requires : goal.provider_mut-requires
@@ -13,8 +12,8 @@ provider_mut-requires g c = rw (← c.self.view_is) at c.requires.lives
 pub returns : goal.returns
 returns g c =
     rw (← c.self.view_is)
-    (set_size-view c.self.inside.tables c.args.prov c.args.size c.provider_mut.result.now
-    c.provider_mut.ensures.rising c.provider_mut.ensures.cell)
+    (provider-view c.self.inside.tables c.args.prov c.provider_mut.result.now c.provider_mut.ensures.rising
+    c.provider_mut.ensures.cell (λ x. record x { size = c.args.size }) _ refl refl)
 
 -- the new size is one that a provider of this sector size may have; nothing else that is kept reads it
 pub invariant_of-self : goal.invariant_of-self

@@ -19,5 +19,5 @@ pub returns : goal.returns
 returns g c =
     c.look_again.ensures.same
     ∙ (rw (← c.self.view_is)
-    (set_want-view c.self.inside.tables c.args.cons c.args.want c.consumer_mut-cell.result.now
-    c.consumer_mut-cell.ensures.rising c.consumer_mut-cell.ensures.cell))
+    (set_want-view c.self.inside.tables c.args.cons c.consumer_mut-cell.result.now c.consumer_mut-cell.ensures.rising
+    c.consumer_mut-cell.ensures.cell c.args.want))

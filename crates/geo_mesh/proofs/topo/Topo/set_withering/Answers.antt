@@ -1,5 +1,5 @@
 use Rattle.std.proofs.Common.{true, refl, ◌∙◌}
-use Rattle.geo_mesh.proofs.ViewLemmas.{set_withering-view}
+use Rattle.geo_mesh.proofs.ViewLemmas.{geom-view}
 use Rattle.geo_mesh.proofs.WholeLemmas.{whole-geom_withers}
 use Rattle.geo_mesh.proofs.topo.Topo.set_withering.Goals as goal
 
@@ -20,5 +20,5 @@ pub returns : goal.returns
 returns g c =
     c.look_again.ensures.same
     ∙ (rw (← c.self.view_is)
-    (set_withering-view c.self.inside.tables c.args.geom c.geom_mut.result.now c.geom_mut.ensures.rising
-    c.geom_mut.ensures.cell))
+    (geom-view c.self.inside.tables c.args.geom c.geom_mut.result.now c.geom_mut.ensures.rising
+    c.geom_mut.ensures.cell (λ x. record x { withering = true }) _ refl refl))

@@ -1,5 +1,5 @@
 use Rattle.std.proofs.Common.{refl}
-use Rattle.geo_mesh.proofs.ViewLemmas.{swap_config-view, geom_at-view}
+use Rattle.geo_mesh.proofs.ViewLemmas.{geom-view, geom_at-view}
 use Rattle.geo_mesh.proofs.WholeLemmas.{whole-geom_cell}
 use Rattle.geo_mesh.proofs.topo.Topo.swap_config.Goals as goal
 
@@ -19,8 +19,8 @@ returns-clause-old g c =
 pub returns-clause-swapped : goal.returns-clause-swapped
 returns-clause-swapped g c =
     rw (← c.self.view_is, c.replace.ensures.after)
-    (swap_config-view c.self.inside.tables c.args.geom c.args.config c.geom_mut-cell.result.now
-    c.geom_mut-cell.ensures.rising c.geom_mut-cell.ensures.cell)
+    (geom-view c.self.inside.tables c.args.geom c.geom_mut-cell.result.now c.geom_mut-cell.ensures.rising
+    c.geom_mut-cell.ensures.cell (λ x. record x { config = c.args.config }) _ refl refl)
 
 -- the configuration is read by nothing that a mesh keeps
 pub invariant_of-self : goal.invariant_of-self
