@@ -25,7 +25,7 @@ use Rattle.geo_taste.specs.Taster.{IsSettled as IsTasteSettled}
 use Rattle.geo_state.specs.declared.state.State.{State}
 use Rattle.geo_state.specs.Bios.{IsNoHandles}
 use Rattle.geo_state.specs.Holds.{Holds}
-use Rattle.geo_state.specs.Steps.{IsFirm, IsAgainst, Makes, SameWorld}
+use Rattle.geo_state.specs.Steps.{IsFirm, IsAgainst, Makes}
 use Rattle.geo_state.specs.World.{world}
 use Rattle.geo_events.specs.Judging.{HasSector, HasSubmitted}
 use Rattle.geo_events.proofs.Stepping.{IsNextTaste, IsInside}
@@ -271,15 +271,3 @@ module _ {s : State} {a : Taste} {u : TopoView Config} {q : Queued} {z : Taste} 
     refused-holds =
         next-kept s a ready u q z spare settled same.mesh
         (ap (λ (x : Taste). is_read_out x.asked) still ∙ ready.idle)
-
-    -- and the world is the same
-    pub refused-same : SameWorld s (record s { topo = u; queue = q; taste = Some z })
-    refused-same actors log =
-        ap (λ (x : TopoView Config). record (world actors log s) {
-          topology = x.topology;
-          events = q.events;
-          taste = Some z;
-        }) same.mesh
-        ∙ ap (λ (es : List Event). record (world actors log s) { events = es; taste = Some z }) same.events
-        ∙ ap (λ (x : Taste). record (world actors log s) { taste = Some x }) still
-        ∙ ap (λ (o : Option Taste). record (world actors log s) { taste = o }) (sym ready.is)

@@ -1,8 +1,8 @@
 -- What is against steps of events, tastes and washes, by what is kept.
-use Rattle.std.specs.Prelude.{◌≡◌, ℕ, ◌==◌, Bool, true, false, not, ◌&&◌, List, [], ◌∷◌, drop, length, find, cond, Option, Some, None, Result, Ok, Err, OnOk, is_some, slice_get, if◌then◌else◌}
+use Rattle.std.specs.Prelude.{◌≡◌, ℕ, ◌==◌, Bool, true, false, not, ◌&&◌, List, [], ◌∷◌, drop, find, cond, Option, Some, None, Result, Ok, Err, OnOk, is_some, slice_get, if◌then◌else◌}
 use Rattle.std.specs.List.{list_any}
 use Rattle.std.specs.Option.{option_map, option_map_or, unwrap_or}
-use Rattle.std.proofs.Common.{refl, sym, ◌∙◌, ap, subst}
+use Rattle.std.proofs.Common.{refl, sym, ◌∙◌, ap}
 use Rattle.std.proofs.lemmas.List.Sums.{length-filter}
 use Rattle.geo_base.proofs.FindLists.{any-map, any-kept_some}
 use Rattle.geo_base.specs.declared.request.Counts.{Counts}
@@ -20,8 +20,7 @@ use Rattle.geo_model.specs.Tasting.{judge_step}
 use Rattle.geo_model.specs.Step.{Answer, event, event_of, judge_next, judge_of, taste_bio, wash_next}
 use Rattle.geo_bio.specs.declared.bio.Held.{Held}
 use Rattle.geo_log.specs.Places.{delivered_at}
-use Rattle.geo_state.specs.Shown.{shown_bios, shown_bio, AreLogged}
-use Rattle.geo_state.specs.Traffic.{TrafficView}
+use Rattle.geo_state.specs.Shown.{shown_bios, shown_bio}
 use Rattle.geo_access.specs.Access.{granted_by}
 use Rattle.geo_life.specs.Life.{is_out, AreStored}
 use Rattle.geo_life.proofs.Places.{counts_are_stored}
@@ -29,7 +28,7 @@ use Rattle.geo_state.specs.declared.state.State.{State}
 use Rattle.geo_state.specs.Trips.{Trip, trip_of, trips, out_through, taste_read}
 use Rattle.geo_state.specs.Trips.{is_out as goes_through}
 use Rattle.geo_state.specs.Holds.{Holds}
-use Rattle.geo_state.specs.World.{world, HasBytes}
+use Rattle.geo_state.specs.World.{world}
 use Rattle.geo_state.specs.Steps.{IsFirm, against, IsAgainst, Makes}
 use Rattle.geo_state.proofs.ViewLemmas.{states_show}
 use Rattle.geo_events.specs.Steps.{IsHead, HasDone, event_against, taste_against}
@@ -239,8 +238,3 @@ pub event-made : {A E : Type 0} (s new : State) (e : Event) (r : Result A E) →
     → IsHead s e → OnOk r (HasDone s new e) → (log : List Entry) → OnOk r (Makes event log s new outcomes.Ran)
 event-made s new e (Ok x) due head done log = event-makes s new e due head done log
 event-made s new e (Err x) due head done log = tt
-
--- the bytes that bios name are in the log as before
-pub logged-same : (s new : State) → new.traffic ≡ s.traffic → (log : List Entry) → HasBytes log s → HasBytes log new
-logged-same s new same log has =
-    subst (λ (v : TrafficView). AreLogged (length log) v.bios) (sym same) has

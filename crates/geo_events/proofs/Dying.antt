@@ -1,10 +1,10 @@
 -- Handles that become dead where their provider is orphaned, one after another.
-use Rattle.std.specs.Prelude.{◌≡◌, ℕ, ◌+◌, nat_le, List, [], ◌∷◌, filter, fold, Contains, IsSome}
-use Rattle.std.proofs.Common.{refl, sym, ◌∙◌, ap, subst}
+use Rattle.std.specs.Prelude.{◌≡◌, ℕ, nat_le, List, ◌∷◌, filter, fold, Contains, IsSome}
+use Rattle.std.proofs.Common.{refl, sym, ap, subst}
 use Rattle.geo_model.specs.Words.{names_number}
 use Rattle.geo_model.specs.Topology.{Topology, Consumer, consumer_at, attached_to}
 use Rattle.geo_model.specs.Events.{is_of_dev, dying_consumers}
-use Rattle.geo_model.specs.World.{Config, Handle}
+use Rattle.geo_model.specs.World.{Config}
 use Rattle.geo_laws_graph.specs.LookupLaws.{left_from}
 use Rattle.geo_laws_graph.proofs.Lists.{found_itself}
 use Rattle.geo_laws_graph.proofs.Members.{Origin, filter-Contains, map-Contains, Contains-here}
@@ -49,40 +49,3 @@ dying-lives s firm p from_number c cs left =
     (subst (λ o. IsSome o)
     (sym (found_itself (λ (x : Consumer). x.number) t.next_consumer t.consumers origin.item
     firm.1.1.graph.numbers.consumers here.0)) refl)
-
--- one more becomes dead
-pub killing-goes-on : (s now new : State) (p from_number c : ℕ) → KilledSoFar s now p from_number
-    → dying_left s.topo.topology p from_number ≡ c ∷ dying_left s.topo.topology p (c + 1)
-    → new ≡ record now {
-      handles = record now.handles { handles = killed now.handles.handles c; ready = new.handles.ready };
-    }
-    → KilledSoFar s new p (c + 1)
-killing-goes-on s now new p from_number c far next is = record {
-  left =
-      ap (λ (z : State). fold killed z.handles.handles (dying_left s.topo.topology p (c + 1))) is
-      ∙ sym (ap (fold killed now.handles.handles) next)
-      ∙ far.left;
-  rest =
-      is
-      ∙ ap (λ (z : State). record z {
-        handles = record z.handles { handles = killed now.handles.handles c; ready = new.handles.ready };
-      }) far.rest
-      ∙ ap (λ (hs : List Handle). record s {
-        handles = record s.handles { handles = hs; ready = new.handles.ready };
-      }) (sym (ap (λ (z : State). z.handles.handles) is));
-}
-
--- none is left
-pub killing-ends : (s now : State) (p from_number : ℕ) → KilledSoFar s now p from_number
-    → dying_left s.topo.topology p from_number ≡ []
-    → now ≡ record s {
-      handles = record s.handles {
-        handles = killed_at s.topo.topology p s.handles.handles;
-        ready = now.handles.ready;
-      };
-    }
-killing-ends s now p from_number far none =
-    far.rest
-    ∙ ap (λ (hs : List Handle). record s {
-      handles = record s.handles { handles = hs; ready = now.handles.ready };
-    }) (sym (ap (fold killed now.handles.handles) none) ∙ far.left)

@@ -1,11 +1,10 @@
 -- What is kept after the effects of events, and the world then.
-use Rattle.std.specs.Prelude.{◌≡◌, ℕ, ◌+◌, ◌≤◌, ◌==◌, not, List, [], ◌∷◌, drop, fold, count_by, Some, None, slice_get}
+use Rattle.std.specs.Prelude.{◌≡◌, ℕ, ◌+◌, ◌≤◌, ◌==◌, not, List, [], ◌∷◌, drop, fold, count_by}
 use Rattle.std.proofs.Common.{refl, sym, ◌∙◌, ap, subst, arith}
 use Rattle.std.proofs.lemmas.List.Sums.{length-filter}
 use Rattle.geo_base.specs.declared.request.Counts.{Counts}
 use Rattle.geo_model.specs.declared.command.LineCommand.{LineCommand}
 use Rattle.geo_model.specs.declared.step.Entry.{Entry}
-use Rattle.geo_model.specs.declared.step.Event.{Event}
 use Rattle.geo_model.specs.declared.step.Event.TheVariants as heads
 use Rattle.geo_model.specs.Topology.{Topology, Provider}
 use Rattle.geo_model.specs.Events.{QueuedTopology, spoil, orphan, resize, dying_consumers}
@@ -21,9 +20,8 @@ use Rattle.geo_state.specs.declared.state.State.{State}
 use Rattle.geo_state.specs.Parts.{SameParts}
 use Rattle.geo_state.specs.Holds.{Holds, owed_events}
 use Rattle.geo_state.specs.World.{world}
-use Rattle.geo_state.proofs.Frames.{parts-self}
 use Rattle.geo_state.proofs.LawLemmas.{effects_keep_parts, holds_after_effects}
-use Rattle.geo_events.specs.Steps.{IsHead, HasDone, without_head}
+use Rattle.geo_events.specs.Steps.{HasDone, without_head}
 use Rattle.geo_events.specs.Killing.{killed_at}
 
 -- how many providers carry no error, and how many have a write count
@@ -43,13 +41,6 @@ abbrev pub headless : Queued → Queued
 headless q = record { events = drop 1 q.events; spare = q.spare + 1 }
 
 module _ (s : State) (kept : Holds s) where
-  -- all is kept without the head of the queue
-  pub headless-kept : Holds (record s { queue = headless s.queue })
-  headless-kept =
-      holds_after_effects s s.topo (headless s.queue) kept (parts-self s.topo.topology) refl (λ c. refl) kept.counted
-      kept.quiet (let room : owed_events s.topo ≤ s.queue.spare = kept.room in
-      let more : owed_events s.topo ≤ s.queue.spare + 1 = omega (arith, room) in more)
-
   -- there is a place for each provider without an error
   pub room-for : sound_providers s.topo.topology + 1 ≤ s.queue.spare + 1
   room-for =
@@ -165,12 +156,6 @@ orphan-done s v u q p is same actors log =
     ∙ ap (with_queued (record w { handles = dead })) same
     ∙ ap (λ (x : World). with_queued x (orphan (queued s.topo (headless s.queue)) p))
     (sym (kills w (dying_consumers s.topo.topology p)))
-
--- there is an event where one is the head
-pub head-there : (s : State) (e : Event) → IsHead s e → s.queue.events ≡ [] → ⊥
-head-there s e head none =
-    let never : None ≡ Some e = sym (ap (λ (q : List Event). slice_get q 0) none) ∙ head in
-    cc
 
 -- Effects over a queue whose head was taken away
 

@@ -1,12 +1,11 @@
 -- A taste that begins, and what is kept then.
-use Rattle.std.specs.Prelude.{◌≡◌, ℕ, ◌+◌, ◌≤◌, ◌==◌, Bool, true, false, not, List, [], ◌∷◌, map, find, Option, Some, None, IsSome, option_and_then, if◌then◌else◌}
+use Rattle.std.specs.Prelude.{◌≡◌, ℕ, ◌+◌, ◌≤◌, ◌==◌, Bool, true, false, not, List, [], ◌∷◌, map, find, Some, None, if◌then◌else◌}
 use Rattle.std.specs.Option.{option_map}
 use Rattle.std.proofs.Common.{refl, sym, ◌∙◌, ap, subst, arith}
 use Rattle.std.proofs.lemmas.List.{map-append, append-nil}
-use Rattle.std.proofs.lemmas.List.Elements.{All-weaker}
 use Rattle.geo_base.specs.declared.request.Counts.{Counts}
 use Rattle.geo_model.specs.declared.step.Event.TheVariants as heads
-use Rattle.geo_model.specs.Topology.{Topology, Consumer, consumer_at, provider_at}
+use Rattle.geo_model.specs.Topology.{Topology, Consumer, consumer_at}
 use Rattle.geo_model.specs.Events.{is_not_tasted}
 use Rattle.geo_model.specs.World.{World, Config, Taste, granted_of}
 use Rattle.geo_model.specs.WorldEvents.{do_event, begin_taste}
@@ -28,7 +27,7 @@ use Rattle.geo_state.proofs.SiteLemmas.{kept_after_comers}
 use Rattle.geo_state.proofs.Frames.{parts-self}
 use Rattle.geo_state.proofs.LawLemmas.{holds_after_effects}
 use Rattle.geo_events.specs.Steps.{HasDone, without_head}
-use Rattle.geo_events.proofs.Effects.{headless, headless-kept}
+use Rattle.geo_events.proofs.Effects.{headless}
 
 -- nothing is stored of a number that no consumer has
 pub none-stored : {V : Type 0} (f : Consumer → V) (n : ℕ) (cs : List Consumer)
@@ -62,20 +61,6 @@ module _ (s : State) (kept : Holds s) (firm : IsFirm s) where
       ap (λ rows. value_at rows t.next_consumer) kept.active
       ∙ ap (option_map (λ (row : ℕ × ℕ). row.1))
       (none-stored (λ c. out_through (trips s.traffic.bios) c.number) t.next_consumer t.consumers fresh)
-
-  -- each consumer is attached
-  pub taste-settled : IsSettled s.topo
-  taste-settled = record {
-    counted = kept.counted;
-    quiet = kept.quiet;
-    attached =
-        All-weaker (λ (x : Consumer). IsSome (option_and_then (provider_at t) x.provider)) (λ x. IsSome x.provider)
-        (λ x lives. on x.provider lives) t.consumers firm.1.1.graph.attached;
-  }
-    where
-      on : (o : Option ℕ) → IsSome (option_and_then (provider_at t) o) → IsSome o
-      on None never = absurd cc
-      on (Some p) lives = refl
 
   module _ (none : s.taste ≡ None) (p : ℕ) where
     -- what comes with a taste
@@ -184,9 +169,6 @@ module _ (s : State) (kept : Holds s) (firm : IsFirm s) where
       back false never = absurd cc
 
   module _ (queue : Queued) (headless_is : queue ≡ headless s.queue) where
-    pub passed-kept : Holds (record s { queue = queue })
-    passed-kept = subst (λ (q : Queued). Holds (record s { queue = q })) (sym headless_is) (headless-kept s kept)
-
     -- and the event is done
     pub passed-at : (p : ℕ) → false ≡ not (is_not_tasted (granted_by s.topo) t p)
         → HasDone s (record s { queue = queue }) (heads.NewProvider p)
@@ -210,8 +192,3 @@ module _ (s : State) (kept : Holds s) (firm : IsFirm s) where
     pub roomed-world : SameWorld s (record s { topo = u })
     roomed-world actors log =
         ap (λ (v : TopoView Config). record (world actors log s) { topology = v.topology }) same
-
--- what is to be tasted
-pub to-taste : (b : Bool) → true ≡ not b → b ≡ false
-to-taste true never = absurd cc
-to-taste false e = refl

@@ -1,7 +1,7 @@
 -- The read of a taste that is submitted.
-use Rattle.std.specs.Prelude.{◌≡◌, ℕ, ◌+◌, ◌*◌, ◌/◌, ◌%◌, ◌<◌, ◌≤◌, ◌^◌, ◌==◌, nat_le, ◌||◌, List, [], ◌∷◌, ◌++◌, Some, IsSomeAnd}
+use Rattle.std.specs.Prelude.{◌≡◌, ℕ, ◌*◌, ◌/◌, ◌%◌, ◌<◌, ◌≤◌, ◌^◌, ◌==◌, nat_le, ◌||◌, List, [], ◌∷◌, ◌++◌, Some, IsSomeAnd}
 use Rattle.std.specs.Option.{option_map_or}
-use Rattle.std.proofs.Common.{refl, sym, ◌∙◌, ap, subst, arith}
+use Rattle.std.proofs.Common.{subst, arith}
 use Rattle.std.proofs.Math.Nat.{div-mul-le_self, mul-le-mul_right}
 use Rattle.std.proofs.lemmas.Bool.{and_parts, leb-true}
 use Rattle.std.proofs.lemmas.List.Elements.{All-contains}
@@ -10,18 +10,13 @@ use Rattle.geo_base.specs.declared.limits.TheConstants.{MAX_MEDIA_BYTES}
 use Rattle.geo_model.specs.declared.span.Span.{Span}
 use Rattle.geo_model.specs.declared.step.Owner.TheVariants as owners
 use Rattle.geo_model.specs.Topology.{Topology, Provider, provider_at}
-use Rattle.geo_model.specs.World.{World, Config, Taste}
-use Rattle.geo_model.specs.Bios.{new_bio, submit}
-use Rattle.geo_log.specs.Places.{delivered_at}
-use Rattle.geo_state.specs.Shown.{shown_bios, AreLogged}
-use Rattle.geo_state.proofs.LoggedLemmas.{places_stay_logged}
-use Rattle.geo_state.proofs.StepLemmas.{world_shows_bios}
+use Rattle.geo_model.specs.World.{Config, Taste}
+use Rattle.geo_model.specs.Bios.{new_bio}
 use Rattle.geo_laws_graph.proofs.Members.{find-Contains}
 use Rattle.geo_mesh.specs.Graph.{IsOffer, IsSoundGraph}
 use Rattle.geo_state.specs.declared.state.State.{State}
 use Rattle.geo_state.specs.Bios.{OnlyBios}
-use Rattle.geo_state.specs.World.{world}
-use Rattle.geo_events.specs.Judging.{with_taste, HasSubmitted}
+use Rattle.geo_events.specs.Judging.{with_taste}
 
 -- the offset of a sector of a provider fits
 pub sector-fits : (t : Topology Config) → IsSoundGraph t → (prov sector : ℕ) (p : Provider)
@@ -48,29 +43,3 @@ module _ (s new : State) (a : Taste) (sector : ℕ) (only : OnlyBios (with_taste
     -- the bytes of the sector
     abbrev size : ℕ
     size = option_map_or (λ (p : Provider). p.sector) (provider_at s.topo.topology a.provider) 512
-
-    -- the world with the read
-    pub read-submitted : bytes ≡ [] → new.traffic.next ≡ s.traffic.next + 1
-        → span ≡ record { offset = sector * size; len = size } → HasSubmitted s new a sector
-    read-submitted none next is actors log =
-        let w : World = world actors log (with_taste s a) in
-        ap (world actors log) only.rest
-        ∙ ap (λ ds. let v : World = record w {
-          bios = shown_bios (delivered_at log) new.traffic.bios;
-          next_bio = new.traffic.next;
-          disks = ds;
-        } in v) only.disks
-        ∙ (λ i. let v : World = record w {
-          bios = shown_bios (delivered_at log) (bios i);
-          next_bio = next i;
-        } in v)
-        ∙ sym ((world_shows_bios (delivered_at log) s.traffic.bios w refl).submits cmds.Read span.offset span.len bytes
-        a.consumer a.provider owners.Taste)
-        ∙ (λ i. submit w cmds.Read ((is i).offset) ((is i).len) (none i) a.consumer a.provider owners.Taste)
-
-    -- the bytes that bios name are in the log as before
-    pub read-logged : (n : ℕ) → AreLogged n s.traffic.bios → AreLogged n new.traffic.bios
-    read-logged n logged =
-        subst (AreLogged n) (sym bios)
-        ((places_stay_logged n s.traffic.bios logged).submits s.traffic.next cmds.Read span.offset span.len bytes
-        a.consumer a.provider owners.Taste)

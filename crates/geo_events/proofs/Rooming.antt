@@ -1,16 +1,14 @@
 -- A state with other room for events and requests stands for the same world.
-use Rattle.std.specs.Prelude.{◌≡◌, List, Option, Result, Ok, Err, IfOk, OnErr, length}
+use Rattle.std.specs.Prelude.{List, Result, Ok, Err, IfOk, OnErr, length}
 use Rattle.std.proofs.Common.{sym, ◌∙◌, ap, subst}
 use Rattle.geo_model.specs.declared.step.Entry.{Entry}
 use Rattle.geo_model.specs.declared.step.Event.{Event}
-use Rattle.geo_model.specs.declared.step.Found.{Found}
 use Rattle.geo_model.specs.declared.step.Outcome.{Outcome}
-use Rattle.geo_model.specs.Fitting.{Firm}
 use Rattle.geo_model.specs.World.{World}
 use Rattle.geo_model.specs.Step.{Answer}
 use Rattle.geo_state.specs.Shown.{AreLogged}
 use Rattle.geo_state.specs.declared.state.State.{State}
-use Rattle.geo_state.specs.Steps.{IsFirm, IsAgainst, Makes, SameWorld, against}
+use Rattle.geo_state.specs.Steps.{Makes, SameWorld}
 use Rattle.geo_state.specs.World.{world, HasBytes}
 use Rattle.geo_events.specs.Judging.{IsRoomed}
 
@@ -21,15 +19,7 @@ module _ (s now : State) (roomed : IsRoomed s now) where
       ap (world actors log) roomed.rest
       ∙ ap (λ (es : List Event). let w : World = record (world actors log s) { events = es } in w) roomed.events
 
-  -- so it is as firm
-  pub firm-still : IsFirm s → IsFirm now
-  firm-still firm = (firm.0, (firm.1.0, subst Firm (sym (same-world firm.1.0 firm.0)) firm.1.1))
-
   module _ (step : World → Answer) where
-    pub due-still : (o : Option Found) → IsAgainst step s o → IsAgainst step now o
-    due-still o due actors log =
-        subst (λ (w : World). against (step w) ≡ o) (sym (same-world actors log)) (due actors log)
-
     -- a step of it is one of the state as it was
     pub makes-still : {E : Type 0} (r : Result Outcome E) (new : State) (log : List Entry)
         → IfOk r (λ o. Makes step log now new o) → IfOk r (λ o. Makes step log s new o)

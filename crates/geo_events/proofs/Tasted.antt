@@ -1,5 +1,5 @@
 -- What a firm state tells of the taste that is under way.
-use Rattle.std.specs.Prelude.{◌≡◌, ℕ, ◌<◌, ◌≤◌, ◌^◌, ◌==◌, Bool, true, false, not, ◌&&◌, List, [], ◌∷◌, length, Option, Some, None, Contains, IsTrue, IsSome, IsSomeAnd, IfSome, MatchOption, if◌then◌else◌}
+use Rattle.std.specs.Prelude.{◌≡◌, ℕ, ◌<◌, ◌≤◌, ◌==◌, Bool, true, false, not, ◌&&◌, List, [], ◌∷◌, length, Option, Some, None, Contains, IsTrue, IsSome, IsSomeAnd, IfSome, MatchOption, if◌then◌else◌}
 use Rattle.std.specs.List.{AllByRecursion, list_any}
 use Rattle.std.specs.Option.{option_map, option_map_or, option_and_then}
 use Rattle.std.proofs.Common.{refl, sym, ◌∙◌, ap, subst, arith, inl, inr, eq-eqb}
@@ -15,7 +15,7 @@ use Rattle.geo_model.specs.Topology.{Topology, Geom, Provider, Consumer, consume
 use Rattle.geo_model.specs.Demand.{no_counts, one_read, want}
 use Rattle.geo_model.specs.Rank.{rank}
 use Rattle.geo_model.specs.World.{World, Config, Bio, BioOf, Handle, Taste, Asked, NoClass, NextSector, ReadOut, ReadBack, granted_in, is_read_out, is_taste_root, taste_grant}
-use Rattle.geo_model.specs.Sound.{AreReadsInOrder, IsMediaSize, IsTasteInOrder, IsTasting}
+use Rattle.geo_model.specs.Sound.{IsMediaSize, IsTasteInOrder, IsTasting}
 use Rattle.geo_model.specs.SoundBios.{IsBioInOrder, HasCountFor}
 use Rattle.geo_model.specs.Fitting.{IsAskedInOrder}
 use Rattle.geo_model.proofs.DemandLemmas.{find_passes, names_some}
@@ -50,13 +50,6 @@ use Rattle.geo_state.proofs.Rises.{active-at}
 use Rattle.geo_events.proofs.Deciding.{read-is}
 use Rattle.geo_events.proofs.Stepping.{IsReadable}
 
--- reads that are in order are few
-few-reads : (a : Asked) (n : ℕ) → AreReadsInOrder a n → n < 2 ^ 63
-few-reads NoClass n is = omega (arith, is)
-few-reads (NextSector kind sector) n is = let few : n < 33 = is in omega (arith, few)
-few-reads (ReadOut kind) n is = let few : n ≤ 33 = is in omega (arith, few)
-few-reads (ReadBack kind got) n is = let few : n ≤ 33 = is in omega (arith, few)
-
 -- a sector has 512 bytes or more
 long-sector : (size : ℕ) → IsSectorSize size → 512 ≤ size
 long-sector size (inl small) = omega (arith, small)
@@ -78,10 +71,6 @@ module _ (s : State) (kept : Holds s) (firm : IsFirm s) (a : Taste) (is : s.tast
   -- it is in order
   pub ordered : IsTasteInOrder w.topology a
   ordered = subst (λ (o : Option Taste). IfSome o (IsTasteInOrder w.topology)) is firm.1.1.taste.order
-
-  -- the reads made are few
-  pub reads-few : a.reads < 2 ^ 63
-  reads-few = few-reads a.asked a.reads ordered.reads
 
   -- the tasted provider is there, and its geom is low
   record HasLow : Type 0 where

@@ -7,8 +7,5 @@ pub unreachable-requires : goal.unreachable-requires
 unreachable-requires c =
     absurd (some-waits c.args.state.now c.requires.due (sym c.head.ensures ∙ c.in_default.is))
 
-pub returns-clause-head : goal.returns-clause-head
-returns-clause-head c = sym c.head.ensures ∙ c.in-Some.is
-
 pub returns-clause-none : goal.returns-clause-none
 returns-clause-none c = none-tasted c.args.state.now c.requires.due

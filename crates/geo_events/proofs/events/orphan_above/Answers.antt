@@ -1,18 +1,9 @@
-use Rattle.std.proofs.Common.{ap, subst, sym, ◌∙◌}
-use Rattle.geo_model.specs.declared.step.Event.TheVariants as heads
+use Rattle.std.proofs.Common.{ap, ◌∙◌}
 use Rattle.geo_model.specs.Events.{orphan}
 use Rattle.geo_event.specs.EventQueue.{Queued}
 use Rattle.geo_life.specs.Life.{queued, sound_providers}
-use Rattle.geo_state.specs.declared.state.State.{State}
-use Rattle.geo_events.specs.Steps.{IsHead}
-use Rattle.geo_events.proofs.Effects.{head-there, rest-of, owed-same, room-of, room-after, orphan-kept, orphan-from}
+use Rattle.geo_events.proofs.Effects.{rest-of, owed-same, room-of, room-after, orphan-kept, orphan-from}
 use Rattle.geo_events.proofs.events.orphan_above.Goals as goal
-
--- handles that die leave the queue
-pub drop_head-requires : goal.drop_head-requires
-drop_head-requires c =
-    head-there c.kill_at.new.state (heads.Orphan c.args.prov)
-    (subst (λ (z : State). IsHead z (heads.Orphan c.args.prov)) (sym c.kill_at.ensures.killed) c.requires.head)
 
 -- a place is owed to each provider without an error, and is kept
 pub orphan-requires : goal.orphan-requires
@@ -42,7 +33,3 @@ returns-clause-kept c =
     c.args.prov
     (c.orphan.ensures.orphaned
     ∙ ap (λ (r : Queued). orphan (queued c.kill_at.new.state.topo r) c.args.prov) c.drop_head.ensures)
-
--- handles that die leave the requests
-pub returns-clause-requests : goal.returns-clause-requests
-returns-clause-requests c = ap (λ (z : State). z.traffic) c.kill_at.ensures.killed

@@ -1,14 +1,10 @@
 use Rattle.std.specs.Prelude.{◌+◌}
-use Rattle.geo_model.specs.declared.step.Event.TheVariants as heads
 use Rattle.geo_model.proofs.FirmLemmas.{sound_of, steady_of}
 use Rattle.geo_life.specs.Life.{sound_providers}
 use Rattle.geo_life.proofs.Spared.{handles_are_spared}
 use Rattle.geo_state.specs.World.{world}
-use Rattle.geo_events.proofs.Effects.{head-there, rest-of, owed-one, room-for, room-after, resize-kept, resize-done, resized-from}
+use Rattle.geo_events.proofs.Effects.{rest-of, owed-one, room-for, room-after, resize-kept, resize-done, resized-from}
 use Rattle.geo_events.proofs.events.outgrow_above.Goals as goal
-
-pub drop_head-requires : goal.drop_head-requires
-drop_head-requires c = head-there c.args.state.now (heads.Resize c.args.prov) c.requires.head
 
 -- in a sound and steady world no taste made DEV
 pub resize-requires-clause-made : goal.resize-requires-clause-made

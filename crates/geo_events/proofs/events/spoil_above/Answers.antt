@@ -1,16 +1,9 @@
 use Rattle.std.proofs.Common.{ap, ◌∙◌}
-use Rattle.geo_model.specs.declared.step.Event.TheVariants as heads
 use Rattle.geo_model.specs.Events.{spoil}
 use Rattle.geo_event.specs.EventQueue.{Queued}
 use Rattle.geo_life.specs.Life.{queued, sound_providers}
-use Rattle.geo_events.proofs.Effects.{head-there, rest-of, owed-same, room-of, room-after, spoil-kept, spoil-done}
+use Rattle.geo_events.proofs.Effects.{rest-of, owed-same, room-of, room-after, spoil-kept, spoil-done}
 use Rattle.geo_events.proofs.events.spoil_above.Goals as goal
-
-pub drop_head-requires : goal.drop_head-requires
-drop_head-requires c = head-there c.args.state.now (heads.Spoil c.args.prov) c.requires.head
-
-pub spoil-requires-clause-unmarked : goal.spoil-requires-clause-unmarked
-spoil-requires-clause-unmarked c = c.requires.firm.1.1.graph.unmarked
 
 -- a place is owed to each provider without an error, and is kept
 pub spoil-requires-clause-room : goal.spoil-requires-clause-room

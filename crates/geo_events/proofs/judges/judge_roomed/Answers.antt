@@ -1,9 +1,8 @@
 use Rattle.std.specs.Prelude.{◌+◌, ◌-◌}
 use Rattle.std.proofs.Common.{sym, ◌∙◌}
-use Rattle.geo_events.proofs.Arms.{ready-of, stepped, few-turns, next, read-holds, read-through, read-idle, read-inside, read-made, made-first, made-all, made-holds, made-made, ended-idle, ended-out, ended, refused-holds, refused-same}
+use Rattle.geo_events.proofs.Arms.{ready-of, stepped, few-turns, next, read-holds, read-through, read-idle, read-inside, read-made, made-first, made-all, made-holds, made-made, ended-idle, ended-out, ended, refused-holds}
 use Rattle.geo_events.proofs.Deciding.{taste-there}
-use Rattle.geo_events.proofs.Offering.{taste-settled}
-use Rattle.geo_events.proofs.Tasted.{is-taste, rank-low, read-none, reads-few, sector-long}
+use Rattle.geo_events.proofs.Tasted.{is-taste, rank-low, read-none, sector-long}
 use Rattle.geo_events.proofs.judges.judge_roomed.Goals as goal
 
 -- a Judge is due, so a taste is under way
@@ -11,20 +10,10 @@ pub unreachable-requires : goal.unreachable-requires
 unreachable-requires g c =
     absurd (taste-there c.args.state.now c.requires.kept c.requires.due (sym c.take.ensures.value ∙ c.in_default.is))
 
--- for each condition: it holds of the taste under way in a firm world
-pub judge_step-requires-clause-settled : goal.judge_step-requires-clause-settled
-judge_step-requires-clause-settled g c =
-    taste-settled c.args.state.now c.requires.kept c.requires.firm
-
 pub judge_step-requires-clause-tasting : goal.judge_step-requires-clause-tasting
 judge_step-requires-clause-tasting g c =
     is-taste c.args.state.now c.requires.kept c.requires.firm c.in-Some.taste
     (sym c.take.ensures.value ∙ c.in-Some.is) c.coming_provider-first.ensures.sound
-
-pub judge_step-requires-clause-few : goal.judge_step-requires-clause-few
-judge_step-requires-clause-few g c =
-    reads-few c.args.state.now c.requires.kept c.requires.firm c.in-Some.taste
-    (sym c.take.ensures.value ∙ c.in-Some.is)
 
 pub judge_step-requires-clause-sector : goal.judge_step-requires-clause-sector
 judge_step-requires-clause-sector g c =
@@ -129,36 +118,9 @@ returns-in-Ended g c =
           c.judge_step.ensures.bound;
     }
 
--- for both clauses: after want of memory mesh, events and taste are as before, and the taste is put back
+-- after want of memory mesh, events and taste are as before, and the taste is put back
 pub returns-in-Err-clause-kept : goal.returns-in-Err-clause-kept
 returns-in-Err-clause-kept g c =
     refused-holds (ready-of c.requires.kept c.requires.firm c.requires.due c.take.ensures.value c.in-Some.is
     c.coming_provider-first.ensures.sound c.requires.events)
     c.in-Err.ensures.same c.in-Err.ensures.taste c.in-Err.ensures.settled c.judge_step.ensures.spare
-
-pub returns-in-Err-clause-same : goal.returns-in-Err-clause-same
-returns-in-Err-clause-same g c =
-    refused-same (ready-of c.requires.kept c.requires.firm c.requires.due c.take.ensures.value c.in-Some.is
-    c.coming_provider-first.ensures.sound c.requires.events)
-    c.in-Err.ensures.same c.in-Err.ensures.taste c.in-Err.ensures.settled c.judge_step.ensures.spare
-
--- for each outcome: the step of the taste alone ticks
-pub returns-in-Read-clause-bound : goal.returns-in-Read-clause-bound
-returns-in-Read-clause-bound g c =
-    few-turns c.args.state.now c.args.steps.now c.judge_step.new.steps c.take.ensures.value c.in-Some.is
-    c.judge_step.ensures.bound
-
-pub returns-in-Next-clause-bound : goal.returns-in-Next-clause-bound
-returns-in-Next-clause-bound g c =
-    few-turns c.args.state.now c.args.steps.now c.judge_step.new.steps c.take.ensures.value c.in-Some.is
-    c.judge_step.ensures.bound
-
-pub returns-in-Made-clause-bound : goal.returns-in-Made-clause-bound
-returns-in-Made-clause-bound g c =
-    few-turns c.args.state.now c.args.steps.now c.judge_step.new.steps c.take.ensures.value c.in-Some.is
-    c.judge_step.ensures.bound
-
-pub returns-in-Err-clause-bound : goal.returns-in-Err-clause-bound
-returns-in-Err-clause-bound g c =
-    few-turns c.args.state.now c.args.steps.now c.judge_step.new.steps c.take.ensures.value c.in-Some.is
-    c.judge_step.ensures.bound

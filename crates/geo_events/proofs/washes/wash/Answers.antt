@@ -1,4 +1,4 @@
-use Rattle.geo_events.proofs.Deciding.{wash-makes, logged-same}
+use Rattle.geo_events.proofs.Deciding.{wash-makes}
 use Rattle.geo_events.proofs.washes.wash.Goals as goal
 
 -- what goes is what the model finds to wash first
@@ -6,6 +6,3 @@ pub returns-clause-made : goal.returns-clause-made
 returns-clause-made c =
     wash-makes c.args.state.now c.requires.kept c.requires.firm c.due_work-work.result c.due_work-work.ensures.found
     c.take_part.new.state c.take_part.ensures.made
-
-pub returns-clause-logged : goal.returns-clause-logged
-returns-clause-logged c = logged-same c.args.state.now c.take_part.new.state c.take_part.ensures.requests

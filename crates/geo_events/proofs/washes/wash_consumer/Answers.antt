@@ -3,12 +3,6 @@ use Rattle.geo_model.specs.declared.step.WashWork.TheVariants as works
 use Rattle.geo_events.proofs.Washed.{washed-world, consumer-kept}
 use Rattle.geo_events.proofs.washes.wash_consumer.Goals as goal
 
-pub wash-requires-clause-dev : goal.wash-requires-clause-dev
-wash-requires-clause-dev c = c.requires.firm.1.1.graph.ranks.dev.stands
-
-pub wash-requires-clause-taste : goal.wash-requires-clause-taste
-wash-requires-clause-taste c = c.requires.firm.1.1.graph.ranks.taste.stands
-
 pub returns-clause-made : goal.returns-clause-made
 returns-clause-made c =
     washed-world c.args.state.now c.requires.kept c.requires.firm c.wash.new.topo c.wash.new.queue
@@ -20,6 +14,3 @@ pub returns-clause-kept : goal.returns-clause-kept
 returns-clause-kept c =
     consumer-kept c.args.state.now c.requires.kept c.requires.firm c.wash.new.topo c.wash.new.queue
     c.wash.ensures.memory c.wash.ensures.kept c.args.cons c.wash.ensures.mesh c.wash.ensures.washed
-
-pub wash-requires-clause-free : goal.wash-requires-clause-free
-wash-requires-clause-free c = c.requires.due.free

@@ -1,14 +1,7 @@
 use Rattle.std.proofs.Common.{ap, ◌∙◌}
-use Rattle.geo_state.specs.declared.state.State.{State}
 use Rattle.geo_state.specs.Sites.{seats_without}
 use Rattle.geo_events.proofs.Washed.{geom-stands, has-seat, geom-world, geom-kept}
 use Rattle.geo_events.proofs.washes.wash_geom.Goals as goal
-
-pub wash-requires-clause-dev : goal.wash-requires-clause-dev
-wash-requires-clause-dev c = c.requires.firm.1.1.graph.ranks.dev.stands
-
-pub wash-requires-clause-taste : goal.wash-requires-clause-taste
-wash-requires-clause-taste c = c.requires.firm.1.1.graph.ranks.taste.stands
 
 -- in a firm world the disk that a geom names is one of the header
 pub free_seat-requires : goal.free_seat-requires
@@ -33,9 +26,3 @@ returns-clause-kept c =
     c.wash.ensures.mesh c.wash.ensures.washed c.free_seat.ensures.rest
     (c.free_seat.ensures.seats
     ∙ ap (seats_without c.args.state.now.disks.items) c.disk_of_geom-disk.ensures)
-
-pub returns-clause-requests : goal.returns-clause-requests
-returns-clause-requests c = ap (λ (z : State). z.traffic) c.free_seat.ensures.rest
-
-pub wash-requires-clause-free : goal.wash-requires-clause-free
-wash-requires-clause-free c = c.requires.due.free

@@ -4,12 +4,6 @@ use Rattle.geo_model.specs.declared.step.WashWork.TheVariants as works
 use Rattle.geo_events.proofs.Washed.{provider-stands, washed-world, one-provider-less, provider-kept}
 use Rattle.geo_events.proofs.washes.wash_provider.Goals as goal
 
-pub wash-requires-clause-dev : goal.wash-requires-clause-dev
-wash-requires-clause-dev c = c.requires.firm.1.1.graph.ranks.dev.stands
-
-pub wash-requires-clause-taste : goal.wash-requires-clause-taste
-wash-requires-clause-taste c = c.requires.firm.1.1.graph.ranks.taste.stands
-
 pub returns-clause-made : goal.returns-clause-made
 returns-clause-made c =
     washed-world c.args.state.now c.requires.kept c.requires.firm c.wash.new.topo c.wash.new.queue
@@ -38,6 +32,3 @@ returns-clause-kept c =
     provider-kept c.args.state.now c.requires.kept c.requires.firm c.wash.new.topo c.wash.new.queue
     c.wash.ensures.memory c.wash.ensures.kept c.args.prov stands c.wash.ensures.mesh c.wash.ensures.washed
     c.requires.due.free (c.args.state.now.providers - 1) (omega (arith, less))
-
-pub wash-requires-clause-free : goal.wash-requires-clause-free
-wash-requires-clause-free c = c.requires.due.free
