@@ -1,35 +1,36 @@
 -- The end of a walk that keeps nothing: nothing is left to try.
-use Rattle.std.specs.Prelude.{◌≡◌, ◌≢◌, ℕ, ◌==◌, Bool, true, false, ◌||◌, List, [], ◌∷◌, map, fold, Some, None, Contains, if◌then◌else◌}
+use Rattle.std.specs.Prelude.{◌≡◌, ◌≢◌, ℕ, ◌==◌, Bool, true, false, ◌||◌, List, [], ◌∷◌, map, fold, None, Contains, if◌then◌else◌}
 use Rattle.std.proofs.Common.{refl, sym, ◌∙◌, ap, subst, inl, inr, eq-eqb}
 use Rattle.std.proofs.lemmas.Bool.{eqb-true, cases_eq, ne_eqb}
 use Rattle.geo_base.specs.declared.request.Counts.{Counts}
 use Rattle.geo_base.proofs.MemberLists.{Contains-there, Contains-cases, nothing_in, Contains-here, Contains-filter, Contains-map}
-use Rattle.geo_model.specs.Words.{names_number}
-use Rattle.geo_model.specs.Topology.{Topology, Geom, Provider, Consumer, provider_at, providers_of, attached_to}
-use Rattle.geo_model.specs.Demand.{no_counts, add_counts, sum_counts}
+use Rattle.geo_model.specs.Topology.{Geom, Provider, providers_of}
+use Rattle.geo_model.specs.Demand.{no_counts}
 use Rattle.geo_model.proofs.DemandLemmas.{map_same}
 use Rattle.geo_mesh.specs.declared.records.Scratch.{Scratch}
 use Rattle.geo_mesh.specs.Topo.{TopoView, no_scratch, with_geom_scratch}
-use Rattle.geo_laws_counts.proofs.Sums.{zero-add}
 use Rattle.geo_laws_counts.proofs.LimitFacts.{of_filter}
-use Rattle.geo_laws_counts.proofs.Upward.{names_some}
-use Rattle.geo_laws_counts.specs.WalkWords.{has_number, IsOrder, set_at, Flow}
-use Rattle.geo_laws_counts.proofs.Reach.{directly_under}
-use Rattle.geo_laws_counts.proofs.Orders.{order_closed, is-under}
-use Rattle.geo_laws_counts.proofs.Flows.{each_of, sum-none}
+use Rattle.geo_laws_counts.specs.WalkWords.{has_number, set_at}
+use Rattle.geo_laws_counts.proofs.Flows.{each_of}
 use Rattle.geo_access.specs.Tries.{Apart}
 use Rattle.geo_access.specs.Access.{clear_scratches}
 use Rattle.geo_access.specs.Views.{finish_provider, finish_geom}
 use Rattle.geo_access.proofs.Trying.{rows_of, geom_tries, provider_tries, Tries, no_tries, trying, trying-none, trying-geom, trying-provider, head_or, link_in}
 use Rattle.geo_access.proofs.Tried.{trying-same}
 
--- functions that agree at the items tell the same rows
+-- functions that agree at the items give the same rows
+pub rows_agree : {X V : Type 0} (key : X → ℕ) (f g : X → V) (xs : List X)
+    → ((x : X) → Contains xs x → f x ≡ g x)
+    → map {B = ℕ × V} (λ x. (key x, f x)) xs ≡ map {B = ℕ × V} (λ x. (key x, g x)) xs
+rows_agree {X} {V} key f g xs same =
+    map_same {Y = ℕ × V} (λ x. (key x, f x)) (λ x. (key x, g x)) xs
+    (each_of (λ (x : X). ◌≡◌ {A = ℕ × V} (key x, f x) (key x, g x)) xs
+    (λ x there. let row : V → ℕ × V = λ v. (key x, v) in ap row (same x there)))
+
+-- so do functions of numbers
 pub rows-same_on : {X V : Type 0} (key : X → ℕ) (f g : ℕ → V) (xs : List X)
     → ((x : X) → Contains xs x → f (key x) ≡ g (key x)) → rows_of key f xs ≡ rows_of key g xs
-rows-same_on {X} {V} key f g xs same =
-    map_same (λ x. (key x, f (key x))) (λ x. (key x, g (key x))) xs
-    (each_of (λ (x : X). ◌≡◌ {A = ℕ × V} (key x, f (key x)) (key x, g (key x))) xs (λ x there. let P : V → ℕ × V =
-    λ v. (key x, v) in ap P (same x there)))
+rows-same_on key f g xs same = rows_agree key (λ x. f (key x)) (λ x. g (key x)) xs same
 
 -- each item's value, changed
 abbrev pub sets : {X V : Type 0} → (X → ℕ) → (V → V) → (ℕ → V) → List X → ℕ → V
@@ -204,26 +205,3 @@ module _ {C : Type 0} (t : TopoView C) where
         none : {V : Type 0} (b : Bool) (zero old : V) → (b ≡ false → old ≡ zero) → (if b then zero else old) ≡ zero
         none true zero old so = refl
         none false zero old so = so refl
-
--- a provider of a geom outside an order gains nothing
-pub outside_gains : {C : Type 0} (t : Topology C) (p : ℕ) (first : Counts) (gain : ℕ → Counts) (more : Consumer
-    → Counts) (order : List ℕ) → IsOrder t order
-    → Flow t p first gain more order → (y : Provider) → provider_at t p ≡ Some y → Contains order y.geom
-    → (z : Provider) → provider_at t z.number ≡ Some z → (Contains order z.geom → ⊥) → gain z.number ≡ no_counts
-outside_gains t p first gain more order ordered flow y found inside z there away =
-    flow.sums z.number
-    ∙ ap (λ b. add_counts (if b then first else no_counts) (sum_counts (map more (attached_to t z.number))))
-    (ne_eqb p z.number
-    (λ e.
-    let same : y ≡ z = let one : Some y ≡ Some z = sym found ∙ ap (provider_at t) e ∙ there in cc in
-    away (subst (λ w. Contains order w.geom) same inside)))
-    ∙ ap (add_counts no_counts)
-    (sum-none more (attached_to t z.number)
-    (λ c at.
-    let stands = of_filter (λ (d : Consumer). names_number d.provider z.number) t.consumers c at in
-    flow.around c stands.0
-    (λ above.
-    away (order_closed t order ordered c.geom z.geom above
-    (is-under t c.geom z.number z
-    (directly_under t c z.number stands.0 (names_some c.provider z.number stands.1)) there)))))
-    ∙ zero-add no_counts

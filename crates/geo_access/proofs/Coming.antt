@@ -34,9 +34,9 @@ use Rattle.geo_access.specs.declared.refusal.GrantRefusal.TheVariants.{Enxio, Ep
 use Rattle.geo_access.specs.Access.{granted_by}
 use Rattle.geo_access.specs.Views.{CountsTell, order_of, finish_geom, IsTried, judged, errno_of_refused}
 use Rattle.geo_access.proofs.Trying.{trying}
-use Rattle.geo_access.proofs.Walked.{geoms_below, below_covers}
+use Rattle.geo_access.proofs.Walked.{walk, walk_covers}
 use Rattle.geo_access.proofs.Verdict.{After, IsVerdict, refused}
-use Rattle.geo_access.proofs.Decided.{IsTold, consumer_known, new_is, tells, cleared, decided, end}
+use Rattle.geo_access.proofs.Decided.{IsTold, consumer_known, new_is, tells, cleared, decided, end, IsDemand}
 
 -- where none passes before it, the last is found
 pub find_last : {X : Type 0} (test : X → Bool) (xs : List X) (y : X) → ((x : X) → Contains xs x → test x ≡ false)
@@ -60,7 +60,7 @@ bare_of (y ∷ ys) g none =
     (ne_eqb y.geom g (none y (Contains-here y ys)))
     ∙ bare_of ys g (λ z there. none z (Contains-there y z ys there))
 
-module _ {C : Type 0} (t : TopoView C) (sound : IsSoundGraph t.topology) (told : IsTold t) (p : ℕ) (y : Provider)
+module _ {C : Type 0} {t : TopoView C} (sound : IsSoundGraph t.topology) (told : IsTold t) (p : ℕ) (y : Provider)
     (offered : provider_at t.topology p ≡ Some y) (add : Counts) where
   -- the graph with the new consumer
   abbrev pub opened : Topology C
@@ -188,13 +188,6 @@ module _ {C : Type 0} (t : TopoView C) (sound : IsSoundGraph t.topology) (told :
   abbrev pub opened_mores : Consumer → Counts
   opened_mores c = more_counts (want (granted_by t) t.topology c) (want opened_grants opened c)
 
-  pub opening : (order : List ℕ) → Covers t.topology p order
-      → Demands t.topology p add (have (granted_by t) t.topology) opened_gains opened_mores order
-  opening order covers =
-      subst (λ a. Demands t.topology p a (have (granted_by t) t.topology) opened_gains opened_mores order) own_grant
-      (coming_demands t.topology opened_known (granted_by t) opened_grants 1 p comes opened_ranked dev_bare
-      order covers)
-
   -- a consumer that stood wants what it wanted and gains
   old_wants : (c : Consumer) → Contains t.topology.consumers c
       → want opened_grants opened c ≡ add_counts (want (granted_by t) t.topology c) (opened_mores c)
@@ -273,57 +266,59 @@ module _ {C : Type 0} (t : TopoView C) (sound : IsSoundGraph t.topology) (told :
                 )
           ]
 
-  module _ (new : TopoView C) (o : Order) (tried : IsTried t p add Rises new o) where
-    -- the geoms below
-    abbrev pub open_order : List ℕ
-    open_order = geoms_below t sound told.clear p tried.offer tried.found
+  -- so it is a demand
+  pub opener_demand : (order : List ℕ) → Covers t.topology p order
+      → IsDemand t p t.topology.next_consumer add opened_grants opened order
+  opener_demand order covers = record {
+    gain = opened_gains;
+    more = opened_mores;
+    stands = opening_after;
+    others = λ c there other. old_wants c there;
+    demand =
+        subst (λ a. Demands t.topology p a (have (granted_by t) t.topology) opened_gains opened_mores order) own_grant
+        (coming_demands t.topology opened_known (granted_by t) opened_grants 1 p comes opened_ranked dev_bare
+        order covers);
+  }
 
-    pub open_demand : Demands t.topology p add (have (granted_by t) t.topology) opened_gains opened_mores open_order
-    open_demand = opening open_order (below_covers t sound told.clear p tried.offer tried.found)
+-- where it was tried
+module _ {C : Type 0} {t : TopoView C} {p : ℕ} {add : Counts} {new : TopoView C} {o : Order}
+    (tried : IsTried t p add Rises new o) (sound : IsSoundGraph t.topology) (told : IsTold t) where
+  abbrev its_demand : IsDemand t p t.topology.next_consumer add
+      (with_grant (granted_by t) t.topology.next_consumer add) (with_opener t.topology p) (walk sound told.clear tried)
+  its_demand =
+      opener_demand sound told p tried.offer tried.found add (walk sound told.clear tried)
+      (walk_covers sound told.clear tried)
 
-    -- what the walk comes to
-    pub open_is : new
-        ≡ trying t (end t sound told p add new o tried t.topology.next_consumer opened_grants opened opened_gains
-        opened_mores opening_after open_demand).tries
-    open_is = new_is t sound told p add new o tried t.topology.next_consumer opened_grants opened opened_gains
-        opened_mores opening_after open_demand
+  -- the mesh after the walk has the graph that it had, and stored the counts that it had
+  pub open_is : new ≡ trying t (end sound told tried its_demand).tries
+  open_is = new_is sound told tried its_demand
 
-    -- the counts of the provider tell whether a consumer there stands in the way
-    pub open_tells : CountsTell new p
-    open_tells = tells t sound told p add new o tried t.topology.next_consumer opened_grants opened opened_gains
-        opened_mores opening_after open_demand
+  -- where the stored counts are told, those of the provider tell whether a consumer there stands in the way
+  pub tells_of : CountsTell new p
+  tells_of = tells sound told tried its_demand
 
-    -- the end of the walk leaves the mesh as it was
-    pub open_end : fold (finish_geom None) new (order_of new o) ≡ t
-    open_end = cleared t sound told p add new o tried t.topology.next_consumer opened_grants opened opened_gains
-        opened_mores opening_after open_demand
+  -- the end that keeps nothing leaves the mesh as it was
+  pub end_of : fold (finish_geom None) new (order_of new o) ≡ t
+  end_of = cleared sound told tried its_demand
 
-    -- the judgement is the model's
-    pub open_refused : option_map errno_of_refused (judged new p add (order_of new o))
-        ≡ grant_refusal opened_grants opened p
-    open_refused =
-        refused (trying t (end t sound told p add new o tried t.topology.next_consumer opened_grants opened
-        opened_gains opened_mores opening_after open_demand).tries)
-        p t.topology.next_consumer add (granted_by t) opened_grants opened opened_gains opened_mores opening_after
-        (judged new p add (order_of new o))
-        (decided t sound told p add new o tried t.topology.next_consumer opened_grants opened opened_gains
-        opened_mores opening_after open_demand)
+  -- the judgement is the model's
+  pub open_refused : option_map errno_of_refused (judged new p add (order_of new o))
+      ≡ grant_refusal (with_grant (granted_by t) t.topology.next_consumer add) (with_opener t.topology p) p
+  open_refused =
+      refused t.topology p t.topology.next_consumer (with_grant (granted_by t) t.topology.next_consumer add)
+      (with_opener t.topology p) its_demand.stands.errors (judged new p add (order_of new o))
+      (decided sound told tried its_demand)
 
-    -- what it says of errors
-    pub open_errors : SaysError t.topology p (judged new p add (order_of new o))
-    open_errors =
-        by (judged new p add (order_of new o))
-        (decided t sound told p add new o tried t.topology.next_consumer opened_grants opened opened_gains
-        opened_mores opening_after open_demand)
-      where
-        by : (r : Option Refused)
-            → IsVerdict (trying t (end t sound told p add new o tried t.topology.next_consumer opened_grants opened
-            opened_gains opened_mores opening_after open_demand).tries)
-            p t.topology.next_consumer add (granted_by t) opened_grants opened opened_gains opened_mores opening_after r
-            → SaysError t.topology p r
-        by None says = says.0
-        by (Some (Named (Enxio q))) says = says
-        by (Some (Named (Eperm q w e))) says = says.0
-        by (Some (Named (Eoverflow q))) says = says.0
-        by (Some (Writer w)) says = says.0
-        by (Some (Exclusive e)) says = says.0
+  -- what it says of errors
+  pub open_errors : SaysError t.topology p (judged new p add (order_of new o))
+  open_errors = by (judged new p add (order_of new o)) (decided sound told tried its_demand)
+    where
+      by : (r : Option Refused)
+          → IsVerdict t.topology p t.topology.next_consumer (with_grant (granted_by t) t.topology.next_consumer add)
+          (with_opener t.topology p) r → SaysError t.topology p r
+      by None says = says.0
+      by (Some (Named (Enxio q))) says = says
+      by (Some (Named (Eperm q w e))) says = says.0
+      by (Some (Named (Eoverflow q))) says = says.0
+      by (Some (Writer w)) says = says.0
+      by (Some (Exclusive e)) says = says.0

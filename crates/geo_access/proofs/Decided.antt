@@ -1,25 +1,24 @@
 -- A demand that was tried: what the judgement says, that nothing is left once it ends, and how many steps it took.
-use Rattle.std.specs.Prelude.{◌≡◌, ℕ, ◌+◌, ◌==◌, ◌<◌, ◌≤◌, Bool, true, false, not, ◌||◌, cond, List, [], ◌∷◌, length, map, filter, flat_map, find, fold, Option, Some, None, IsSome, IsSomeAnd, Contains, AllPairs, option_map, unwrap_or, if◌then◌else◌}
+use Rattle.std.specs.Prelude.{◌≢◌, ◌≡◌, ℕ, ◌+◌, ◌==◌, ◌<◌, ◌≤◌, Bool, true, false, not, ◌||◌, cond, List, [], ◌∷◌, length, map, filter, flat_map, find, fold, Option, Some, None, IsSome, IsSomeAnd, Contains, AllPairs, option_map, unwrap_or, if◌then◌else◌}
 use Rattle.std.specs.List.{list_any}
 use Rattle.std.specs.Option.{option_map_or}
 use Rattle.std.proofs.Common.{refl, sym, ◌∙◌, ap, subst, arith, inl, inr, eq-eqb}
 use Rattle.std.proofs.lemmas.Bool.{eqb-true, cases_eq, ne_eqb}
 use Rattle.std.proofs.lemmas.List.Elements.{All-contains}
 use Rattle.std.proofs.lemmas.List.Kept.{AllPairs-from_increasing}
-use Rattle.geo_base.proofs.FindLists.{find-Contains, any-contained}
+use Rattle.geo_base.proofs.FindLists.{any-contained}
 use Rattle.geo_base.specs.declared.request.Counts.{Counts}
 use Rattle.geo_base.proofs.MemberLists.{Contains-there, Contains-cases, Contains-here, flat_map_cases}
 use Rattle.geo_base.proofs.AllLists.{pairs_tail}
-use Rattle.geo_model.specs.Words.{names_number}
-use Rattle.geo_model.specs.Topology.{Topology, Provider, Consumer, geom_at, provider_at, consumers_of, providers_under, attached_to}
+use Rattle.geo_model.specs.Words.{names_number, is_granted_kind}
+use Rattle.geo_model.specs.Topology.{Topology, Geom, Provider, Consumer, geom_at, provider_at, consumers_of, providers_under, attached_to, consumer_at}
 use Rattle.geo_model.specs.Opens.{below}
-use Rattle.geo_model.specs.Demand.{no_counts, add_counts, sum_counts, have, want, is_exclusive, fits_limit}
-use Rattle.geo_model.proofs.DemandLemmas.{find_passes}
+use Rattle.geo_model.specs.Demand.{no_counts, add_counts, have, want, is_exclusive, fits_limit}
 use Rattle.geo_slots.specs.Slots.{value_at}
 use Rattle.geo_mesh.specs.Topo.{TopoView}
 use Rattle.geo_mesh.specs.Graph.{IsSoundGraph}
 use Rattle.geo_laws_counts.proofs.LimitFacts.{of_filter}
-use Rattle.geo_laws_counts.proofs.Numbers.{found_of, first_below, numbers_lead}
+use Rattle.geo_laws_counts.proofs.Numbers.{first_below, numbers_lead}
 use Rattle.geo_laws_counts.proofs.Sums.{add-zero}
 use Rattle.geo_laws_counts.proofs.Upward.{have_is_sum}
 use Rattle.geo_laws_counts.specs.WalkWords.{has_number, cap}
@@ -33,14 +32,17 @@ use Rattle.geo_access.specs.declared.order.Order.{Order}
 use Rattle.geo_access.specs.declared.decide.Side.{Side}
 use Rattle.geo_access.specs.declared.decide.Side.TheVariants.{Writes, Excludes}
 use Rattle.geo_access.specs.Tries.{had, Apart}
-use Rattle.geo_access.specs.Access.{granted_by, clear_scratches, IsCounted, consumers_below}
+use Rattle.geo_access.specs.Access.{granted_by, clear_scratches, IsCounted, consumers_below, holds_grants}
 use Rattle.geo_access.specs.Views.{CountsTell, order_of, have_at, want_at, made_at, gain_at, raised, raised_have, has_side, other, finish_geom, IsTried, consumers_over, judged}
 use Rattle.geo_access.proofs.Trying.{trying, trying-made, trying-gain}
 use Rattle.geo_access.proofs.TryOut.{Spread}
-use Rattle.geo_access.proofs.Walked.{geoms_below, below_ordered, first_below as first_geom, above_place, reached_touched, below_covers, all_reached, attached_reached, first_tries, walked, tried_order, tried_view, order_apart}
-use Rattle.geo_access.proofs.Clearing.{clear_whole, link_outside, outside_gains}
+use Rattle.geo_access.proofs.Walked.{above_place, reached_touched, attached_reached, first_tries, walked, tried_order, tried_view, order_apart, made_is, outside_gain, walk, walk_covers, walk_ordered, walk_reached}
+use Rattle.geo_access.proofs.Clearing.{clear_whole, link_outside}
 use Rattle.geo_access.proofs.Judging.{other_some}
-use Rattle.geo_access.proofs.Verdict.{After, IsVerdict, verdict, sum_zero_w, sum_zero_e}
+use Rattle.geo_access.proofs.Verdict.{After, IsVerdict, verdict, part_at_most}
+pub use Rattle.geo_access.proofs.Walking.{consumer_known}
+use Rattle.geo_laws_counts.specs.CountWords.{IsAtMost}
+use Rattle.geo_access.proofs.Walking.{provider_known, provider_stands}
 
 -- the same over one item more
 item_step : {X V : Type 0} (key : X → ℕ) (f : X → V) (n : ℕ) (x y : X) (xs : List X)
@@ -58,6 +60,37 @@ pub item_at : {X V : Type 0} (key : X → ℕ) (f : X → V) (n : ℕ) (xs : Lis
     → value_at (map (λ z. (key z, f z)) xs) n ≡ Some (f y)
 item_at key f n [] y never = absurd (cc)
 item_at key f n (x ∷ xs) y found = item_step key f n x y xs (item_at key f n xs y) (key x == n) found
+
+-- a geom that holds grants is found, of such a class
+pub holds_is : {C : Type 0} (o : Option (Geom C))
+    → option_map_or (λ (x : Geom C). is_granted_kind x.kind) o false ≡ true
+    → IsSomeAnd o (λ (x : Geom C). is_granted_kind x.kind ≡ true)
+holds_is None never = absurd (cc)
+holds_is (Some g) fact = fact
+
+-- and one that is, holds them
+pub holds_true : {C : Type 0} (o : Option (Geom C)) → IsSomeAnd o (λ (x : Geom C). is_granted_kind x.kind ≡ true)
+    → option_map_or (λ (x : Geom C). is_granted_kind x.kind) o false ≡ true
+holds_true None never = absurd never
+holds_true (Some g) fact = fact
+
+-- what the consumer of a number is granted, where it is found
+pub granted_found : {C : Type 0} (t : TopoView C) (n : ℕ) (c : Consumer) → consumer_at t.topology n ≡ Some c
+    → granted_by t n
+    ≡ (if holds_grants t.topology c.geom then unwrap_or (value_at t.wants n) no_counts else no_counts)
+granted_found t n c found =
+    ap (λ o. option_map_or
+    (λ (x : Consumer). if holds_grants t.topology x.geom then unwrap_or (value_at t.wants n) no_counts
+    else no_counts) o no_counts) found
+
+-- one that holds nothing is granted nothing
+pub nothing_granted : {C : Type 0} (t : TopoView C) (n : ℕ) (c : Consumer) → consumer_at t.topology n ≡ Some c
+    → value_at t.wants n ≡ Some no_counts → granted_by t n ≡ no_counts
+nothing_granted t n c found stored = granted_found t n c found ∙ by (holds_grants t.topology c.geom)
+  where
+    by : (b : Bool) → (if b then unwrap_or (value_at t.wants n) no_counts else no_counts) ≡ no_counts
+    by true = ap (λ o. unwrap_or o no_counts) stored
+    by false = refl
 
 -- a number of a part is one of the whole
 part_number : {X : Type 0} (key : X → ℕ) (keep : X → Bool) (xs : List X) (m : ℕ)
@@ -147,49 +180,22 @@ over_is t (x ∷ xs) apart =
           | inr other ↦ ne_eqb x n (λ e. other (sym e)) ∙ sym (ne_eqb n x other)
         ]
 
-module _ {C : Type 0} (t : TopoView C) (sound : IsSoundGraph t.topology) where
-  -- each is found by its number
-  pub provider_known : (z : Provider) → Contains t.topology.providers z → provider_at t.topology z.number ≡ Some z
-  provider_known =
-      found_of (λ (z : Provider). z.number) t.topology.providers
-      (AllPairs-from_increasing (map (λ (z : Provider). z.number) t.topology.providers)
-      sound.orderly.order.providers.0)
-
-  pub consumer_known : (c : Consumer) → Contains t.topology.consumers c
-      → find (λ (x : Consumer). x.number == c.number) t.topology.consumers ≡ Some c
-  consumer_known =
-      found_of (λ (x : Consumer). x.number) t.topology.consumers
-      (AllPairs-from_increasing (map (λ (x : Consumer). x.number) t.topology.consumers)
-      sound.orderly.order.consumers.0)
-
-  -- what is found stands
-  pub provider_stands : (q : ℕ) (z : Provider) → provider_at t.topology q ≡ Some z
-      → Contains t.topology.providers z × (z.number ≡ q)
-  provider_stands q z found = (
-    find-Contains (λ (y : Provider). y.number == q) t.topology.providers z found,
-    eqb-true z.number q (find_passes (λ (y : Provider). y.number == q) t.topology.providers z found),
-  )
-
-  module _ (clear : t.scratches ≡ clear_scratches t.topology) (p : ℕ) (add : Counts) (way : Way) (new : TopoView C)
-      (o : Order) (tried : IsTried t p add way new o) where
-    -- the order of the walk
-    abbrev walk : List ℕ
-    walk = geoms_below t sound clear p tried.offer tried.found
-
+module _ {C : Type 0} {t : TopoView C} (sound : IsSoundGraph t.topology) where
+  module _ (clear : t.scratches ≡ clear_scratches t.topology) {p : ℕ} {add : Counts} {way : Way} {new : TopoView C}
+      {o : Order} (tried : IsTried t p add way new o) where
     -- so many steps are within the bound
     pub steps_bound : consumers_over t.topology (order_of new o) ≤ consumers_below t.topology p
     steps_bound =
-        let is : order_of new o ≡ walk = tried_order t sound clear p add way new o tried in
-        subst (λ xs. consumers_over t.topology xs ≤ consumers_below t.topology p) (sym is)
+        subst (λ xs. consumers_over t.topology xs ≤ consumers_below t.topology p) (sym (tried_order sound clear tried))
         (subst (λ n. n ≤ consumers_below t.topology p)
-        (sym (over_is t.topology walk
-        (order_apart t.topology walk (below_ordered t sound clear p tried.offer tried.found))))
-        (length_weaker (λ (c : Consumer). has_number walk c.geom)
+        (sym (over_is t.topology (walk sound clear tried)
+        (order_apart t.topology (walk sound clear tried) (walk_ordered sound clear tried))))
+        (length_weaker (λ (c : Consumer). has_number (walk sound clear tried) c.geom)
         (λ (c : Consumer).
         list_any (λ q. option_map_or (λ (y : Provider). y.geom == c.geom) (provider_at t.topology q) false)
         (below t.topology p)) t.topology.consumers
         (λ c e.
-        let reached = all_reached t sound clear p tried.offer tried.found c.geom (has-contains walk c.geom e) in
+        let reached = walk_reached sound clear tried c.geom (has-contains (walk sound clear tried) c.geom e) in
         some_true (below t.topology p) reached.0 c.geom reached.1 (provider_at t.topology reached.0) refl reached.2)))
       where
         passes : (qs : List ℕ) (q g : ℕ) → Contains qs q
@@ -237,7 +243,18 @@ counted_told t sound counted = record {
   clear = counted.clear;
 }
 
-module _ {C : Type 0} (t : TopoView C) (sound : IsSoundGraph t.topology) (told : IsTold t) where
+-- a demand at a provider, where these are the geoms below: what providers and consumers gain by it, and how the grants
+-- and the graph once it stands are to those before
+pub record IsDemand {C : Type 0} (t : TopoView C) (p own : ℕ) (add : Counts) (after : ℕ → Counts) (u : Topology C)
+    (order : List ℕ) : Type 0 where
+  pub gain : ℕ → Counts
+  pub more : Consumer → Counts
+  pub stands : After t.topology p own add (granted_by t) after u gain more
+  pub demand : Demands t.topology p add (have (granted_by t) t.topology) gain more order
+  pub others : (c : Consumer) → Contains t.topology.consumers c → c.number ≢ own
+      → want after u c ≡ add_counts (want (granted_by t) t.topology c) (more c)
+
+module _ {C : Type 0} {t : TopoView C} (sound : IsSoundGraph t.topology) (told : IsTold t) where
   -- the stored counts of a provider are the model's
   pub stored_have : (z : Provider) → provider_at t.topology z.number ≡ Some z
       → have_at t z.number ≡ have (granted_by t) t.topology z.number
@@ -247,33 +264,31 @@ module _ {C : Type 0} (t : TopoView C) (sound : IsSoundGraph t.topology) (told :
       (item_at (λ (y : Provider). y.number) (λ (y : Provider). have (granted_by t) t.topology y.number)
       z.number t.topology.providers z found)
 
-  module _ (p : ℕ) (add : Counts) (new : TopoView C) (o : Order) (tried : IsTried t p add Rises new o) where
+  module _ {p : ℕ} {add : Counts} {new : TopoView C} {o : Order} (tried : IsTried t p add Rises new o) where
     -- the order of the walk
     abbrev pub order : List ℕ
-    order = geoms_below t sound told.clear p tried.offer tried.found
+    order = walk sound told.clear tried
 
-    module _ (own : ℕ) (after : ℕ → Counts) (u : Topology C) (gain : ℕ → Counts) (more : Consumer → Counts)
-        (ctx : After t.topology p own add (granted_by t) after u gain more)
-        (demand : Demands t.topology p add (have (granted_by t) t.topology) gain more order) where
+    module _ {own : ℕ} {after : ℕ → Counts} {u : Topology C} (d : IsDemand t p own add after u order) where
       -- nothing shrinks where counts rise
       pub grows : (z : Provider) → Contains t.topology.providers z
-          → had Rises (have_at t z.number) (cap (gain z.number)) ≡ have (granted_by t) t.topology z.number
+          → had Rises (have_at t z.number) (cap (d.gain z.number)) ≡ have (granted_by t) t.topology z.number
       grows z there = stored_have z (provider_known t sound z there)
 
       -- what the walk comes to
-      pub end : Spread t sound Rises p add (have (granted_by t) t.topology) gain more order demand grows order
+      pub end : Spread t sound Rises p add (have (granted_by t) t.topology) d.gain d.more order d.demand grows order
           (first_tries tried.offer.geom order p add)
-      end = walked t sound told.clear p tried.offer tried.found Rises add (have (granted_by t) t.topology) gain
-          more demand grows
+      end = walked t sound told.clear p tried.offer tried.found Rises add (have (granted_by t) t.topology) d.gain
+          d.more d.demand grows
 
       -- the mesh after it
       pub new_is : new ≡ trying t end.tries
-      new_is = tried_view t sound told.clear p add Rises new o tried ∙ end.is
+      new_is = tried_view sound told.clear tried ∙ end.is
 
       -- nothing is left to try once the walk ends without keeping anything
       pub cleared : fold (finish_geom None) new (order_of new o) ≡ t
       cleared =
-          ap (fold (finish_geom None) new) (tried_order t sound told.clear p add Rises new o tried)
+          ap (fold (finish_geom None) new) (tried_order sound told.clear tried)
           ∙ ap (λ v. fold (finish_geom None) v order) new_is
           ∙ clear_whole t
           (λ x. part_apart (λ (y : Provider). y.number) (λ (y : Provider). y.geom == x) t.topology.providers
@@ -286,14 +301,13 @@ module _ {C : Type 0} (t : TopoView C) (sound : IsSoundGraph t.topology) (told :
           (λ n away. end.others n (has_not order n away))
           (λ z there away.
           end.gains z.number
-          ∙ ap cap (outside_gains t.topology p add gain more order
-          (below_ordered t sound told.clear p tried.offer tried.found) demand.flow tried.offer tried.found
-          (first_geom t sound told.clear p tried.offer tried.found) z (provider_known t sound z there)
-          (has_not order z.geom away)))
+          ∙ ap cap (outside_gain t sound told.clear p tried.offer tried.found Rises add
+          (have (granted_by t) t.topology) d.gain d.more d.demand grows z there away))
 
       -- what a consumer gains by the walk
       raises : (q : ℕ) (c : Consumer) → Contains (attached_to t.topology q) c
-          → raised (trying t end.tries) c ≡ cap (add_counts (want (granted_by t) t.topology c) (more c))
+          → raised (trying t end.tries) c ≡ cap (add_counts (want (granted_by t) t.topology c) (d.more c))
+      unfolding end
       raises q c at =
           let there : Contains t.topology.consumers c =
           (of_filter (λ (d : Consumer). names_number d.provider q) t.topology.consumers c at).0 in
@@ -302,21 +316,17 @@ module _ {C : Type 0} (t : TopoView C) (sound : IsSoundGraph t.topology) (told :
           (trying-made t end.tries c.geom
           (All-contains (λ (d : Consumer). IsSome (geom_at t.topology d.geom)) t.topology.consumers c
           sound.orderly.parts.geoms there)
-          ∙ end.made c there ∙ capped c there (has_number order c.geom) refl)
-          ∙ add-cap (want (granted_by t) t.topology c) (more c)
-        where
-          capped : (c : Consumer) → Contains t.topology.consumers c → (b : Bool) → has_number order c.geom ≡ b
-              → (if b then cap (more c) else no_counts) ≡ cap (more c)
-          capped c there true e = refl
-          capped c there false e = ap cap (sym (demand.flow.around c there (has_not order c.geom e)))
+          ∙ made_is t sound told.clear p tried.offer tried.found Rises add (have (granted_by t) t.topology) d.gain
+          d.more d.demand grows c there)
+          ∙ add-cap (want (granted_by t) t.topology c) (d.more c)
 
       -- those at the provider gain nothing
       gains_nothing : (c : Consumer) → Contains (attached_to t.topology p) c
-          → add_counts (want (granted_by t) t.topology c) (more c) ≡ want (granted_by t) t.topology c
+          → add_counts (want (granted_by t) t.topology c) (d.more c) ≡ want (granted_by t) t.topology c
       gains_nothing c at =
           ap (add_counts (want (granted_by t) t.topology c))
-          (demand.flow.around c
-          (of_filter (λ (d : Consumer). names_number d.provider p) t.topology.consumers c at).0
+          (d.demand.flow.around c
+          (of_filter (λ (x : Consumer). names_number x.provider p) t.topology.consumers c at).0
           (above_place t sound told.clear p tried.offer tried.found c at))
           ∙ add-zero (want (granted_by t) t.topology c)
 
@@ -331,37 +341,34 @@ module _ {C : Type 0} (t : TopoView C) (sound : IsSoundGraph t.topology) (told :
           by None e = refl
           by (Some n) e =
               let has = other_some (trying t end.tries)
-              (λ c. add_counts (want (granted_by t) t.topology c) (more c)) raises p 0 side n e in
+              (λ c. add_counts (want (granted_by t) t.topology c) (d.more c)) raises p 0 side n e in
               let no : true ≡ false =
               sym has.has ∙ ap (has_side side) (gains_nothing has.one has.at) ∙ none has.one has.at in absurd (cc)
 
-      -- what they want is what the provider has
-      wants_sum : sum_counts (map (want (granted_by t) t.topology) (attached_to t.topology p)) ≡ have_at t p
-      wants_sum =
-          sym (have_is_sum t.topology sound.ranked (numbers_lead t.topology sound.orderly.order.providers.0)
+      -- what they want is no more than the provider has
+      wants_within : (c : Consumer) → Contains (attached_to t.topology p) c
+          → IsAtMost (want (granted_by t) t.topology c) (have_at t p)
+      wants_within c at =
+          let stands = provider_stands t sound p tried.offer tried.found in
+          subst (IsAtMost (want (granted_by t) t.topology c))
+          (sym (have_is_sum t.topology sound.ranked (numbers_lead t.topology sound.orderly.order.providers.0)
           (granted_by t) p)
-          ∙ sym (subst (λ n. have_at t n ≡ have (granted_by t) t.topology n)
-          (provider_stands t sound p tried.offer tried.found).1
-          (stored_have tried.offer
-          (provider_known t sound tried.offer (provider_stands t sound p tried.offer tried.found).0)))
+          ∙ sym (subst (λ n. have_at t n ≡ have (granted_by t) t.topology n) stands.1
+          (stored_have tried.offer (provider_known t sound tried.offer stands.0))))
+          (part_at_most (want (granted_by t) t.topology) (attached_to t.topology p) c at)
 
       -- and the counts of the provider tell whether one has a side
       pub tells : CountsTell new p
       tells =
           subst (λ v. CountsTell v p) (sym new_is) (record {
-            exclusive = λ zero. none_has Excludes (λ c at. ap not (eq-eqb
-                (want (granted_by t) t.topology c).e 0
-                (sum_zero_e (want (granted_by t) t.topology) (attached_to t.topology p) c at
-                (ap (λ (a : Counts). a.e) wants_sum ∙ zero))));
-            writes = λ zero. none_has Writes (λ c at. ap not (eq-eqb
-                (want (granted_by t) t.topology c).w 0
-                (sum_zero_w (want (granted_by t) t.topology) (attached_to t.topology p) c at
-                (ap (λ (a : Counts). a.w) wants_sum ∙ zero))));
+            exclusive = λ zero. none_has Excludes (λ c at. ap not (eq-eqb (want (granted_by t) t.topology c).e 0
+                (omega (arith, (wants_within c at).e, zero))));
+            writes = λ zero. none_has Writes (λ c at. ap not (eq-eqb (want (granted_by t) t.topology c).w 0
+                (omega (arith, (wants_within c at).w, zero))));
           })
 
       -- the judgement of the demand
-      pub decided : IsVerdict (trying t end.tries) p own add (granted_by t) after u gain more ctx
-          (judged new p add (order_of new o))
+      pub decided : IsVerdict t.topology p own after u (judged new p add (order_of new o))
       decided =
           let totals : (z : Provider) → Contains t.topology.providers z
           → raised_have (trying t end.tries) z.number ≡ cap (have after u z.number) =
@@ -371,12 +378,11 @@ module _ {C : Type 0} (t : TopoView C) (sound : IsSoundGraph t.topology) (told :
           ∙ ap (λ a. cap (add_counts (have (granted_by t) t.topology z.number) a))
           (trying-gain t end.tries z.number (subst (λ w. IsSome w) (sym (provider_known t sound z there)) refl)
           ∙ end.gains z.number)
-          ∙ add-cap (have (granted_by t) t.topology z.number) (gain z.number)
-          ∙ ap cap (sym (ctx.haves z.number)) in
-          subst (IsVerdict (trying t end.tries) p own add (granted_by t) after u gain more ctx)
-          (sym (ap (judged new p add) (tried_order t sound told.clear p add Rises new o tried)
-          ∙ ap (λ v. judged v p add order) new_is))
-          (verdict (trying t end.tries) p own add (granted_by t) after u gain more ctx raises totals
+          ∙ add-cap (have (granted_by t) t.topology z.number) (d.gain z.number)
+          ∙ ap cap (sym (d.stands.haves z.number)) in
+          subst (IsVerdict t.topology p own after u)
+          (sym (ap (judged new p add) (tried_order sound told.clear tried) ∙ ap (λ v. judged v p add order) new_is))
+          (verdict (trying t end.tries) p own add (granted_by t) after u d.gain d.more d.stands raises totals
           (λ c there none. let some : 1 ≤ c.number =
           All-contains (λ (d : Consumer). 1 ≤ d.number) t.topology.consumers c sound.orderly.numbers.consumers
           there in omega arith)
@@ -386,10 +392,9 @@ module _ {C : Type 0} (t : TopoView C) (sound : IsSoundGraph t.topology) (told :
           elim (Contains-cases p q (flat_map (providers_under t.topology) order) there) [
             | inl same ↦ subst (Contains (below t.topology p)) same (below_self (length t.topology.geoms) t.topology p)
             | inr rest ↦
-                let way = flat_map_cases (providers_under t.topology) order q rest in
-                attached_reached t sound told.clear p tried.offer tried.found way.0 q
-                (all_reached t sound told.clear p tried.offer tried.found way.0 way.1) way.2
+                let from = flat_map_cases (providers_under t.topology) order q rest in
+                attached_reached t sound told.clear p tried.offer tried.found from.0 q
+                (walk_reached sound told.clear tried from.0 from.1) from.2
           ])
-          (λ z there near. below_covers t sound told.clear p tried.offer tried.found z.number z near
-          (provider_known t sound z there))
+          (λ z there near. walk_covers sound told.clear tried z.number z near (provider_known t sound z there))
           tried.offer tried.found told.exclusive told.limit)

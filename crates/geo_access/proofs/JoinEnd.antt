@@ -1,52 +1,51 @@
--- The end of a join that nothing refuses.
-use Rattle.std.specs.Prelude.{◌≡◌, ◌≢◌, ℕ, ◌==◌, Bool, true, false, List, [], ◌∷◌, map, fold, Option, Some, None, IsSome, IsSomeAnd, IfSome, Contains, if◌then◌else◌}
-use Rattle.std.specs.Option.{option_map_or}
+-- The end of a join that nothing refuses, and what its answers see of it.
+use Rattle.std.specs.Prelude.{◌≡◌, ◌≢◌, ℕ, ◌==◌, Bool, true, false, List, [], ◌∷◌, map, fold, Option, Some, None, IsSome, Contains, if◌then◌else◌, IsOk, unwrap_or, Result}
 use Rattle.std.proofs.Common.{refl, sym, ◌∙◌, ap, subst, inl, inr, eq-eqb}
-use Rattle.std.proofs.Math.Bool.{and-not_self}
-use Rattle.std.proofs.lemmas.Bool.{eqb-true, cases_eq, ne_eqb}
+use Rattle.std.proofs.lemmas.Bool.{eqb-true, ne_eqb}
 use Rattle.std.proofs.lemmas.List.Elements.{All-contains}
 use Rattle.geo_base.specs.declared.request.Counts.{Counts}
 use Rattle.geo_model.specs.Words.{names_number}
-use Rattle.geo_model.specs.Topology.{Topology, Provider, Consumer, provider_at, consumer_at, providers_of, consumers_of, attached_to, attach}
-use Rattle.geo_model.specs.Demand.{no_counts, add_counts, have, want, fits_limit}
+use Rattle.geo_model.specs.Topology.{Topology, Provider, Consumer, provider_at, consumer_at, providers_of, consumers_of, attach}
+use Rattle.geo_model.specs.Demand.{no_counts, have, want, fits_limit, is_exclusive, risen}
 use Rattle.geo_mesh.specs.Topo.{TopoView, no_scratch, with_topology, with_want, with_geom_scratch}
 use Rattle.geo_mesh.specs.Graph.{IsSoundGraph}
 use Rattle.geo_model.specs.Opens.{below}
 use Rattle.geo_laws_graph.specs.LookupLaws.{AttachedIsFound}
 use Rattle.geo_laws_graph.proofs.Found.{attached-found}
 use Rattle.geo_laws_graph.proofs.Lists.{map-changed}
-use Rattle.geo_laws_graph.proofs.Members.{All-from_contained, at_contained, Contains-there, nothing_in, Contains-here, Contains-filter}
+use Rattle.geo_laws_graph.proofs.Members.{All-from_contained, at_contained, Contains-there, Contains-here, Contains-filter}
 use Rattle.geo_access.specs.declared.counts.Way.{Way}
 use Rattle.geo_access.specs.declared.counts.Way.TheVariants.{Rises, Falls}
-use Rattle.geo_access.specs.Views.{raise_want, raise_wants, finish_provider, finish_geom, made_at}
+use Rattle.geo_access.specs.Views.{raise_want, raise_wants, finish_provider, finish_geom, made_at, order_of, IsTried, judged}
 use Rattle.geo_laws_counts.specs.CountWords.{IsAtMost}
 use Rattle.geo_laws_counts.specs.LimitLaws.{greatest_counts}
-use Rattle.geo_laws_counts.proofs.Sums.{add-zero, at_most-trans}
-use Rattle.geo_laws_counts.proofs.LimitFacts.{of_filter, within_limit}
+use Rattle.geo_laws_counts.proofs.LimitFacts.{of_filter}
 use Rattle.geo_laws_counts.specs.WalkWords.{has_number, cap}
-use Rattle.geo_laws_counts.proofs.Orders.{has-contains, contains-has, has_not}
-use Rattle.geo_laws_counts.proofs.Flows.{add-cap}
-use Rattle.geo_laws_counts.proofs.Raising.{Demands}
+use Rattle.geo_laws_counts.proofs.Orders.{has-contains, contains-has}
 use Rattle.geo_laws_growth.specs.JoinLaws.{Joins}
 use Rattle.geo_laws_growth.proofs.JoiningBelow.{own_away as never_below}
 use Rattle.geo_access.specs.declared.order.Order.{Order}
-use Rattle.geo_access.specs.Access.{granted_by, IsQuiet, leaves_zero}
-use Rattle.geo_access.specs.Join.{IsCountedBut, IsPlacedBut, joined_view}
-use Rattle.geo_access.specs.Tries.{shifted}
-use Rattle.geo_access.specs.Views.{order_of, IsTried}
-use Rattle.geo_access.proofs.Folding.{geom_graph}
-use Rattle.geo_access.proofs.Trying.{Tries, trying}
-use Rattle.geo_access.proofs.TryOut.{Spread}
-use Rattle.geo_access.proofs.Walked.{below_ordered, below_lives, all_reached, first_below, first_tries, tried_order, order_apart}
-use Rattle.geo_access.proofs.Clearing.{link_outside, outside_gains}
-use Rattle.geo_access.proofs.Verdict.{After}
-use Rattle.geo_access.proofs.Decided.{provider_known, consumer_known, provider_stands, grows, end, new_is}
-use Rattle.geo_access.proofs.Keeping.{Cell, kept_cell, Parts, with_parts, Kept, keep_all}
-use Rattle.geo_access.proofs.Granted.{rows_item, parts_rows, part_at_most, capped_is}
-use Rattle.geo_access.proofs.GrantEnd.{same_both}
-use Rattle.geo_access.proofs.JoinStart.{Loose, but_told, loose_only}
-use Rattle.geo_access.proofs.JoinDemand.{change_none, join_gains, join_mores, other_stays, old_want}
-use Rattle.geo_access.proofs.JoinVerdict.{whole, add_whole, whole_tried, join_order, its_after, its_demand}
+use Rattle.geo_access.specs.Access.{granted_by, IsQuiet, leaves_zero, holds_grants, clear_scratches, IsCounted, noted}
+use Rattle.geo_access.specs.Join.{IsCountedBut, IsPlacedBut, joined_view, join_answer, IsLoose, wanted}
+use Rattle.geo_access.proofs.Folding.{geom_graph, order_graph}
+use Rattle.geo_access.proofs.Trying.{trying, Tries}
+use Rattle.geo_model.specs.Rank.{attach_refusal}
+use Rattle.geo_slots.specs.Slots.{value_at}
+use Rattle.geo_mesh.specs.declared.records.Scratch.{Scratch}
+use Rattle.geo_laws_growth.proofs.Joining.{its_number}
+use Rattle.geo_access.specs.declared.decide.Refused.{Refused}
+use Rattle.geo_access.specs.declared.refusal.JoinRefusal.{JoinRefusal}
+use Rattle.geo_access.proofs.Coming.{open_is}
+use Rattle.geo_access.proofs.Ready.{MayEnd}
+use Rattle.geo_access.proofs.Verdict.{After, IsVerdict}
+use Rattle.geo_access.proofs.Decided.{IsDemand, IsTold, granted_found, grows}
+use Rattle.geo_access.proofs.JoinVerdict.{IsRight, add_whole, around_free, join_fits, joins_of, passed_all, told_right, whole_demand, whole_tried}
+use Rattle.geo_access.proofs.JoinDemand.{Loose, but_told, join_after, joined_cases, joined_want, loose_is, loose_only, nothing_stored, other_stays, wanted_is, change_none}
+use Rattle.geo_access.proofs.Kept.{MayKeep, attached_below, kept_end, want_within, tries, walked_is, may_rise}
+use Rattle.geo_access.proofs.Granted.{capped_is, counted_by, numbers_of, noted_is}
+use Rattle.geo_access.proofs.Walking.{consumer_known, provider_stands}
+use Rattle.geo_base.proofs.Options.{some_and_of, some_of}
+use Rattle.geo_access.proofs.Walked.{tried_graph, tried_order, walk, walk_reached}
 
 -- The end of a walk over another graph
 
@@ -101,21 +100,9 @@ module _ {C : Type 0} where
 
 -- What is kept
 
--- parts of the mesh before the walk ends
-abbrev held_parts : (ℕ → Counts) → (ℕ → Counts) → Tries → Parts
-held_parts have wants s = record {
-  marks = s.marks;
-  made = s.made;
-  cells = λ n. record { have = have n; risen = false; fallen = false; gain = s.gains n };
-  wants = wants;
-}
-
-module _ {C : Type 0} (t : TopoView C) (sound : IsSoundGraph t.topology) (cons : ℕ) (counted : IsCountedBut t cons)
-    (quiet : IsQuiet t)
-    (placed : IsPlacedBut t.topology cons) (loose : Loose t cons) (p : ℕ) (offer : Provider)
-    (offered : provider_at t.topology p ≡ Some offer)
-    (add : Counts) (is : add ≡ cap (want (granted_by t) t.topology loose.one)) (new : TopoView C) (o : Order)
-    (tried : IsTried t p add Rises new o)
+module _ {C : Type 0} {t : TopoView C} {cons : ℕ} (sound : IsSoundGraph t.topology) (counted : IsCountedBut t cons)
+    (loose : Loose t cons) {p : ℕ} {add : Counts} {new : TopoView C} {o : Order} (tried : IsTried t p add Rises new o)
+    (is : add ≡ cap (want (granted_by t) t.topology loose.one)) (quiet : IsQuiet t) (placed : IsPlacedBut t.topology cons)
     (j : Joins t.topology cons p) (one : j.consumer ≡ loose.one)
     (limit : fits_limit (granted_by t) (attach t.topology cons p) ≡ true) where
   abbrev granted : ℕ → Counts
@@ -125,129 +112,38 @@ module _ {C : Type 0} (t : TopoView C) (sound : IsSoundGraph t.topology) (cons :
   abbrev u : Topology C
   u = attach t.topology cons p
 
+  abbrev told : IsTold t
+  told = but_told sound counted loose
+
   -- what it wants
   abbrev its : Counts
-  its = whole t sound cons counted loose p offer offered add is new o tried j one
+  its = joined_want granted j
 
   abbrev full : IsTried t p its Rises new o
-  full = whole_tried t sound cons counted loose p offer offered add is new o tried j one
+  full = whole_tried sound counted loose tried is j one
 
   abbrev its_order : List ℕ
-  its_order = join_order t sound cons counted loose p offer offered add is new o tried j one
+  its_order = walk sound counted.clear full
 
-  abbrev gain : ℕ → Counts
-  gain = join_gains granted t.topology cons p j
-
-  abbrev more : Consumer → Counts
-  more = join_mores granted t.topology cons p j
-
-  ctx : After t.topology p cons its granted granted u gain more
-  ctx = its_after t sound cons counted loose p offer offered add is new o tried j one
-
-  demand : Demands t.topology p its (have granted t.topology) gain more its_order
-  demand = its_demand t sound cons counted loose p offer offered add is new o tried j one
-
-  -- what the walk came to
-  abbrev spread : Spread t sound Rises p its (have granted t.topology) gain more its_order demand
-      (grows t sound (but_told t sound cons counted loose) p its new o full cons granted u gain more ctx demand)
-      its_order (first_tries full.offer.geom its_order p its)
-  spread = end t sound (but_told t sound cons counted loose) p its new o full cons granted u gain more ctx demand
-
-  abbrev tries : Tries
-  tries = spread.tries
-
-  -- what a consumer of a number wants, but the one that joins nothing
-  abbrev held : ℕ → Counts
-  held n = if n == cons then no_counts else option_map_or (want granted t.topology) (consumer_at t.topology n) no_counts
-
-  -- the parts of the mesh
-  abbrev parts : Parts
-  parts = held_parts (have granted t.topology) held tries
-
-  -- a consumer's own
-  held_own : (c : Consumer) → Contains t.topology.consumers c
-      → held c.number ≡ (if c.number == cons then no_counts else want granted t.topology c)
-  held_own c there =
-      ap (λ x. if c.number == cons then no_counts else option_map_or (want granted t.topology) x no_counts)
-      (consumer_known t sound c there)
-
-  -- the mesh after the walk is told by them
-  parts_are : trying t tries ≡ with_parts t parts
-  parts_are =
-      let put : List (ℕ × Counts) → List (ℕ × Bool) → List (ℕ × Bool) → List (ℕ × Counts) → TopoView C =
-      λ haves risens falls wants. record (trying t tries) {
-        haves = haves;
-        risen = risens;
-        fallen = falls;
-        wants = wants;
-      } in
-      ap (λ rows. put rows t.risen t.fallen t.wants) counted.haves
-      ∙ ap (λ rows. put (with_parts t parts).haves rows t.fallen t.wants) quiet.risen
-      ∙ ap (λ rows. put (with_parts t parts).haves (with_parts t parts).risen rows t.wants) quiet.fallen
-      ∙ ap (put (with_parts t parts).haves (with_parts t parts).risen (with_parts t parts).fallen)
-      (counted.wants
-      ∙ sym (rows_item (λ (c : Consumer). c.number) held
-      (λ (c : Consumer). if c.number == cons then no_counts else want granted t.topology c)
-      t.topology.consumers held_own))
-
-  -- what is kept
-  all : Kept t sound Rises its_order parts
-  all =
-      keep_all t sound Rises its_order parts
-      (order_apart t.topology its_order (below_ordered t sound counted.clear p full.offer full.found))
-      (below_lives t sound counted.clear p full.offer full.found)
-
-  -- new counts of providers are within the limit
-  have_fits : (z : Provider) → Contains t.topology.providers z → IsAtMost (have granted u z.number) greatest_counts
-  have_fits z there = within_limit granted u limit z there
-
-  -- what a provider comes to have
-  shifted_have : (z : Provider) → Contains t.topology.providers z
-      → shifted Rises (have granted t.topology z.number) (tries.gains z.number) ≡ have granted u z.number
-  shifted_have z there =
-      ap (λ a. cap (add_counts (have granted t.topology z.number) a)) (spread.gains z.number)
-      ∙ add-cap (have granted t.topology z.number) (gain z.number)
-      ∙ ap cap (sym (ctx.haves z.number))
-      ∙ capped_is (have granted u z.number) (have_fits z there)
-
-  -- one outside the order gains nothing
-  outside_gain : (z : Provider) → Contains t.topology.providers z → has_number its_order z.geom ≡ false
-      → gain z.number ≡ no_counts
-  outside_gain z there away =
-      outside_gains t.topology p its gain more its_order
-      (below_ordered t sound counted.clear p full.offer full.found) demand.flow full.offer full.found
-      (first_below t sound counted.clear p full.offer full.found) z (provider_known t sound z there)
-      (has_not its_order z.geom away)
-
-  -- so it keeps its counts
-  outside_have : (z : Provider) → Contains t.topology.providers z → has_number its_order z.geom ≡ false
-      → have granted t.topology z.number ≡ have granted u z.number
-  outside_have z there away =
-      sym (ctx.haves z.number ∙ ap (add_counts (have granted t.topology z.number)) (outside_gain z there away)
-      ∙ add-zero (have granted t.topology z.number))
+  abbrev d : IsDemand t p cons its granted u its_order
+  d = whole_demand sound counted loose tried is j one
 
   -- the geom of the one that joins isn't in the order
   own_away : has_number its_order loose.one.geom ≡ false
   own_away = by (has_number its_order loose.one.geom) refl
     where
-      stands : (q : ℕ) → Contains (below t.topology p) q → (z : Option Provider) → provider_at t.topology q ≡ z
-          → IsSomeAnd z (λ (y : Provider). y.geom ≡ loose.one.geom) → ⊥
-      stands q reached None found never = never
-      stands q reached (Some y) found same =
-          let at = provider_stands t sound q y found in
-          at_contained (λ (z : Provider). Contains (below t.topology p) z.number
-          → ⊥) (providers_of t.topology j.consumer.geom) y (never_below t.topology cons p j)
-          (Contains-filter (λ (z : Provider). z.geom == j.consumer.geom) t.topology.providers y at.0
-          (eq-eqb y.geom j.consumer.geom (same ∙ ap (λ (c : Consumer). c.geom) (sym one))))
-          (subst (Contains (below t.topology p)) (sym at.1) reached)
-
       by : (b : Bool) → has_number its_order loose.one.geom ≡ b → b ≡ false
       by false e = refl
       by true e =
           let reached =
-          all_reached t sound counted.clear p full.offer full.found loose.one.geom
-          (has-contains its_order loose.one.geom e) in
-          absurd (stands reached.0 reached.1 (provider_at t.topology reached.0) refl reached.2)
+          walk_reached sound counted.clear full loose.one.geom (has-contains its_order loose.one.geom e) in
+          let z = some_and_of (λ (y : Provider). y.geom ≡ loose.one.geom) (provider_at t.topology reached.0) reached.2 in
+          let at = provider_stands t sound reached.0 z.0 z.1 in
+          absurd (at_contained (λ (y : Provider). Contains (below t.topology p) y.number
+          → ⊥) (providers_of t.topology j.consumer.geom) z.0 (never_below t.topology cons p j)
+          (Contains-filter (λ (y : Provider). y.geom == j.consumer.geom) t.topology.providers z.0 at.0
+          (eq-eqb z.0.geom j.consumer.geom (z.2 ∙ ap (λ (c : Consumer). c.geom) (sym one))))
+          (subst (Contains (below t.topology p)) (sym at.1) reached.1))
 
   -- so the consumers of a geom in it are the same in both graphs
   same_consumers : (x : ℕ) → Contains its_order x → consumers_of u x ≡ consumers_of t.topology x
@@ -259,162 +155,45 @@ module _ {C : Type 0} (t : TopoView C) (sound : IsSoundGraph t.topology) (cons :
       (consumers_of t.topology x)
       (λ y at e.
       let there = of_filter (λ (d : Consumer). d.geom == x) t.topology.consumers y at in
-      let own : y ≡ loose.one = loose_only t sound cons counted loose y there.0 (eqb-true y.number cons e) in
+      let own : y ≡ loose.one = loose_only sound counted loose y there.0 (eqb-true y.number cons e) in
       let geom : x ≡ loose.one.geom = sym (eqb-true y.geom x there.1) ∙ ap (λ (d : Consumer). d.geom) own in
       let no : true ≡ false = sym (contains-has its_order loose.one.geom (subst (Contains its_order) geom inside))
       ∙ own_away in
       absurd (cc)))
 
-  -- an attached consumer's new want is within the limit
-  attached_fits : (q : ℕ) (z : Provider) → provider_at t.topology q ≡ Some z → (c : Consumer)
-      → Contains (attached_to u q) c → IsAtMost (want granted u c) greatest_counts
-  attached_fits q z found c at =
-      let stands = provider_stands t sound q z found in
-      at_most-trans (want granted u c) (have granted u q) greatest_counts
-      (subst (IsAtMost (want granted u c)) (sym (ctx.sums q)) (part_at_most (want granted u) (attached_to u q) c at))
-      (subst (λ n. IsAtMost (have granted u n) greatest_counts) stands.1 (have_fits z stands.0))
+  -- what was tried was the whole: it is within the limit
+  add_is : add ≡ its
+  add_is =
+      let at = provider_stands t sound p tried.offer tried.found in
+      add_whole sound counted loose tried is j one
+      ∙ capped_is its (subst (λ a. IsAtMost a greatest_counts) d.stands.opener_wants
+      (want_within granted u d.stands.sums limit p tried.offer at.0 at.1 d.stands.opener d.stands.opener_at))
 
-  -- so is that of the one that joins
-  own_fits : IsAtMost its greatest_counts
-  own_fits = subst (λ a. IsAtMost a greatest_counts) ctx.opener_wants
-      (attached_fits p offer offered ctx.opener ctx.opener_at)
-
-  -- what was tried was the whole
-  pub add_is : add ≡ its
-  add_is = add_whole t sound cons counted loose p offer offered add is new o tried j one ∙ capped_is its own_fits
-
-  -- what a consumer of the order comes to want is within the limit
+  -- what another consumer of the order comes to want is within the limit
   want_fits : (c : Consumer) → Contains t.topology.consumers c → c.number ≢ cons
       → has_number its_order c.geom ≡ true → IsAtMost (want granted u c) greatest_counts
   want_fits c there other inside =
-      by c.provider refl
-      (All-contains (λ (d : Consumer). IfSome d.provider (λ q. IsSome (provider_at t.topology q)))
-      t.topology.consumers c sound.orderly.parts.providers there)
-    where
-      at : (q : ℕ) → c.provider ≡ Some q → (z : Option Provider) → provider_at t.topology q ≡ z → IsSome z
-          → IsAtMost (want granted u c) greatest_counts
-      at q attached None found lives = let no : false ≡ true = lives in absurd (cc)
-      at q attached (Some z) found lives =
-          attached_fits q z found c
-          (Contains-filter (λ (x : Consumer). names_number x.provider q) u.consumers c
-          (other_stays granted t.topology cons p j c there other)
-          (ap (λ w. names_number w q) attached ∙ eq-eqb q q refl))
+      let at = attached_below sound told full c there
+      (λ free. All-contains (λ (x : Consumer). x.number ≢ cons → x.provider ≡ None
+      → providers_of t.topology x.geom ≡ []) t.topology.consumers c placed there other free) inside in
+      let z = some_of (provider_at t.topology at.0) at.2 in
+      let stands = provider_stands t sound at.0 z.0 z.1 in
+      want_within granted u d.stands.sums limit at.0 z.0 stands.0 stands.1 c
+      (Contains-filter (λ (x : Consumer). names_number x.provider at.0) u.consumers c
+      (other_stays granted j c there other)
+      (ap (λ w. names_number w at.0) at.1 ∙ eq-eqb at.0 at.0 refl))
 
-      offered_none : (q : ℕ) (z : Option Provider) → provider_at t.topology q ≡ z
-          → IsSomeAnd z (λ (y : Provider). y.geom ≡ c.geom) → providers_of t.topology c.geom ≡ [] → ⊥
-      offered_none q None found never bare = never
-      offered_none q (Some y) found same bare =
-          nothing_in y
-          (subst (λ ys. Contains ys y) bare
-          (Contains-filter (λ (w : Provider). w.geom == c.geom) t.topology.providers y
-          (provider_stands t sound q y found).0 (eq-eqb y.geom c.geom same)))
+  -- so all of it may be kept
+  joins_whole : MayKeep t Rises its_order d.gain d.more cons its (λ z. have granted u z.number) (want granted u)
+  joins_whole =
+      may_rise d limit (λ (c : Consumer). if c.number == cons then no_counts else want granted t.topology c) counted.wants
+      (λ c there same. ap (want granted u) (loose_only sound counted loose c there same ∙ sym one))
+      (λ c there other. ap (λ b. if b then no_counts else want granted t.topology c) (ne_eqb c.number cons other))
+      want_fits
 
-      by : (w : Option ℕ) → c.provider ≡ w → IfSome w (λ q. IsSome (provider_at t.topology q))
-          → IsAtMost (want granted u c) greatest_counts
-      by (Some q) attached lives = at q attached (provider_at t.topology q) refl lives
-      by None free lives =
-          let bare : providers_of t.topology c.geom ≡ [] =
-          All-contains (λ (d : Consumer). d.number ≢ cons → d.provider ≡ None
-          → providers_of t.topology d.geom ≡ []) t.topology.consumers c placed there other free in
-          let reached =
-          all_reached t sound counted.clear p full.offer full.found c.geom (has-contains its_order c.geom inside) in
-          absurd (offered_none reached.0 (provider_at t.topology reached.0) refl reached.2 bare)
-
-  -- what another consumer holds
-  held_other : (c : Consumer) → Contains t.topology.consumers c → c.number ≢ cons
-      → held c.number ≡ want granted t.topology c
-  held_other c there other =
-      held_own c there ∙ ap (λ b. if b then no_counts else want granted t.topology c) (ne_eqb c.number cons other)
-
-  -- what another consumer comes to want
-  kept_want : (c : Consumer) → Contains t.topology.consumers c → c.number ≢ cons
-      → all.parts.wants c.number ≡ want granted u c
-  kept_want c there other =
-      all.wants c there
-      ∙ same_both (has_number its_order c.geom) (shifted Rises (held c.number) (tries.made c.geom)) (held c.number)
-      (want granted u c)
-      (λ inside.
-      ap (λ a. cap (add_counts a (tries.made c.geom))) (held_other c there other)
-      ∙ ap (λ a. cap (add_counts (want granted t.topology c) a)) (spread.made c there
-      ∙ ap (λ b. if b then cap (more c) else no_counts) inside)
-      ∙ add-cap (want granted t.topology c) (more c)
-      ∙ ap cap (sym (old_want granted t.topology cons p j c))
-      ∙ capped_is (want granted u c) (want_fits c there other inside))
-      (λ away.
-      held_other c there other
-      ∙ sym (old_want granted t.topology cons p j c
-      ∙ ap (add_counts (want granted t.topology c)) (demand.flow.around c there (has_not its_order c.geom away))
-      ∙ add-zero (want granted t.topology c)))
-
-  -- a part of a cell
-  cell_of : {V : Type 0} (see : Cell → V) (b : Bool) (z : Provider)
-      → see (if b then kept_cell Rises (parts.cells z.number) else parts.cells z.number)
-      ≡ (if b then see (kept_cell Rises (parts.cells z.number)) else see (parts.cells z.number))
-  cell_of see true z = refl
-  cell_of see false z = refl
-
-  -- the rows once all is kept
-  kept_rows : with_want (with_parts t all.parts) cons its
-      ≡ record t {
-        haves = map (λ (z : Provider). (z.number, have granted u z.number)) t.topology.providers;
-        wants = map (λ (c : Consumer). (c.number, want granted u c)) t.topology.consumers;
-        risen = map (λ (z : Provider).
-            (z.number, leaves_zero (have granted t.topology z.number) (have granted u z.number))) t.topology.providers;
-        fallen = map (λ (z : Provider). (z.number, false)) t.topology.providers;
-      }
-  kept_rows =
-      parts_rows t counted.clear (λ z. have granted u z.number) (want granted u) cons its all.parts
-      (λ z. leaves_zero (have granted t.topology z.number) (have granted u z.number)) (λ z. false)
-      (λ z there.
-      ap (λ (x : Cell). x.have) (all.cells z there)
-      ∙ cell_of (λ (x : Cell). x.have) (has_number its_order z.geom) z
-      ∙ same_both (has_number its_order z.geom)
-      (shifted Rises (have granted t.topology z.number) (tries.gains z.number))
-      (have granted t.topology z.number) (have granted u z.number)
-      (λ inside. shifted_have z there) (λ away. outside_have z there away))
-      (λ z there.
-      ap (λ (x : Cell). x.risen) (all.cells z there)
-      ∙ cell_of (λ (x : Cell). x.risen) (has_number its_order z.geom) z
-      ∙ same_both (has_number its_order z.geom)
-      (leaves_zero (have granted t.topology z.number)
-      (shifted Rises (have granted t.topology z.number) (tries.gains z.number))) false
-      (leaves_zero (have granted t.topology z.number) (have granted u z.number))
-      (λ inside. ap (leaves_zero (have granted t.topology z.number)) (shifted_have z there))
-      (λ away. sym (ap (leaves_zero (have granted t.topology z.number)) (sym (outside_have z there away))
-      ∙ and-not_self ((have granted t.topology z.number).w == 0))))
-      (λ z there.
-      ap (λ (x : Cell). x.fallen) (all.cells z there)
-      ∙ cell_of (λ (x : Cell). x.fallen) (has_number its_order z.geom) z
-      ∙ same_both (has_number its_order z.geom) false false false (λ inside. refl) (λ away. refl))
-      (λ z there.
-      ap (λ (x : Cell). x.gain) (all.cells z there)
-      ∙ cell_of (λ (x : Cell). x.gain) (has_number its_order z.geom) z
-      ∙ same_both (has_number its_order z.geom) no_counts (tries.gains z.number) no_counts (λ inside. refl)
-      (λ away. spread.gains z.number ∙ ap cap (outside_gain z there away)))
-      (λ c there.
-      elim (cases_eq c.number cons) [
-        | inl same ↦
-            ap (λ b. if b then its else all.parts.wants c.number) (eq-eqb c.number cons same)
-            ∙ ap (want granted u) (one ∙ sym (loose_only t sound cons counted loose c there same))
-        | inr other ↦
-            ap (λ b. if b then its else all.parts.wants c.number) (ne_eqb c.number cons other) ∙ kept_want c there other
-      ])
-      (λ n.
-      all.marks n
-      ∙ same_both (has_number its_order n) 0 (tries.marks n) 0 (λ inside. refl)
-      (λ away. spread.marks n ∙ link_outside full.offer.geom its_order n away))
-      (λ n.
-      all.made n
-      ∙ same_both (has_number its_order n) no_counts (tries.made n) no_counts (λ inside. refl)
-      (λ away. spread.others n (has_not its_order n away)))
-
-  -- the rows of consumers are the same over both graphs
-  want_rows : map {B = ℕ × Counts} (λ (c : Consumer). (c.number, want granted u c)) t.topology.consumers
-      ≡ map {B = ℕ × Counts} (λ (c : Consumer). (c.number, want granted u c)) u.consumers
-  want_rows =
-      sym (map-changed (λ (c : Consumer). c.number == cons) (λ c. record c { provider = Some p })
-      (λ (c : Consumer). let row : ℕ × Counts = (c.number, want granted u c) in row)
-      (λ c e. refl) t.topology.consumers)
+  -- what the walk comes to
+  abbrev its_tries : Tries
+  its_tries = tries sound told full d.demand (grows sound told full d) quiet joins_whole
 
   -- the mesh at the end of the walk
   abbrev attached : TopoView C → TopoView C
@@ -425,18 +204,170 @@ module _ {C : Type 0} (t : TopoView C) (sound : IsSoundGraph t.topology) (cons :
       ≡ joined_view t cons p
   join_end =
       ap (λ xs. with_want (fold (finish_geom (Some Rises)) (attached new) xs) cons add)
-      (tried_order t sound counted.clear p its Rises new o full)
+      (tried_order sound counted.clear full)
       ∙ ap (λ v. with_want (fold (finish_geom (Some Rises)) (attached v) its_order) cons add)
-      (new_is t sound (but_told t sound cons counted loose) p its new o full cons granted u gain more ctx demand
-      ∙ parts_are)
+      (walked_is sound told full d.demand (grows sound told full d) quiet joins_whole)
       ∙ ap (λ v. with_want v cons add)
-      (order_over t.topology u (Some Rises) its_order (with_parts t parts) refl
-      (λ x inside. (same_consumers x inside, refl)) ∙ ap (λ v. with_topology v u) all.is)
-      ∙ ap (λ a. with_topology (with_want (with_parts t all.parts) cons a) u) add_is
-      ∙ ap (λ v. with_topology v u) kept_rows
+      (order_over t.topology u (Some Rises) its_order (trying t its_tries) refl
+      (λ x inside. (same_consumers x inside, refl)))
+      ∙ ap (λ a. with_topology
+      (with_want (fold (finish_geom (Some Rises)) (trying t its_tries) its_order) cons a) u) add_is
+      ∙ ap (λ v. with_topology v u) (kept_end sound told full d.demand (grows sound told full d) quiet joins_whole)
       ∙ ap (λ rows. record (joined_view t cons p) {
         wants = rows;
         fallen =
             map (λ (z : Provider). (z.number, false)) t.topology.providers;
-      }) want_rows
+      })
+      (sym (map-changed (λ (c : Consumer). c.number == cons) (λ c. record c { provider = Some p })
+      (λ (c : Consumer). let row : ℕ × Counts = (c.number, want granted u c) in row) (λ c e. refl) t.topology.consumers))
       ∙ ap (λ rows. record (joined_view t cons p) { fallen = rows }) (sym quiet.fallen)
+
+-- The mesh in which it has joined
+
+module _ {C : Type 0} {t : TopoView C} {cons : ℕ} (sound : IsSoundGraph t.topology) (counted : IsCountedBut t cons)
+    {p : ℕ} (j : Joins t.topology cons p)
+    (exclusive : is_exclusive (granted_by t) (attach t.topology cons p) ≡ true)
+    (limit : fits_limit (granted_by t) (attach t.topology cons p) ≡ true) where
+  -- a consumer that is granted nothing by its class is granted nothing
+  none_granted : (c : Consumer) → Contains (attach t.topology cons p).consumers c
+      → holds_grants t.topology c.geom ≡ false → granted_by t c.number ≡ no_counts
+  none_granted c there none =
+      elim (joined_cases (granted_by t) j c there) [
+        | inl same ↦
+            at j.consumer (ap (λ (x : Consumer). consumer_at t.topology x.number) same
+            ∙ ap (consumer_at t.topology) (its_number t.topology cons p j) ∙ j.stands)
+            (ap (λ (x : Consumer). x.geom) (sym same))
+        | inr old ↦ at c (consumer_known t sound c old.0) refl
+      ]
+    where
+      at : (old : Consumer) → consumer_at t.topology c.number ≡ Some old → old.geom ≡ c.geom
+          → granted_by t c.number ≡ no_counts
+      at old found geom =
+          granted_found t c.number old found
+          ∙ ap (λ b. if b then unwrap_or (value_at t.wants c.number) no_counts else no_counts)
+          (ap (holds_grants t.topology) geom ∙ none)
+
+  -- so the mesh is counted
+  joined_counted : IsCounted (joined_view t cons p)
+  joined_counted =
+      counted_by (joined_view t cons p) (granted_by t) (After.found (join_after (granted_by t) j)) none_granted refl refl
+      counted.kinds exclusive limit
+      (numbers_of (λ (z : Provider). z.number)
+      (λ (z : Provider).
+      leaves_zero (have (granted_by t) t.topology z.number) (have (granted_by t) (attach t.topology cons p) z.number))
+      t.topology.providers)
+      counted.fallen
+      (counted.clear
+      ∙ ap (λ rows. record (clear_scratches t.topology) { consumers = rows })
+      (sym (map-changed (λ (c : Consumer). c.number == cons) (λ c. record c { provider = Some p })
+      (λ (c : Consumer). let row : ℕ × Scratch = (c.number, no_scratch) in row) (λ c e. refl) t.topology.consumers)))
+
+-- What its answers see
+
+-- the mesh around a consumer that would join is told
+pub joiner_told : {C : Type 0} (t : TopoView C) (cons : ℕ) → IsSoundGraph t.topology → IsCountedBut t cons
+    → IsLoose t cons → IsTold t
+joiner_told t cons sound counted free = but_told sound counted (loose_is t cons free)
+
+-- a mesh in which the consumer may be attached to the provider, or refused
+pub record MayAdmit {C : Type 0} (v : TopoView C) (cons p : ℕ) : Type 0 where
+  pub loose : IsLoose v cons
+  pub nothing : value_at v.wants cons ≡ Some no_counts
+  pub lives : IsSome (provider_at v.topology p)
+  pub sound : IsSoundGraph v.topology
+
+-- the one in which its demand was tried is such a mesh
+pub may_admit : {C : Type 0} {t : TopoView C} {p : ℕ} {add : Counts} {new : TopoView C} {o : Order} (cons : ℕ)
+    → IsTried t p add Rises new o → IsSoundGraph t.topology → IsCountedBut t cons → IsLoose t cons
+    → MayAdmit new cons p
+may_admit {C} {t} {p} {add} {new} {o} cons tried sound counted free =
+    subst (λ (v : TopoView C). MayAdmit v cons p)
+    (sym (open_is tried sound (joiner_told t cons sound counted free)))
+    (record {
+      loose = record { free = free.free; idle = free.idle };
+      nothing = nothing_stored sound counted (loose_is t cons free);
+      lives = subst (λ y. IsSome y) (sym tried.found) refl;
+      sound = sound;
+    })
+
+-- where a walk can be ended, it can with a consumer attached
+pub attached_may_end : {C : Type 0} {new v : TopoView C} {o : Order} (cons p : ℕ)
+    → MayEnd new o → v ≡ with_topology new (attach new.topology cons p) → MayEnd v o
+attached_may_end {C} {new} {v} {o} cons p ends attached =
+    subst (λ (w : TopoView C). MayEnd w o) (sym attached) (record { lives = ends.lives; apart = ends.apart })
+
+-- and its end leaves the consumer there
+pub joiner_stays : {C : Type 0} {t : TopoView C} {p : ℕ} {add : Counts} {new v last : TopoView C} {o : Order}
+    (cons : ℕ) → IsTried t p add Rises new o → IsSoundGraph t.topology → IsCountedBut t cons → IsLoose t cons
+    → v ≡ with_topology new (attach new.topology cons p) → last ≡ fold (finish_geom (Some Rises)) v (order_of v o)
+    → IsSome (consumer_at last.topology cons)
+joiner_stays {C} {t} {p} {add} {new} {v} {last} {o} cons tried sound counted free attached ends =
+    let loose : Loose t cons = loose_is t cons free in
+    subst (λ (u : Topology C). IsSome (consumer_at u cons))
+    (sym (ap (λ (w : TopoView C). w.topology) ends ∙ order_graph (Some Rises) (order_of v o) v
+    ∙ ap (λ (w : TopoView C). w.topology) attached
+    ∙ ap (λ (u : Topology C). attach u cons p) (tried_graph sound counted.clear tried)))
+    (subst (λ y. IsSome y) (sym (AttachedIsFound.here attached-found t.topology cons p loose.one loose.found)) refl)
+
+-- the mesh in which a join stands: all counts are kept, and the providers are noted whose write count rose from zero
+pub record IsJoined {C : Type 0} (t : TopoView C) (cons p : ℕ) (last : TopoView C) : Type 0 where
+  pub is : last ≡ joined_view t cons p
+  pub counted : IsCounted last
+  pub notes : noted last.risen ≡ risen (granted_by t) t.topology (granted_by t) last.topology
+
+-- a consumer that would join, once the demand is judged and the consumer is attached or refused
+module _ {C : Type 0} {t : TopoView C} {p : ℕ} {add : Counts} {new : TopoView C} {o : Order}
+    {judgement : Option Refused} {told : Result (Unit {0}) JoinRefusal} (cons : ℕ)
+    (tried : IsTried t p add Rises new o) (sound : IsSoundGraph t.topology) (counted : IsCountedBut t cons)
+    (free : IsLoose t cons) (wants : add ≡ wanted t cons) (judges : judgement ≡ judged new p add (order_of new o))
+    (answers : told ≡ join_answer judgement (attach_refusal new.topology cons p) cons p) where
+  -- the consumer
+  abbrev joiner : Loose t cons
+  joiner = loose_is t cons free
+
+  -- what it wants is what was tried
+  wants_is : add ≡ cap (want (granted_by t) t.topology joiner.one)
+  wants_is = wants ∙ wanted_is sound counted joiner
+
+  -- it is told what the judgement and the graph before say
+  told_is : told ≡ join_answer (judged new p add (order_of new o)) (attach_refusal t.topology cons p) cons p
+  told_is =
+      answers
+      ∙ ap (λ r. join_answer r (attach_refusal new.topology cons p) cons p) judges
+      ∙ ap (λ (u : Topology C). join_answer (judged new p add (order_of new o)) (attach_refusal u cons p) cons p)
+      (tried_graph sound counted.clear tried)
+
+  -- and that is right
+  pub join_told : IsRight t.topology cons p (granted_by t) told
+  join_told =
+      subst (IsRight t.topology cons p (granted_by t)) (sym told_is)
+      (told_right sound counted joiner tried wants_is)
+
+  -- where nothing refused it and the walk has ended, it stands
+  pub join_stands : {v last : TopoView C} → IsOk told → IsQuiet t → IsPlacedBut t.topology cons
+      → v ≡ with_topology new (attach new.topology cons p)
+      → last ≡ with_want (fold (finish_geom (Some Rises)) v (order_of v o)) cons add → IsJoined t cons p last
+  join_stands {v} {last} ok quiet placed attached ends =
+      let passed : IsOk (join_answer (judged new p add (order_of new o)) (attach_refusal t.topology cons p) cons p) =
+      subst (λ r. IsOk r) told_is ok in
+      let none = passed_all (judged new p add (order_of new o)) (attach_refusal t.topology cons p) cons p passed in
+      let j : Joins t.topology cons p =
+      joins_of sound counted joiner tried wants_is (around_free sound counted joiner tried wants_is none.1) in
+      let fits : IsVerdict t.topology p cons (granted_by t) (attach t.topology cons p) None =
+      join_fits sound counted joiner tried wants_is j refl none.0 in
+      let is : last ≡ joined_view t cons p =
+      ends
+      ∙ ap (λ (w : TopoView C). with_want (fold (finish_geom (Some Rises)) w (order_of w o)) cons add) attached
+      ∙ join_end sound counted joiner tried wants_is quiet placed j refl fits.2 in
+      record {
+        is = is;
+        counted = subst IsCounted (sym is) (joined_counted sound counted j fits.1 fits.2);
+        notes =
+            subst (λ (w : TopoView C). noted w.risen
+            ≡ risen (granted_by t) t.topology (granted_by t) w.topology) (sym is)
+            (noted_is (λ (z : Provider). z.number)
+            (λ (z : Provider).
+            leaves_zero (have (granted_by t) t.topology z.number)
+            (have (granted_by t) (attach t.topology cons p) z.number))
+            t.topology.providers);
+      }

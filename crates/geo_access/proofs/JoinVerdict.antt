@@ -7,17 +7,15 @@ use Rattle.geo_base.specs.declared.request.Counts.{Counts}
 use Rattle.geo_base.specs.declared.errno.Errno.{Errno}
 use Rattle.geo_base.specs.declared.errno.Errno.TheVariants.{ENXIO, EPERM, EOVERFLOW, ELOOP, EDEEP}
 use Rattle.geo_model.specs.Words.{first_error}
-use Rattle.geo_model.specs.Topology.{Topology, Provider, Consumer, provider_at, consumer_at, is_errored, attach}
+use Rattle.geo_model.specs.Topology.{Topology, provider_at, consumer_at, is_errored, attach}
 use Rattle.geo_model.specs.Rank.{would_loop, is_too_deep, attach_refusal}
-use Rattle.geo_model.specs.Demand.{is_exclusive, fits_limit, have, want}
+use Rattle.geo_model.specs.Demand.{is_exclusive, fits_limit, want}
 use Rattle.geo_model.specs.Opens.{below, has_error_below, join_refusal}
-use Rattle.geo_model.specs.Refusals.{IsFirstErrored}
 use Rattle.geo_mesh.specs.Topo.{TopoView, with_provider_scratch}
 use Rattle.geo_mesh.specs.Graph.{IsSoundGraph}
 use Rattle.geo_laws_counts.specs.WalkWords.{cap}
 use Rattle.geo_laws_counts.proofs.Reach.{below_self}
 use Rattle.geo_laws_counts.proofs.Flows.{add-cap}
-use Rattle.geo_laws_counts.proofs.Raising.{Demands}
 use Rattle.geo_laws_growth.specs.JoinLaws.{Joins}
 use Rattle.geo_laws_growth.proofs.Joining.{joins_without_loop}
 use Rattle.geo_access.specs.declared.counts.Way.{Way}
@@ -33,13 +31,11 @@ use Rattle.geo_access.specs.declared.refusal.JoinRefusal.{JoinRefusal}
 use Rattle.geo_access.specs.Views.{order_of, IsTried, judged, grant_answer, give, gain_at, other, first_errored, first_given, fault_in, gathered_from, spread_from}
 use Rattle.geo_access.specs.Join.{IsCountedBut, IsJoinRefusal, IsJoinNamed, join_answer, attach_told, errno_of_join, errored_below, error_answer, attach_answer, demand_answer}
 use Rattle.geo_access.proofs.Judging.{zero_min}
-use Rattle.geo_access.proofs.Trying.{Tries, trying}
-use Rattle.geo_access.proofs.Walked.{below_covers}
-use Rattle.geo_access.proofs.Verdict.{After, IsVerdict}
-use Rattle.geo_access.proofs.Decided.{order, decided, end}
+use Rattle.geo_access.proofs.Walked.{walk, walk_covers}
+use Rattle.geo_access.proofs.Verdict.{IsVerdict}
+use Rattle.geo_access.proofs.Decided.{order, decided, IsDemand, IsTold}
 use Rattle.geo_access.proofs.Coming.{SaysError, open_errors}
-use Rattle.geo_access.proofs.JoinStart.{Loose, but_told}
-use Rattle.geo_access.proofs.JoinDemand.{joined_want, joined_want_is, join_gains, join_mores, join_demands, join_after}
+use Rattle.geo_access.proofs.JoinDemand.{Loose, but_told, joined_want, joined_want_is, join_demand}
 
 -- Counts that are stopped
 
@@ -48,9 +44,9 @@ give_stopped : {C : Type 0} (a : Counts) (v : TopoView C) (p : ℕ) → give (ca
 give_stopped a v p = ap (λ b. with_provider_scratch v p (record { mark = 0; trial = b })) (add-cap (gain_at v p) a)
 
 -- so what is tried with it is tried with the whole
-pub tried_whole : {C : Type 0} (t : TopoView C) (p : ℕ) (a b : Counts) (way : Way) (new : TopoView C) (o : Order)
+pub tried_whole : {C : Type 0} {t : TopoView C} {p : ℕ} {a b : Counts} {way : Way} {new : TopoView C} {o : Order}
     → a ≡ cap b → IsTried t p a way new o → IsTried t p b way new o
-tried_whole {C} t p a b way new o is tried =
+tried_whole {C} {t} {p} {a} {b} {way} {new} {o} is tried =
     let same : give a (gathered_from t tried.offer.geom).view p ≡ give b (gathered_from t tried.offer.geom).view p =
     ap (λ x. give x (gathered_from t tried.offer.geom).view p) is
     ∙ give_stopped b (gathered_from t tried.offer.geom).view p in
@@ -126,19 +122,18 @@ sound_here t p none = by (is_errored t p) refl
         sym (any-contained (is_errored t) (below t p) p (below_self (length t.geoms) t p) e) ∙ none in absurd (cc)
 
 module _ {C : Type 0} (t : Topology C) (c p : ℕ) (granted : ℕ → Counts) where
+  -- the tests of an attach there
+  abbrev loops : Bool
+  loops = would_loop t (consumer_at t c) (provider_at t p)
+
+  abbrev too_deep : Bool
+  too_deep = is_too_deep (attach t c p)
+
   -- what a join is told, from its tests
-  tests_are : (below loop deep exclusive limit : Bool) → has_error_below t p ≡ below
-      → would_loop t (consumer_at t c) (provider_at t p) ≡ loop → is_too_deep (attach t c p) ≡ deep
+  tests_are : {below loop deep exclusive limit : Bool} → has_error_below t p ≡ below → loops ≡ loop → too_deep ≡ deep
       → is_exclusive granted (attach t c p) ≡ exclusive → fits_limit granted (attach t c p) ≡ limit
       → join_refusal granted t c p ≡ join_tests below loop deep exclusive limit
-  tests_are below loop deep exclusive limit eb el ed ex ef =
-      ap (λ b. join_tests b (would_loop t (consumer_at t c) (provider_at t p)) (is_too_deep (attach t c p))
-      (is_exclusive granted (attach t c p)) (fits_limit granted (attach t c p))) eb
-      ∙ ap (λ b. join_tests below b (is_too_deep (attach t c p)) (is_exclusive granted (attach t c p))
-      (fits_limit granted (attach t c p))) el
-      ∙ ap (λ b. join_tests below loop b (is_exclusive granted (attach t c p)) (fits_limit granted (attach t c p))) ed
-      ∙ ap (λ b. join_tests below loop deep b (fits_limit granted (attach t c p))) ex
-      ∙ ap (join_tests below loop deep exclusive) ef
+  tests_are {below} {loop} {deep} {exclusive} {limit} eb el ed ex ef = λ i. join_tests (eb i) (el i) (ed i) (ex i) (ef i)
 
   -- the answer is right, and names what it has to
   abbrev pub IsRight : Result (Unit {0}) JoinRefusal → Type 0
@@ -148,76 +143,47 @@ module _ {C : Type 0} (t : Topology C) (c p : ℕ) (granted : ℕ → Counts) wh
   right_attach : (e : Errno) → has_error_below t p ≡ false → attach_refusal t c p ≡ Some e
       → IsRight (Err (attach_told e p))
   right_attach e none refused =
-      let tests : attach_tests false (would_loop t (consumer_at t c) (provider_at t p))
-      (is_too_deep (attach t c p)) ≡ Some e =
-      sym (ap (λ b. attach_tests b (would_loop t (consumer_at t c) (provider_at t p)) (is_too_deep (attach t c p)))
-      (sound_here t p none)) ∙ refused in (
-        tests_are false (would_loop t (consumer_at t c) (provider_at t p)) (is_too_deep (attach t c p))
-            (is_exclusive granted (attach t c p)) (fits_limit granted (attach t c p)) none refl refl refl refl
-            ∙ attach_first p (would_loop t (consumer_at t c) (provider_at t p)) (is_too_deep (attach t c p))
-            (is_exclusive granted (attach t c p)) (fits_limit granted (attach t c p)) e tests,
-        attach_names granted t c p (would_loop t (consumer_at t c) (provider_at t p))
-            (is_too_deep (attach t c p)) e tests,
+      let tests : attach_tests false loops too_deep ≡ Some e =
+      sym (ap (λ b. attach_tests b loops too_deep) (sound_here t p none)) ∙ refused in (
+        tests_are none refl refl refl refl
+            ∙ attach_first p loops too_deep (is_exclusive granted (attach t c p)) (fits_limit granted (attach t c p)) e
+            tests,
+        attach_names granted t c p loops too_deep e tests,
       )
 
   -- where nothing refuses the attach: the tests that are left
   abbrev IsPassed : Type 0
-  IsPassed = (has_error_below t p ≡ false) × (would_loop t (consumer_at t c) (provider_at t p) ≡ false)
-      × (is_too_deep (attach t c p) ≡ false)
+  IsPassed = (has_error_below t p ≡ false) × (loops ≡ false) × (too_deep ≡ false)
 
-  -- what is told then, from what the counts say
-  tests_left : IsPassed → (exclusive limit : Bool) → is_exclusive granted (attach t c p) ≡ exclusive
-      → fits_limit granted (attach t c p) ≡ limit
-      → join_refusal granted t c p ≡ join_tests false false false exclusive limit
-  tests_left passed exclusive limit ex ef = tests_are false false false exclusive limit passed.0 passed.1 passed.2 ex ef
-
-  module _ (v : TopoView C) (add : Counts) (gain : ℕ → Counts) (more : Consumer → Counts)
-      (ctx : After v.topology p c add granted granted (attach t c p) gain more) where
-    -- the answer to a demand that is judged so
-    right_demand : IsPassed → (r : Option Refused)
-        → IsVerdict v p c add granted granted (attach t c p) gain more ctx r → SaysError t p r
-        → errored_below r ≡ None → IsRight (demand_answer (grant_answer r c p))
-    right_demand passed None says errors none = (tests_left passed true true says.1 says.2, tt)
-    right_demand passed (Some (Named (Enxio q))) says errors none = absurd (cc)
-    right_demand passed (Some (Named (Eperm q w e))) says errors none =
-        (tests_left passed false (fits_limit granted (attach t c p)) says.1 refl, says.2)
-    right_demand passed (Some (Named (Eoverflow q))) says errors none =
-        (tests_left passed true false says.1 says.2, says.3)
-    right_demand passed (Some (Writer w)) says errors none =
-        (tests_left passed false (fits_limit granted (attach t c p)) says.1 refl, says.2)
-    right_demand passed (Some (Exclusive e)) says errors none =
-        (tests_left passed false (fits_limit granted (attach t c p)) says.1 refl, says.2)
+  -- the answer to a demand that is judged so
+  right_demand : IsPassed → (r : Option Refused) → IsVerdict t p c granted (attach t c p) r
+      → errored_below r ≡ None → IsRight (demand_answer (grant_answer r c p))
+  right_demand passed None says none = (tests_are passed.0 passed.1 passed.2 says.1 says.2, tt)
+  right_demand passed (Some (Named (Enxio q))) says none = absurd (cc)
+  right_demand passed (Some (Named (Eperm q w e))) says none =
+      (tests_are passed.0 passed.1 passed.2 says.1 refl, says.2)
+  right_demand passed (Some (Named (Eoverflow q))) says none =
+      (tests_are passed.0 passed.1 passed.2 says.1 says.2, says.3)
+  right_demand passed (Some (Writer w)) says none = (tests_are passed.0 passed.1 passed.2 says.1 refl, says.2)
+  right_demand passed (Some (Exclusive e)) says none = (tests_are passed.0 passed.1 passed.2 says.1 refl, says.2)
 
   -- an error is named, or there is none
-  right_error : (r : Option Refused) → SaysError t p r → (o : Option ℕ) → errored_below r ≡ o
-      → (rest : Result (Unit {0}) JoinRefusal)
-      → (has_error_below t p ≡ false → errored_below r ≡ None → IsRight rest) → IsRight (error_answer o rest)
-  right_error (Some (Named (Enxio q))) errors None e rest so = absurd (cc)
-  right_error (Some (Named (Enxio q))) errors (Some n) e rest so =
-      let same : q ≡ n = cc in (
-        tests_are true (would_loop t (consumer_at t c) (provider_at t p)) (is_too_deep (attach t c p))
-            (is_exclusive granted (attach t c p)) (fits_limit granted (attach t c p)) errors.0 refl refl refl refl,
-        subst (IsFirstErrored t p) same errors.1,
-      )
-  right_error None errors None e rest so = so errors e
-  right_error None errors (Some n) e rest so = absurd (cc)
-  right_error (Some (Named (Eperm q w x))) errors None e rest so = so errors e
-  right_error (Some (Named (Eperm q w x))) errors (Some n) e rest so = absurd (cc)
-  right_error (Some (Named (Eoverflow q))) errors None e rest so = so errors e
-  right_error (Some (Named (Eoverflow q))) errors (Some n) e rest so = absurd (cc)
-  right_error (Some (Writer w)) errors None e rest so = so errors e
-  right_error (Some (Writer w)) errors (Some n) e rest so = absurd (cc)
-  right_error (Some (Exclusive x)) errors None e rest so = so errors e
-  right_error (Some (Exclusive x)) errors (Some n) e rest so = absurd (cc)
+  right_error : (r : Option Refused) → SaysError t p r → (rest : Result (Unit {0}) JoinRefusal)
+      → (has_error_below t p ≡ false → errored_below r ≡ None → IsRight rest)
+      → IsRight (error_answer (errored_below r) rest)
+  right_error (Some (Named (Enxio q))) errors rest so = (tests_are errors.0 refl refl refl refl, errors.1)
+  right_error None errors rest so = so errors refl
+  right_error (Some (Named (Eperm q w x))) errors rest so = so errors refl
+  right_error (Some (Named (Eoverflow q))) errors rest so = so errors refl
+  right_error (Some (Writer w)) errors rest so = so errors refl
+  right_error (Some (Exclusive x)) errors rest so = so errors refl
 
   -- a refused attach, or none
   right_attached : has_error_below t p ≡ false → (o : Option Errno) → attach_refusal t c p ≡ o
       → (rest : Result (Unit {0}) JoinRefusal)
       → (IsPassed → IsRight rest) → IsRight (attach_answer o p rest)
   right_attached none None refused rest so =
-      let tests = attach_passed (is_errored t p) (would_loop t (consumer_at t c) (provider_at t p))
-      (is_too_deep (attach t c p)) refused in
-      so (none, tests.0, tests.1)
+      let tests = attach_passed (is_errored t p) loops too_deep refused in so (none, tests.0, tests.1)
   right_attached none (Some e) refused rest so = right_attach e none refused
 
 -- an answer that is Ok
@@ -235,9 +201,12 @@ passed_all (Some (Writer w)) (Some e) c p ok = absurd (cc)
 passed_all (Some (Exclusive x)) None c p ok = absurd (cc)
 passed_all (Some (Exclusive x)) (Some e) c p ok = absurd (cc)
 
-module _ {C : Type 0} (t : TopoView C) (sound : IsSoundGraph t.topology) (cons : ℕ) (counted : IsCountedBut t cons)
-    (loose : Loose t cons)
-    (p : ℕ) (offer : Provider) (offered : provider_at t.topology p ≡ Some offer) where
+module _ {C : Type 0} {t : TopoView C} {cons : ℕ} (sound : IsSoundGraph t.topology) (counted : IsCountedBut t cons)
+    (loose : Loose t cons) {p : ℕ} {add : Counts} {new : TopoView C} {o : Order} (tried : IsTried t p add Rises new o)
+    (is : add ≡ cap (want (granted_by t) t.topology loose.one)) where
+  abbrev told : IsTold t
+  told = but_told sound counted loose
+
   -- where its geom wouldn't reach itself, it joins
   abbrev pub joins_of : would_loop t.topology (consumer_at t.topology cons) (provider_at t.topology p) ≡ false
       → Joins t.topology cons p
@@ -250,102 +219,65 @@ module _ {C : Type 0} (t : TopoView C) (sound : IsSoundGraph t.topology) (cons :
     after =
         Joins.after
         (joins_without_loop t.topology cons p
-        (record { consumer = loose.one; stands = loose.found; free = loose.free; provider = offer; offers = offered })
-        sound.ranked sound.orderly.parts.geoms sound.orderly.order around);
+        (record {
+          consumer = loose.one;
+          stands = loose.found;
+          free = loose.free;
+          provider = tried.offer;
+          offers = tried.found;
+        }) sound.ranked sound.orderly.parts.geoms sound.orderly.order around);
   }
 
-  module _ (add : Counts) (is : add ≡ cap (want (granted_by t) t.topology loose.one)) (new : TopoView C)
-      (o : Order) (tried : IsTried t p add Rises new o) where
-    -- the judgement of the walk
-    abbrev pub its_judgement : Option Refused
-    its_judgement = judged new p add (order_of new o)
+  -- the judgement of the walk
+  abbrev pub its_judgement : Option Refused
+  its_judgement = judged new p add (order_of new o)
 
-    module _ (j : Joins t.topology cons p) (one : j.consumer ≡ loose.one) where
-      -- what it wants once it has joined
-      abbrev pub whole : Counts
-      whole = joined_want (granted_by t) t.topology cons p j
+  module _ (j : Joins t.topology cons p) (one : j.consumer ≡ loose.one) where
+    -- what it wants once it has joined
+    abbrev pub whole : Counts
+    whole = joined_want (granted_by t) j
 
-      -- is what was tried, not stopped
-      pub add_whole : add ≡ cap whole
-      add_whole = is ∙ ap (λ c. cap (want (granted_by t) t.topology c)) (sym one)
-          ∙ ap cap (sym (joined_want_is (granted_by t) t.topology cons p j))
+    -- is what was tried, not stopped
+    pub add_whole : add ≡ cap whole
+    add_whole = is ∙ ap (λ c. cap (want (granted_by t) t.topology c)) (sym one)
+        ∙ ap cap (sym (joined_want_is (granted_by t) j))
 
-      -- so that was tried
-      pub whole_tried : IsTried t p whole Rises new o
-      whole_tried = tried_whole t p add whole Rises new o add_whole tried
+    -- so that was tried
+    pub whole_tried : IsTried t p whole Rises new o
+    whole_tried = tried_whole add_whole tried
 
-      -- the geoms below
-      abbrev pub join_order : List ℕ
-      join_order = order t sound (but_told t sound cons counted loose) p whole new o whole_tried
+    -- as a demand
+    abbrev pub whole_demand : IsDemand t p cons whole (granted_by t) (attach t.topology cons p)
+        (walk sound counted.clear whole_tried)
+    whole_demand = join_demand j (walk sound counted.clear whole_tried) (walk_covers sound counted.clear whole_tried)
 
-      pub its_after : After t.topology p cons whole (granted_by t) (granted_by t) (attach t.topology cons p)
-          (join_gains (granted_by t) t.topology cons p j) (join_mores (granted_by t) t.topology cons p j)
-      its_after = join_after (granted_by t) t.topology cons p j
+    pub its_verdict : IsVerdict t.topology p cons (granted_by t) (attach t.topology cons p) its_judgement
+    its_verdict =
+        subst (IsVerdict t.topology p cons (granted_by t) (attach t.topology cons p))
+        (sym (judged_whole new p add whole (order_of new o) add_whole)) (decided sound told whole_tried whole_demand)
 
-      pub its_demand : Demands t.topology p whole (have (granted_by t) t.topology)
-          (join_gains (granted_by t) t.topology cons p j) (join_mores (granted_by t) t.topology cons p j) join_order
-      its_demand =
-          join_demands (granted_by t) t.topology cons p j join_order
-          (below_covers t sound counted.clear p whole_tried.offer whole_tried.found)
+  -- what it is told is right
+  pub told_right : IsRight t.topology cons p (granted_by t)
+      (join_answer its_judgement (attach_refusal t.topology cons p) cons p)
+  told_right =
+      let demand : Result (Unit {0}) JoinRefusal = demand_answer (grant_answer its_judgement cons p) in
+      right_error t.topology cons p (granted_by t) its_judgement (open_errors tried sound told)
+      (attach_answer (attach_refusal t.topology cons p) p demand)
+      (λ none no_error.
+      right_attached t.topology cons p (granted_by t) none (attach_refusal t.topology cons p) refl demand
+      (λ passed. right_demand t.topology cons p (granted_by t) passed its_judgement (its_verdict (joins_of passed.1) refl)
+      no_error))
 
-      -- what the walk comes to
-      abbrev pub its_tries : Tries
-      its_tries = (end t sound (but_told t sound cons counted loose) p whole new o whole_tried cons (granted_by t)
-          (attach t.topology cons p)
-          (join_gains (granted_by t) t.topology cons p j) (join_mores (granted_by t) t.topology cons p j) its_after
-          its_demand).tries
+  -- where nothing refuses the attach, its geom wouldn't reach itself
+  pub around_free : attach_refusal t.topology cons p ≡ None
+      → would_loop t.topology (consumer_at t.topology cons) (provider_at t.topology p) ≡ false
+  around_free none =
+      (attach_passed (is_errored t.topology p)
+      (would_loop t.topology (consumer_at t.topology cons) (provider_at t.topology p))
+      (is_too_deep (attach t.topology cons p)) none).0
 
-      pub its_verdict : IsVerdict (trying t its_tries) p cons whole (granted_by t) (granted_by t)
-          (attach t.topology cons p)
-          (join_gains (granted_by t) t.topology cons p j) (join_mores (granted_by t) t.topology cons p j) its_after
-          its_judgement
-      its_verdict =
-          subst
-          (IsVerdict (trying t its_tries) p cons whole (granted_by t) (granted_by t) (attach t.topology cons p)
-          (join_gains (granted_by t) t.topology cons p j) (join_mores (granted_by t) t.topology cons p j) its_after)
-          (sym (judged_whole new p add whole (order_of new o) add_whole))
-          (decided t sound (but_told t sound cons counted loose) p whole new o whole_tried cons (granted_by t)
-          (attach t.topology cons p)
-          (join_gains (granted_by t) t.topology cons p j) (join_mores (granted_by t) t.topology cons p j)
-          its_after its_demand)
-
-    -- what it is told is right
-    pub told_right : IsRight t.topology cons p (granted_by t)
-        (join_answer its_judgement (attach_refusal t.topology cons p) cons p)
-    told_right =
-        let errors : SaysError t.topology p its_judgement =
-        open_errors t sound (but_told t sound cons counted loose) p offer offered add new o tried in
-        let demand : Result (Unit {0}) JoinRefusal = demand_answer (grant_answer its_judgement cons p) in
-        right_error t.topology cons p (granted_by t) its_judgement errors (errored_below its_judgement) refl
-        (attach_answer (attach_refusal t.topology cons p) p demand)
-        (λ none no_error.
-        right_attached t.topology cons p (granted_by t) none (attach_refusal t.topology cons p) refl demand
-        (λ passed.
-        let j : Joins t.topology cons p = joins_of passed.1 in
-        right_demand t.topology cons p (granted_by t) (trying t (its_tries j refl)) (whole j refl)
-        (join_gains (granted_by t) t.topology cons p j) (join_mores (granted_by t) t.topology cons p j)
-        (its_after j refl) passed its_judgement (its_verdict j refl) errors no_error))
-
-    -- where nothing refuses the attach, its geom wouldn't reach itself
-    pub around_free : attach_refusal t.topology cons p ≡ None
-        → would_loop t.topology (consumer_at t.topology cons) (provider_at t.topology p) ≡ false
-    around_free none =
-        (attach_passed (is_errored t.topology p)
-        (would_loop t.topology (consumer_at t.topology cons) (provider_at t.topology p))
-        (is_too_deep (attach t.topology cons p)) none).0
-
-    -- and where nothing refuses the demand, none stands in another's way and no count is too great
-    pub join_fits : (j : Joins t.topology cons p) → (one : j.consumer ≡ loose.one) → its_judgement ≡ None
-        → (is_exclusive (granted_by t) (attach t.topology cons p) ≡ true)
-        × (fits_limit (granted_by t) (attach t.topology cons p) ≡ true)
-    join_fits j one none =
-        let says : IsVerdict (trying t (its_tries j one)) p cons (whole j one) (granted_by t) (granted_by t)
-        (attach t.topology cons p)
-        (join_gains (granted_by t) t.topology cons p j) (join_mores (granted_by t) t.topology cons p j)
-        (its_after j one) None =
-        subst
-        (IsVerdict (trying t (its_tries j one)) p cons (whole j one) (granted_by t) (granted_by t)
-        (attach t.topology cons p)
-        (join_gains (granted_by t) t.topology cons p j) (join_mores (granted_by t) t.topology cons p j)
-        (its_after j one)) none (its_verdict j one) in
-        (says.1, says.2)
+  -- and where nothing refuses the demand, none stands in another's way and no count is too great
+  pub join_fits : (j : Joins t.topology cons p) → (one : j.consumer ≡ loose.one) → its_judgement ≡ None
+      → IsVerdict t.topology p cons (granted_by t) (attach t.topology cons p) None
+  join_fits j one none =
+      subst (IsVerdict t.topology p cons (granted_by t) (attach t.topology cons p)) none (its_verdict j one)

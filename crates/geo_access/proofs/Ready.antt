@@ -16,11 +16,11 @@ use Rattle.geo_access.specs.declared.order.Order.{Order}
 use Rattle.geo_access.specs.declared.decide.Refused.{Refused}
 use Rattle.geo_access.specs.Tries.{Apart}
 use Rattle.geo_access.specs.Access.{granted_by, clear_scratches, consumers_below, IsCounted, IsHolder}
-use Rattle.geo_access.specs.Views.{CountsTell, order_of, finish_geom, IsTried, consumers_over, judged, errno_of_refused}
+use Rattle.geo_access.specs.Views.{order_of, finish_geom, IsTried, consumers_over, judged, errno_of_refused}
 use Rattle.geo_access.proofs.Folding.{order_graph}
 use Rattle.geo_access.proofs.Walked.{tried_graph, tried_lives, tried_apart}
 use Rattle.geo_access.proofs.Decided.{IsTold, counted_told, steps_bound}
-use Rattle.geo_access.proofs.Coming.{open_tells, open_end, open_refused}
+use Rattle.geo_access.proofs.Coming.{end_of, open_refused}
 
 -- a walk can be ended: the geoms of its order live and differ
 pub record MayEnd {C : Type 0} (v : TopoView C) (o : Order) : Type 0 where
@@ -31,27 +31,9 @@ pub record MayEnd {C : Type 0} (v : TopoView C) (o : Order) : Type 0 where
 pub may_end : {C : Type 0} {t : TopoView C} {p : ℕ} {add : Counts} {way : Way} {new : TopoView C} {o : Order}
     → IsTried t p add way new o → IsSoundGraph t.topology → t.scratches ≡ clear_scratches t.topology → MayEnd new o
 may_end {C} {t} {p} {add} {way} {new} {o} tried sound clear = record {
-  lives = tried_lives t sound clear p add way new o tried;
-  apart = tried_apart t sound clear p add way new o tried;
+  lives = tried_lives sound clear tried;
+  apart = tried_apart sound clear tried;
 }
-
--- its steps are within the bound
-pub bound_of : {C : Type 0} {t : TopoView C} {p : ℕ} {add : Counts} {way : Way} {new : TopoView C} {o : Order}
-    → IsTried t p add way new o → IsSoundGraph t.topology → t.scratches ≡ clear_scratches t.topology
-    → consumers_over t.topology (order_of new o) ≤ consumers_below t.topology p
-bound_of {C} {t} {p} {add} {way} {new} {o} tried sound clear = steps_bound t sound clear p add way new o tried
-
--- where the stored counts are told, those of the provider tell whether a consumer there stands in the way
-pub tells_of : {C : Type 0} {t : TopoView C} {p : ℕ} {add : Counts} {new : TopoView C} {o : Order}
-    → IsTried t p add Rises new o → IsSoundGraph t.topology → IsTold t → CountsTell new p
-tells_of {C} {t} {p} {add} {new} {o} tried sound told =
-    open_tells t sound told p tried.offer tried.found add new o tried
-
--- and the end that keeps nothing leaves the mesh as it was
-pub end_of : {C : Type 0} {t : TopoView C} {p : ℕ} {add : Counts} {new : TopoView C} {o : Order}
-    → IsTried t p add Rises new o → IsSoundGraph t.topology → IsTold t
-    → fold (finish_geom None) new (order_of new o) ≡ t
-end_of {C} {t} {p} {add} {new} {o} tried sound told = open_end t sound told p tried.offer tried.found add new o tried
 
 -- a demand of a consumer of DEV that would come to the provider: what it is told is the model's, the end that keeps
 -- nothing leaves the mesh as it was, and the steps are within the bound
@@ -71,9 +53,9 @@ opener_asked {C} {t} {p} {add} {new} {o} tried sound counted judges =
     record {
       told =
           ap (λ (e : Option Errno). unless {A = Unit {0}} e tt) (ap (option_map errno_of_refused) judges
-          ∙ open_refused t sound told p tried.offer tried.found add new o tried);
+          ∙ open_refused tried sound told);
       ends = end_of tried sound told;
-      bound = bound_of tried sound counted.clear;
+      bound = steps_bound sound counted.clear tried;
     }
 
 -- whatever the end keeps, a consumer of DEV or TASTE is still there
@@ -84,5 +66,5 @@ pub holder_stays : {C : Type 0} {t : TopoView C} {p : ℕ} {add : Counts} {way :
 holder_stays {C} {t} {p} {add} {way} {new} {o} {last} keep cons tried sound clear holder ends =
     subst (λ (u : Topology C). IsSome (consumer_at u cons))
     (sym (ap (λ (v : TopoView C). v.topology) ends ∙ order_graph keep (order_of new o) new
-    ∙ tried_graph t sound clear p add way new o tried))
+    ∙ tried_graph sound clear tried))
     (there_with_fact (λ (x : Consumer). HoldsGrants t.topology x.geom) (consumer_at t.topology cons) holder.kind)

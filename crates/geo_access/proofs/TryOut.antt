@@ -1,6 +1,6 @@
 -- The whole walk: the order of the geoms below, and what is gained once all have handed down.
 use Rattle.std.specs.Prelude.{◌≡◌, ℕ, ◌-◌, ◌==◌, ◌<◌, ◌≤◌, ◌^◌, min, Bool, true, false, ◌||◌, List, [], ◌∷◌, length, map, fold, Option, Some, None, IsSome, IfSome, Contains, if◌then◌else◌}
-use Rattle.std.specs.List.{list_all, list_any}
+use Rattle.std.specs.List.{list_all}
 use Rattle.std.specs.Option.{option_map_or}
 use Rattle.std.proofs.Common.{refl, sym, ◌∙◌, ap, subst, arith, inl, inr, eq-eqb, eqb}
 use Rattle.std.proofs.lemmas.Bool.{eqb-true, cases_eq, ne_eqb}
@@ -17,10 +17,8 @@ use Rattle.geo_laws_counts.specs.CountWords.{gain_of_kind}
 use Rattle.geo_laws_counts.proofs.Sums.{zero-add}
 use Rattle.geo_laws_counts.proofs.LimitFacts.{of_filter}
 use Rattle.geo_laws_counts.proofs.Upward.{geom_found}
-use Rattle.geo_laws_counts.proofs.Numbers.{found_of}
-use Rattle.std.proofs.lemmas.List.Kept.{AllPairs-from_increasing}
 use Rattle.geo_base.proofs.Options.{some_of}
-use Rattle.geo_base.proofs.FindLists.{find-Contains}
+use Rattle.geo_base.proofs.FindLists.{find-Contains, some-passes}
 use Rattle.geo_laws_counts.specs.WalkWords.{has_number, IsOrder, order_from, cap, set_at, hand_at, gain_without}
 use Rattle.geo_laws_counts.proofs.Orders.{not-has, order_within, order_stays}
 use Rattle.geo_laws_counts.proofs.Flows.{flow_step, flow_first, flow_end}
@@ -34,16 +32,7 @@ use Rattle.geo_access.specs.Views.{Gathered, mark_at, gain_at, have_at, order_of
 use Rattle.geo_access.proofs.Folding.{links_same, spread_marks, spread_graph}
 use Rattle.geo_access.proofs.Trying.{Tries, trying, trying-none, trying-mark, trying-gain, trying-geom, trying-provider, head_or, link_in, kept_order, order_tries, links_order, order_distinct}
 use Rattle.geo_access.proofs.Tried.{trying-same, under_lives, visit_is, made_gain, weigh_is}
-
--- a number that a test finds is there
-any_contains : (xs : List ℕ) (q : ℕ) → list_any (eqb q) xs ≡ true → Contains xs q
-any_contains [] q never = absurd (cc)
-any_contains (x ∷ xs) q found = step (eqb q x) refl found (any_contains xs q)
-  where
-    step : (b : Bool) → eqb q x ≡ b → (b || list_any (eqb q) xs) ≡ true
-        → (list_any (eqb q) xs ≡ true → Contains xs q) → Contains (x ∷ xs) q
-    step true e h so = subst (Contains (x ∷ xs)) (sym (eqb-true q x e)) (Contains-here x xs)
-    step false e h so = Contains-there x q xs (so h)
+use Rattle.geo_access.proofs.Walking.{provider_known}
 
 -- what a fold of steps that leave each mark leaves
 spreads_mark : {C : Type 0} (way : Way) (xs : List ℕ) (v : TopoView C) (y : ℕ)
@@ -82,7 +71,8 @@ module _ {C : Type 0} (t : TopoView C) (sound : IsSoundGraph t.topology) where
   order_fits xs order all =
       let few : length xs ≤ t.topology.next_geom =
       length-le_from_distinct_below xs t.topology.next_geom (order_distinct t.topology xs order)
-      (λ q found. lives_known q (all q (any_contains xs q found))) in
+      (λ q found. lives_known q (all q (let at = some-passes (eqb q) xs found in
+      subst (Contains xs) (sym (eqb-true q at.item at.passes)) at.here))) in
       let fits : t.topology.next_geom < 2 ^ 64 = sound.orderly.numbers.next_geom.fits in
       omega arith
 
@@ -158,15 +148,6 @@ module _ {C : Type 0} (t : TopoView C) (sound : IsSoundGraph t.topology) where
       kept n true e = trying-mark t s x lives ∙ ap s.marks (sym (eqb-true n x e))
       kept n false e = refl
 
-  -- a provider of a geom is found
-  pub offers_found : (x : ℕ) (y : Provider) → Contains (providers_of t.topology x) y
-      → provider_at t.topology y.number ≡ Some y
-  offers_found x y there =
-      found_of (λ (z : Provider). z.number) t.topology.providers
-      (AllPairs-from_increasing (map (λ (z : Provider). z.number) t.topology.providers)
-      sound.orderly.order.providers.0) y
-      (of_filter (λ (z : Provider). z.geom == x) t.topology.providers y there).0
-
   module _ (way : Way) (p : ℕ) (first : Counts) (small gain : ℕ → Counts) (more : Consumer → Counts) (order : List ℕ)
       (demand : Demands t.topology p first small gain more order)
       (shrinks : (y : Provider) → Contains t.topology.providers y
@@ -182,9 +163,11 @@ module _ {C : Type 0} (t : TopoView C) (sound : IsSoundGraph t.topology) where
         let ys : List Provider = providers_of t.topology x in
         let at : (y : Provider) → Contains ys y → gain_at (trying t s) y.number ≡ cap (gain y.number) =
         λ y there.
-        trying-gain t s y.number (subst (λ o. IsSome o) (sym (offers_found x y there)) refl) ∙ now y.number
-        ∙ flow_first t.topology p first gain more order demand.flow x rest ordered y (offers_found x y there)
-        (eqb-true y.geom x (of_filter (λ (z : Provider). z.geom == x) t.topology.providers y there).1) in
+        let inside = of_filter (λ (z : Provider). z.geom == x) t.topology.providers y there in
+        let known : provider_at t.topology y.number ≡ Some y = provider_known t sound y inside.0 in
+        trying-gain t s y.number (subst (λ o. IsSome o) (sym known) refl) ∙ now y.number
+        ∙ flow_first t.topology p first gain more order demand.flow x rest ordered y known
+        (eqb-true y.geom x inside.1) in
         let kind : Weight → Counts = λ w. made_of g.kind w in
         ap (λ o. option_map_or
         (λ (h : Geom C).

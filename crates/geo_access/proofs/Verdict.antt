@@ -3,8 +3,7 @@ use Rattle.std.specs.Prelude.{◌≡◌, ◌≢◌, ◌⊎◌, ℕ, ◌==◌, �
 use Rattle.std.specs.List.{list_any}
 use Rattle.std.specs.Option.{option_or, option_map_or}
 use Rattle.std.proofs.Common.{refl, sym, ◌∙◌, ap, subst, arith, inl, inr, eq-eqb}
-use Rattle.std.proofs.lemmas.Bool.{eqb-true, cases_eq, ne_eqb, ltb-true, ltb-false}
-use Rattle.std.proofs.lemmas.List.Elements.{All-contains}
+use Rattle.std.proofs.lemmas.Bool.{eqb-true, cases_eq, ne_eqb, ltb-true, ltb-false, or_parts, or_cases}
 use Rattle.geo_base.proofs.FindLists.{any-contained}
 use Rattle.geo_base.specs.declared.request.Counts.{Counts}
 use Rattle.geo_base.specs.declared.errno.Errno.{Errno}
@@ -19,11 +18,12 @@ use Rattle.geo_model.specs.Refusals.{IsFirstErrored, StandAgainst, IsOverLimit, 
 use Rattle.geo_mesh.specs.Topo.{TopoView}
 use Rattle.geo_laws_counts.specs.CountWords.{IsAtMost}
 use Rattle.geo_laws_counts.specs.LimitLaws.{NoneInTheWay, greatest_counts}
-use Rattle.geo_laws_counts.proofs.LimitFacts.{of_filter, all_of, exclusive_means, limit_means}
+use Rattle.geo_laws_counts.proofs.LimitFacts.{of_filter, all_of, apart_from, within_limit}
 use Rattle.geo_laws_counts.proofs.Upward.{names_some}
 use Rattle.geo_laws_counts.specs.DemandLaws.{StaysAround}
 use Rattle.geo_laws_counts.specs.WalkWords.{cap}
 use Rattle.geo_laws_counts.proofs.Rising.{changed_exclusive, changed_limit}
+use Rattle.geo_access.specs.declared.decide.Side.{Side}
 use Rattle.geo_access.specs.declared.decide.Side.TheVariants.{Writes, Excludes}
 use Rattle.geo_access.specs.declared.decide.Asked.{Asked}
 use Rattle.geo_access.specs.declared.decide.Asked.TheVariants.{Exclusion, Limit}
@@ -70,63 +70,80 @@ side_gone n e =
       | inr some ↦ let no : true ≡ false = sym (ap not (ne_eqb n 0 some)) ∙ e in absurd (cc)
     ]
 
--- what is part of a sum that is zero is zero
-pub sum_zero_w : {X : Type 0} (f : X → Counts) (xs : List X) (x : X) → Contains xs x → (sum_counts (map f xs)).w ≡ 0
-    → (f x).w ≡ 0
-sum_zero_w f [] x there none = absurd (nothing_in x there)
-sum_zero_w f (y ∷ ys) x there none =
+-- where there are no counts there is no side
+no_side : (side : Side) → has_side side no_counts ≡ false
+no_side Writes = refl
+no_side Excludes = refl
+
+-- what is one of the parts of a sum is at most the sum
+pub part_at_most : {X : Type 0} (f : X → Counts) (xs : List X) (x : X) → Contains xs x
+    → IsAtMost (f x) (sum_counts (map f xs))
+part_at_most f [] x there = absurd (nothing_in x there)
+part_at_most f (y ∷ ys) x there =
     elim (Contains-cases y x ys there) [
-      | inl same ↦ subst (λ z. (f z).w ≡ 0) same (omega arith)
-      | inr rest ↦ sum_zero_w f ys x rest (omega arith)
+      | inl same ↦
+          subst (λ z. IsAtMost (f z) (sum_counts (map f (y ∷ ys)))) same
+          (record { r = omega arith; w = omega arith; e = omega arith })
+      | inr rest ↦
+          let less : IsAtMost (f x) (sum_counts (map f ys)) = part_at_most f ys x rest in
+          record { r = omega arith; w = omega arith; e = omega arith }
     ]
 
--- the same for exclusive counts
-pub sum_zero_e : {X : Type 0} (f : X → Counts) (xs : List X) (x : X) → Contains xs x → (sum_counts (map f xs)).e ≡ 0
-    → (f x).e ≡ 0
-sum_zero_e f [] x there none = absurd (nothing_in x there)
-sum_zero_e f (y ∷ ys) x there none =
-    elim (Contains-cases y x ys there) [
-      | inl same ↦ subst (λ z. (f z).e ≡ 0) same (omega arith)
-      | inr rest ↦ sum_zero_e f ys x rest (omega arith)
-    ]
+-- whether a count that is stopped is past the limit
+abbrev over : ℕ → Bool
+over n = nat_lt MAX_ACCESS_COUNT (min n 4294967295)
 
 -- counts that are stopped are within the limit just where the counts are
 not_over : (a : Counts) → is_too_great (cap a) ≡ false → IsAtMost a greatest_counts
 not_over a e =
-    within (nat_lt MAX_ACCESS_COUNT (min a.r 4294967295)) (nat_lt MAX_ACCESS_COUNT (min a.w 4294967295))
-    (nat_lt MAX_ACCESS_COUNT (min a.e 4294967295)) refl refl refl e
+    let first = or_parts (over a.r) (over a.w || over a.e) e in
+    let rest = or_parts (over a.w) (over a.e) first.1 in
+    record { r = low a.r first.0; w = low a.w rest.0; e = low a.e rest.1 }
   where
-    low : (n : ℕ) → nat_lt MAX_ACCESS_COUNT (min n 4294967295) ≡ false → n ≤ MAX_ACCESS_COUNT
+    low : (n : ℕ) → over n ≡ false → n ≤ MAX_ACCESS_COUNT
     low n e =
         let few : min n 4294967295 ≤ MAX_ACCESS_COUNT = ltb-false MAX_ACCESS_COUNT (min n 4294967295) e in omega arith
 
-    within : (x y z : Bool) → nat_lt MAX_ACCESS_COUNT (min a.r 4294967295) ≡ x
-        → nat_lt MAX_ACCESS_COUNT (min a.w 4294967295) ≡ y → nat_lt MAX_ACCESS_COUNT (min a.e 4294967295) ≡ z
-        → (x || (y || z)) ≡ false → IsAtMost a greatest_counts
-    within true y z r w e h = absurd (cc)
-    within false true z r w e h = absurd (cc)
-    within false false true r w e h = absurd (cc)
-    within false false false r w e h = record { r = low a.r r; w = low a.w w; e = low a.e e }
+-- counts of which one is past the limit
+abbrev IsPast : Counts → Type 0
+IsPast a = (MAX_ACCESS_COUNT < a.r) ⊎ (MAX_ACCESS_COUNT < a.w) ⊎ (MAX_ACCESS_COUNT < a.e)
 
--- and past it just where they are
-is_past : (a : Counts) → is_too_great (cap a) ≡ true
-    → (MAX_ACCESS_COUNT < a.r) ⊎ (MAX_ACCESS_COUNT < a.w) ⊎ (MAX_ACCESS_COUNT < a.e)
+-- they are past it just where they are so stopped
+is_past : (a : Counts) → is_too_great (cap a) ≡ true → IsPast a
 is_past a e =
-    past (nat_lt MAX_ACCESS_COUNT (min a.r 4294967295)) (nat_lt MAX_ACCESS_COUNT (min a.w 4294967295))
-    (nat_lt MAX_ACCESS_COUNT (min a.e 4294967295)) refl refl refl e
+    elim (or_cases (over a.r) (over a.w || over a.e) e) [
+      | inl r ↦ inl (high a.r r)
+      | inr rest ↦
+          elim (or_cases (over a.w) (over a.e) rest) [ inl w ↦ inr (inl (high a.w w)) | inr e ↦ inr (inr (high a.e e)) ]
+    ]
   where
-    high : (n : ℕ) → nat_lt MAX_ACCESS_COUNT (min n 4294967295) ≡ true → MAX_ACCESS_COUNT < n
+    high : (n : ℕ) → over n ≡ true → MAX_ACCESS_COUNT < n
     high n e =
         let many : MAX_ACCESS_COUNT < min n 4294967295 = ltb-true MAX_ACCESS_COUNT (min n 4294967295) e in omega arith
 
-    past : (x y z : Bool) → nat_lt MAX_ACCESS_COUNT (min a.r 4294967295) ≡ x
-        → nat_lt MAX_ACCESS_COUNT (min a.w 4294967295) ≡ y
-        → nat_lt MAX_ACCESS_COUNT (min a.e 4294967295) ≡ z
-        → (x || (y || z)) ≡ true → (MAX_ACCESS_COUNT < a.r) ⊎ (MAX_ACCESS_COUNT < a.w) ⊎ (MAX_ACCESS_COUNT < a.e)
-    past true y z r w e h = inl (high a.r r)
-    past false true z r w e h = inr (inl (high a.w w))
-    past false false true r w e h = inr (inr (high a.e e))
-    past false false false r w e h = absurd (cc)
+-- a look that is made unless a count is zero, and finds nothing
+beside_none : (n : ℕ) (found : Option ℕ) (why : ℕ → Refused)
+    → (if n == 0 then None else option_map why found) ≡ None → (n ≡ 0) ⊎ (found ≡ None)
+beside_none n None why none = inr refl
+beside_none n (Some m) why none =
+    elim (cases_eq n 0) [
+      | inl zero ↦ inl zero
+      | inr some ↦
+          let no : Some (why m) ≡ None = sym (ap (λ b. if b then None else Some (why m)) (ne_eqb n 0 some)) ∙ none in
+          absurd (cc)
+    ]
+
+-- and one that finds something
+beside_some : (n : ℕ) (found : Option ℕ) (why : ℕ → Refused) (r : Refused)
+    → (if n == 0 then None else option_map why found) ≡ Some r
+    → (n ≢ 0) × ((m : ℕ) × (found ≡ Some m) × (why m ≡ r))
+beside_some n found why r some = by (n == 0) refl found some
+  where
+    by : (b : Bool) → (n == 0) ≡ b → (o : Option ℕ) → (if b then None else option_map why o) ≡ Some r
+        → (n ≢ 0) × ((m : ℕ) × (o ≡ Some m) × (why m ≡ r))
+    by true e o f = absurd (cc)
+    by false e None f = absurd (cc)
+    by false e (Some m) f = ((λ none. let no : true ≡ false = sym (eq-eqb n 0 none) ∙ e in cc), (m, refl, (cc)))
 
 -- no item passes, so none does
 any_false : {X : Type 0} (test : X → Bool) (xs : List X) → ((x : X) → Contains xs x → test x ≡ false)
@@ -163,6 +180,21 @@ module _ {C : Type 0} (t : Topology C) (known : (z : Provider) → Contains t.pr
         | inr other ↦ ap (λ b. b && x.errored) (ne_eqb x.number q other)
       ])
 
+-- what is said of what refuses a demand at the provider: of the graph before, the consumer that makes it, and the
+-- grants and the graph once it stands
+abbrev pub IsVerdict : {C : Type 0} → Topology C → ℕ → ℕ → (ℕ → Counts) → Topology C → Option Refused → Type 0
+IsVerdict t p own after u None =
+    (has_error_below t p ≡ false) × (is_exclusive after u ≡ true) × (fits_limit after u ≡ true)
+IsVerdict t p own after u (Some (Named (Enxio q))) = (has_error_below t p ≡ true) × IsFirstErrored t p q
+IsVerdict t p own after u (Some (Named (Eperm q w e))) =
+    (has_error_below t p ≡ false) × (is_exclusive after u ≡ false) × StandAgainst after u q w e
+IsVerdict t p own after u (Some (Named (Eoverflow q))) =
+    (has_error_below t p ≡ false) × (is_exclusive after u ≡ true) × (fits_limit after u ≡ false) × IsOverLimit after u q
+IsVerdict t p own after u (Some (Writer w)) =
+    (has_error_below t p ≡ false) × (is_exclusive after u ≡ false) × StandAgainst after u p w own
+IsVerdict t p own after u (Some (Exclusive e)) =
+    (has_error_below t p ≡ false) × (is_exclusive after u ≡ false) × StandAgainst after u p own e
+
 module _ {C : Type 0} (v : TopoView C) (p own : ℕ) (add : Counts) (granted after : ℕ
     → Counts) (u : Topology C) (gain : ℕ → Counts) (more : Consumer → Counts)
     (ctx : After v.topology p own add granted after u gain more) where
@@ -170,49 +202,40 @@ module _ {C : Type 0} (v : TopoView C) (p own : ℕ) (add : Counts) (granted aft
   abbrev HasNoError : Type 0
   HasNoError = has_error_below v.topology p ≡ false
 
-  -- what is said of what refuses
-  abbrev pub IsVerdict : Option Refused → Type 0
-  IsVerdict None = (has_error_below v.topology p ≡ false) × (is_exclusive after u ≡ true) × (fits_limit after u ≡ true)
-  IsVerdict (Some (Named (Enxio q))) = (has_error_below v.topology p ≡ true) × IsFirstErrored v.topology p q
-  IsVerdict (Some (Named (Eperm q w e))) = (has_error_below v.topology p ≡ false) × (is_exclusive after u ≡ false)
-      × StandAgainst after u q w e
-  IsVerdict (Some (Named (Eoverflow q))) = (has_error_below v.topology p ≡ false) × (is_exclusive after u ≡ true)
-      × (fits_limit after u ≡ false) × IsOverLimit after u q
-  IsVerdict (Some (Writer w)) = (has_error_below v.topology p ≡ false) × (is_exclusive after u ≡ false)
-      × StandAgainst after u p w own
-  IsVerdict (Some (Exclusive e)) = (has_error_below v.topology p ≡ false) × (is_exclusive after u ≡ false)
-      × StandAgainst after u p own e
+  -- what the look has to say
+  abbrev Verdict : Option Refused → Type 0
+  Verdict = IsVerdict v.topology p own after u
 
   -- two consumers at a provider that stand in each other's way
-  stand : (z : Provider) → Contains u.providers z → (a b : Consumer) → Contains (attached_to u z.number) a
-      → Contains (attached_to u z.number) b
-      → a.number ≢ b.number → (want after u a).w ≢ 0 → (want after u b).e ≢ 0
-      → (is_exclusive after u ≡ false) × StandAgainst after u z.number a.number b.number
-  stand z there a b at bt apart writes excludes = (
+  stand : (q : ℕ) (z : Provider) → Contains u.providers z → z.number ≡ q → (a b : Consumer)
+      → Contains (attached_to u q) a → Contains (attached_to u q) b
+      → (w e : ℕ) → a.number ≡ w → b.number ≡ e → w ≢ e
+      → has_side Writes (want after u a) ≡ true → has_side Excludes (want after u b) ≡ true
+      → (is_exclusive after u ≡ false) × StandAgainst after u q w e
+  stand q z there at_q a b at bt w e aw be apart writes excludes = (
     never (is_exclusive after u) refl,
-    (apart, wanted a at (λ x. x.w ≢ 0) writes, wanted b bt (λ x. x.e ≢ 0) excludes),
+    (apart, wanted a w at aw (λ x. x.w ≢ 0) wrote, wanted b e bt be (λ x. x.e ≢ 0) excluded),
   )
     where
-      wanted : (c : Consumer) → Contains (attached_to u z.number) c → (Fact : Counts → Type 0)
-          → Fact (want after u c) → WantsAt after u z.number c.number Fact
-      wanted c ct Fact fact =
-          let inside = of_filter (λ (d : Consumer). names_number d.provider z.number) u.consumers c ct in
-          subst (λ o. IsSomeAnd o (λ (x : Consumer). (x.provider ≡ Some z.number) × Fact (want after u x)))
-          (sym (ctx.found c inside.0))
-          (names_some c.provider z.number inside.1, fact)
+      wrote : (want after u a).w ≢ 0
+      wrote = side_there (want after u a).w writes
+
+      excluded : (want after u b).e ≢ 0
+      excluded = side_there (want after u b).e excludes
+
+      wanted : (c : Consumer) (n : ℕ) → Contains (attached_to u q) c → c.number ≡ n → (Fact : Counts → Type 0)
+          → Fact (want after u c) → WantsAt after u q n Fact
+      wanted c n ct is Fact fact =
+          let inside = of_filter (λ (d : Consumer). names_number d.provider q) u.consumers c ct in
+          subst (λ o. IsSomeAnd o (λ (x : Consumer). (x.provider ≡ Some q) × Fact (want after u x)))
+          (sym (ap (consumer_at u) (sym is) ∙ ctx.found c inside.0)) (names_some c.provider q inside.1, fact)
 
       never : (x : Bool) → is_exclusive after u ≡ x → x ≡ false
-      never false e = refl
-      never true e =
-          let all = (exclusive_means after u).0 e in
-          let pair : ((want after u a).w ≡ 0) ⊎ ((want after u b).e ≡ 0) =
-          All-contains (λ (d : Consumer). a.number ≢ d.number → ((want after u a).w ≡ 0)
-          ⊎ ((want after u d).e ≡ 0)) (attached_to u z.number) b
-          (All-contains (λ (c : Consumer). All (λ (d : Consumer). c.number ≢ d.number → ((want after u c).w ≡ 0)
-          ⊎ ((want after u d).e ≡ 0)) (attached_to u z.number)) (attached_to u z.number) a
-          (All-contains (λ (y : Provider). NoneInTheWay after u (attached_to u y.number)) u.providers z all there)
-          at) bt apart in
-          elim pair [ inl none ↦ absurd (writes none) | inr none ↦ absurd (excludes none) ]
+      never false is = refl
+      never true is =
+          elim (apart_from after u is z a b there (subst (λ n. Contains (attached_to u n) a) (sym at_q) at)
+          (subst (λ n. Contains (attached_to u n) b) (sym at_q) bt) (λ same. apart (sym aw ∙ same ∙ be)))
+          [ inl none ↦ absurd (wrote none) | inr none ↦ absurd (excluded none) ]
 
   module _ (raises : (q : ℕ) (c : Consumer) → Contains (attached_to v.topology q) c
       → raised v c ≡ cap (add_counts (want granted v.topology c) (more c)))
@@ -233,96 +256,49 @@ module _ {C : Type 0} (v : TopoView C) (p own : ℕ) (add : Counts) (granted aft
     sum_of c = add_counts (want granted v.topology c) (more c)
 
     -- a consumer that has a side stands in the new state with it
-    stays_w : (q : ℕ) (c : Consumer) → Contains (attached_to v.topology q) c → has_side Writes (sum_of c) ≡ true
-        → Contains (attached_to u q) c × (c.number ≢ own) × ((want after u c).w ≢ 0)
-    stays_w q c at has =
+    stays : (side : Side) (q : ℕ) (c : Consumer) → Contains (attached_to v.topology q) c
+        → has_side side (sum_of c) ≡ true
+        → Contains (attached_to u q) c × (c.number ≢ own) × (has_side side (want after u c) ≡ true)
+    stays side q c at has =
         elim (ctx.old q c at) [
-          | inl none ↦ let no : false ≡ true = sym (ap (has_side Writes) none) ∙ has in absurd (cc)
-          | inr is ↦ (is.0, is.1, (λ zero. side_there (sum_of c).w has (sym (ap (λ (a : Counts). a.w) is.2) ∙ zero)))
+          | inl none ↦ let no : false ≡ true = sym (ap (has_side side) none ∙ no_side side) ∙ has in absurd (cc)
+          | inr is ↦ (is.0, is.1, ap (has_side side) is.2 ∙ has)
         ]
 
-    stays_e : (q : ℕ) (c : Consumer) → Contains (attached_to v.topology q) c → has_side Excludes (sum_of c) ≡ true
-        → Contains (attached_to u q) c × (c.number ≢ own) × ((want after u c).e ≢ 0)
-    stays_e q c at has =
-        elim (ctx.old q c at) [
-          | inl none ↦ let no : false ≡ true = sym (ap (has_side Excludes) none) ∙ has in absurd (cc)
-          | inr is ↦ (is.0, is.1, (λ zero. side_there (sum_of c).e has (sym (ap (λ (a : Counts). a.e) is.2) ∙ zero)))
-        ]
-
-    -- the provider of the demand stands in the new state
-    offer_after : Contains u.providers offer
-    offer_after = subst (λ ys. Contains ys offer) (sym ctx.providers) (stands p offer offered).0
-
-    offer_number : offer.number ≡ p
-    offer_number = (stands p offer offered).1
+    -- a provider stands in the new state
+    offered_after : (z : Provider) → Contains v.topology.providers z → Contains u.providers z
+    offered_after z there = subst (λ ys. Contains ys z) (sym ctx.providers) there
 
     -- a clash is a refusal
     clash_stands : (z : Provider) → Contains v.topology.providers z → (w e : ℕ) → Clash v sum_of raises z.number w e
         → (is_exclusive after u ≡ false) × StandAgainst after u z.number w e
     clash_stands z there w e clash =
-        let a = stays_w z.number clash.writer clash.writer_at clash.writes in
-        let b = stays_e z.number clash.exclusive clash.exclusive_at clash.excludes in
-        let both = stand z (subst (λ ys. Contains ys z) (sym ctx.providers) there) clash.writer clash.exclusive a.0 b.0
-        (λ same. clash.apart (sym clash.writer_is ∙ same ∙ clash.exclusive_is)) a.2 b.2 in (
-          both.0,
-          subst (λ n. StandAgainst after u z.number w n) clash.exclusive_is
-              (subst (λ n. StandAgainst after u z.number n clash.exclusive.number) clash.writer_is both.1),
-        )
-
-    -- the opener stands at the provider of the demand
-    opener_there : Contains (attached_to u offer.number) ctx.opener
-    opener_there = subst (λ n. Contains (attached_to u n) ctx.opener) (sym offer_number) ctx.opener_at
+        let a = stays Writes z.number clash.writer clash.writer_at clash.writes in
+        let b = stays Excludes z.number clash.exclusive clash.exclusive_at clash.excludes in
+        stand z.number z (offered_after z there) refl clash.writer clash.exclusive a.0 b.0 w e clash.writer_is
+        clash.exclusive_is clash.apart a.2 b.2
 
     -- where the demand writes beside another's exclusive count
-    exclusive_stands : (e : ℕ) → beside_exclusive v p add ≡ Some (Exclusive e) → (is_exclusive after u ≡ false)
-        × StandAgainst after u p own e
-    exclusive_stands e found = by (add.w == 0) refl (other v p 0 Excludes) refl found
-      where
-        by : (b : Bool) → (add.w == 0) ≡ b → (o : Option ℕ) → other v p 0 Excludes ≡ o
-            → (if b then None else option_map (λ c. Exclusive c) o) ≡ Some (Exclusive e)
-            → (is_exclusive after u ≡ false) × StandAgainst after u p own e
-        by true zero o is f = absurd (cc)
-        by false some None is f = absurd (cc)
-        by false some (Some n) is f =
-            let same : n ≡ e = cc in
-            let one = other_some v sum_of raises p 0 Excludes n is in
-            let there = stays_e p one.one one.at one.has in
-            let both = stand offer offer_after ctx.opener one.one opener_there
-            (subst (λ q. Contains (attached_to u q) one.one) (sym offer_number) there.0)
-            (λ is_it. there.1 (sym is_it ∙ ctx.opener_is))
-            (λ none. let no : true ≡ false =
-            sym (eq-eqb add.w 0 (sym (ap (λ (a : Counts). a.w) ctx.opener_wants) ∙ none)) ∙ some in cc)
-            there.2 in (
-              both.0,
-              subst (λ q. StandAgainst after u q own e) offer_number
-                  (subst (λ m. StandAgainst after u offer.number m e) ctx.opener_is
-                  (subst (λ m. StandAgainst after u offer.number ctx.opener.number m) (one.number ∙ same) both.1)),
-            )
+    exclusive_stands : (e : ℕ) → add.w ≢ 0 → other v p 0 Excludes ≡ Some e
+        → (is_exclusive after u ≡ false) × StandAgainst after u p own e
+    exclusive_stands e some found =
+        let one = other_some v sum_of raises p 0 Excludes e found in
+        let there = stays Excludes p one.one one.at one.has in
+        let is = stands p offer offered in
+        stand p offer (offered_after offer is.0) is.1 ctx.opener one.one ctx.opener_at there.0 own e ctx.opener_is
+        one.number (λ same. there.1 (one.number ∙ sym same))
+        (ap (has_side Writes) ctx.opener_wants ∙ ap not (ne_eqb add.w 0 some)) there.2
 
     -- where it has an exclusive count beside another writer
-    writer_stands : (w : ℕ) → beside_writer v p add ≡ Some (Writer w) → (is_exclusive after u ≡ false)
-        × StandAgainst after u p w own
-    writer_stands w found = by (add.e == 0) refl (other v p 0 Writes) refl found
-      where
-        by : (b : Bool) → (add.e == 0) ≡ b → (o : Option ℕ) → other v p 0 Writes ≡ o
-            → (if b then None else option_map (λ c. Writer c) o) ≡ Some (Writer w)
-            → (is_exclusive after u ≡ false) × StandAgainst after u p w own
-        by true zero o is f = absurd (cc)
-        by false some None is f = absurd (cc)
-        by false some (Some n) is f =
-            let same : n ≡ w = cc in
-            let one = other_some v sum_of raises p 0 Writes n is in
-            let there = stays_w p one.one one.at one.has in
-            let both = stand offer offer_after one.one ctx.opener
-            (subst (λ q. Contains (attached_to u q) one.one) (sym offer_number) there.0) opener_there
-            (λ is_it. there.1 (is_it ∙ ctx.opener_is)) there.2
-            (λ none. let no : true ≡ false =
-            sym (eq-eqb add.e 0 (sym (ap (λ (a : Counts). a.e) ctx.opener_wants) ∙ none)) ∙ some in cc) in (
-              both.0,
-              subst (λ q. StandAgainst after u q w own) offer_number
-                  (subst (λ m. StandAgainst after u offer.number m own) (one.number ∙ same)
-                  (subst (λ m. StandAgainst after u offer.number one.one.number m) ctx.opener_is both.1)),
-            )
+    writer_stands : (w : ℕ) → add.e ≢ 0 → other v p 0 Writes ≡ Some w
+        → (is_exclusive after u ≡ false) × StandAgainst after u p w own
+    writer_stands w some found =
+        let one = other_some v sum_of raises p 0 Writes w found in
+        let there = stays Writes p one.one one.at one.has in
+        let is = stands p offer offered in
+        stand p offer (offered_after offer is.0) is.1 one.one ctx.opener there.0 ctx.opener_at w own one.number
+        ctx.opener_is (λ same. there.1 (one.number ∙ same)) there.2
+        (ap (has_side Excludes) ctx.opener_wants ∙ ap not (ne_eqb add.e 0 some))
 
     -- what a fault would say of a provider, where there is none in the order
     no_fault_at : (asked : Asked) → first_given (fault_in v asked) xs ≡ None → (z : Provider)
@@ -333,22 +309,13 @@ module _ {C : Type 0} (v : TopoView C) (p own : ℕ) (add : Counts) (granted aft
         (first_none (fault_in v asked) xs none z.geom (covers z there near)) z
         (Contains-filter (λ (y : Provider). y.geom == z.geom) v.topology.providers z there (eq-eqb z.geom z.geom refl))
 
-    -- the counts of a provider in the new state are zero where they are so stopped
-    zero_w : (z : Provider) → Contains v.topology.providers z → ((raised_have v z.number).w == 0) ≡ true
-        → (sum_counts (map (want after u) (attached_to u z.number))).w ≡ 0
-    zero_w z there e =
-        let total : (raised_have v z.number).w ≡ min (have after u z.number).w 4294967295 =
-        ap (λ (a : Counts). a.w) (totals z there) in
-        let none : (raised_have v z.number).w ≡ 0 = eqb-true (raised_have v z.number).w 0 e in
-        sym (ap (λ (a : Counts). a.w) (ctx.sums z.number)) ∙ omega arith
-
-    zero_e : (z : Provider) → Contains v.topology.providers z → ((raised_have v z.number).e == 0) ≡ true
-        → (sum_counts (map (want after u) (attached_to u z.number))).e ≡ 0
-    zero_e z there e =
-        let total : (raised_have v z.number).e ≡ min (have after u z.number).e 4294967295 =
-        ap (λ (a : Counts). a.e) (totals z there) in
-        let none : (raised_have v z.number).e ≡ 0 = eqb-true (raised_have v z.number).e 0 e in
-        sym (ap (λ (a : Counts). a.e) (ctx.sums z.number)) ∙ omega arith
+    -- a consumer wants no more than its provider would have, where both are stopped
+    stopped_most : (z : Provider) → Contains v.topology.providers z → (c : Consumer)
+        → Contains (attached_to u z.number) c → IsAtMost (cap (want after u c)) (raised_have v z.number)
+    stopped_most z there c at =
+        let part = part_at_most (want after u) (attached_to u z.number) c at in
+        subst (IsAtMost (cap (want after u c))) (sym (totals z there ∙ ap cap (ctx.sums z.number)))
+        (record { r = omega (arith, part.r); w = omega (arith, part.w); e = omega (arith, part.e) })
 
     -- two that stood before
     old_pair : (z : Provider) → Contains v.topology.providers z → (a b : Consumer)
@@ -361,9 +328,9 @@ module _ {C : Type 0} (v : TopoView C) (p own : ℕ) (add : Counts) (granted aft
         → ◌≡◌ {A = Option GrantRefusal} (if x || y then None else option_map (λ ab. Eperm z.number ab.0 ab.1) o) None
         → ((want after u a).w ≡ 0) ⊎ ((want after u b).e ≡ 0)
     old_pair z there a b at bt ao bo apart wa wb true y ex ey o says f =
-        inl (sum_zero_w (want after u) (attached_to u z.number) a at (zero_w z there ex))
+        inl (omega (arith, (stopped_most z there a at).w, eqb-true (raised_have v z.number).w 0 ex))
     old_pair z there a b at bt ao bo apart wa wb false true ex ey o says f =
-        inr (sum_zero_e (want after u) (attached_to u z.number) b bt (zero_e z there ey))
+        inr (omega (arith, (stopped_most z there b bt).e, eqb-true (raised_have v z.number).e 0 ey))
     old_pair z there a b at bt ao bo apart wa wb false false ex ey (Some ab) says f = absurd (cc)
     old_pair z there a b at bt ao bo apart wa wb false false ex ey None says f =
         elim (says a b ao bo apart) [
@@ -371,45 +338,39 @@ module _ {C : Type 0} (v : TopoView C) (p own : ℕ) (add : Counts) (granted aft
           | inr none ↦ inr (ap (λ (x : Counts). x.e) wb ∙ side_gone (sum_of b).e none)
         ]
 
+    -- where no other has a side, none at the provider of the demand has it
+    none_beside : (side : Side) → other v p 0 side ≡ None → (c : Consumer) (q : ℕ) → p ≡ q
+        → Contains (attached_to v.topology q) c → has_side side (sum_of c) ≡ false
+    none_beside side none c q place old =
+        let at : Contains (attached_to v.topology p) c =
+        subst (λ n. Contains (attached_to v.topology n) c) (sym place) old in
+        other_none v sum_of raises p 0 side none c at
+        (positive c (of_filter (λ (d : Consumer). names_number d.provider p) v.topology.consumers c at).0)
+
     -- the demand's own writing beside another
     own_writes : beside_exclusive v p add ≡ None → (z : Provider) → (a b : Consumer) → p ≡ z.number
         → want after u a ≡ add
         → Contains (attached_to v.topology z.number) b → want after u b ≡ sum_of b → ((want after u a).w ≡ 0)
         ⊎ ((want after u b).e ≡ 0)
-    own_writes none z a b place wa bo wb = by (add.w == 0) refl (other v p 0 Excludes) refl none
-      where
-        by : (x : Bool) → (add.w == 0) ≡ x → (o : Option ℕ) → other v p 0 Excludes ≡ o
-            → ◌≡◌ {A = Option Refused} (if x then None else option_map (λ c. Exclusive c) o) None
-            → ((want after u a).w ≡ 0) ⊎ ((want after u b).e ≡ 0)
-        by true zero o is f = inl (ap (λ (x : Counts). x.w) wa ∙ eqb-true add.w 0 zero)
-        by false some (Some n) is f = absurd (cc)
-        by false some None is f =
-            let at : Contains (attached_to v.topology p) b =
-            subst (λ q. Contains (attached_to v.topology q) b) (sym place) bo in
-            inr (ap (λ (x : Counts). x.e) wb
-            ∙ side_gone (sum_of b).e
-            (other_none v sum_of raises p 0 Excludes is b at
-            (positive b (of_filter (λ (d : Consumer). names_number d.provider p) v.topology.consumers b at).0)))
+    own_writes none z a b place wa bo wb =
+        elim (beside_none add.w (other v p 0 Excludes) (λ c. Exclusive c) none) [
+          | inl zero ↦ inl (ap (λ (x : Counts). x.w) wa ∙ zero)
+          | inr is ↦
+              inr (ap (λ (x : Counts). x.e) wb
+              ∙ side_gone (sum_of b).e (none_beside Excludes is b z.number place bo))
+        ]
 
     -- and its own exclusive count
     own_excludes : beside_writer v p add ≡ None → (z : Provider) → (a b : Consumer) → p ≡ z.number
         → want after u b ≡ add
         → Contains (attached_to v.topology z.number) a → want after u a ≡ sum_of a → ((want after u a).w ≡ 0)
         ⊎ ((want after u b).e ≡ 0)
-    own_excludes none z a b place wb ao wa = by (add.e == 0) refl (other v p 0 Writes) refl none
-      where
-        by : (x : Bool) → (add.e == 0) ≡ x → (o : Option ℕ) → other v p 0 Writes ≡ o
-            → ◌≡◌ {A = Option Refused} (if x then None else option_map (λ c. Writer c) o) None
-            → ((want after u a).w ≡ 0) ⊎ ((want after u b).e ≡ 0)
-        by true zero o is f = inr (ap (λ (x : Counts). x.e) wb ∙ eqb-true add.e 0 zero)
-        by false some (Some n) is f = absurd (cc)
-        by false some None is f =
-            let at : Contains (attached_to v.topology p) a =
-            subst (λ q. Contains (attached_to v.topology q) a) (sym place) ao in
-            inl (ap (λ (x : Counts). x.w) wa
-            ∙ side_gone (sum_of a).w
-            (other_none v sum_of raises p 0 Writes is a at
-            (positive a (of_filter (λ (d : Consumer). names_number d.provider p) v.topology.consumers a at).0)))
+    own_excludes none z a b place wb ao wa =
+        elim (beside_none add.e (other v p 0 Writes) (λ c. Writer c) none) [
+          | inl zero ↦ inr (ap (λ (x : Counts). x.e) wb ∙ zero)
+          | inr is ↦
+              inl (ap (λ (x : Counts). x.w) wa ∙ side_gone (sum_of a).w (none_beside Writes is a z.number place ao))
+        ]
 
     -- where nothing stands in its way, none does in any other's
     none_stand : beside_exclusive v p add ≡ None → beside_writer v p add ≡ None
@@ -460,42 +421,37 @@ module _ {C : Type 0} (v : TopoView C) (p own : ℕ) (add : Counts) (granted aft
     pair_stands : HasNoError → (z : Provider) → Contains v.topology.providers z → (r : GrantRefusal) → (x : Bool)
         → (o : Option (ℕ × ℕ)) → Says v sum_of raises z.number o
         → ◌≡◌ {A = Option GrantRefusal} (if x then None else option_map (λ ab. Eperm z.number ab.0 ab.1) o)
-        (Some r) → IsVerdict (Some (Named r))
+        (Some r) → Verdict (Some (Named r))
     pair_stands sound z there r true o says f = absurd (cc)
     pair_stands sound z there r false None says f = absurd (cc)
     pair_stands sound z there r false (Some ab) says f =
         let same : Eperm z.number ab.0 ab.1 ≡ r = cc in
         let both = clash_stands z there ab.0 ab.1 says in
-        subst (λ q. IsVerdict (Some (Named q))) same (sound, both.0, both.1)
+        subst (λ q. Verdict (Some (Named q))) same (sound, both.0, both.1)
 
     -- a count that is too great
     over_stands : HasNoError → is_exclusive after u ≡ true → (z : Provider) → Contains v.topology.providers z
         → (r : GrantRefusal) → (x : Bool) → is_too_great (raised_have v z.number) ≡ x
         → ◌≡◌ {A = Option GrantRefusal} (if x then Some (Eoverflow z.number) else None) (Some r)
-        → IsVerdict (Some (Named r))
+        → Verdict (Some (Named r))
     over_stands sound fine z there r false e f = absurd (cc)
     over_stands sound fine z there r true e f =
         let same : Eoverflow z.number ≡ r = cc in
-        let past : (MAX_ACCESS_COUNT < (have after u z.number).r) ⊎ (MAX_ACCESS_COUNT < (have after u z.number).w)
-        ⊎ (MAX_ACCESS_COUNT < (have after u z.number).e) =
+        let past : IsPast (have after u z.number) =
         is_past (have after u z.number) (sym (ap is_too_great (totals z there)) ∙ e) in
-        subst (λ q. IsVerdict (Some (Named q))) same (
+        subst (λ q. Verdict (Some (Named q))) same (
           sound,
           fine,
           never (fits_limit after u) refl past,
-          subst (λ o. IsSomeAnd o (λ (x : Provider). (MAX_ACCESS_COUNT < (have after u z.number).r)
-              ⊎ (MAX_ACCESS_COUNT < (have after u z.number).w) ⊎ (MAX_ACCESS_COUNT < (have after u z.number).e)))
+          subst (λ o. IsSomeAnd o (λ (x : Provider). IsPast (have after u z.number)))
               (sym (ap (λ ys. find (λ (x : Provider). x.number == z.number) ys) ctx.providers ∙ known z there)) past,
         )
       where
-        never : (b : Bool) → fits_limit after u ≡ b → (MAX_ACCESS_COUNT < (have after u z.number).r)
-            ⊎ (MAX_ACCESS_COUNT < (have after u z.number).w) ⊎ (MAX_ACCESS_COUNT < (have after u z.number).e)
-            → b ≡ false
+        never : (b : Bool) → fits_limit after u ≡ b → IsPast (have after u z.number) → b ≡ false
         never false is past = refl
         never true is past =
             let most : IsAtMost (have after u z.number) greatest_counts =
-            All-contains (λ (y : Provider). IsAtMost (have after u y.number) greatest_counts) u.providers z
-            ((limit_means after u).0 is) (subst (λ ys. Contains ys z) (sym ctx.providers) there) in
+            within_limit after u is z (offered_after z there) in
             elim past [
               | inl r ↦ absurd (omega (arith, most.r))
               | inr rest ↦ elim rest [ inl w ↦ absurd (omega (arith, most.w)) | inr e ↦ absurd (omega (arith, most.e)) ]
@@ -511,7 +467,7 @@ module _ {C : Type 0} (v : TopoView C) (p own : ℕ) (add : Counts) (granted aft
 
     -- after the look for what is wrong at providers
     by_limit : HasNoError → is_exclusive after u ≡ true → (o : Option GrantRefusal)
-        → first_given (fault_in v Limit) xs ≡ o → IsVerdict (option_map (λ r. Named r) o)
+        → first_given (fault_in v Limit) xs ≡ o → Verdict (option_map (λ r. Named r) o)
     by_limit sound fine None e = (sound, fine, none_over e)
     by_limit sound fine (Some r) e =
         let at = fault_of Limit r e in
@@ -519,7 +475,7 @@ module _ {C : Type 0} (v : TopoView C) (p own : ℕ) (add : Counts) (granted aft
 
     by_fault : HasNoError → beside_exclusive v p add ≡ None → beside_writer v p add ≡ None
         → (o : Option GrantRefusal) → first_given (fault_in v Exclusion) xs ≡ o
-        → IsVerdict (option_map (λ r. Named r) (option_or o (first_given (fault_in v Limit) xs)))
+        → Verdict (option_map (λ r. Named r) (option_or o (first_given (fault_in v Limit) xs)))
     by_fault sound no_exclusive no_writer None e =
         by_limit sound (none_stand no_exclusive no_writer e) (first_given (fault_in v Limit) xs) refl
     by_fault sound no_exclusive no_writer (Some r) e =
@@ -529,47 +485,29 @@ module _ {C : Type 0} (v : TopoView C) (p own : ℕ) (add : Counts) (granted aft
         (pair_says v sum_of raises positive at.0.number) at.2
 
     -- after the look for what stands beside the demand
-    not_exclusive : (r : Refused) → beside_exclusive v p add ≡ Some r → (e : ℕ) × (r ≡ Exclusive e)
-    not_exclusive r found = by (add.w == 0) (other v p 0 Excludes) found
-      where
-        by : (b : Bool) (o : Option ℕ) → (if b then None else option_map (λ c. Exclusive c) o) ≡ Some r
-            → (e : ℕ) × (r ≡ Exclusive e)
-        by true o f = absurd (cc)
-        by false None f = absurd (cc)
-        by false (Some n) f = (n, (cc))
-
-    not_writer : (r : Refused) → beside_writer v p add ≡ Some r → (w : ℕ) × (r ≡ Writer w)
-    not_writer r found = by (add.e == 0) (other v p 0 Writes) found
-      where
-        by : (b : Bool) (o : Option ℕ) → (if b then None else option_map (λ c. Writer c) o) ≡ Some r
-            → (w : ℕ) × (r ≡ Writer w)
-        by true o f = absurd (cc)
-        by false None f = absurd (cc)
-        by false (Some n) f = (n, (cc))
-
     by_writer : HasNoError → beside_exclusive v p add ≡ None → (o : Option Refused) → beside_writer v p add ≡ o
-        → IsVerdict (option_or o
+        → Verdict (option_or o
         (option_map (λ r. Named r)
         (option_or (first_given (fault_in v Exclusion) xs) (first_given (fault_in v Limit) xs))))
     by_writer sound no_exclusive None e = by_fault sound no_exclusive e (first_given (fault_in v Exclusion) xs) refl
     by_writer sound no_exclusive (Some r) e =
-        let is = not_writer r e in
-        let both = writer_stands is.0 (e ∙ ap (λ q. Some q) is.1) in
-        subst (λ q. IsVerdict (Some q)) (sym is.1) (sound, both.0, both.1)
+        let is = beside_some add.e (other v p 0 Writes) (λ c. Writer c) r e in
+        let both = writer_stands is.1.0 is.0 is.1.1 in
+        subst (λ q. Verdict (Some q)) is.1.2 (sound, both.0, both.1)
 
     by_exclusive : HasNoError → (o : Option Refused) → beside_exclusive v p add ≡ o
-        → IsVerdict (option_or (option_or o (beside_writer v p add))
+        → Verdict (option_or (option_or o (beside_writer v p add))
         (option_map (λ r. Named r)
         (option_or (first_given (fault_in v Exclusion) xs) (first_given (fault_in v Limit) xs))))
     by_exclusive sound None e = by_writer sound e (beside_writer v p add) refl
     by_exclusive sound (Some r) e =
-        let is = not_exclusive r e in
-        let both = exclusive_stands is.0 (e ∙ ap (λ q. Some q) is.1) in
-        subst (λ q. IsVerdict (Some q)) (sym is.1) (sound, both.0, both.1)
+        let is = beside_some add.w (other v p 0 Excludes) (λ c. Exclusive c) r e in
+        let both = exclusive_stands is.1.0 is.0 is.1.1 in
+        subst (λ q. Verdict (Some q)) is.1.2 (sound, both.0, both.1)
 
     -- after the look for errors
     by_error : (o : Option ℕ) → IsLeastOf v.topology (λ z. Contains (p ∷ flat_map (providers_under v.topology) xs) z) o
-        → IsVerdict (option_or (option_map (λ q. Named (Enxio q)) o)
+        → Verdict (option_or (option_map (λ q. Named (Enxio q)) o)
         (option_or (against v p add)
         (option_map (λ r. Named r)
         (option_or (first_given (fault_in v Exclusion) xs) (first_given (fault_in v Limit) xs)))))
@@ -596,25 +534,32 @@ module _ {C : Type 0} (v : TopoView C) (p own : ℕ) (add : Counts) (granted aft
         sure z err false e = let no : true ≡ false = sym err ∙ error_no v.topology known stands z e in absurd (cc)
 
     -- the verdict
-    pub verdict : IsVerdict (judged v p add xs)
+    pub verdict : Verdict (judged v p add xs)
     verdict = by_error (first_errored v p xs) (errored_is v p xs)
 
-  -- what refuses, from what the three tests say
-  tests_say : (a b c : Bool) → has_error_below v.topology p ≡ a → is_exclusive after u ≡ b → fits_limit after u ≡ c
-      → grant_refusal after u p ≡ first_error ((a, ENXIO) ∷ (not b, EPERM) ∷ (not c, EOVERFLOW) ∷ [])
-  tests_say a b c errors exclusive limit =
-      let three : Bool → Bool → Bool → Option Errno =
-      λ x y z. first_error ((x, ENXIO) ∷ (not y, EPERM) ∷ (not z, EOVERFLOW) ∷ []) in
-      ap (λ x. three x (is_exclusive after u) (fits_limit after u)) (ctx.errors ∙ errors)
-      ∙ ap (λ y. three a y (fits_limit after u)) exclusive
-      ∙ ap (three a b) limit
+-- what refuses, from what the three tests say
+tests_say : {C : Type 0} (after : ℕ → Counts) (u : Topology C) (p : ℕ) (a b c : Bool) → has_error_below u p ≡ a
+    → is_exclusive after u ≡ b → fits_limit after u ≡ c
+    → grant_refusal after u p ≡ first_error ((a, ENXIO) ∷ (not b, EPERM) ∷ (not c, EOVERFLOW) ∷ [])
+tests_say after u p a b c errors exclusive limit =
+    let three : Bool → Bool → Bool → Option Errno =
+    λ x y z. first_error ((x, ENXIO) ∷ (not y, EPERM) ∷ (not z, EOVERFLOW) ∷ []) in
+    ap (λ x. three x (is_exclusive after u) (fits_limit after u)) errors
+    ∙ ap (λ y. three a y (fits_limit after u)) exclusive
+    ∙ ap (three a b) limit
 
-  -- so the verdict is the model's refusal
-  pub refused : (r : Option Refused) → IsVerdict r → option_map errno_of_refused r ≡ grant_refusal after u p
-  refused None says = sym (tests_say false true true says.0 says.1 says.2)
-  refused (Some (Named (Enxio q))) says =
-      sym (tests_say true (is_exclusive after u) (fits_limit after u) says.0 refl refl)
-  refused (Some (Named (Eperm q w e))) says = sym (tests_say false false (fits_limit after u) says.0 says.1 refl)
-  refused (Some (Named (Eoverflow q))) says = sym (tests_say false true false says.0 says.1 says.2)
-  refused (Some (Writer w)) says = sym (tests_say false false (fits_limit after u) says.0 says.1 refl)
-  refused (Some (Exclusive e)) says = sym (tests_say false false (fits_limit after u) says.0 says.1 refl)
+-- so the verdict is the model's refusal, where the demand adds no error below
+pub refused : {C : Type 0} (t : Topology C) (p own : ℕ) (after : ℕ → Counts) (u : Topology C)
+    → has_error_below u p ≡ has_error_below t p → (r : Option Refused) → IsVerdict t p own after u r
+    → option_map errno_of_refused r ≡ grant_refusal after u p
+refused t p own after u same None says = sym (tests_say after u p false true true (same ∙ says.0) says.1 says.2)
+refused t p own after u same (Some (Named (Enxio q))) says =
+    sym (tests_say after u p true (is_exclusive after u) (fits_limit after u) (same ∙ says.0) refl refl)
+refused t p own after u same (Some (Named (Eperm q w e))) says =
+    sym (tests_say after u p false false (fits_limit after u) (same ∙ says.0) says.1 refl)
+refused t p own after u same (Some (Named (Eoverflow q))) says =
+    sym (tests_say after u p false true false (same ∙ says.0) says.1 says.2)
+refused t p own after u same (Some (Writer w)) says =
+    sym (tests_say after u p false false (fits_limit after u) (same ∙ says.0) says.1 refl)
+refused t p own after u same (Some (Exclusive e)) says =
+    sym (tests_say after u p false false (fits_limit after u) (same ∙ says.0) says.1 refl)

@@ -1,14 +1,14 @@
 -- A demand that was tried, as the walk leaves the mesh.
-use Rattle.std.specs.Prelude.{◌≡◌, ℕ, zero, suc, ◌==◌, ◌<◌, ◌≤◌, Bool, true, false, List, [], ◌∷◌, length, flat_map, fold, Some, IsSome, IsSomeAnd, Contains, All, if◌then◌else◌}
+use Rattle.std.specs.Prelude.{◌≡◌, ℕ, zero, suc, ◌==◌, ◌<◌, ◌≤◌, Bool, true, false, List, [], ◌∷◌, length, map, flat_map, fold, Some, IsSome, IsSomeAnd, Contains, All, if◌then◌else◌}
 use Rattle.std.proofs.Common.{refl, sym, ◌∙◌, ap, subst, arith}
-use Rattle.std.proofs.lemmas.Bool.{eqb-true}
+use Rattle.std.proofs.lemmas.Bool.{eqb-true, ne_eqb}
 use Rattle.geo_base.specs.declared.request.Counts.{Counts}
 use Rattle.geo_base.proofs.MemberLists.{Contains-there, nothing_in, Contains-here, in_flat_map, filter_map-Contains}
 use Rattle.geo_model.specs.Words.{names_number}
 use Rattle.geo_model.specs.Topology.{Topology, Provider, Consumer, geom_at, provider_at, consumers_of, attached_to, providers_under}
 use Rattle.geo_model.specs.Rank.{rank, geoms_under}
 use Rattle.geo_model.specs.Opens.{below}
-use Rattle.geo_model.specs.Demand.{no_counts, add_counts}
+use Rattle.geo_model.specs.Demand.{no_counts, add_counts, sum_counts}
 use Rattle.geo_model.proofs.DemandLemmas.{rank_within-positive}
 use Rattle.geo_mesh.specs.Topo.{TopoView}
 use Rattle.geo_mesh.specs.Graph.{IsSoundGraph}
@@ -17,17 +17,18 @@ use Rattle.geo_laws_counts.proofs.LimitFacts.{of_filter, all_of}
 use Rattle.geo_laws_counts.proofs.Upward.{names_some}
 use Rattle.geo_laws_counts.specs.WalkWords.{has_number, IsOrder, order_from, cap, set_at, gain_without}
 use Rattle.geo_laws_counts.proofs.Reach.{below_self, below_closed, directly_under, under_of}
-use Rattle.geo_laws_counts.proofs.Orders.{order_within, order_closed, under_lower, under-is, is-under, below_least}
-use Rattle.geo_laws_counts.proofs.Flows.{flow_start, set_at-value}
+use Rattle.geo_laws_counts.proofs.Orders.{order_within, order_closed, under_lower, under-is, is-under, below_least, has_not}
+use Rattle.geo_laws_counts.proofs.Flows.{flow_start, set_at-value, sum-none}
 use Rattle.geo_laws_counts.proofs.Raising.{Demands, Covers}
 use Rattle.geo_access.specs.declared.counts.Way.{Way}
 use Rattle.geo_access.specs.declared.order.Order.{Order}
 use Rattle.geo_access.specs.Tries.{had, Apart}
 use Rattle.geo_access.specs.Access.{clear_scratches}
 use Rattle.geo_access.specs.Views.{Gathered, gain_at, have_at, order_of, give, spread_from, gathered_from, IsTried}
-use Rattle.geo_access.proofs.Walking.{offerer_lives}
+use Rattle.geo_access.proofs.Walking.{offerer_lives, provider_known}
 use Rattle.geo_access.proofs.Trying.{Tries, trying, trying-gain, trying-provider, order_tries}
 use Rattle.geo_access.proofs.Tried.{lives_positive}
+use Rattle.geo_access.proofs.Clearing.{link_outside}
 use Rattle.geo_access.proofs.TryOut.{spreads_graph, the_order_is, the_order_lives, gathered_is, order_at, Spread, spread_all}
 
 -- the tries before any geom has handed down
@@ -196,27 +197,76 @@ module _ {C : Type 0} (t : TopoView C) (sound : IsSoundGraph t.topology) (clear 
     walked = spread_all t sound way p add small gain more geoms_below demand shrinks geoms_below
         (first_tries y.geom geoms_below p add) below_ordered below_lives first_gains
 
+    -- each consumer gains its part, in the order or not
+    pub made_is : (c : Consumer) → Contains t.topology.consumers c → walked.tries.made c.geom ≡ cap (more c)
+    made_is c there = walked.made c there ∙ by (has_number geoms_below c.geom) refl
+      where
+        by : (b : Bool) → has_number geoms_below c.geom ≡ b → (if b then cap (more c) else no_counts) ≡ cap (more c)
+        by true e = refl
+        by false e = ap cap (sym (demand.flow.around c there (has_not geoms_below c.geom e)))
+
+    -- a provider of a geom outside the order gains nothing
+    pub outside_gain : (z : Provider) → Contains t.topology.providers z → has_number geoms_below z.geom ≡ false
+        → gain z.number ≡ no_counts
+    outside_gain z there outside =
+        let known : provider_at t.topology z.number ≡ Some z = provider_known t sound z there in
+        let away : Contains geoms_below z.geom → ⊥ = has_not geoms_below z.geom outside in
+        demand.flow.sums z.number
+        ∙ ap (λ b. add_counts (if b then add else no_counts) (sum_counts (map more (attached_to t.topology z.number))))
+        (ne_eqb p z.number
+        (λ e.
+        let same : y ≡ z =
+        let one : Some y ≡ Some z = sym found ∙ ap (provider_at t.topology) e ∙ known in cc in
+        away (subst (λ w. Contains geoms_below w.geom) same first_below)))
+        ∙ ap (add_counts no_counts)
+        (sum-none more (attached_to t.topology z.number)
+        (λ c at.
+        let stands = of_filter (λ (d : Consumer). names_number d.provider z.number) t.topology.consumers c at in
+        demand.flow.around c stands.0
+        (λ above.
+        away (order_closed t.topology geoms_below below_ordered c.geom z.geom above
+        (is-under t.topology c.geom z.number z
+        (directly_under t.topology c z.number stands.0 (names_some c.provider z.number stands.1)) known)))))
+        ∙ zero-add no_counts
+
+    -- and none of its marks stays
+    pub outside_mark : (n : ℕ) → has_number geoms_below n ≡ false → walked.tries.marks n ≡ 0
+    outside_mark n outside = walked.marks n ∙ link_outside y.geom geoms_below n outside
+
 -- the mesh after a demand was tried
-module _ {C : Type 0} (t : TopoView C) (sound : IsSoundGraph t.topology) (clear : t.scratches
-    ≡ clear_scratches t.topology)
-    (p : ℕ) (add : Counts) (way : Way) (new : TopoView C) (o : Order) (tried : IsTried t p add way new o) where
-  -- the order that stands in it
-  pub tried_order : order_of new o ≡ geoms_below t sound clear p tried.offer tried.found
+module _ {C : Type 0} {t : TopoView C} (sound : IsSoundGraph t.topology) (clear : t.scratches
+    ≡ clear_scratches t.topology) {p : ℕ} {add : Counts} {way : Way} {new : TopoView C} {o : Order}
+    (tried : IsTried t p add way new o) where
+  -- the geoms below the provider
+  abbrev pub walk : List ℕ
+  walk = geoms_below t sound clear p tried.offer tried.found
+
+  pub walk_ordered : IsOrder t.topology walk
+  walk_ordered = below_ordered t sound clear p tried.offer tried.found
+
+  pub walk_lives : (x : ℕ) → Contains walk x → IsSome (geom_at t.topology x)
+  walk_lives = below_lives t sound clear p tried.offer tried.found
+
+  pub walk_covers : Covers t.topology p walk
+  walk_covers = below_covers t sound clear p tried.offer tried.found
+
+  pub walk_reached : (x : ℕ) → Contains walk x
+      → (q : ℕ) × Contains (below t.topology p) q × IsSomeAnd (provider_at t.topology q) (λ z. z.geom ≡ x)
+  walk_reached = all_reached t sound clear p tried.offer tried.found
+
+  -- the order that stands in the mesh
+  pub tried_order : order_of new o ≡ walk
   tried_order =
       tried.orders ∙ ap (order_of (give add (gathered_from t tried.offer.geom).view p)) tried.order
       ∙ given_order t sound clear p tried.offer tried.found add
 
-  -- it is the walk over that order
-  pub tried_view : new
-      ≡ fold (spread_from way)
-      (trying t (first_tries tried.offer.geom (geoms_below t sound clear p tried.offer tried.found) p add))
-      (geoms_below t sound clear p tried.offer tried.found)
+  -- the mesh is the walk over that order
+  pub tried_view : new ≡ fold (spread_from way) (trying t (first_tries tried.offer.geom walk p add)) walk
   tried_view =
       tried.view
       ∙ ap (fold (spread_from way) (give add (gathered_from t tried.offer.geom).view p)) (sym tried.orders
       ∙ tried_order)
-      ∙ ap (λ v. fold (spread_from way) v (geoms_below t sound clear p tried.offer tried.found))
-      (given_is t sound clear p tried.offer tried.found add)
+      ∙ ap (λ v. fold (spread_from way) v walk) (given_is t sound clear p tried.offer tried.found add)
 
   -- its graph is the mesh's
   pub tried_graph : new.topology ≡ t.topology
@@ -231,12 +281,8 @@ module _ {C : Type 0} (t : TopoView C) (sound : IsSoundGraph t.topology) (clear 
   tried_lives =
       subst (λ u. All (λ x. IsSome (geom_at u x)) (order_of new o)) (sym tried_graph)
       (subst (All (λ x. IsSome (geom_at t.topology x))) (sym tried_order)
-      (all_of (λ x. IsSome (geom_at t.topology x)) (geoms_below t sound clear p tried.offer tried.found)
-      (below_lives t sound clear p tried.offer tried.found)))
+      (all_of (λ x. IsSome (geom_at t.topology x)) walk walk_lives))
 
   -- and differ
   pub tried_apart : Apart (order_of new o)
-  tried_apart =
-      subst Apart (sym tried_order)
-      (order_apart t.topology (geoms_below t sound clear p tried.offer tried.found)
-      (below_ordered t sound clear p tried.offer tried.found))
+  tried_apart = subst Apart (sym tried_order) (order_apart t.topology walk walk_ordered)

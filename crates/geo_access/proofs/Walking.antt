@@ -2,9 +2,10 @@
 use Rattle.std.specs.Prelude.{◌≡◌, ℕ, zero, suc, ◌+◌, ◌<◌, ◌≤◌, ◌==◌, nat_le, Bool, List, [], ◌∷◌, map, filter, find, Some, None, Contains, IsSome, IfSome, All}
 use Rattle.std.specs.Option.{option_map}
 use Rattle.std.proofs.Common.{refl, sym, ◌∙◌, ap, subst}
+use Rattle.std.proofs.lemmas.Bool.{eqb-true}
 use Rattle.std.proofs.lemmas.List.Elements.{All-contains, All-head}
 use Rattle.std.proofs.lemmas.List.Kept.{AllPairs-from_increasing}
-use Rattle.geo_base.proofs.FindLists.{find-Contains}
+use Rattle.geo_base.proofs.FindLists.{find-Contains, found_in}
 use Rattle.geo_base.proofs.MemberLists.{Contains-here}
 use Rattle.geo_model.specs.Topology.{Topology, Provider, Consumer, geom_at, consumer_at, provider_at}
 use Rattle.geo_model.specs.Graph.{AreNumbers}
@@ -19,7 +20,6 @@ use Rattle.geo_laws_counts.proofs.LimitFacts.{of_filter}
 use Rattle.geo_laws_counts.proofs.Numbers.{found_of}
 use Rattle.geo_access.specs.declared.order.Order.{Order}
 use Rattle.geo_access.specs.Views.{IsNextConsumer, IsNextProvider, numbers_along, mark_at, order_of}
-pub use Rattle.geo_base.proofs.FindLists.{find-Contains as found_in}
 
 -- the next item of a walk over a part of a list
 pub record IsNextItem {X : Type 0} (number : X → ℕ) (xs part : List X) (next from_number n : ℕ) : Type 0 where
@@ -130,6 +130,36 @@ module _ {C : Type 0} (t : Topology C) (sound : IsSoundGraph t) where
       let next = next_item (λ (y : Provider). y.number) keep t.providers t.next_provider from_number n
       sound.orderly.order.providers first in
       let e : None ≡ Some next.item = sym none ∙ next.found in cc
+
+-- Parts that are found by their numbers
+
+module _ {C : Type 0} (t : TopoView C) (sound : IsSoundGraph t.topology) where
+  -- each that stands is found by its number
+  pub provider_known : (z : Provider) → Contains t.topology.providers z → provider_at t.topology z.number ≡ Some z
+  provider_known =
+      found_of (λ (z : Provider). z.number) t.topology.providers
+      (AllPairs-from_increasing (map (λ (z : Provider). z.number) t.topology.providers)
+      sound.orderly.order.providers.0)
+
+  pub consumer_known : (c : Consumer) → Contains t.topology.consumers c
+      → find (λ (x : Consumer). x.number == c.number) t.topology.consumers ≡ Some c
+  consumer_known =
+      found_of (λ (x : Consumer). x.number) t.topology.consumers
+      (AllPairs-from_increasing (map (λ (x : Consumer). x.number) t.topology.consumers)
+      sound.orderly.order.consumers.0)
+
+  -- what is found stands
+  pub provider_stands : (q : ℕ) (z : Provider) → provider_at t.topology q ≡ Some z
+      → Contains t.topology.providers z × (z.number ≡ q)
+  provider_stands q z found =
+      let is = found_in (λ (y : Provider). y.number == q) t.topology.providers z found in
+      (is.0, eqb-true z.number q is.1)
+
+  -- a consumer of the number at which one is found is it
+  pub consumer_only : (n : ℕ) (one : Consumer) → consumer_at t.topology n ≡ Some one → (c : Consumer)
+      → Contains t.topology.consumers c → c.number ≡ n → c ≡ one
+  consumer_only n one found c there same =
+      let e : Some c ≡ Some one = sym (consumer_known c there) ∙ ap (consumer_at t.topology) same ∙ found in cc
 
 -- the geom of a provider lives
 pub offerer_lives : {C : Type 0} (t : Topology C) → IsSoundGraph t → (p : ℕ) (x : Provider)

@@ -1,6 +1,7 @@
 use Rattle.std.proofs.Common.{sym, ◌∙◌, arith}
 use Rattle.geo_access.proofs.Decided.{counted_told}
-use Rattle.geo_access.proofs.Ready.{may_end, tells_of, opener_asked}
+use Rattle.geo_access.proofs.Coming.{tells_of}
+use Rattle.geo_access.proofs.Ready.{may_end, opener_asked}
 use Rattle.geo_access.proofs.access.could_grant.Goals as goal
 
 pub try_out-order-requires : goal.try_out-order-requires

@@ -4,9 +4,10 @@ use Rattle.geo_access.specs.declared.counts.Way.TheVariants.{Rises}
 use Rattle.geo_access.specs.Access.{IsCounted}
 use Rattle.geo_access.proofs.Granting.{holder_is, holder_lives}
 use Rattle.geo_access.proofs.Decided.{counted_told}
-use Rattle.geo_access.proofs.Ready.{may_end, tells_of, end_of, holder_stays}
-use Rattle.geo_access.proofs.Allowing.{answered}
-use Rattle.geo_access.proofs.GrantEnd.{grant_stands}
+use Rattle.geo_access.proofs.Coming.{tells_of, end_of}
+use Rattle.geo_access.proofs.Ready.{may_end, holder_stays}
+use Rattle.geo_access.proofs.Granting.{answered}
+use Rattle.geo_access.proofs.Kept.{grant_stands}
 use Rattle.geo_access.proofs.access.grant.Goals as goal
 
 pub try_out-order-requires : goal.try_out-order-requires

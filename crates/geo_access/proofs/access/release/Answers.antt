@@ -6,7 +6,7 @@ use Rattle.geo_slots.specs.Slots.{value_at}
 use Rattle.geo_access.specs.declared.counts.Way.TheVariants.{Falls}
 use Rattle.geo_access.proofs.Granting.{holder_is, holder_lives}
 use Rattle.geo_access.proofs.Ready.{may_end, holder_stays}
-use Rattle.geo_access.proofs.Releasing.{release_stands}
+use Rattle.geo_access.proofs.Kept.{release_stands}
 use Rattle.geo_access.proofs.access.release.Goals as goal
 
 pub try_out-order-requires : goal.try_out-order-requires

@@ -4,8 +4,7 @@ use Rattle.geo_model.specs.Topology.{Consumer, consumer_at, detach}
 use Rattle.geo_mesh.specs.Topo.{TopoView, with_topology}
 use Rattle.geo_laws_graph.specs.LookupLaws.{AttachedIsFound}
 use Rattle.geo_laws_graph.proofs.Found.{attached-found}
-use Rattle.geo_access.proofs.JoinStart.{loose_is}
-use Rattle.geo_access.proofs.JoinDemand.{detached_again}
+use Rattle.geo_access.proofs.JoinDemand.{loose_is, detached_again}
 use Rattle.geo_access.proofs.joins.admit.Goals as goal
 
 -- for both conditions: the consumer stood there, and was just attached

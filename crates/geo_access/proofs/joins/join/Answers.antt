@@ -2,8 +2,10 @@ use Rattle.std.proofs.Common.{refl, sym, ap, ◌∙◌, subst, arith, None}
 use Rattle.std.specs.Prelude.{fold}
 use Rattle.geo_mesh.specs.Topo.{TopoView, with_want}
 use Rattle.geo_access.specs.Views.{order_of, finish_geom}
-use Rattle.geo_access.proofs.Ready.{MayEnd, may_end, bound_of, tells_of, end_of}
-use Rattle.geo_access.proofs.JoinTold.{joiner_told, may_admit, attached_may_end, joiner_stays, join_told, join_stands}
+use Rattle.geo_access.proofs.Decided.{steps_bound}
+use Rattle.geo_access.proofs.Coming.{tells_of, end_of}
+use Rattle.geo_access.proofs.Ready.{MayEnd, may_end}
+use Rattle.geo_access.proofs.JoinEnd.{joiner_told, may_admit, attached_may_end, joiner_stays, join_told, join_stands}
 use Rattle.geo_access.proofs.joins.join.Goals as goal
 
 -- the joiner is attached to nothing, and all others' counts are right, so they tell of the provider's consumers
@@ -35,7 +37,7 @@ finish-requires g c =
 -- so the walk ends as it began
 pub returns-in-Err : goal.returns-in-Err
 returns-in-Err g c =
-    let few = bound_of c.try_out-order.ensures.tried c.wanted-add.ensures.sound c.requires.counted.clear in
+    let few = steps_bound c.wanted-add.ensures.sound c.requires.counted.clear c.try_out-order.ensures.tried in
     let told =
     joiner_told c.args.topo.now c.args.cons c.wanted-add.ensures.sound c.requires.counted c.requires.loose in
     let right =
@@ -78,7 +80,7 @@ returns g c =
     let right =
     join_told c.args.cons c.try_out-order.ensures.tried c.wanted-add.ensures.sound c.requires.counted
     c.requires.loose c.wanted-add.ensures.wanted c.judge-refused.ensures answer in
-    let few = bound_of c.try_out-order.ensures.tried c.wanted-add.ensures.sound c.requires.counted.clear in
+    let few = steps_bound c.wanted-add.ensures.sound c.requires.counted.clear c.try_out-order.ensures.tried in
     let stands =
     join_stands c.args.cons c.try_out-order.ensures.tried c.wanted-add.ensures.sound c.requires.counted
     c.requires.loose c.wanted-add.ensures.wanted c.judge-refused.ensures answer refl c.requires.quiet
