@@ -117,7 +117,4 @@ module _ {C : Type 0} where
   -- the mesh and the order are those two
   pub gathered_same : (v w : TopoView C) (o p : Order) → v ≡ w → o ≡ p
       → ◌≡◌ {A = Gathered C} (record { view = v; order = o }) (record { view = w; order = p })
-  gathered_same v w o p e f =
-      let first : TopoView C → Gathered C = λ u. record { view = u; order = o } in
-      let second : Order → Gathered C = λ u. record { view = w; order = u } in
-      ap first e ∙ ap second f
+  gathered_same v w o p e f = λ i. record { view = e i; order = f i }

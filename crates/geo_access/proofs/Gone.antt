@@ -10,7 +10,6 @@ use Rattle.geo_base.specs.declared.request.Counts.{Counts}
 use Rattle.geo_model.specs.Words.{change_where}
 use Rattle.geo_model.specs.Topology.{Topology, Provider, Consumer, add_consumer, attach, detach}
 use Rattle.geo_model.specs.Demand.{no_counts, have, want}
-use Rattle.geo_model.proofs.DemandLemmas.{map_same}
 use Rattle.geo_slots.specs.Slots.{value_at, without}
 use Rattle.geo_slots.proofs.RowLemmas.{without_absent}
 use Rattle.geo_mesh.specs.Topo.{TopoView, Room, Scratches, no_scratch, with_consumer, without_consumer}
@@ -21,11 +20,10 @@ use Rattle.geo_laws_counts.proofs.BareParts.{levels_same}
 use Rattle.geo_laws_counts.proofs.LimitFacts.{all_of}
 use Rattle.geo_laws_counts.proofs.Quiet.{granted_wants_nothing}
 use Rattle.geo_laws_counts.proofs.Stays.{stays_from, want_from, grants_agree, consumer_came}
-use Rattle.geo_laws_counts.proofs.Flows.{each_of}
 use Rattle.geo_access.specs.Access.{granted_by, holds_grants, IsCounted, IsQuiet, IsPlaced, leaves_zero}
 use Rattle.geo_access.specs.Join.{joined_view}
 use Rattle.geo_access.specs.GoneLaws.{next_number, HasUsedNumber, on, off, RefusedConsumersGo}
-use Rattle.geo_access.proofs.Clearing.{rows-same_on}
+use Rattle.geo_access.proofs.Clearing.{rows-same_on, rows_agree}
 use Rattle.geo_access.proofs.NewJoiner.{old_number, comer_new, same_grants}
 
 -- Numbers
@@ -98,12 +96,8 @@ module _ {C : Type 0} (t : TopoView C) (room : Room) where
             (have (granted_by used) used.topology) t.topology.providers (λ z there. sym (stays.haves z.number));
         wants =
             counted.wants
-            ∙ map_same (λ (c : Consumer). (c.number, want (granted_by t) t.topology c))
-            (λ (c : Consumer). (c.number, want (granted_by used) used.topology c)) t.topology.consumers
-            (each_of (λ (c : Consumer).
-            ◌≡◌ {A = ℕ × Counts} (c.number, want (granted_by t) t.topology c)
-            (c.number, want (granted_by used) used.topology c)) t.topology.consumers
-            (λ c there. let Q : Counts → ℕ × Counts = λ a. (c.number, a) in ap Q (sym (stays.wants c tt))));
+            ∙ rows_agree (λ (c : Consumer). c.number) (want (granted_by t) t.topology)
+            (want (granted_by used) used.topology) t.topology.consumers (λ c there. sym (stays.wants c tt));
         exclusive = stays.exclusive counted.exclusive;
         limit = stays.limit counted.limit;
         risen = counted.risen;
@@ -276,10 +270,8 @@ module _ {C : Type 0} (t : TopoView C) (geom : ℕ) (sound : IsSoundGraph t.topo
         ∙ ap (λ a. map want_row t.topology.consumers ++ (n, a) ∷ []) want_comer
         ∙ ap (λ rows. rows ++ (n, no_counts) ∷ [])
         (sym (counted.wants
-        ∙ map_same (λ (c : Consumer). (c.number, want (granted_by t) t.topology c)) want_row t.topology.consumers
-        (each_of (λ (c : Consumer). ◌≡◌ {A = ℕ × Counts} (c.number, want (granted_by t) t.topology c) (want_row c))
-        t.topology.consumers
-        (λ c there. let Q : Counts → ℕ × Counts = λ a. (c.number, a) in ap Q (sym (want_old c there))))))
+        ∙ rows_agree (λ (c : Consumer). c.number) (want (granted_by t) t.topology)
+        (want (granted_by mesh) joined_graph) t.topology.consumers (λ c there. sym (want_old c there))))
 
     -- no write count left zero
     risen_are : map (λ (p : Provider). (

@@ -104,22 +104,10 @@ module _ {C : Type 0} (t : TopoView C) where
       (with_value (with_parts f).scratches.providers n no_scratch)
       ≡ with_parts (record f { cells = set_at f.cells n c })
   cell_put f n c none =
-      let last : Scratch = no_scratch in
-      ap (λ rows. rows_put f rows (with_value (with_parts f).risen n c.risen)
-      (with_value (with_parts f).fallen n c.fallen) (with_value (with_parts f).scratches.providers n no_scratch))
-      (cell_row (λ (x : Cell). x.have) f.cells n c)
-      ∙ ap (λ rows. rows_put f (with_parts (record f { cells = set_at f.cells n c })).haves rows
-      (with_value (with_parts f).fallen n c.fallen) (with_value (with_parts f).scratches.providers n no_scratch))
-      (cell_row (λ (x : Cell). x.risen) f.cells n c)
-      ∙ ap (λ rows. rows_put f (with_parts (record f { cells = set_at f.cells n c })).haves
-      (with_parts (record f { cells = set_at f.cells n c })).risen rows
-      (with_value (with_parts f).scratches.providers n no_scratch))
-      (cell_row (λ (x : Cell). x.fallen) f.cells n c)
-      ∙ ap (λ rows. rows_put f (with_parts (record f { cells = set_at f.cells n c })).haves
-      (with_parts (record f { cells = set_at f.cells n c })).risen
-      (with_parts (record f { cells = set_at f.cells n c })).fallen rows)
-      (ap (λ a. with_value (with_parts f).scratches.providers n (record { mark = 0; trial = a })) (sym none)
-      ∙ cell_row (λ (x : Cell). record { mark = 0; trial = x.gain }) f.cells n c)
+      λ i. rows_put f (cell_row (λ (x : Cell). x.have) f.cells n c i) (cell_row (λ (x : Cell). x.risen) f.cells n c i)
+      (cell_row (λ (x : Cell). x.fallen) f.cells n c i)
+      ((ap (λ a. with_value (with_parts f).scratches.providers n (record { mark = 0; trial = a })) (sym none)
+      ∙ cell_row (λ (x : Cell). record { mark = 0; trial = x.gain }) f.cells n c) i)
 
   -- the look-ups of a provider's counts
   have_is : (f : Parts) (y : Provider) → provider_at t.topology y.number ≡ Some y
@@ -254,10 +242,12 @@ module _ {C : Type 0} (t : TopoView C) where
         first
         ∙ ap (λ v. with_geom_scratch (fold (finish_provider (Some way)) v (providers_of t.topology x)) x no_scratch)
         (keep_wants way (f.made x) (consumers_of t.topology x) f
-        (λ c there. consumer_known t sound c (of_filter (λ (d : Consumer). d.geom == x) t.topology.consumers c there).0))
+        (λ c there. consumer_known t sound c
+        (of_filter (λ (d : Consumer). d.geom == x) t.topology.consumers c there).0))
         ∙ ap (λ v. with_geom_scratch v x no_scratch)
         (keep_providers way (providers_of t.topology x) wanted
-        (λ y there. provider_known t sound y (of_filter (λ (z : Provider). z.geom == x) t.topology.providers y there).0))
+        (λ y there. provider_known t sound y
+        (of_filter (λ (z : Provider). z.geom == x) t.topology.providers y there).0))
         ∙ keep_mark (record wanted {
           cells =
               sets (λ (y : Provider). y.number) (kept_cell way) f.cells (providers_of t.topology x);
@@ -454,38 +444,35 @@ pub parts_rows : {C : Type 0} (t : TopoView C) → t.scratches ≡ clear_scratch
       fallen = map (λ (z : Provider). (z.number, falls z)) t.topology.providers;
     }
 parts_rows {C} t clear counts wanted cons add f rises falls haves risens fallens gains wants marks made =
-    let put : List (ℕ × Counts) → List (ℕ × Bool) → List (ℕ × Bool) → List (ℕ × Counts) → Scratches → TopoView C =
-    λ h r l w s. record t { haves = h; risen = r; fallen = l; wants = w; scratches = s } in
-    let h : List (ℕ × Counts) = map (λ (z : Provider). (z.number, counts z)) t.topology.providers in
-    let r : List (ℕ × Bool) = map (λ (z : Provider). (z.number, rises z)) t.topology.providers in
-    let l : List (ℕ × Bool) = map (λ (z : Provider). (z.number, falls z)) t.topology.providers in
-    let w : List (ℕ × Counts) = map (λ (c : Consumer). (c.number, wanted c)) t.topology.consumers in
-    let s : Scratches = (with_parts t f).scratches in
-    ap (λ rows. put rows (with_parts t f).risen (with_parts t f).fallen (with_value (with_parts t f).wants cons add) s)
-    (rows_agree (λ (z : Provider). z.number) (λ (z : Provider). (f.cells z.number).have) counts t.topology.providers haves)
-    ∙ ap (λ rows. put h rows (with_parts t f).fallen (with_value (with_parts t f).wants cons add) s)
-    (rows_agree (λ (z : Provider). z.number) (λ (z : Provider). (f.cells z.number).risen) rises t.topology.providers risens)
-    ∙ ap (λ rows. put h r rows (with_value (with_parts t f).wants cons add) s)
-    (rows_agree (λ (z : Provider). z.number) (λ (z : Provider). (f.cells z.number).fallen) falls t.topology.providers fallens)
-    ∙ ap (λ rows. put h r l rows s)
-    (rows-set (λ (c : Consumer). c.number) f.wants cons add t.topology.consumers
-    ∙ rows_agree (λ (c : Consumer). c.number) (λ (c : Consumer). set_at f.wants cons add c.number) wanted t.topology.consumers wants)
-    ∙ ap (λ rows. put h r l w (record s { geoms = rows }))
-    (rows-same_on (λ (x : Geom C). x.number) (λ n. record { mark = f.marks n; trial = f.made n }) (λ n. no_scratch)
-    t.topology.geoms
-    (λ x there. let P : ℕ → Scratch = λ m. record { mark = m; trial = f.made x.number } in let Q : Counts
-    → Scratch = λ a. record { mark = 0; trial = a } in
-    ap P (marks x.number) ∙ ap Q (made x.number)))
-    ∙ ap (λ rows. put h r l w (record s { geoms = (clear_scratches t.topology).geoms; providers = rows }))
-    (rows-same_on (λ (z : Provider). z.number) (λ n. record { mark = 0; trial = (f.cells n).gain })
-    (λ n. no_scratch) t.topology.providers
-    (λ z there. let Q : Counts → Scratch = λ a. record { mark = 0; trial = a } in ap Q (gains z there)))
-    ∙ ap (put h r l w)
-    (ap (λ (u : Scratches). record u {
+    let geoms =
+    rows-same_on (λ (x : Geom C). x.number) (λ n. record { mark = f.marks n; trial = f.made n }) (λ n. no_scratch)
+    t.topology.geoms (λ x there i. record { mark = marks x.number i; trial = made x.number i }) in
+    let providers =
+    rows-same_on (λ (z : Provider). z.number) (λ n. record { mark = 0; trial = (f.cells n).gain }) (λ n. no_scratch)
+    t.topology.providers (λ z there i. record { mark = 0; trial = gains z there i }) in
+    let tried : ◌≡◌ {A = Scratches} (with_parts t f).scratches t.scratches =
+    (λ i. record t.scratches { geoms = geoms i; providers = providers i })
+    ∙ ap (λ (u : Scratches). record u {
       geoms = (clear_scratches t.topology).geoms;
       providers =
           (clear_scratches t.topology).providers;
-    }) clear ∙ sym clear)
+    }) clear ∙ sym clear in
+    λ i. record t {
+      haves =
+          rows_agree (λ (z : Provider). z.number) (λ (z : Provider). (f.cells z.number).have) counts
+          t.topology.providers haves i;
+      risen =
+          rows_agree (λ (z : Provider). z.number) (λ (z : Provider). (f.cells z.number).risen) rises
+          t.topology.providers risens i;
+      fallen =
+          rows_agree (λ (z : Provider). z.number) (λ (z : Provider). (f.cells z.number).fallen) falls
+          t.topology.providers fallens i;
+      wants =
+          (rows-set (λ (c : Consumer). c.number) f.wants cons add t.topology.consumers
+          ∙ rows_agree (λ (c : Consumer). c.number) (λ (c : Consumer). set_at f.wants cons add c.number) wanted
+          t.topology.consumers wants) i;
+      scratches = tried i;
+    }
 
 -- New counts
 

@@ -1,5 +1,5 @@
 -- The end of a join that nothing refuses, and what its answers see of it.
-use Rattle.std.specs.Prelude.{◌≡◌, ◌≢◌, ℕ, ◌==◌, Bool, true, false, List, [], ◌∷◌, map, fold, Option, Some, None, IsSome, Contains, if◌then◌else◌, IsOk, unwrap_or, Result}
+use Rattle.std.specs.Prelude.{◌≡◌, ◌≢◌, ℕ, ◌==◌, Bool, true, false, List, [], ◌∷◌, fold, Option, Some, None, IsSome, Contains, if◌then◌else◌, IsOk, unwrap_or, Result}
 use Rattle.std.proofs.Common.{refl, sym, ◌∙◌, ap, subst, inl, inr, eq-eqb}
 use Rattle.std.proofs.lemmas.Bool.{eqb-true, ne_eqb}
 use Rattle.std.proofs.lemmas.List.Elements.{All-contains}
@@ -213,14 +213,13 @@ module _ {C : Type 0} {t : TopoView C} {cons : ℕ} (sound : IsSoundGraph t.topo
       ∙ ap (λ a. with_topology
       (with_want (fold (finish_geom (Some Rises)) (trying t its_tries) its_order) cons a) u) add_is
       ∙ ap (λ v. with_topology v u) (kept_end sound told full d.demand (grows sound told full d) quiet joins_whole)
-      ∙ ap (λ rows. record (joined_view t cons p) {
-        wants = rows;
-        fallen =
-            map (λ (z : Provider). (z.number, false)) t.topology.providers;
+      ∙ (λ i. record (joined_view t cons p) {
+        wants =
+            sym (map-changed (λ (c : Consumer). c.number == cons) (λ c. record c { provider = Some p })
+            (λ (c : Consumer). let row : ℕ × Counts = (c.number, want granted u c) in row) (λ c e. refl)
+            t.topology.consumers) i;
+        fallen = sym quiet.fallen i;
       })
-      (sym (map-changed (λ (c : Consumer). c.number == cons) (λ c. record c { provider = Some p })
-      (λ (c : Consumer). let row : ℕ × Counts = (c.number, want granted u c) in row) (λ c e. refl) t.topology.consumers))
-      ∙ ap (λ rows. record (joined_view t cons p) { fallen = rows }) (sym quiet.fallen)
 
 -- The mesh in which it has joined
 

@@ -62,19 +62,14 @@ tried_whole {C} {t} {p} {a} {b} {way} {new} {o} is tried =
 pub judged_whole : {C : Type 0} (v : TopoView C) (p : ℕ) (a b : Counts) (xs : List ℕ) → a ≡ cap b
     → judged v p a xs ≡ judged v p b xs
 judged_whole v p a b xs is =
-    let errors : Option Refused = option_map (λ q. Named (Enxio q)) (first_errored v p xs) in
-    let faults : Option Refused =
-    option_map (λ r. Named r)
-    (option_or (first_given (fault_in v Exclusion) xs) (first_given (fault_in v Limit) xs)) in
     let judge : Bool → Bool → Option Refused = λ w e.
-    option_or errors
+    option_or (option_map (λ q. Named (Enxio q)) (first_errored v p xs))
     (option_or
     (option_or (if w then None else option_map (λ c. Exclusive c) (other v p 0 Excludes))
     (if e then None else option_map (λ c. Writer c) (other v p 0 Writes)))
-    faults) in
-    ap (λ (x : Counts). judge (x.w == 0) (x.e == 0)) is
-    ∙ ap (λ w. judge w ((cap b).e == 0)) (zero_min b.w)
-    ∙ ap (judge (b.w == 0)) (zero_min b.e)
+    (option_map (λ r. Named r)
+    (option_or (first_given (fault_in v Exclusion) xs) (first_given (fault_in v Limit) xs)))) in
+    ap (λ (x : Counts). judge (x.w == 0) (x.e == 0)) is ∙ (λ i. judge (zero_min b.w i) (zero_min b.e i))
 
 -- The order of the tests
 
@@ -133,7 +128,8 @@ module _ {C : Type 0} (t : Topology C) (c p : ℕ) (granted : ℕ → Counts) wh
   tests_are : {below loop deep exclusive limit : Bool} → has_error_below t p ≡ below → loops ≡ loop → too_deep ≡ deep
       → is_exclusive granted (attach t c p) ≡ exclusive → fits_limit granted (attach t c p) ≡ limit
       → join_refusal granted t c p ≡ join_tests below loop deep exclusive limit
-  tests_are {below} {loop} {deep} {exclusive} {limit} eb el ed ex ef = λ i. join_tests (eb i) (el i) (ed i) (ex i) (ef i)
+  tests_are errors looped deep exclusive limit = λ i.
+      join_tests (errors i) (looped i) (deep i) (exclusive i) (limit i)
 
   -- the answer is right, and names what it has to
   abbrev pub IsRight : Result (Unit {0}) JoinRefusal → Type 0

@@ -149,20 +149,16 @@ module _ {C : Type 0} {t : TopoView C} (sound : IsSoundGraph t.topology) (told :
     -- a quiet mesh is told by them
     parts_are : trying t tries ≡ with_parts t parts
     parts_are =
-        let put : List (ℕ × Counts) → List (ℕ × Bool) → List (ℕ × Bool) → List (ℕ × Counts) → TopoView C =
-        λ haves risens falls wants. record (trying t tries) {
-          haves = haves;
-          risen = risens;
-          fallen = falls;
-          wants = wants;
-        } in
-        ap (λ rows. put rows t.risen t.fallen t.wants) told.haves
-        ∙ ap (λ rows. put (with_parts t parts).haves rows t.fallen t.wants) quiet.risen
-        ∙ ap (λ rows. put (with_parts t parts).haves (with_parts t parts).risen rows t.wants) quiet.fallen
-        ∙ ap (put (with_parts t parts).haves (with_parts t parts).risen (with_parts t parts).fallen)
-        (may.stored
+        let wants : t.wants ≡ (with_parts t parts).wants =
+        may.stored
         ∙ sym (rows_agree (λ (c : Consumer). c.number) (λ (c : Consumer). want_at t c.number) may.held
-        t.topology.consumers held_is))
+        t.topology.consumers held_is) in
+        λ i. record (trying t tries) {
+          haves = told.haves i;
+          risen = quiet.risen i;
+          fallen = quiet.fallen i;
+          wants = wants i;
+        }
 
     -- what is kept
     all : Kept t sound way below parts

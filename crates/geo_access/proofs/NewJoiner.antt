@@ -10,7 +10,6 @@ use Rattle.geo_base.proofs.FindLists.{found-before, find-pushed_hit}
 use Rattle.geo_base.specs.declared.request.Counts.{Counts}
 use Rattle.geo_model.specs.Topology.{Topology, Provider, Consumer, consumer_at, add_consumer, attach}
 use Rattle.geo_model.specs.Demand.{no_counts, have, want}
-use Rattle.geo_model.proofs.DemandLemmas.{map_same}
 use Rattle.geo_slots.specs.Slots.{value_at}
 use Rattle.geo_mesh.specs.declared.records.Scratch.{Scratch}
 use Rattle.geo_mesh.specs.Topo.{TopoView, Room, no_scratch, with_consumer}
@@ -20,12 +19,11 @@ use Rattle.geo_laws_counts.specs.CountWords.{DemandStays, AnyConsumer}
 use Rattle.geo_laws_counts.proofs.LimitFacts.{all_of}
 use Rattle.geo_laws_counts.proofs.Numbers.{free_of}
 use Rattle.geo_laws_counts.proofs.Stays.{grants_agree, consumer_came}
-use Rattle.geo_laws_counts.proofs.Flows.{each_of}
 use Rattle.geo_access.specs.Access.{granted_by, holds_grants, clear_scratches, IsCounted, IsQuiet}
 use Rattle.geo_access.specs.Join.{IsCountedBut, IsLoose, IsPlacedBut}
 use Rattle.geo_access.specs.JoinLaws.{NewConsumersMayJoin}
-use Rattle.geo_access.proofs.Clearing.{rows-same_on}
-use Rattle.geo_access.proofs.Decided.{item_at, consumer_known}
+use Rattle.geo_access.proofs.Clearing.{rows-same_on, rows_agree}
+use Rattle.geo_access.proofs.Decided.{item_at, consumer_known, granted_found}
 use Rattle.geo_access.proofs.Coming.{find_last}
 
 module _ {C : Type 0} (t : TopoView C) (geom : ℕ) where
@@ -89,10 +87,8 @@ module _ {C : Type 0} (t : TopoView C) (geom : ℕ) where
           let P : Counts → List (ℕ × Counts) = λ a. map row t.topology.consumers ++ (n, a) ∷ [] in
           ap (λ rows. rows ++ (n, no_counts) ∷ [])
           (counted.wants
-          ∙ map_same (λ (c : Consumer). (c.number, want (granted_by t) t.topology c)) row t.topology.consumers
-          (each_of (λ (c : Consumer). ◌≡◌ {A = ℕ × Counts} (c.number, want (granted_by t) t.topology c) (row c))
-          t.topology.consumers
-          (λ c there. let Q : Counts → ℕ × Counts = λ a. (c.number, a) in ap Q (sym (held_old c there)))))
+          ∙ rows_agree (λ (c : Consumer). c.number) (want (granted_by t) t.topology) held t.topology.consumers
+          (λ c there. sym (held_old c there)))
           ∙ ap P (sym held_comer)
           ∙ sym (map-append row t.topology.consumers (comer ∷ []))
 
@@ -107,11 +103,7 @@ module _ {C : Type 0} (t : TopoView C) (geom : ℕ) where
                 (consumer_known t sound c old) in
                 at c found
                 ∙ ap (λ a. if holds_grants t.topology c.geom then a else no_counts) (held_old c old)
-                ∙ sym (ap (λ o.
-                option_map_or
-                (λ (x : Consumer).
-                if holds_grants t.topology x.geom then unwrap_or (value_at t.wants c.number) no_counts
-                else no_counts) o no_counts) (consumer_known t sound c old)
+                ∙ sym (granted_found t c.number c (consumer_known t sound c old)
                 ∙ ap (λ o. if holds_grants t.topology c.geom then unwrap_or o no_counts else no_counts)
                 (ap (λ rows. value_at rows c.number) counted.wants
                 ∙ item_at (λ (x : Consumer). x.number) (want (granted_by t) t.topology) c.number
@@ -130,10 +122,7 @@ module _ {C : Type 0} (t : TopoView C) (geom : ℕ) where
           at : (d : Consumer) → consumer_at u d.number ≡ Some d
               → granted_by (mesh room) d.number ≡ (if holds_grants t.topology d.geom then held d else no_counts)
           at d found =
-              ap (λ o. option_map_or
-              (λ (x : Consumer).
-              if holds_grants t.topology x.geom then unwrap_or (value_at (mesh room).wants d.number)
-              no_counts else no_counts) o no_counts) found
+              granted_found (mesh room) d.number d found
               ∙ ap (λ o. if holds_grants t.topology d.geom then unwrap_or o no_counts else no_counts)
               (ap (λ rows. value_at rows d.number) wants_rows
               ∙ item_at (λ (x : Consumer). x.number) held d.number u.consumers d found)
@@ -160,19 +149,10 @@ module _ {C : Type 0} (t : TopoView C) (geom : ℕ) where
                 (λ z there. sym (second.haves z.number ∙ first.haves z.number));
             wants =
                 wants_rows
-                ∙ map_same row
-                (λ (c : Consumer).
-                (c.number, (if c.number == n then no_counts else want (granted_by (mesh room)) u c)))
-                u.consumers
-                (each_of
-                (λ (c : Consumer).
-                ◌≡◌ {A = ℕ × Counts} (row c) (
-                  c.number,
-                  (if c.number == n then no_counts else want (granted_by (mesh room)) u c),
-                )) u.consumers
-                (λ c there.
-                let Q : Counts → ℕ × Counts = λ a. (c.number, (if c.number == n then no_counts else a)) in
-                ap Q (sym (second.wants c there ∙ first.wants c tt))));
+                ∙ rows_agree (λ (c : Consumer). c.number) held
+                (λ (c : Consumer). if c.number == n then no_counts else want (granted_by (mesh room)) u c) u.consumers
+                (λ c there. ap (λ a. if c.number == n then no_counts else a)
+                (sym (second.wants c there ∙ first.wants c tt)));
             exclusive = second.exclusive (first.exclusive counted.exclusive);
             limit = second.limit (first.limit counted.limit);
             risen = counted.risen;

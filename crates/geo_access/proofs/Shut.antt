@@ -1,5 +1,5 @@
 -- Where nothing is open.
-use Rattle.std.specs.Prelude.{◌≡◌, ◌≢◌, ◌⊎◌, ℕ, zero, suc, ◌==◌, Bool, true, false, not, ◌&&◌, List, [], ◌∷◌, ◌++◌, length, map, find, Option, Some, None, All, unwrap_or, option_map, codes, if◌then◌else◌}
+use Rattle.std.specs.Prelude.{◌≡◌, ◌⊎◌, ℕ, zero, suc, ◌==◌, Bool, true, false, not, ◌&&◌, List, [], ◌∷◌, ◌++◌, length, map, find, Option, Some, None, unwrap_or, option_map, codes, if◌then◌else◌}
 use Rattle.std.specs.List.{list_all}
 use Rattle.std.specs.Option.{option_map_or}
 use Rattle.std.proofs.Common.{refl, sym, ◌∙◌, ap, subst, inl, inr}
@@ -17,11 +17,11 @@ use Rattle.geo_mesh.specs.declared.records.Scratch.{Scratch}
 use Rattle.geo_mesh.specs.Topo.{TopoView, Scratches, Room, no_scratch, first_mesh, with_geom, with_provider, with_consumer, with_topology}
 use Rattle.geo_laws_graph.proofs.Lists.{map-changed}
 use Rattle.geo_laws_counts.specs.CountWords.{IsAtMost}
-use Rattle.geo_laws_counts.specs.LimitLaws.{NoneInTheWay, greatest_counts}
+use Rattle.geo_laws_counts.specs.LimitLaws.{greatest_counts}
 use Rattle.geo_laws_counts.proofs.Sums.{at_most-zero}
-use Rattle.geo_laws_counts.proofs.LimitFacts.{all_of, exclusive_means, limit_means}
-use Rattle.geo_laws_counts.proofs.Flows.{each_of, sum-none}
-use Rattle.geo_model.proofs.DemandLemmas.{map_same}
+use Rattle.geo_access.proofs.Clearing.{rows_agree}
+use Rattle.geo_laws_counts.proofs.LimitFacts.{all_of, exclusive_from, limit_from}
+use Rattle.geo_laws_counts.proofs.Flows.{sum-none}
 use Rattle.geo_access.specs.Access.{granted_by, holds_grants, clear_scratches, IsCounted}
 use Rattle.geo_access.specs.ShutLaws.{IsShut, ShutMeshesAreCounted, MeshesStayShut}
 use Rattle.geo_access.proofs.Granted.{numbers_of}
@@ -120,38 +120,19 @@ module _ {C : Type 0} (t : TopoView C) (shut : IsShut t) where
     kinds = shut.kinds;
     haves =
         shut.haves
-        ∙ map_same (λ (p : Provider). (p.number, no_counts))
-        (λ (p : Provider). (p.number, have (granted_by t) t.topology p.number)) t.topology.providers
-        (each_of (λ (p : Provider).
-        ◌≡◌ {A = ℕ × Counts} (p.number, no_counts) (p.number, have (granted_by t) t.topology p.number))
-        t.topology.providers
-        (λ p there. let Q : Counts → ℕ × Counts = λ a. (p.number, a) in ap Q (sym (no_have p.number))));
+        ∙ rows_agree (λ (p : Provider). p.number) (λ (p : Provider). no_counts)
+        (λ (p : Provider). have (granted_by t) t.topology p.number) t.topology.providers
+        (λ p there. sym (no_have p.number));
     wants =
         shut.wants
-        ∙ map_same (λ (c : Consumer). (c.number, no_counts))
-        (λ (c : Consumer). (c.number, want (granted_by t) t.topology c)) t.topology.consumers
-        (each_of (λ (c : Consumer).
-        ◌≡◌ {A = ℕ × Counts} (c.number, no_counts) (c.number, want (granted_by t) t.topology c))
-        t.topology.consumers
-        (λ c there. let Q : Counts → ℕ × Counts = λ a. (c.number, a) in ap Q (sym (no_want c))));
+        ∙ rows_agree (λ (c : Consumer). c.number) (λ (c : Consumer). no_counts) (want (granted_by t) t.topology)
+        t.topology.consumers (λ c there. sym (no_want c));
     exclusive =
-        (exclusive_means (granted_by t) t.topology).1
-        (all_of (λ (z : Provider). NoneInTheWay (granted_by t) t.topology (attached_to t.topology z.number))
-        t.topology.providers
-        (λ z there.
-        all_of (λ (a : Consumer). All (λ (b : Consumer). a.number ≢ b.number
-        → ((want (granted_by t) t.topology a).w ≡ 0) ⊎ ((want (granted_by t) t.topology b).e ≡ 0))
-        (attached_to t.topology z.number))
-        (attached_to t.topology z.number)
-        (λ a at.
-        all_of (λ (b : Consumer). a.number ≢ b.number → ((want (granted_by t) t.topology a).w ≡ 0)
-        ⊎ ((want (granted_by t) t.topology b).e ≡ 0)) (attached_to t.topology z.number)
-        (λ b bt apart. inl (ap (λ (x : Counts). x.w) (no_want a))))));
+        exclusive_from (granted_by t) t.topology
+        (λ z a b there at bt apart. inl (ap (λ (x : Counts). x.w) (no_want a)));
     limit =
-        (limit_means (granted_by t) t.topology).1
-        (all_of (λ (z : Provider). IsAtMost (have (granted_by t) t.topology z.number) greatest_counts)
-        t.topology.providers
-        (λ z there. subst (λ a. IsAtMost a greatest_counts) (sym (no_have z.number)) (at_most-zero greatest_counts)));
+        limit_from (granted_by t) t.topology
+        (λ z there. subst (λ a. IsAtMost a greatest_counts) (sym (no_have z.number)) (at_most-zero greatest_counts));
     risen = ap (map (λ row. row.0)) shut.risen
         ∙ numbers_of (λ (p : Provider). p.number) (λ (p : Provider). false) t.topology.providers;
     fallen = ap (map (λ row. row.0)) shut.fallen

@@ -27,37 +27,22 @@ use Rattle.geo_access.specs.Tries.{had, made_of}
 use Rattle.geo_access.specs.Views.{Gathered, mark_at, gain_at, have_at, put_geom, visit, visit_under, weigh}
 use Rattle.geo_access.proofs.Walking.{offerer_lives}
 use Rattle.geo_access.proofs.Judging.{zero_min}
-use Rattle.geo_access.proofs.Trying.{rows_of, rows-same, geom_tries, provider_tries, Tries, trying, trying-mark, trying-geom, head_or, link_in, kept_order, order_tries, link_zero}
+use Rattle.geo_access.proofs.Trying.{rows-same, geom_tries, provider_tries, Tries, trying, trying-mark, trying-geom, head_or, link_in, kept_order, order_tries, link_zero}
 
 -- mesh tries that agree are the same mesh
 pub trying-same : {C : Type 0} (t : TopoView C) (s u : Tries) → ((n : ℕ) → s.marks n ≡ u.marks n)
     → ((n : ℕ) → s.made n ≡ u.made n) → ((n : ℕ) → s.gains n ≡ u.gains n)
     → trying t s ≡ trying t u
-trying-same {C} t s u marks made gains =
-    ap (λ rows. record t {
-      scratches =
-          record t.scratches {
-            geoms = rows;
-            providers =
-                rows_of (λ (y : Provider). y.number) (provider_tries s) t.topology.providers;
-          };
-    })
-    (rows-same (λ (x : Geom C). x.number) (geom_tries s) (geom_tries u) t.topology.geoms
-    (λ n. let P : ℕ → Rattle.geo_mesh.specs.declared.records.Scratch.Scratch =
-    λ m. record { mark = m; trial = s.made n } in
-    let Q : Counts → Rattle.geo_mesh.specs.declared.records.Scratch.Scratch =
-    λ a. record { mark = u.marks n; trial = a } in
-    ap P (marks n) ∙ ap Q (made n)))
-    ∙ ap (λ rows. record t {
-      scratches =
-          record t.scratches {
-            geoms = rows_of (λ (x : Geom C). x.number) (geom_tries u) t.topology.geoms;
-            providers = rows;
-          };
-    })
-    (rows-same (λ (y : Provider). y.number) (provider_tries s) (provider_tries u) t.topology.providers
-    (λ n. let Q : Counts → Rattle.geo_mesh.specs.declared.records.Scratch.Scratch =
-    λ a. record { mark = 0; trial = a } in ap Q (gains n)))
+trying-same {C} t s u marks made gains = λ i. record t {
+  scratches = record t.scratches {
+    geoms =
+        rows-same (λ (x : Geom C). x.number) (geom_tries s) (geom_tries u)
+        t.topology.geoms (λ n j. record { mark = marks n j; trial = made n j }) i;
+    providers =
+        rows-same (λ (y : Provider). y.number) (provider_tries s) (provider_tries u)
+        t.topology.providers (λ n j. record { mark = 0; trial = gains n j }) i;
+  };
+}
 
 module _ {C : Type 0} (t : TopoView C) (sound : IsSoundGraph t.topology) (end : ℕ) (some : 1 ≤ end) where
   -- a geom that lives has a number that isn't zero
@@ -193,10 +178,7 @@ module _ {C : Type 0} (t : TopoView C) (sound : IsSoundGraph t.topology) (end : 
 
 -- counts are zero just where they are so stopped
 pub is_zero-cap : (a : Counts) → is_zero (cap a) ≡ is_zero a
-is_zero-cap a =
-    ap (λ b. b && ((min a.w 4294967295 == 0) && (min a.e 4294967295 == 0))) (zero_min a.r)
-    ∙ ap (λ b. (a.r == 0) && (b && (min a.e 4294967295 == 0))) (zero_min a.w)
-    ∙ ap (λ b. (a.r == 0) && ((a.w == 0) && b)) (zero_min a.e)
+is_zero-cap a = λ i. zero_min a.r i && (zero_min a.w i && zero_min a.e i)
 
 -- one exclusive count more, or none
 made_more : (b : Bool) (gains : List Counts)

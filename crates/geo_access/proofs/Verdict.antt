@@ -6,7 +6,6 @@ use Rattle.std.proofs.Common.{refl, sym, ◌∙◌, ap, subst, arith, inl, inr, 
 use Rattle.std.proofs.lemmas.Bool.{eqb-true, cases_eq, ne_eqb, ltb-true, ltb-false, or_parts, or_cases}
 use Rattle.geo_base.proofs.FindLists.{any-contained}
 use Rattle.geo_base.specs.declared.request.Counts.{Counts}
-use Rattle.geo_base.specs.declared.errno.Errno.{Errno}
 use Rattle.geo_base.specs.declared.errno.Errno.TheVariants.{ENXIO, EPERM, EOVERFLOW}
 use Rattle.geo_base.specs.declared.limits.TheConstants.{MAX_ACCESS_COUNT}
 use Rattle.geo_base.proofs.MemberLists.{Contains-there, Contains-cases, nothing_in, Contains-here, Contains-filter}
@@ -541,12 +540,8 @@ module _ {C : Type 0} (v : TopoView C) (p own : ℕ) (add : Counts) (granted aft
 tests_say : {C : Type 0} (after : ℕ → Counts) (u : Topology C) (p : ℕ) (a b c : Bool) → has_error_below u p ≡ a
     → is_exclusive after u ≡ b → fits_limit after u ≡ c
     → grant_refusal after u p ≡ first_error ((a, ENXIO) ∷ (not b, EPERM) ∷ (not c, EOVERFLOW) ∷ [])
-tests_say after u p a b c errors exclusive limit =
-    let three : Bool → Bool → Bool → Option Errno =
-    λ x y z. first_error ((x, ENXIO) ∷ (not y, EPERM) ∷ (not z, EOVERFLOW) ∷ []) in
-    ap (λ x. three x (is_exclusive after u) (fits_limit after u)) errors
-    ∙ ap (λ y. three a y (fits_limit after u)) exclusive
-    ∙ ap (three a b) limit
+tests_say after u p a b c errors exclusive limit = λ i.
+    first_error ((errors i, ENXIO) ∷ (not (exclusive i), EPERM) ∷ (not (limit i), EOVERFLOW) ∷ [])
 
 -- so the verdict is the model's refusal, where the demand adds no error below
 pub refused : {C : Type 0} (t : Topology C) (p own : ℕ) (after : ℕ → Counts) (u : Topology C)
