@@ -16,7 +16,7 @@ use Rattle.geo_access.specs.Tries.{Apart}
 use Rattle.geo_access.specs.Access.{clear_scratches}
 use Rattle.geo_access.specs.Views.{finish_provider, finish_geom}
 use Rattle.geo_access.proofs.Trying.{rows_of, geom_tries, provider_tries, Tries, no_tries, trying, trying-none, trying-geom, trying-provider, head_or, link_in}
-use Rattle.geo_access.proofs.Tried.{trying-same}
+use Rattle.geo_access.proofs.TryOut.{trying-same}
 
 -- functions that agree at the items give the same rows
 pub rows_agree : {X V : Type 0} (key : X → ℕ) (f g : X → V) (xs : List X)
@@ -83,6 +83,32 @@ link_outside end (x ∷ xs) n away =
           ∙ link_outside end xs n (sym (has_step x xs n other) ∙ away)
     ]
 
+-- over one geom more
+value_step : {V : Type 0} (x : ℕ) (xs : List ℕ) (n : ℕ) (none old mid new : V)
+    → new ≡ (if has_number xs n then none else mid)
+    → (n ≡ x → mid ≡ none) → (n ≢ x → mid ≡ old) → new ≡ (if has_number (x ∷ xs) n then none else old)
+value_step x xs n none old mid new so here away =
+    elim (cases_eq n x) [
+      | inl same ↦
+          so ∙ both (has_number xs n) (here same) ∙ sym (ap (λ b. if b then none else old) (has_first x xs n same))
+      | inr other ↦
+          so ∙ ap (λ m. if has_number xs n then none else m) (away other)
+          ∙ sym (ap (λ b. if b then none else old) (has_step x xs n other))
+    ]
+  where
+    both : (b : Bool) → mid ≡ none → (if b then none else mid) ≡ none
+    both true e = refl
+    both false e = e
+
+-- a value that is put at each geom of an order, over one more
+pub put_step : {V : Type 0} (x : ℕ) (xs : List ℕ) (n : ℕ) (none old new : V)
+    → new ≡ (if has_number xs n then none else (if n == x then none else old))
+    → new ≡ (if has_number (x ∷ xs) n then none else old)
+put_step x xs n none old new so =
+    value_step x xs n none old (if n == x then none else old) new so
+    (λ same. ap (λ b. if b then none else old) (eq-eqb n x same))
+    (λ other. ap (λ b. if b then none else old) (ne_eqb n x other))
+
 module _ {C : Type 0} (t : TopoView C) where
   -- nothing is left to try at some providers
   clear_providers : (ys : List Provider) (s : Tries)
@@ -122,23 +148,6 @@ module _ {C : Type 0} (t : TopoView C) where
       pub gains : (z : Provider) → Contains t.topology.providers z
           → tries.gains z.number ≡ (if has_number xs z.geom then no_counts else s.gains z.number)
 
-    -- over one geom more
-    value_step : {V : Type 0} (x : ℕ) (xs : List ℕ) (n : ℕ) (none old mid new : V)
-        → new ≡ (if has_number xs n then none else mid)
-        → (n ≡ x → mid ≡ none) → (n ≢ x → mid ≡ old) → new ≡ (if has_number (x ∷ xs) n then none else old)
-    value_step x xs n none old mid new so here away =
-        elim (cases_eq n x) [
-          | inl same ↦
-              so ∙ both (has_number xs n) (here same) ∙ sym (ap (λ b. if b then none else old) (has_first x xs n same))
-          | inr other ↦
-              so ∙ ap (λ m. if has_number xs n then none else m) (away other)
-              ∙ sym (ap (λ b. if b then none else old) (has_step x xs n other))
-        ]
-      where
-        both : (b : Bool) → mid ≡ none → (if b then none else mid) ≡ none
-        both true e = refl
-        both false e = e
-
     -- the gains at one provider once a geom is cleared
     gain_here : (s : Tries) (x : ℕ) (z : Provider) → Contains t.topology.providers z → z.geom ≡ x
         → (cleared s x).gains z.number ≡ no_counts
@@ -161,14 +170,8 @@ module _ {C : Type 0} (t : TopoView C) where
         record {
           tries = rest.tries;
           is = ap (λ v. fold (finish_geom None) v xs) (clear_geom s x) ∙ rest.is;
-          marks = λ n.
-              value_step x xs n 0 (s.marks n) (set_at s.marks x 0 n) (rest.tries.marks n) (rest.marks n)
-              (λ same. ap (λ b. if b then 0 else s.marks n) (eq-eqb n x same))
-              (λ other. ap (λ b. if b then 0 else s.marks n) (ne_eqb n x other));
-          made = λ n.
-              value_step x xs n no_counts (s.made n) (set_at s.made x no_counts n) (rest.tries.made n) (rest.made n)
-              (λ same. ap (λ b. if b then no_counts else s.made n) (eq-eqb n x same))
-              (λ other. ap (λ b. if b then no_counts else s.made n) (ne_eqb n x other));
+          marks = λ n. put_step x xs n 0 (s.marks n) (rest.tries.marks n) (rest.marks n);
+          made = λ n. put_step x xs n no_counts (s.made n) (rest.tries.made n) (rest.made n);
           gains = λ z there.
               value_step x xs z.geom no_counts (s.gains z.number) ((cleared s x).gains z.number)
               (rest.tries.gains z.number) (rest.gains z there)

@@ -1,10 +1,10 @@
 -- A consumer of DEV that would come to a provider.
-use Rattle.std.specs.Prelude.{◌≡◌, ◌≢◌, ◌⊎◌, ℕ, suc, max, ◌==◌, ◌≤◌, ◌<◌, Bool, true, false, cond, List, [], ◌∷◌, ◌++◌, filter, find, fold, Option, Some, None, IsSome, IfSome, IsSomeAnd, Contains, All, option_map, if◌then◌else◌}
+use Rattle.std.specs.Prelude.{◌≡◌, ◌≢◌, ◌⊎◌, ℕ, suc, max, ◌==◌, ◌≤◌, ◌<◌, Bool, true, false, cond, List, [], ◌∷◌, filter, fold, Option, Some, None, IsSome, IfSome, IsSomeAnd, Contains, All, option_map, if◌then◌else◌}
 use Rattle.std.proofs.Common.{refl, sym, ◌∙◌, ap, subst, arith, inl, inr, eq-eqb}
 use Rattle.std.proofs.lemmas.Bool.{eqb-true, ne_eqb}
 use Rattle.std.proofs.lemmas.List.Elements.{All-contains, All-push, Contains-push, Contains-push_cases, Contains-append_left}
-use Rattle.geo_base.proofs.Options.{some_of}
-use Rattle.geo_base.proofs.FindLists.{find-Contains, found-before}
+use Rattle.geo_base.proofs.Options.{some_of, some_weaker, there_with_fact}
+use Rattle.geo_base.proofs.FindLists.{find-Contains, found-before, find-pushed_hit}
 use Rattle.geo_base.specs.declared.request.Counts.{Counts}
 use Rattle.geo_base.specs.declared.kind.Kind.TheVariants as kinds
 use Rattle.geo_base.proofs.MemberLists.{Contains-there, Contains-here, Contains-filter}
@@ -37,14 +37,7 @@ use Rattle.geo_access.proofs.Trying.{trying}
 use Rattle.geo_access.proofs.Walked.{walk, walk_covers}
 use Rattle.geo_access.proofs.Verdict.{After, IsVerdict, refused}
 use Rattle.geo_access.proofs.Decided.{IsTold, consumer_known, new_is, tells, cleared, decided, end, IsDemand}
-
--- where none passes before it, the last is found
-pub find_last : {X : Type 0} (test : X → Bool) (xs : List X) (y : X) → ((x : X) → Contains xs x → test x ≡ false)
-    → test y ≡ true → find test (xs ++ y ∷ []) ≡ Some y
-find_last test [] y none passes = ap (λ b. cond b (Some y) None) passes
-find_last test (x ∷ xs) y none passes =
-    ap (λ b. cond b (Some x) (find test (xs ++ y ∷ []))) (none x (Contains-here x xs))
-    ∙ find_last test xs y (λ z there. none z (Contains-there x z xs there)) passes
+use Rattle.geo_access.proofs.Walking.{none_numbered}
 
 -- what a refusal says of errors: it names the first, or there is none
 abbrev pub SaysError : {C : Type 0} → Topology C → ℕ → Option Refused → Type 0
@@ -81,12 +74,9 @@ module _ {C : Type 0} {t : TopoView C} (sound : IsSoundGraph t.topology) (told :
 
   -- DEV holds grants
   pub dev_holds : HoldsGrants t.topology 1
-  dev_holds = by (geom_at t.topology 1) sound.orderly.first.dev
-    where
-      by : (o : Option (Geom C)) → IsSomeAnd o (λ (x : Geom C). x.kind ≡ kinds.Dev)
-          → IsSomeAnd o (λ (x : Geom C). is_granted_kind x.kind ≡ true)
-      by None never = absurd never
-      by (Some g) dev = ap is_granted_kind dev
+  dev_holds =
+      some_weaker (λ (x : Geom C). x.kind ≡ kinds.Dev) (λ (x : Geom C). is_granted_kind x.kind ≡ true)
+      (λ x dev. ap is_granted_kind dev) (geom_at t.topology 1) sound.orderly.first.dev
 
   -- it has no provider
   pub dev_bare : providers_of t.topology 1 ≡ []
@@ -172,14 +162,8 @@ module _ {C : Type 0} {t : TopoView C} (sound : IsSoundGraph t.topology) (told :
       let high : tall 1 ≡ suc (max (rank t.topology 1) (rank t.topology y.geom)) = refl in
       omega arith)))
       (All-push (λ (c : Consumer). IsSome (geom_at t.topology c.geom)) t.topology.consumers newcomer
-      sound.orderly.parts.geoms dev_there)
-    where
-      by : (o : Option (Geom C)) → IsSomeAnd o (λ (x : Geom C). is_granted_kind x.kind ≡ true) → IsSome o
-      by None never = absurd never
-      by (Some g) fact = refl
-
-      dev_there : IsSome (geom_at t.topology 1)
-      dev_there = by (geom_at t.topology 1) dev_holds
+      sound.orderly.parts.geoms
+      (there_with_fact (λ (x : Geom C). is_granted_kind x.kind ≡ true) (geom_at t.topology 1) dev_holds))
 
   -- what providers and consumers gain by it
   abbrev pub opened_gains : ℕ → Counts
@@ -236,8 +220,8 @@ module _ {C : Type 0} {t : TopoView C} (sound : IsSoundGraph t.topology) (told :
               (consumer_known t sound c old)
           | inr same ↦
               subst (λ d. consumer_at opened d.number ≡ Some d) same
-              (find_last (λ (x : Consumer). x.number == t.topology.next_consumer) t.topology.consumers newcomer
-              (λ x inside. ne_eqb x.number t.topology.next_consumer (old_number x inside))
+              (find-pushed_hit (λ (x : Consumer). x.number == t.topology.next_consumer) t.topology.consumers newcomer
+              (none_numbered t.topology.next_consumer t.topology.consumers old_number)
               (eq-eqb t.topology.next_consumer t.topology.next_consumer refl))
         ];
     errors = errors_came t.topology 1 p dev_bare p;

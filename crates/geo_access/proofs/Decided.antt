@@ -43,6 +43,7 @@ use Rattle.geo_access.proofs.Verdict.{After, IsVerdict, verdict, part_at_most}
 pub use Rattle.geo_access.proofs.Walking.{consumer_known}
 use Rattle.geo_laws_counts.specs.CountWords.{IsAtMost}
 use Rattle.geo_access.proofs.Walking.{provider_known, provider_stands}
+use Rattle.geo_base.proofs.Options.{some_and_of}
 
 -- the same over one item more
 item_step : {X V : Type 0} (key : X → ℕ) (f : X → V) (n : ℕ) (x y : X) (xs : List X)
@@ -196,21 +197,10 @@ module _ {C : Type 0} {t : TopoView C} (sound : IsSoundGraph t.topology) where
         (below t.topology p)) t.topology.consumers
         (λ c e.
         let reached = walk_reached sound clear tried c.geom (has-contains (walk sound clear tried) c.geom e) in
-        some_true (below t.topology p) reached.0 c.geom reached.1 (provider_at t.topology reached.0) refl reached.2)))
-      where
-        passes : (qs : List ℕ) (q g : ℕ) → Contains qs q
-            → option_map_or (λ (y : Provider). y.geom == g) (provider_at t.topology q) false ≡ true
-            → list_any (λ r. option_map_or (λ (y : Provider). y.geom == g) (provider_at t.topology r) false) qs ≡ true
-        passes qs q g there e =
-            any-contained (λ r. option_map_or (λ (y : Provider). y.geom == g) (provider_at t.topology r) false)
-            qs q there e
-
-        some_true : (qs : List ℕ) (q g : ℕ) → Contains qs q → (z : Option Provider) → provider_at t.topology q ≡ z
-            → IsSomeAnd z (λ (y : Provider). y.geom ≡ g)
-            → list_any (λ r. option_map_or (λ (y : Provider). y.geom == g) (provider_at t.topology r) false) qs ≡ true
-        some_true qs q g there None e never = absurd never
-        some_true qs q g there (Some y) e is =
-            passes qs q g there (ap (λ w. option_map_or (λ (x : Provider). x.geom == g) w false) e ∙ eq-eqb y.geom g is)
+        let z = some_and_of (λ (y : Provider). y.geom ≡ c.geom) (provider_at t.topology reached.0) reached.2 in
+        any-contained (λ q. option_map_or (λ (y : Provider). y.geom == c.geom) (provider_at t.topology q) false)
+        (below t.topology p) reached.0 reached.1
+        (ap (λ w. option_map_or (λ (y : Provider). y.geom == c.geom) w false) z.1 ∙ eq-eqb z.0.geom c.geom z.2))))
 
 -- the stored counts are the model's, but perhaps for consumers that aren't attached; none stands in another's way, no
 -- count is too great, and nothing is left to try

@@ -1,12 +1,12 @@
--- Loops as folds: over what is left of a walk, and over what is left of an order.
-use Rattle.std.specs.Prelude.{◌≡◌, ◌≢◌, ℕ, zero, suc, ◌+◌, ◌==◌, Bool, true, false, cond, List, [], ◌∷◌, length, filter_map, find, fold, Option, Some, None, Contains, option_map}
+-- Loops as folds: over what is left of a walk, and over what is left of an order; and how an order is gathered.
+use Rattle.std.specs.Prelude.{◌≡◌, ◌≢◌, ℕ, zero, suc, ◌+◌, ◌==◌, Bool, true, false, cond, List, [], ◌∷◌, length, filter_map, find, fold, Option, Some, None, Contains, option_map, ◌<◌, ◌≤◌, if◌then◌else◌}
 use Rattle.std.specs.List.{cons_option}
-use Rattle.std.specs.Option.{option_map_or, option_or}
-use Rattle.std.proofs.Common.{refl, sym, ◌∙◌, ap, arith, inl, inr, eq-eqb}
+use Rattle.std.specs.Option.{option_map_or, option_or, option_and_then}
+use Rattle.std.proofs.Common.{refl, sym, ◌∙◌, ap, arith, inl, inr, eq-eqb, subst}
 use Rattle.std.proofs.lemmas.Bool.{eqb-true, cases_eq, ne_eqb}
 use Rattle.geo_base.specs.declared.request.Counts.{Counts}
 use Rattle.geo_base.proofs.MemberLists.{Contains-there, Contains-here}
-use Rattle.geo_model.specs.Topology.{Topology, Provider, Consumer, consumers_of, providers_of}
+use Rattle.geo_model.specs.Topology.{Provider, Consumer, consumers_of, providers_of, provider_at}
 use Rattle.geo_slots.specs.Slots.{value_at, with_value}
 use Rattle.geo_mesh.specs.declared.records.Scratch.{Scratch}
 use Rattle.geo_mesh.specs.Topo.{TopoView, no_scratch, with_geom_scratch, with_provider_scratch}
@@ -15,8 +15,14 @@ use Rattle.geo_laws_graph.proofs.Walks.{walks-meet}
 use Rattle.geo_access.specs.declared.counts.Way.{Way}
 use Rattle.geo_access.specs.declared.counts.Way.TheVariants.{Rises, Falls}
 use Rattle.geo_access.specs.declared.order.Order.{Order}
-use Rattle.geo_access.specs.Views.{numbers_along, first_given, mark_at, made_at, order_of, hand, give, gain_of, spread_from, raise_want, raise_wants, finish_provider, finish_geom}
+use Rattle.geo_access.specs.Views.{numbers_along, first_given, mark_at, made_at, order_of, hand, give, gain_of, spread_from, raise_want, raise_wants, finish_provider, finish_geom, Gathered, put_geom, fresh_under, visit, visit_under}
 pub use Rattle.geo_base.proofs.Options.{none_of as none_of_some}
+use Rattle.geo_model.specs.Rank.{rank, geoms_under}
+use Rattle.geo_model.proofs.DemandLemmas.{rank_within-positive}
+use Rattle.geo_mesh.specs.Graph.{IsSoundGraph}
+use Rattle.geo_laws_counts.proofs.LimitFacts.{of_filter}
+use Rattle.geo_laws_counts.proofs.Reach.{directly_under}
+use Rattle.geo_laws_counts.proofs.Orders.{is-under, under_lower}
 
 -- Walks
 
@@ -83,12 +89,11 @@ module _ {X : Type 0} (number : X → ℕ) (test : X → Bool) (xs : List X) whe
 
 -- Walks that change the mesh
 
-module _ {C X : Type 0} (number : X → ℕ) (parts : Topology C → List X) (f : TopoView C → X → TopoView C)
-    (graph : (v : TopoView C) (x : X) → (f v x).topology ≡ v.topology) where
-  -- the graph stays over all of them
-  pub fold_graph : (xs : List X) (v : TopoView C) → (fold f v xs).topology ≡ v.topology
-  fold_graph [] v = refl
-  fold_graph (x ∷ xs) v = fold_graph xs (f v x) ∙ graph v x
+-- what each step leaves, all of them leave
+pub fold_leaves : {S X V : Type 0} (see : S → V) (f : S → X → S) → ((s : S) (x : X) → see (f s x) ≡ see s)
+    → (xs : List X) (s : S) → see (fold f s xs) ≡ see s
+fold_leaves see f leaves [] s = refl
+fold_leaves see f leaves (x ∷ xs) s = fold_leaves see f leaves xs (f s x) ∙ leaves s x
 
 -- Orders
 
@@ -158,41 +163,23 @@ module _ {C : Type 0} where
   pub hands_leave : {V : Type 0} (see : TopoView C → V)
       → ((v : TopoView C) (q : ℕ) (s : Scratch) → see (with_provider_scratch v q s) ≡ see v)
       → (gain : Counts) (cs : List Consumer) (v : TopoView C) → see (fold (hand gain) v cs) ≡ see v
-  hands_leave see leaves gain [] v = refl
-  hands_leave see leaves gain (c ∷ cs) v = hands_leave see leaves gain cs (hand gain v c)
-      ∙ hand_leaves see leaves gain v c
+  hands_leave see leaves gain = fold_leaves see (hand gain) (hand_leaves see leaves gain)
 
   -- so each geom's scratch stays
   pub hands_geoms : (gain : Counts) (cs : List Consumer) (v : TopoView C)
       → (fold (hand gain) v cs).scratches.geoms ≡ v.scratches.geoms
   hands_geoms = hands_leave (λ v. v.scratches.geoms) (λ v q s. refl)
 
-module _ {X A B : Type 0} (number : X → ℕ) (given : X → Option A) (f : B → A → B) (xs : List X) where
-  -- at the beginning all is left
-  pub given_begin : (b : B) → fold f b (filter_map given (left_from number 0 xs)) ≡ fold f b (filter_map given xs)
-  given_begin b = ap (λ ys. fold f b (filter_map given ys)) (WalksMeetAll.begin walks-meet number xs)
-
-  -- over an item that gives something, or nothing
-  given_over : (o : Option A) (b : B) (items : List A)
-      → fold f (option_map_or (f b) o b) items ≡ fold f b (cons_option o items)
-  given_over None b items = refl
-  given_over (Some a) b items = refl
-
-  -- after one item more
-  pub given_more : (from_number id : ℕ) (x : X) (b new total : B)
-      → left_from number from_number xs ≡ x ∷ left_from number (id + 1) xs
-      → new ≡ option_map_or (f b) (given x) b
-      → fold f b (filter_map given (left_from number from_number xs)) ≡ total
-      → fold f new (filter_map given (left_from number (id + 1) xs)) ≡ total
-  given_more from_number id x b new total left step done =
-      ap (λ z. fold f z (filter_map given (left_from number (id + 1) xs))) step
-      ∙ given_over (given x) b (filter_map given (left_from number (id + 1) xs))
-      ∙ sym (ap (λ ys. fold f b (filter_map given ys)) left) ∙ done
-
-  -- at the end
-  pub given_end : (from_number : ℕ) (b total : B) → left_from number from_number xs ≡ []
-      → fold f b (filter_map given (left_from number from_number xs)) ≡ total → b ≡ total
-  given_end from_number b total left done = sym (ap (λ ys. fold f b (filter_map given ys)) left) ∙ done
+-- what some items give, where one that gives nothing is passed over
+pub fold_given : {X A B : Type 0} (given : X → Option A) (f : B → A → B) (xs : List X) (b : B)
+    → fold (λ b x. option_map_or (f b) (given x) b) b xs ≡ fold f b (filter_map given xs)
+fold_given given f [] b = refl
+fold_given {X} {A} {B} given f (x ∷ xs) b =
+    fold_given given f xs (option_map_or (f b) (given x) b) ∙ over (given x) (filter_map given xs)
+  where
+    over : (o : Option A) (items : List A) → fold f (option_map_or (f b) o b) items ≡ fold f b (cons_option o items)
+    over None items = refl
+    over (Some a) items = refl
 
 -- what a set value is at its own number
 pub value-here : {V : Type 0} (rows : List (ℕ × V)) (n : ℕ) (v : V)
@@ -257,22 +244,15 @@ module _ {C : Type 0} where
   -- so over some providers
   finishes_leave : (keep : Option Way) (ys : List Provider) (v : TopoView C)
       → (fold (finish_provider keep) v ys).scratches.geoms ≡ v.scratches.geoms
-  finishes_leave keep [] v = refl
-  finishes_leave keep (y ∷ ys) v = finishes_leave keep ys (finish_provider keep v y) ∙ finish_leaves keep v y
+  finishes_leave keep = fold_leaves (λ v. v.scratches.geoms) (finish_provider keep) (finish_leaves keep)
 
   -- and so do the consumers' counts
-  wants_leave : (way : Way) (gain : Counts) (cs : List Consumer) (v : TopoView C)
-      → (fold (raise_want way gain) v cs).scratches ≡ v.scratches
-  wants_leave way gain [] v = refl
-  wants_leave way gain (c ∷ cs) v = wants_leave way gain cs (raise_want way gain v c)
-
-  -- with a way or without
   raised_leave : (keep : Option Way) (v : TopoView C) (x : ℕ)
       → (raise_wants keep v x).scratches.geoms ≡ v.scratches.geoms
   raised_leave None v x = refl
   raised_leave (Some way) v x =
-      ap (λ (s : Rattle.geo_mesh.specs.Topo.Scratches). s.geoms)
-      (wants_leave way (made_at v x) (consumers_of v.topology x) v)
+      fold_leaves (λ (w : TopoView C). w.scratches.geoms) (raise_want way (made_at v x)) (λ w c. refl)
+      (consumers_of v.topology x) v
 
   -- the end of a walk at a geom leaves the marks of the others
   pub finish_marks : (keep : Option Way) (v : TopoView C) (x y : ℕ) → y ≢ x
@@ -301,17 +281,120 @@ module _ {C : Type 0} where
   wants_graph : (keep : Option Way) (v : TopoView C) (x : ℕ) → (raise_wants keep v x).topology ≡ v.topology
   wants_graph None v x = refl
   wants_graph (Some way) v x =
-      fold_graph (λ (c : Consumer). c.number) (λ (g : Topology C). consumers_of g x) (raise_want way (made_at v x))
-      (λ w c. refl) (consumers_of v.topology x) v
+      fold_leaves (λ (w : TopoView C). w.topology) (raise_want way (made_at v x)) (λ w c. refl)
+      (consumers_of v.topology x) v
 
   -- so at a geom
   pub geom_graph : (keep : Option Way) (v : TopoView C) (x : ℕ) → (finish_geom keep v x).topology ≡ v.topology
   geom_graph keep v x =
-      fold_graph (λ (y : Provider). y.number) (λ (g : Topology C). providers_of g x) (finish_provider keep)
-      (provider_graph keep) (providers_of v.topology x) (raise_wants keep v x) ∙ wants_graph keep v x
+      fold_leaves (λ (w : TopoView C). w.topology) (finish_provider keep) (provider_graph keep)
+      (providers_of v.topology x) (raise_wants keep v x) ∙ wants_graph keep v x
 
   -- and at all geoms of an order
   pub order_graph : (keep : Option Way) (xs : List ℕ) (v : TopoView C)
       → (fold (finish_geom keep) v xs).topology ≡ v.topology
-  order_graph keep [] v = refl
-  order_graph keep (x ∷ xs) v = order_graph keep xs (finish_geom keep v x) ∙ geom_graph keep v x
+  order_graph keep = fold_leaves (λ (v : TopoView C). v.topology) (finish_geom keep) (geom_graph keep)
+
+-- How an order is gathered
+
+module _ {C : Type 0} where
+  -- the geom that a consumer adds is directly under its own
+  pub fresh_is_under : (v : TopoView C) (c : Consumer) (h : ℕ) → Contains v.topology.consumers c
+      → fresh_under v c ≡ Some h → Contains (geoms_under v.topology c.geom) h
+  fresh_is_under v c h there fresh = at (c.provider) refl fresh
+    where
+      marked : (q : ℕ) (y : Provider) → c.provider ≡ Some q → provider_at v.topology q ≡ Some y → (b : Bool)
+          → (if b then Some y.geom else None) ≡ Some h → Contains (geoms_under v.topology c.geom) h
+      marked q y place found true e =
+          let same : y.geom ≡ h = cc in
+          subst (Contains (geoms_under v.topology c.geom)) same
+          (is-under v.topology c.geom q y (directly_under v.topology c q there place) found)
+      marked q y place found false e = absurd (cc)
+
+      over : (q : ℕ) → c.provider ≡ Some q → (o : Option Provider) → provider_at v.topology q ≡ o
+          → option_and_then (λ (y : Provider). if mark_at v y.geom == 0 then Some y.geom else None) o ≡ Some h
+          → Contains (geoms_under v.topology c.geom) h
+      over q place None found e = absurd (cc)
+      over q place (Some y) found e = marked q y place found (mark_at v y.geom == 0) e
+
+      at : (o : Option ℕ) → c.provider ≡ o
+          → option_and_then
+          (λ q. option_and_then (λ (y : Provider). if mark_at v y.geom == 0 then Some y.geom else None)
+          (provider_at v.topology q)) o ≡ Some h
+          → Contains (geoms_under v.topology c.geom) h
+      at None place e = absurd (cc)
+      at (Some q) place e = over q place (provider_at v.topology q) refl e
+
+  -- so it has a smaller rank
+  pub fresh_lower : (v : TopoView C) (geom from_number id : ℕ) (c : Consumer) (h : ℕ) → IsSoundGraph v.topology
+      → left_from (λ (y : Consumer). y.number) from_number (consumers_of v.topology geom)
+      ≡ c ∷ left_from (λ (y : Consumer). y.number) (id + 1) (consumers_of v.topology geom)
+      → fresh_under v c ≡ Some h → rank v.topology h < rank v.topology geom
+  fresh_lower v geom from_number id c h sound left fresh =
+      let head : Contains (left_from (λ (y : Consumer). y.number) from_number (consumers_of v.topology geom)) c =
+      subst (λ ys. Contains ys c) (sym left)
+      (Contains-here c (left_from (λ (y : Consumer). y.number) (id + 1) (consumers_of v.topology geom))) in
+      let inside =
+      of_filter (λ (y : Consumer). y.geom == geom) v.topology.consumers c
+      (of_filter _ (consumers_of v.topology geom) c head).0 in
+      subst (λ g. rank v.topology h < rank v.topology g) (eqb-true c.geom geom inside.1)
+      (under_lower v.topology sound.ranked c.geom h (fresh_is_under v c h inside.0 fresh))
+
+  -- a consumer that adds a geom
+  pub visit_adds : (levels : ℕ) (v : TopoView C) (o : Order) (c : Consumer) (h : ℕ) (new : Gathered C)
+      → fresh_under v c ≡ Some h
+      → new ≡ visit levels h (record { view = v; order = o })
+      → new ≡ visit_under levels (record { view = v; order = o }) c
+  visit_adds levels v o c h new fresh is =
+      is ∙ sym (ap
+      (λ z. option_map_or (λ g. visit levels g (record { view = v; order = o })) z
+      (record { view = v; order = o })) fresh)
+
+  -- and one that adds none
+  pub visit_skips : (levels : ℕ) (v : TopoView C) (o : Order) (c : Consumer) → fresh_under v c ≡ None
+      → ◌≡◌ {A = Gathered C} (record { view = v; order = o }) (visit_under levels (record { view = v; order = o }) c)
+  visit_skips levels v o c none =
+      sym (ap (λ z. option_map_or (λ g. visit levels g (record { view = v; order = o })) z
+      (record { view = v; order = o })) none)
+
+  -- after one consumer more
+  pub gather_more : (levels : ℕ) (v : TopoView C) (o : Order) (new : TopoView C) (after : Order)
+      (geom from_number id : ℕ) (x : Consumer) (total : Gathered C)
+      → left_from (λ (y : Consumer). y.number) from_number (consumers_of v.topology geom)
+      ≡ x ∷ left_from (λ (y : Consumer). y.number) (id + 1) (consumers_of v.topology geom)
+      → new.topology ≡ v.topology
+      → ◌≡◌ {A = Gathered C} (record { view = new; order = after })
+      (visit_under levels (record { view = v; order = o }) x)
+      → fold (visit_under levels) (record { view = v; order = o })
+      (left_from (λ (y : Consumer). y.number) from_number (consumers_of v.topology geom)) ≡ total
+      → fold (visit_under levels) (record { view = new; order = after })
+      (left_from (λ (y : Consumer). y.number) (id + 1) (consumers_of new.topology geom)) ≡ total
+  gather_more levels v o new after geom from_number id x total left graph step done =
+      ap (λ u. fold (visit_under levels) (record { view = new; order = after })
+      (left_from (λ (y : Consumer). y.number) (id + 1) (consumers_of u geom))) graph
+      ∙ fold_more (λ (y : Consumer). y.number) (visit_under levels) (consumers_of v.topology geom) from_number id x
+      (record { view = v; order = o }) (record { view = new; order = after }) total left step done
+
+  -- once all are passed, the geom itself
+  pub gather_whole : (levels geom : ℕ) (old : Gathered C) (v : TopoView C) (o : Order) (from_number : ℕ)
+      (new : Gathered C)
+      → rank old.view.topology geom ≤ levels
+      → left_from (λ (y : Consumer). y.number) from_number (consumers_of v.topology geom) ≡ []
+      → ((k : ℕ) → rank old.view.topology geom ≤ suc k
+      → fold (visit_under k) (record { view = v; order = o })
+      (left_from (λ (y : Consumer). y.number) from_number (consumers_of v.topology geom))
+      ≡ fold (visit_under k) old (consumers_of old.view.topology geom))
+      → new ≡ put_geom geom (record { view = v; order = o }) → new ≡ visit levels geom old
+  gather_whole zero geom old v o from_number new high left done put =
+      let some : 1 ≤ rank old.view.topology geom =
+      rank_within-positive (length old.view.topology.geoms) old.view.topology geom in absurd (omega arith)
+  gather_whole (suc k) geom old v o from_number new high left done put =
+      put ∙ ap (put_geom geom)
+      (fold_end (λ (y : Consumer). y.number) (visit_under k) (consumers_of v.topology geom) from_number
+      (record { view = v; order = o })
+      (fold (visit_under k) old (consumers_of old.view.topology geom)) left (done k high))
+
+  -- the mesh and the order are those two
+  pub gathered_same : (v w : TopoView C) (o p : Order) → v ≡ w → o ≡ p
+      → ◌≡◌ {A = Gathered C} (record { view = v; order = o }) (record { view = w; order = p })
+  gathered_same v w o p e f = λ i. record { view = e i; order = f i }

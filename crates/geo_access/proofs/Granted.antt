@@ -21,7 +21,7 @@ use Rattle.geo_laws_counts.proofs.Orders.{not-has}
 use Rattle.geo_access.specs.Tries.{shifted, Apart}
 use Rattle.geo_access.specs.Views.{have_at, gain_at, made_at, raise_want, finish_provider, finish_geom}
 use Rattle.geo_access.proofs.Trying.{rows_of, rows-set, rows-same, rows-at, set_through}
-use Rattle.geo_access.proofs.Clearing.{sets, sets-other, sets-here, has_step, has_first, rows-same_on, rows_agree}
+use Rattle.geo_access.proofs.Clearing.{sets, sets-other, sets-here, has_step, has_first, rows-same_on, rows_agree, put_step}
 use Rattle.geo_access.proofs.Decided.{part_apart, item_at, consumer_known, granted_found, holds_is}
 use Rattle.geo_model.specs.Words.{is_granted_kind}
 use Rattle.geo_laws_counts.specs.CountWords.{IsAtMost, DemandStays}
@@ -325,25 +325,6 @@ module _ {C : Type 0} (t : TopoView C) where
           → parts.wants c.number
           ≡ (if has_number xs c.geom then shifted way (f.wants c.number) (f.made c.geom) else f.wants c.number)
 
-    -- what a mark comes to
-    mark_step : {V : Type 0} (x : ℕ) (xs : List ℕ) (n : ℕ) (none old new : V)
-        → new ≡ (if has_number xs n then none else (if n == x then none else old))
-        → new ≡ (if has_number (x ∷ xs) n then none else old)
-    mark_step x xs n none old new so =
-        elim (cases_eq n x) [
-          | inl is ↦
-              so ∙ ap (λ b. if has_number xs n then none else (if b then none else old)) (eq-eqb n x is)
-              ∙ both (has_number xs n)
-              ∙ sym (ap (λ b. if b then none else old) (has_first x xs n is))
-          | inr other ↦
-              so ∙ ap (λ b. if has_number xs n then none else (if b then none else old)) (ne_eqb n x other)
-              ∙ sym (ap (λ b. if b then none else old) (has_step x xs n other))
-        ]
-      where
-        both : (b : Bool) → (if b then none else none) ≡ none
-        both true = refl
-        both false = refl
-
     -- what a want comes to
     wants_step : (way : Way) (x : ℕ) (xs : List ℕ) (f : Parts) (c : Consumer) → Contains t.topology.consumers c
         → (c.geom ≡ x → has_number xs c.geom ≡ false) → (new : Counts)
@@ -390,8 +371,8 @@ module _ {C : Type 0} (t : TopoView C) where
           parts = rest.parts;
           is =
               ap (λ v. fold (finish_geom (Some way)) v xs) (keep_geom way f x (lives x (Contains-here x xs))) ∙ rest.is;
-          marks = λ n. mark_step x xs n 0 (f.marks n) (rest.parts.marks n) (rest.marks n);
-          made = λ n. mark_step x xs n no_counts (f.made n) (rest.parts.made n) (rest.made n);
+          marks = λ n. put_step x xs n 0 (f.marks n) (rest.parts.marks n) (rest.marks n);
+          made = λ n. put_step x xs n no_counts (f.made n) (rest.parts.made n) (rest.made n);
           cells = λ z there.
               keep_step x xs z.geom (kept_cell way) (f.cells z.number) ((passed way f x).cells z.number)
               (rest.parts.cells z.number) (gone z.geom) (rest.cells z there)

@@ -26,7 +26,7 @@ use Rattle.geo_access.specs.Access.{granted_by}
 use Rattle.geo_access.specs.Views.{have_at, want_at}
 use Rattle.geo_access.specs.Tries.{made_of}
 use Rattle.geo_access.specs.Join.{IsLoose, IsCountedBut, with_have_of, wanted_of, wanted}
-use Rattle.geo_access.proofs.Tried.{made_gain}
+use Rattle.geo_access.proofs.TryOut.{made_gain}
 use Rattle.geo_access.proofs.Decided.{item_at, IsTold, IsDemand, nothing_granted}
 use Rattle.std.specs.List.{AllByRecursion}
 use Rattle.std.proofs.lemmas.List.Kept.{AllPairs-from_increasing}

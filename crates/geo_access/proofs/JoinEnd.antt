@@ -1,51 +1,302 @@
--- The end of a join that nothing refuses, and what its answers see of it.
-use Rattle.std.specs.Prelude.{◌≡◌, ◌≢◌, ℕ, ◌==◌, Bool, true, false, List, [], ◌∷◌, fold, Option, Some, None, IsSome, Contains, if◌then◌else◌, IsOk, unwrap_or, Result}
+-- What a consumer that would join is told, the end of a join that nothing refuses, and what its answers see of both.
+use Rattle.std.specs.Prelude.{◌≡◌, ℕ, ◌==◌, Bool, true, false, not, List, [], ◌∷◌, length, Option, Some, None, Result, Err, IsOk, fold, option_map, if◌then◌else◌, ◌≢◌, IsSome, Contains, unwrap_or}
+use Rattle.std.specs.Option.{option_or}
 use Rattle.std.proofs.Common.{refl, sym, ◌∙◌, ap, subst, inl, inr, eq-eqb}
+use Rattle.geo_base.proofs.FindLists.{any-contained}
+use Rattle.geo_base.specs.declared.request.Counts.{Counts}
+use Rattle.geo_base.specs.declared.errno.Errno.{Errno}
+use Rattle.geo_base.specs.declared.errno.Errno.TheVariants.{ENXIO, EPERM, EOVERFLOW, ELOOP, EDEEP}
+use Rattle.geo_model.specs.Words.{first_error, names_number}
+use Rattle.geo_model.specs.Topology.{Topology, provider_at, consumer_at, is_errored, attach, Provider, Consumer, providers_of, consumers_of}
+use Rattle.geo_model.specs.Rank.{would_loop, is_too_deep, attach_refusal}
+use Rattle.geo_model.specs.Demand.{is_exclusive, fits_limit, want, no_counts, have, risen}
+use Rattle.geo_model.specs.Opens.{below, has_error_below, join_refusal}
+use Rattle.geo_mesh.specs.Topo.{TopoView, with_provider_scratch, no_scratch, with_topology, with_want, with_geom_scratch}
+use Rattle.geo_mesh.specs.Graph.{IsSoundGraph}
+use Rattle.geo_laws_counts.specs.WalkWords.{cap, has_number}
+use Rattle.geo_laws_counts.proofs.Reach.{below_self}
+use Rattle.geo_laws_counts.proofs.Flows.{add-cap}
+use Rattle.geo_laws_growth.specs.JoinLaws.{Joins}
+use Rattle.geo_laws_growth.proofs.Joining.{joins_without_loop, its_number}
+use Rattle.geo_access.specs.declared.counts.Way.{Way}
+use Rattle.geo_access.specs.declared.counts.Way.TheVariants.{Rises, Falls}
+use Rattle.geo_access.specs.declared.order.Order.{Order}
+use Rattle.geo_access.specs.declared.decide.Refused.{Refused}
+use Rattle.geo_access.specs.declared.decide.Refused.TheVariants.{Named, Writer, Exclusive}
+use Rattle.geo_access.specs.declared.decide.Asked.TheVariants.{Exclusion, Limit}
+use Rattle.geo_access.specs.declared.decide.Side.TheVariants.{Writes, Excludes}
+use Rattle.geo_access.specs.declared.refusal.GrantRefusal.TheVariants.{Enxio, Eperm, Eoverflow}
+use Rattle.geo_access.specs.Access.{granted_by, IsQuiet, leaves_zero, holds_grants, clear_scratches, IsCounted, noted}
+use Rattle.geo_access.specs.declared.refusal.JoinRefusal.{JoinRefusal}
+use Rattle.geo_access.specs.Views.{order_of, IsTried, judged, grant_answer, give, gain_at, other, first_errored, first_given, fault_in, gathered_from, spread_from, raise_want, raise_wants, finish_provider, finish_geom, made_at}
+use Rattle.geo_access.specs.Join.{IsCountedBut, IsJoinRefusal, IsJoinNamed, join_answer, attach_told, errno_of_join, errored_below, error_answer, attach_answer, demand_answer, IsPlacedBut, joined_view, IsLoose, wanted}
+use Rattle.geo_access.proofs.Judging.{zero_min}
+use Rattle.geo_access.proofs.Walked.{walk, walk_covers, tried_graph, tried_order, walk_reached}
+use Rattle.geo_access.proofs.Verdict.{IsVerdict, After}
+use Rattle.geo_access.proofs.Decided.{order, decided, IsDemand, IsTold, granted_found, grows}
+use Rattle.geo_access.proofs.Coming.{SaysError, open_errors, open_is}
+use Rattle.geo_access.proofs.JoinDemand.{Loose, but_told, joined_want, joined_want_is, join_demand, join_after, joined_cases, loose_is, loose_only, nothing_stored, other_stays, wanted_is, change_none}
 use Rattle.std.proofs.lemmas.Bool.{eqb-true, ne_eqb}
 use Rattle.std.proofs.lemmas.List.Elements.{All-contains}
-use Rattle.geo_base.specs.declared.request.Counts.{Counts}
-use Rattle.geo_model.specs.Words.{names_number}
-use Rattle.geo_model.specs.Topology.{Topology, Provider, Consumer, provider_at, consumer_at, providers_of, consumers_of, attach}
-use Rattle.geo_model.specs.Demand.{no_counts, have, want, fits_limit, is_exclusive, risen}
-use Rattle.geo_mesh.specs.Topo.{TopoView, no_scratch, with_topology, with_want, with_geom_scratch}
-use Rattle.geo_mesh.specs.Graph.{IsSoundGraph}
-use Rattle.geo_model.specs.Opens.{below}
 use Rattle.geo_laws_graph.specs.LookupLaws.{AttachedIsFound}
 use Rattle.geo_laws_graph.proofs.Found.{attached-found}
 use Rattle.geo_laws_graph.proofs.Lists.{map-changed}
 use Rattle.geo_laws_graph.proofs.Members.{All-from_contained, at_contained, Contains-there, Contains-here, Contains-filter}
-use Rattle.geo_access.specs.declared.counts.Way.{Way}
-use Rattle.geo_access.specs.declared.counts.Way.TheVariants.{Rises, Falls}
-use Rattle.geo_access.specs.Views.{raise_want, raise_wants, finish_provider, finish_geom, made_at, order_of, IsTried, judged}
 use Rattle.geo_laws_counts.specs.CountWords.{IsAtMost}
 use Rattle.geo_laws_counts.specs.LimitLaws.{greatest_counts}
 use Rattle.geo_laws_counts.proofs.LimitFacts.{of_filter}
-use Rattle.geo_laws_counts.specs.WalkWords.{has_number, cap}
 use Rattle.geo_laws_counts.proofs.Orders.{has-contains, contains-has}
-use Rattle.geo_laws_growth.specs.JoinLaws.{Joins}
 use Rattle.geo_laws_growth.proofs.JoiningBelow.{own_away as never_below}
-use Rattle.geo_access.specs.declared.order.Order.{Order}
-use Rattle.geo_access.specs.Access.{granted_by, IsQuiet, leaves_zero, holds_grants, clear_scratches, IsCounted, noted}
-use Rattle.geo_access.specs.Join.{IsCountedBut, IsPlacedBut, joined_view, join_answer, IsLoose, wanted}
 use Rattle.geo_access.proofs.Folding.{geom_graph, order_graph}
 use Rattle.geo_access.proofs.Trying.{trying, Tries}
-use Rattle.geo_model.specs.Rank.{attach_refusal}
 use Rattle.geo_slots.specs.Slots.{value_at}
 use Rattle.geo_mesh.specs.declared.records.Scratch.{Scratch}
-use Rattle.geo_laws_growth.proofs.Joining.{its_number}
-use Rattle.geo_access.specs.declared.decide.Refused.{Refused}
-use Rattle.geo_access.specs.declared.refusal.JoinRefusal.{JoinRefusal}
-use Rattle.geo_access.proofs.Coming.{open_is}
 use Rattle.geo_access.proofs.Ready.{MayEnd}
-use Rattle.geo_access.proofs.Verdict.{After, IsVerdict}
-use Rattle.geo_access.proofs.Decided.{IsDemand, IsTold, granted_found, grows}
-use Rattle.geo_access.proofs.JoinVerdict.{IsRight, add_whole, around_free, join_fits, joins_of, passed_all, told_right, whole_demand, whole_tried}
-use Rattle.geo_access.proofs.JoinDemand.{Loose, but_told, join_after, joined_cases, joined_want, loose_is, loose_only, nothing_stored, other_stays, wanted_is, change_none}
 use Rattle.geo_access.proofs.Kept.{MayKeep, attached_below, kept_end, want_within, tries, walked_is, may_rise}
 use Rattle.geo_access.proofs.Granted.{capped_is, counted_by, numbers_of, noted_is}
 use Rattle.geo_access.proofs.Walking.{consumer_known, provider_stands}
 use Rattle.geo_base.proofs.Options.{some_and_of, some_of}
-use Rattle.geo_access.proofs.Walked.{tried_graph, tried_order, walk, walk_reached}
+
+-- Counts that are stopped
+
+-- a demand that is stopped is given as it is
+give_stopped : {C : Type 0} (a : Counts) (v : TopoView C) (p : ℕ) → give (cap a) v p ≡ give a v p
+give_stopped a v p = ap (λ b. with_provider_scratch v p (record { mark = 0; trial = b })) (add-cap (gain_at v p) a)
+
+-- so what is tried with it is tried with the whole
+pub tried_whole : {C : Type 0} {t : TopoView C} {p : ℕ} {a b : Counts} {way : Way} {new : TopoView C} {o : Order}
+    → a ≡ cap b → IsTried t p a way new o → IsTried t p b way new o
+tried_whole {C} {t} {p} {a} {b} {way} {new} {o} is tried =
+    let same : give a (gathered_from t tried.offer.geom).view p ≡ give b (gathered_from t tried.offer.geom).view p =
+    ap (λ x. give x (gathered_from t tried.offer.geom).view p) is
+    ∙ give_stopped b (gathered_from t tried.offer.geom).view p in
+    record {
+      offer = tried.offer;
+      found = tried.found;
+      order = tried.order;
+      view = tried.view ∙ ap (λ (v : TopoView C). fold (spread_from way) v (order_of v o)) same;
+      orders = tried.orders ∙ ap (λ (v : TopoView C). order_of v o) same;
+    }
+
+-- and is judged alike
+pub judged_whole : {C : Type 0} (v : TopoView C) (p : ℕ) (a b : Counts) (xs : List ℕ) → a ≡ cap b
+    → judged v p a xs ≡ judged v p b xs
+judged_whole v p a b xs is =
+    let judge : Bool → Bool → Option Refused = λ w e.
+    option_or (option_map (λ q. Named (Enxio q)) (first_errored v p xs))
+    (option_or
+    (option_or (if w then None else option_map (λ c. Exclusive c) (other v p 0 Excludes))
+    (if e then None else option_map (λ c. Writer c) (other v p 0 Writes)))
+    (option_map (λ r. Named r)
+    (option_or (first_given (fault_in v Exclusion) xs) (first_given (fault_in v Limit) xs)))) in
+    ap (λ (x : Counts). judge (x.w == 0) (x.e == 0)) is ∙ (λ i. judge (zero_min b.w i) (zero_min b.e i))
+
+-- The order of the tests
+
+-- the tests of an attach, and those of a join
+abbrev attach_tests : Bool → Bool → Bool → Option Errno
+attach_tests errored loop deep = first_error ((errored, ENXIO) ∷ (loop, ELOOP) ∷ (deep, EDEEP) ∷ [])
+
+abbrev join_tests : Bool → Bool → Bool → Bool → Bool → Option Errno
+join_tests below loop deep exclusive limit =
+    first_error ((below, ENXIO) ∷ (loop, ELOOP) ∷ (deep, EDEEP) ∷ (not exclusive, EPERM) ∷ (not limit, EOVERFLOW) ∷ [])
+
+-- what refuses an attach at a provider without an error refuses a join, where there is no error below
+attach_first : (p : ℕ) (loop deep exclusive limit : Bool) (e : Errno) → attach_tests false loop deep ≡ Some e
+    → join_tests false loop deep exclusive limit ≡ Some (errno_of_join (attach_told e p))
+attach_first p true deep exclusive limit e is = let same : ELOOP ≡ e = cc in
+    ap (λ x. Some (errno_of_join (attach_told x p))) same
+attach_first p false true exclusive limit e is = let same : EDEEP ≡ e = cc in
+    ap (λ x. Some (errno_of_join (attach_told x p))) same
+attach_first p false false exclusive limit e is = absurd (cc)
+
+-- and names nothing
+attach_names : {C : Type 0} (granted : ℕ → Counts) (t : Topology C) (c p : ℕ) (loop deep : Bool) (e : Errno)
+    → attach_tests false loop deep ≡ Some e
+    → IsJoinNamed granted t c p (Err (attach_told e p))
+attach_names granted t c p true deep e is = let same : ELOOP ≡ e = cc in
+    subst (λ x. IsJoinNamed granted t c p (Err (attach_told x p))) same tt
+attach_names granted t c p false true e is = let same : EDEEP ≡ e = cc in
+    subst (λ x. IsJoinNamed granted t c p (Err (attach_told x p))) same tt
+attach_names granted t c p false false e is = absurd (cc)
+
+-- where nothing does, neither test holds
+attach_passed : (errored loop deep : Bool) → attach_tests errored loop deep ≡ None → (loop ≡ false) × (deep ≡ false)
+attach_passed true loop deep none = absurd (cc)
+attach_passed false true deep none = absurd (cc)
+attach_passed false false true none = absurd (cc)
+attach_passed false false false none = (refl, refl)
+
+-- no error is below, so there is none at the provider
+sound_here : {C : Type 0} (t : Topology C) (p : ℕ) → has_error_below t p ≡ false → is_errored t p ≡ false
+sound_here t p none = by (is_errored t p) refl
+  where
+    by : (b : Bool) → is_errored t p ≡ b → b ≡ false
+    by false e = refl
+    by true e = let no : true ≡ false =
+        sym (any-contained (is_errored t) (below t p) p (below_self (length t.geoms) t p) e) ∙ none in absurd (cc)
+
+module _ {C : Type 0} (t : Topology C) (c p : ℕ) (granted : ℕ → Counts) where
+  -- the tests of an attach there
+  abbrev loops : Bool
+  loops = would_loop t (consumer_at t c) (provider_at t p)
+
+  abbrev too_deep : Bool
+  too_deep = is_too_deep (attach t c p)
+
+  -- what a join is told, from its tests
+  tests_are : {below loop deep exclusive limit : Bool} → has_error_below t p ≡ below → loops ≡ loop → too_deep ≡ deep
+      → is_exclusive granted (attach t c p) ≡ exclusive → fits_limit granted (attach t c p) ≡ limit
+      → join_refusal granted t c p ≡ join_tests below loop deep exclusive limit
+  tests_are errors looped deep exclusive limit = λ i.
+      join_tests (errors i) (looped i) (deep i) (exclusive i) (limit i)
+
+  -- the answer is right, and names what it has to
+  abbrev pub IsRight : Result (Unit {0}) JoinRefusal → Type 0
+  IsRight r = IsJoinRefusal r (join_refusal granted t c p) × IsJoinNamed granted t c p r
+
+  -- where the attach is refused
+  right_attach : (e : Errno) → has_error_below t p ≡ false → attach_refusal t c p ≡ Some e
+      → IsRight (Err (attach_told e p))
+  right_attach e none refused =
+      let tests : attach_tests false loops too_deep ≡ Some e =
+      sym (ap (λ b. attach_tests b loops too_deep) (sound_here t p none)) ∙ refused in (
+        tests_are none refl refl refl refl
+            ∙ attach_first p loops too_deep (is_exclusive granted (attach t c p)) (fits_limit granted (attach t c p)) e
+            tests,
+        attach_names granted t c p loops too_deep e tests,
+      )
+
+  -- where nothing refuses the attach: the tests that are left
+  abbrev IsPassed : Type 0
+  IsPassed = (has_error_below t p ≡ false) × (loops ≡ false) × (too_deep ≡ false)
+
+  -- the answer to a demand that is judged so
+  right_demand : IsPassed → (r : Option Refused) → IsVerdict t p c granted (attach t c p) r
+      → errored_below r ≡ None → IsRight (demand_answer (grant_answer r c p))
+  right_demand passed None says none = (tests_are passed.0 passed.1 passed.2 says.1 says.2, tt)
+  right_demand passed (Some (Named (Enxio q))) says none = absurd (cc)
+  right_demand passed (Some (Named (Eperm q w e))) says none =
+      (tests_are passed.0 passed.1 passed.2 says.1 refl, says.2)
+  right_demand passed (Some (Named (Eoverflow q))) says none =
+      (tests_are passed.0 passed.1 passed.2 says.1 says.2, says.3)
+  right_demand passed (Some (Writer w)) says none = (tests_are passed.0 passed.1 passed.2 says.1 refl, says.2)
+  right_demand passed (Some (Exclusive e)) says none = (tests_are passed.0 passed.1 passed.2 says.1 refl, says.2)
+
+  -- an error is named, or there is none
+  right_error : (r : Option Refused) → SaysError t p r → (rest : Result (Unit {0}) JoinRefusal)
+      → (has_error_below t p ≡ false → errored_below r ≡ None → IsRight rest)
+      → IsRight (error_answer (errored_below r) rest)
+  right_error (Some (Named (Enxio q))) errors rest so = (tests_are errors.0 refl refl refl refl, errors.1)
+  right_error None errors rest so = so errors refl
+  right_error (Some (Named (Eperm q w x))) errors rest so = so errors refl
+  right_error (Some (Named (Eoverflow q))) errors rest so = so errors refl
+  right_error (Some (Writer w)) errors rest so = so errors refl
+  right_error (Some (Exclusive x)) errors rest so = so errors refl
+
+  -- a refused attach, or none
+  right_attached : has_error_below t p ≡ false → (o : Option Errno) → attach_refusal t c p ≡ o
+      → (rest : Result (Unit {0}) JoinRefusal)
+      → (IsPassed → IsRight rest) → IsRight (attach_answer o p rest)
+  right_attached none None refused rest so =
+      let tests = attach_passed (is_errored t p) loops too_deep refused in so (none, tests.0, tests.1)
+  right_attached none (Some e) refused rest so = right_attach e none refused
+
+-- an answer that is Ok
+pub passed_all : (r : Option Refused) (o : Option Errno) (c p : ℕ) → IsOk (join_answer r o c p)
+    → (r ≡ None) × (o ≡ None)
+passed_all None None c p ok = (refl, refl)
+passed_all None (Some e) c p ok = absurd (cc)
+passed_all (Some (Named (Enxio q))) o c p ok = absurd (cc)
+passed_all (Some (Named (Eperm q w x))) None c p ok = absurd (cc)
+passed_all (Some (Named (Eperm q w x))) (Some e) c p ok = absurd (cc)
+passed_all (Some (Named (Eoverflow q))) None c p ok = absurd (cc)
+passed_all (Some (Named (Eoverflow q))) (Some e) c p ok = absurd (cc)
+passed_all (Some (Writer w)) None c p ok = absurd (cc)
+passed_all (Some (Writer w)) (Some e) c p ok = absurd (cc)
+passed_all (Some (Exclusive x)) None c p ok = absurd (cc)
+passed_all (Some (Exclusive x)) (Some e) c p ok = absurd (cc)
+
+module _ {C : Type 0} {t : TopoView C} {cons : ℕ} (sound : IsSoundGraph t.topology) (counted : IsCountedBut t cons)
+    (loose : Loose t cons) {p : ℕ} {add : Counts} {new : TopoView C} {o : Order} (tried : IsTried t p add Rises new o)
+    (is : add ≡ cap (want (granted_by t) t.topology loose.one)) where
+  abbrev told : IsTold t
+  told = but_told sound counted loose
+
+  -- where its geom wouldn't reach itself, it joins
+  abbrev pub joins_of : would_loop t.topology (consumer_at t.topology cons) (provider_at t.topology p) ≡ false
+      → Joins t.topology cons p
+  joins_of around = record {
+    consumer = loose.one;
+    stands = loose.found;
+    free = loose.free;
+    order = sound.orderly.order;
+    ranked = sound.ranked;
+    after =
+        Joins.after
+        (joins_without_loop t.topology cons p
+        (record {
+          consumer = loose.one;
+          stands = loose.found;
+          free = loose.free;
+          provider = tried.offer;
+          offers = tried.found;
+        }) sound.ranked sound.orderly.parts.geoms sound.orderly.order around);
+  }
+
+  -- the judgement of the walk
+  abbrev pub its_judgement : Option Refused
+  its_judgement = judged new p add (order_of new o)
+
+  module _ (j : Joins t.topology cons p) (one : j.consumer ≡ loose.one) where
+    -- what it wants once it has joined
+    abbrev pub whole : Counts
+    whole = joined_want (granted_by t) j
+
+    -- is what was tried, not stopped
+    pub add_whole : add ≡ cap whole
+    add_whole = is ∙ ap (λ c. cap (want (granted_by t) t.topology c)) (sym one)
+        ∙ ap cap (sym (joined_want_is (granted_by t) j))
+
+    -- so that was tried
+    pub whole_tried : IsTried t p whole Rises new o
+    whole_tried = tried_whole add_whole tried
+
+    -- as a demand
+    abbrev pub whole_demand : IsDemand t p cons whole (granted_by t) (attach t.topology cons p)
+        (walk sound counted.clear whole_tried)
+    whole_demand = join_demand j (walk sound counted.clear whole_tried) (walk_covers sound counted.clear whole_tried)
+
+    pub its_verdict : IsVerdict t.topology p cons (granted_by t) (attach t.topology cons p) its_judgement
+    its_verdict =
+        subst (IsVerdict t.topology p cons (granted_by t) (attach t.topology cons p))
+        (sym (judged_whole new p add whole (order_of new o) add_whole)) (decided sound told whole_tried whole_demand)
+
+  -- what it is told is right
+  pub told_right : IsRight t.topology cons p (granted_by t)
+      (join_answer its_judgement (attach_refusal t.topology cons p) cons p)
+  told_right =
+      let demand : Result (Unit {0}) JoinRefusal = demand_answer (grant_answer its_judgement cons p) in
+      right_error t.topology cons p (granted_by t) its_judgement (open_errors tried sound told)
+      (attach_answer (attach_refusal t.topology cons p) p demand)
+      (λ none no_error.
+      right_attached t.topology cons p (granted_by t) none (attach_refusal t.topology cons p) refl demand
+      (λ passed. right_demand t.topology cons p (granted_by t) passed its_judgement
+      (its_verdict (joins_of passed.1) refl) no_error))
+
+  -- where nothing refuses the attach, its geom wouldn't reach itself
+  pub around_free : attach_refusal t.topology cons p ≡ None
+      → would_loop t.topology (consumer_at t.topology cons) (provider_at t.topology p) ≡ false
+  around_free none =
+      (attach_passed (is_errored t.topology p)
+      (would_loop t.topology (consumer_at t.topology cons) (provider_at t.topology p))
+      (is_too_deep (attach t.topology cons p)) none).0
+
+  -- and where nothing refuses the demand, none stands in another's way and no count is too great
+  pub join_fits : (j : Joins t.topology cons p) → (one : j.consumer ≡ loose.one) → its_judgement ≡ None
+      → IsVerdict t.topology p cons (granted_by t) (attach t.topology cons p) None
+  join_fits j one none =
+      subst (IsVerdict t.topology p cons (granted_by t) (attach t.topology cons p)) none (its_verdict j one)
 
 -- The end of a walk over another graph
 
@@ -102,7 +353,8 @@ module _ {C : Type 0} where
 
 module _ {C : Type 0} {t : TopoView C} {cons : ℕ} (sound : IsSoundGraph t.topology) (counted : IsCountedBut t cons)
     (loose : Loose t cons) {p : ℕ} {add : Counts} {new : TopoView C} {o : Order} (tried : IsTried t p add Rises new o)
-    (is : add ≡ cap (want (granted_by t) t.topology loose.one)) (quiet : IsQuiet t) (placed : IsPlacedBut t.topology cons)
+    (is : add ≡ cap (want (granted_by t) t.topology loose.one)) (quiet : IsQuiet t)
+    (placed : IsPlacedBut t.topology cons)
     (j : Joins t.topology cons p) (one : j.consumer ≡ loose.one)
     (limit : fits_limit (granted_by t) (attach t.topology cons p) ≡ true) where
   abbrev granted : ℕ → Counts
@@ -112,8 +364,8 @@ module _ {C : Type 0} {t : TopoView C} {cons : ℕ} (sound : IsSoundGraph t.topo
   abbrev u : Topology C
   u = attach t.topology cons p
 
-  abbrev told : IsTold t
-  told = but_told sound counted loose
+  abbrev its_told : IsTold t
+  its_told = but_told sound counted loose
 
   -- what it wants
   abbrev its : Counts
@@ -137,7 +389,8 @@ module _ {C : Type 0} {t : TopoView C} {cons : ℕ} (sound : IsSoundGraph t.topo
       by true e =
           let reached =
           walk_reached sound counted.clear full loose.one.geom (has-contains its_order loose.one.geom e) in
-          let z = some_and_of (λ (y : Provider). y.geom ≡ loose.one.geom) (provider_at t.topology reached.0) reached.2 in
+          let z =
+          some_and_of (λ (y : Provider). y.geom ≡ loose.one.geom) (provider_at t.topology reached.0) reached.2 in
           let at = provider_stands t sound reached.0 z.0 z.1 in
           absurd (at_contained (λ (y : Provider). Contains (below t.topology p) y.number
           → ⊥) (providers_of t.topology j.consumer.geom) z.0 (never_below t.topology cons p j)
@@ -173,7 +426,7 @@ module _ {C : Type 0} {t : TopoView C} {cons : ℕ} (sound : IsSoundGraph t.topo
   want_fits : (c : Consumer) → Contains t.topology.consumers c → c.number ≢ cons
       → has_number its_order c.geom ≡ true → IsAtMost (want granted u c) greatest_counts
   want_fits c there other inside =
-      let at = attached_below sound told full c there
+      let at = attached_below sound its_told full c there
       (λ free. All-contains (λ (x : Consumer). x.number ≢ cons → x.provider ≡ None
       → providers_of t.topology x.geom ≡ []) t.topology.consumers c placed there other free) inside in
       let z = some_of (provider_at t.topology at.0) at.2 in
@@ -186,14 +439,15 @@ module _ {C : Type 0} {t : TopoView C} {cons : ℕ} (sound : IsSoundGraph t.topo
   -- so all of it may be kept
   joins_whole : MayKeep t Rises its_order d.gain d.more cons its (λ z. have granted u z.number) (want granted u)
   joins_whole =
-      may_rise d limit (λ (c : Consumer). if c.number == cons then no_counts else want granted t.topology c) counted.wants
+      may_rise d limit (λ (c : Consumer). if c.number == cons then no_counts else want granted t.topology c)
+      counted.wants
       (λ c there same. ap (want granted u) (loose_only sound counted loose c there same ∙ sym one))
       (λ c there other. ap (λ b. if b then no_counts else want granted t.topology c) (ne_eqb c.number cons other))
       want_fits
 
   -- what the walk comes to
   abbrev its_tries : Tries
-  its_tries = tries sound told full d.demand (grows sound told full d) quiet joins_whole
+  its_tries = tries sound its_told full d.demand (grows sound its_told full d) quiet joins_whole
 
   -- the mesh at the end of the walk
   abbrev attached : TopoView C → TopoView C
@@ -206,13 +460,13 @@ module _ {C : Type 0} {t : TopoView C} {cons : ℕ} (sound : IsSoundGraph t.topo
       ap (λ xs. with_want (fold (finish_geom (Some Rises)) (attached new) xs) cons add)
       (tried_order sound counted.clear full)
       ∙ ap (λ v. with_want (fold (finish_geom (Some Rises)) (attached v) its_order) cons add)
-      (walked_is sound told full d.demand (grows sound told full d) quiet joins_whole)
+      (walked_is sound its_told full d.demand (grows sound its_told full d) quiet joins_whole)
       ∙ ap (λ v. with_want v cons add)
       (order_over t.topology u (Some Rises) its_order (trying t its_tries) refl
       (λ x inside. (same_consumers x inside, refl)))
       ∙ ap (λ a. with_topology
       (with_want (fold (finish_geom (Some Rises)) (trying t its_tries) its_order) cons a) u) add_is
-      ∙ ap (λ v. with_topology v u) (kept_end sound told full d.demand (grows sound told full d) quiet joins_whole)
+      ∙ ap (λ v. with_topology v u) (kept_end sound its_told full d.demand (grows sound its_told full d) quiet joins_whole)
       ∙ (λ i. record (joined_view t cons p) {
         wants =
             sym (map-changed (λ (c : Consumer). c.number == cons) (λ c. record c { provider = Some p })
@@ -249,8 +503,8 @@ module _ {C : Type 0} {t : TopoView C} {cons : ℕ} (sound : IsSoundGraph t.topo
   -- so the mesh is counted
   joined_counted : IsCounted (joined_view t cons p)
   joined_counted =
-      counted_by (joined_view t cons p) (granted_by t) (After.found (join_after (granted_by t) j)) none_granted refl refl
-      counted.kinds exclusive limit
+      counted_by (joined_view t cons p) (granted_by t) (After.found (join_after (granted_by t) j)) none_granted refl
+      refl counted.kinds exclusive limit
       (numbers_of (λ (z : Provider). z.number)
       (λ (z : Provider).
       leaves_zero (have (granted_by t) t.topology z.number) (have (granted_by t) (attach t.topology cons p) z.number))

@@ -1,14 +1,14 @@
 -- What the judgement of a tried demand says.
-use Rattle.std.specs.Prelude.{◌≡◌, ◌≢◌, ◌⊎◌, ℕ, ◌==◌, ◌≤◌, min, Bool, true, false, not, ◌&&◌, cond, List, [], ◌∷◌, flat_map, find, fold, Option, Some, None, Contains, option_map, if◌then◌else◌}
+use Rattle.std.specs.Prelude.{◌≡◌, ◌≢◌, ◌⊎◌, ℕ, ◌==◌, ◌≤◌, min, Bool, true, false, not, ◌&&◌, List, [], ◌∷◌, flat_map, find, fold, Option, Some, None, Contains, option_map, if◌then◌else◌}
 use Rattle.std.specs.Option.{option_map_or, option_and_then, option_or}
 use Rattle.std.proofs.Common.{refl, sym, ◌∙◌, ap, subst, arith, inl, inr, eq-eqb}
 use Rattle.std.proofs.lemmas.Bool.{cases_eq, cases_lt, ne_eqb, and_parts}
 use Rattle.std.proofs.lemmas.List.Sums.{fold-append}
-use Rattle.geo_base.proofs.FindLists.{found_in}
+use Rattle.geo_base.proofs.FindLists.{found_in, none_passes}
 use Rattle.geo_base.proofs.Options.{none-mapped}
 use Rattle.geo_base.proofs.Tests.{passes_apart}
 use Rattle.geo_base.specs.declared.request.Counts.{Counts}
-use Rattle.geo_base.proofs.MemberLists.{Contains-there, Contains-cases, nothing_in, Contains-here}
+use Rattle.geo_base.proofs.MemberLists.{at_contained, Contains-there, Contains-cases, nothing_in, Contains-here}
 use Rattle.geo_model.specs.Words.{names_number}
 use Rattle.geo_model.specs.Topology.{Topology, Provider, Consumer, provider_at, attached_to, providers_under}
 use Rattle.geo_mesh.specs.Topo.{TopoView}
@@ -151,21 +151,7 @@ module _ {C : Type 0} (v : TopoView C) where
 
 -- Look-ups
 
--- where none is found none passes
-find_none : {X : Type 0} (test : X → Bool) (xs : List X) → find test xs ≡ None → (x : X) → Contains xs x
-    → test x ≡ false
-find_none test [] none x there = absurd (nothing_in x there)
-find_none test (y ∷ ys) none x there = step (test y) refl none (λ h rest. find_none test ys h x rest)
-  where
-    step : (b : Bool) → test y ≡ b → cond b (Some y) (find test ys) ≡ None
-        → (find test ys ≡ None → Contains ys x → test x ≡ false) → test x ≡ false
-    step true e h so = absurd (cc)
-    step false e h so = elim (Contains-cases y x ys there) [
-      | inl same ↦
-          subst (λ z. test z ≡ false) same e
-      | inr rest ↦ so h rest
-    ]
-
+-- what is found, where its value is
 mapped_some : {X : Type 0} (f : X → ℕ) (o : Option X) (n : ℕ) → option_map f o ≡ Some n
     → (x : X) × (o ≡ Some x) × (f x ≡ n)
 mapped_some f None n e = absurd (cc)
@@ -229,8 +215,9 @@ module _ {C : Type 0} (v : TopoView C) (u : Consumer → Counts)
       let test : Consumer → Bool = λ d. not (d.number == but) && has_side side (raised v d) in
       sym (side_at q side c at)
       ∙ second_false (not (c.number == but)) (has_side side (raised v c))
-      (find_none test (attached_to v.topology q)
-      (none-mapped (λ (d : Consumer). d.number) (find test (attached_to v.topology q)) none) c at)
+      (at_contained (λ (d : Consumer). test d ≡ false) (attached_to v.topology q) c
+      (none_passes test (attached_to v.topology q)
+      (none-mapped (λ (d : Consumer). d.number) (find test (attached_to v.topology q)) none)) at)
       (ap not (ne_eqb c.number but apart))
 
   -- two different consumers at a provider stand in each other's way
@@ -271,34 +258,34 @@ module _ {C : Type 0} (v : TopoView C) (u : Consumer → Counts)
   Says q (Some ab) = Clash q ab.0 ab.1
 
   -- the last look
-  third_says : (positive : (c : Consumer) → Contains v.topology.consumers c → c.number ≢ 0) (q n m : ℕ)
+  third_says : (q n m : ℕ)
       → Has q 0 Writes n → other v q n Excludes ≡ None → Has q n Writes m
       → (o : Option ℕ) → other v q m Excludes ≡ o → Says q (option_map (λ b. (m, b)) o)
-  third_says positive q n m first none second None e = λ a b at bt apart.
+  third_says q n m first none second None e = λ a b at bt apart.
       elim (cases_eq b.number n) [
         | inl same ↦ inr (other_none q m Excludes e b bt (λ is. second.apart (sym is ∙ same)))
         | inr other ↦ inr (other_none q n Excludes none b bt other)
       ]
-  third_says positive q n m first none second (Some b) e = clash_of q m b n second (other_some q m Excludes b e)
+  third_says q n m first none second (Some b) e = clash_of q m b n second (other_some q m Excludes b e)
 
   -- where the first writer isn't of the pair
-  second_says : (positive : (c : Consumer) → Contains v.topology.consumers c → c.number ≢ 0) (q n : ℕ)
+  second_says : (q n : ℕ)
       → Has q 0 Writes n → other v q n Excludes ≡ None
       → (o : Option ℕ) → other v q n Writes ≡ o
       → Says q (option_and_then (λ a. option_map (λ b. (a, b)) (other v q a Excludes)) o)
-  second_says positive q n first none None e = λ a b at bt apart.
+  second_says q n first none None e = λ a b at bt apart.
       elim (cases_eq b.number n) [
         | inl same ↦ inl (other_none q n Writes e a at (λ is. apart (is ∙ sym same)))
         | inr other ↦ inr (other_none q n Excludes none b bt other)
       ]
-  second_says positive q n first none (Some m) e =
-      third_says positive q n m first none (other_some q n Writes m e) (other v q m Excludes) refl
+  second_says q n first none (Some m) e =
+      third_says q n m first none (other_some q n Writes m e) (other v q m Excludes) refl
 
   -- where a first writer is found
-  first_says : (positive : (c : Consumer) → Contains v.topology.consumers c → c.number ≢ 0) (q n : ℕ) → Has q 0 Writes n
+  first_says : (q n : ℕ) → Has q 0 Writes n
       → (o : Option ℕ) → other v q n Excludes ≡ o → Says q (pair_with v q n o)
-  first_says positive q n first None e = second_says positive q n first e (other v q n Writes) refl
-  first_says positive q n first (Some b) e = clash_of q n b 0 first (other_some q n Excludes b e)
+  first_says q n first None e = second_says q n first e (other v q n Writes) refl
+  first_says q n first (Some b) e = clash_of q n b 0 first (other_some q n Excludes b e)
 
   -- what the look for a pair says
   pair_step : (positive : (c : Consumer) → Contains v.topology.consumers c → c.number ≢ 0) (q : ℕ) → (o : Option ℕ)
@@ -307,7 +294,7 @@ module _ {C : Type 0} (v : TopoView C) (u : Consumer → Counts)
   pair_step positive q None e = λ a b at bt apart.
       inl (other_none q 0 Writes e a at
       (positive a (of_filter (λ (d : Consumer). names_number d.provider q) v.topology.consumers a at).0))
-  pair_step positive q (Some n) e = first_says positive q n (other_some q 0 Writes n e) (other v q n Excludes) refl
+  pair_step positive q (Some n) e = first_says q n (other_some q 0 Writes n e) (other v q n Excludes) refl
 
   pub pair_says : (positive : (c : Consumer) → Contains v.topology.consumers c → c.number ≢ 0) (q : ℕ)
       → Says q (pair_at v q)

@@ -1,11 +1,8 @@
 pub mod Walking
 pub mod Folding
-pub mod Gathering
 pub mod Trying
-pub mod Tried
 pub mod TryOut
 pub mod Walked
-pub mod Giving
 pub mod Clearing
 pub mod Judging
 pub mod Verdict
@@ -17,7 +14,6 @@ pub mod Granted
 pub mod Kept
 pub mod Noting
 pub mod JoinDemand
-pub mod JoinVerdict
 pub mod JoinEnd
 pub mod NewJoiner
 pub mod Shut

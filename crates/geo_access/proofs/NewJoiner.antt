@@ -14,7 +14,7 @@ use Rattle.geo_slots.specs.Slots.{value_at}
 use Rattle.geo_mesh.specs.declared.records.Scratch.{Scratch}
 use Rattle.geo_mesh.specs.Topo.{TopoView, Room, no_scratch, with_consumer}
 use Rattle.geo_mesh.specs.Graph.{IsSoundGraph}
-use Rattle.geo_laws_graph.proofs.Members.{Origin, map-Contains, Contains-there, Contains-here}
+use Rattle.geo_laws_graph.proofs.Members.{Origin, map-Contains}
 use Rattle.geo_laws_counts.specs.CountWords.{DemandStays, AnyConsumer}
 use Rattle.geo_laws_counts.proofs.LimitFacts.{all_of}
 use Rattle.geo_laws_counts.proofs.Numbers.{free_of}
@@ -24,7 +24,7 @@ use Rattle.geo_access.specs.Join.{IsCountedBut, IsLoose, IsPlacedBut}
 use Rattle.geo_access.specs.JoinLaws.{NewConsumersMayJoin}
 use Rattle.geo_access.proofs.Clearing.{rows-same_on, rows_agree}
 use Rattle.geo_access.proofs.Decided.{item_at, consumer_known, granted_found}
-use Rattle.geo_access.proofs.Coming.{find_last}
+use Rattle.geo_access.proofs.Walking.{none_numbered}
 
 module _ {C : Type 0} (t : TopoView C) (geom : ℕ) where
   -- its number, and it
@@ -48,22 +48,14 @@ module _ {C : Type 0} (t : TopoView C) (geom : ℕ) where
         All-contains (λ (d : Consumer). d.number ≢ n) t.topology.consumers c
         (free_of (λ (d : Consumer). d.number) t.topology.consumers n sound.orderly.order.consumers.1) there
 
+    -- no consumer had its number
+    pub comer_new : consumer_at t.topology n ≡ None
+    comer_new = none_numbered n t.topology.consumers old_number
+
     -- it is found
     comer_found : consumer_at u n ≡ Some comer
     comer_found =
-        find_last (λ (x : Consumer). x.number == n) t.topology.consumers comer
-        (λ x there. ne_eqb x.number n (old_number x there)) (eq-eqb n n refl)
-
-    -- no consumer had its number
-    pub comer_new : consumer_at t.topology n ≡ None
-    comer_new = none_of t.topology.consumers (λ x there. ne_eqb x.number n (old_number x there))
-      where
-        none_of : (xs : List Consumer) → ((x : Consumer) → Contains xs x → (x.number == n) ≡ false)
-            → find (λ (x : Consumer). x.number == n) xs ≡ None
-        none_of [] so = refl
-        none_of (x ∷ xs) so =
-            ap (λ b. if b then Some x else find (λ (y : Consumer). y.number == n) xs) (so x (Contains-here x xs))
-            ∙ none_of xs (λ y there. so y (Contains-there x y xs there))
+        find-pushed_hit (λ (x : Consumer). x.number == n) t.topology.consumers comer comer_new (eq-eqb n n refl)
 
     module _ (counted : IsCounted t) (room : Room) where
       -- what a consumer wanted, but nothing for it

@@ -8,7 +8,7 @@ use Rattle.geo_base.proofs.FindLists.{any-contained}
 use Rattle.geo_base.specs.declared.request.Counts.{Counts}
 use Rattle.geo_base.specs.declared.errno.Errno.TheVariants.{ENXIO, EPERM, EOVERFLOW}
 use Rattle.geo_base.specs.declared.limits.TheConstants.{MAX_ACCESS_COUNT}
-use Rattle.geo_base.proofs.MemberLists.{Contains-there, Contains-cases, nothing_in, Contains-here, Contains-filter}
+use Rattle.geo_base.proofs.MemberLists.{Contains-cases, nothing_in, Contains-filter}
 use Rattle.geo_model.specs.Words.{first_error, names_number}
 use Rattle.geo_model.specs.Topology.{Topology, Provider, Consumer, provider_at, consumer_at, providers_of, attached_to, providers_under, is_errored}
 use Rattle.geo_model.specs.Demand.{no_counts, add_counts, sum_counts, have, want, is_exclusive, fits_limit}
@@ -33,6 +33,7 @@ use Rattle.geo_access.specs.declared.refusal.GrantRefusal.TheVariants.{Enxio, Ep
 use Rattle.geo_access.specs.Tries.{is_too_great}
 use Rattle.geo_access.specs.Views.{raised, raised_have, has_side, other, pair_at, fault_at, fault_in, first_errored, first_given, beside_exclusive, beside_writer, against, judged, errno_of_refused}
 use Rattle.geo_access.proofs.Judging.{errored_at, IsLeastOf, errored_is, other_some, other_none, Clash, Says, pair_says, first_none, first_of}
+use Rattle.std.proofs.lemmas.List.Folds.{list_any_none}
 
 -- how the state with the demand stands to the one without: consumers at a provider are the one that makes it, or want
 -- what they wanted and what they gain
@@ -147,9 +148,7 @@ beside_some n found why r some = by (n == 0) refl found some
 -- no item passes, so none does
 any_false : {X : Type 0} (test : X → Bool) (xs : List X) → ((x : X) → Contains xs x → test x ≡ false)
     → list_any test xs ≡ false
-any_false test [] none = refl
-any_false test (x ∷ xs) none = ap (λ b. b || list_any test xs) (none x (Contains-here x xs))
-    ∙ any_false test xs (λ y there. none y (Contains-there x y xs there))
+any_false test xs none = list_any_none test xs (all_of (λ x. test x ≡ false) xs none)
 
 module _ {C : Type 0} (t : Topology C) (known : (z : Provider) → Contains t.providers z
     → provider_at t z.number ≡ Some z)

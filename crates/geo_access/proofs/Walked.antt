@@ -27,9 +27,8 @@ use Rattle.geo_access.specs.Access.{clear_scratches}
 use Rattle.geo_access.specs.Views.{Gathered, gain_at, have_at, order_of, give, spread_from, gathered_from, IsTried}
 use Rattle.geo_access.proofs.Walking.{offerer_lives, provider_known}
 use Rattle.geo_access.proofs.Trying.{Tries, trying, trying-gain, trying-provider, order_tries}
-use Rattle.geo_access.proofs.Tried.{lives_positive}
+use Rattle.geo_access.proofs.TryOut.{lives_positive, spreads_graph, the_order_is, the_order_lives, gathered_is, order_at, Spread, spread_all}
 use Rattle.geo_access.proofs.Clearing.{link_outside}
-use Rattle.geo_access.proofs.TryOut.{spreads_graph, the_order_is, the_order_lives, gathered_is, order_at, Spread, spread_all}
 
 -- the tries before any geom has handed down
 abbrev pub first_tries : ℕ → List ℕ → ℕ → Counts → Tries

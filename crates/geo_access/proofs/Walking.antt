@@ -1,12 +1,12 @@
 -- Walks over some of the consumers or providers of a graph.
-use Rattle.std.specs.Prelude.{◌≡◌, ℕ, zero, suc, ◌+◌, ◌<◌, ◌≤◌, ◌==◌, nat_le, Bool, List, [], ◌∷◌, map, filter, find, Some, None, Contains, IsSome, IfSome, All}
+use Rattle.std.specs.Prelude.{◌≡◌, ◌≢◌, ℕ, zero, suc, ◌+◌, ◌<◌, ◌≤◌, ◌==◌, nat_le, Bool, List, [], ◌∷◌, map, filter, find, Some, None, Contains, IsSome, IfSome, All}
 use Rattle.std.specs.Option.{option_map}
 use Rattle.std.proofs.Common.{refl, sym, ◌∙◌, ap, subst}
-use Rattle.std.proofs.lemmas.Bool.{eqb-true}
+use Rattle.std.proofs.lemmas.Bool.{eqb-true, ne_eqb}
 use Rattle.std.proofs.lemmas.List.Elements.{All-contains, All-head}
 use Rattle.std.proofs.lemmas.List.Kept.{AllPairs-from_increasing}
 use Rattle.geo_base.proofs.FindLists.{find-Contains, found_in}
-use Rattle.geo_base.proofs.MemberLists.{Contains-here}
+use Rattle.geo_base.proofs.MemberLists.{Contains-here, Contains-there}
 use Rattle.geo_model.specs.Topology.{Topology, Provider, Consumer, geom_at, consumer_at, provider_at}
 use Rattle.geo_model.specs.Graph.{AreNumbers}
 use Rattle.geo_mesh.specs.declared.records.ConsRec.{ConsRec}
@@ -132,6 +132,14 @@ module _ {C : Type 0} (t : Topology C) (sound : IsSoundGraph t) where
       let e : None ≡ Some next.item = sym none ∙ next.found in cc
 
 -- Parts that are found by their numbers
+
+-- a consumer of a number that none has isn't found
+pub none_numbered : (n : ℕ) (xs : List Consumer) → ((x : Consumer) → Contains xs x → x.number ≢ n)
+    → find (λ (x : Consumer). x.number == n) xs ≡ None
+none_numbered n [] apart = refl
+none_numbered n (x ∷ xs) apart =
+    rw (ne_eqb x.number n (apart x (Contains-here x xs)))
+    (none_numbered n xs (λ y there. apart y (Contains-there x y xs there)))
 
 module _ {C : Type 0} (t : TopoView C) (sound : IsSoundGraph t.topology) where
   -- each that stands is found by its number

@@ -1,5 +1,5 @@
 use Rattle.geo_access.proofs.Walking.{seen_lives}
-use Rattle.geo_access.proofs.Giving.{provider_found, given_is, given_tried, given_steps}
+use Rattle.geo_access.proofs.Ready.{provider_found, given_is, given_tried, given_steps}
 use Rattle.geo_access.proofs.access.try_out.Goals as goal
 
 -- a provider that stands has a geom that stands

@@ -4,8 +4,7 @@ use Rattle.geo_model.specs.Topology.{Consumer, consumers_of}
 use Rattle.geo_model.specs.Rank.{rank}
 use Rattle.geo_mesh.specs.Cells.{consumer_seen}
 use Rattle.geo_access.specs.Views.{Gathered, visit_under}
-use Rattle.geo_access.proofs.Folding.{fold_begin}
-use Rattle.geo_access.proofs.Gathering.{fresh_lower, visit_adds, visit_skips, gather_more, gather_whole, gathered_same}
+use Rattle.geo_access.proofs.Folding.{fold_begin, fresh_lower, visit_adds, visit_skips, gather_more, gather_whole, gathered_same}
 use Rattle.geo_access.proofs.order.+gather.Goals as goal
 use Rattle.geo_access.proofs.order.+gather.Goals.{in-Some-fresh_under, in_default-fresh_under}
 
