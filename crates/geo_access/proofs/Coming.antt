@@ -1,15 +1,15 @@
 -- A consumer of DEV that would come to a provider.
-use Rattle.std.specs.Prelude.{◌≡◌, ◌≢◌, ◌⊎◌, ℕ, suc, max, ◌==◌, ◌≤◌, ◌<◌, Bool, true, false, cond, List, [], ◌∷◌, filter, fold, Option, Some, None, IsSome, IfSome, IsSomeAnd, Contains, All, option_map, if◌then◌else◌}
+use Rattle.std.specs.Prelude.{◌≡◌, ◌≢◌, ℕ, suc, max, ◌==◌, ◌≤◌, ◌<◌, Bool, true, false, cond, List, [], ◌∷◌, filter, fold, Option, Some, None, IsSome, IfSome, IsSomeAnd, Contains, All, option_map, if◌then◌else◌}
 use Rattle.std.proofs.Common.{refl, sym, ◌∙◌, ap, subst, arith, inl, inr, eq-eqb}
 use Rattle.std.proofs.lemmas.Bool.{eqb-true, ne_eqb}
 use Rattle.std.proofs.lemmas.List.Elements.{All-contains, All-push, Contains-push, Contains-push_cases, Contains-append_left}
-use Rattle.geo_base.proofs.Options.{some_of, some_weaker, there_with_fact}
+use Rattle.geo_base.proofs.Options.{some_of, some_weaker, there_with_fact, if_some_weaker, some_and_of, some-with}
 use Rattle.geo_base.proofs.FindLists.{find-Contains, found-before, find-pushed_hit}
 use Rattle.geo_base.specs.declared.request.Counts.{Counts}
 use Rattle.geo_base.specs.declared.kind.Kind.TheVariants as kinds
-use Rattle.geo_base.proofs.MemberLists.{Contains-there, Contains-here, Contains-filter}
+use Rattle.geo_base.proofs.MemberLists.{Contains-there, Contains-here}
 use Rattle.geo_model.specs.Words.{names_number, is_granted_kind}
-use Rattle.geo_model.specs.Topology.{Topology, Geom, Provider, Consumer, geom_at, provider_at, consumer_at, providers_of, attached_to}
+use Rattle.geo_model.specs.Topology.{Topology, Geom, Provider, Consumer, geom_at, provider_at, consumer_at, providers_of}
 use Rattle.geo_model.specs.Rank.{rank, Ranked}
 use Rattle.geo_model.specs.Opens.{has_error_below, grant_refusal, with_grant, with_opener}
 use Rattle.geo_model.specs.Refusals.{IsFirstErrored}
@@ -20,7 +20,7 @@ use Rattle.geo_laws_counts.specs.CountWords.{more_counts, NumbersLead, HoldsGran
 use Rattle.geo_laws_counts.proofs.Sums.{add-more, more-add}
 use Rattle.geo_laws_counts.proofs.LimitFacts.{of_filter, all_of}
 use Rattle.geo_laws_counts.proofs.Numbers.{numbers_lead, free_of}
-use Rattle.geo_laws_counts.proofs.Upward.{names_some, have_is_sum}
+use Rattle.geo_laws_counts.proofs.Upward.{have_is_sum}
 use Rattle.geo_laws_graph.proofs.EdgeRanks.{climbing-ranked}
 use Rattle.geo_laws_counts.specs.DemandLaws.{Comes}
 use Rattle.geo_laws_counts.proofs.Openers.{wants_grant, came_more, came_stays, came_wants}
@@ -126,26 +126,21 @@ module _ {C : Type 0} {t : TopoView C} (sound : IsSoundGraph t.topology) (told :
   climbs_old : (c : Consumer) → Contains t.topology.consumers c
       → IfSome c.provider (λ q. IsSomeAnd (provider_at t.topology q) (λ z. tall z.geom < tall c.geom))
   climbs_old c there =
-      by c.provider
+      if_some_weaker (λ q. IsSomeAnd (provider_at t.topology q) (λ z. rank t.topology z.geom < rank t.topology c.geom))
+      (λ q. IsSomeAnd (provider_at t.topology q) (λ z. tall z.geom < tall c.geom))
+      (λ q less.
+      let z = some_and_of (λ (z : Provider). rank t.topology z.geom < rank t.topology c.geom)
+      (provider_at t.topology q) less in
+      let same : tall z.0.geom ≡ rank t.topology z.0.geom = tall_offer q z.0 z.1 in
+      let most : rank t.topology c.geom ≤ tall c.geom = tall_most c.geom in
+      some-with (provider_at t.topology q) (λ (z : Provider). tall z.geom < tall c.geom) z.0 z.1
+      (omega (arith, z.2)))
+      c.provider
       (All-contains
       (λ (d : Consumer).
       IfSome d.provider
       (λ q. IsSomeAnd (provider_at t.topology q) (λ z. rank t.topology z.geom
       < rank t.topology d.geom))) t.topology.consumers c sound.ranked there)
-    where
-      over : (q : ℕ) (o : Option Provider) → provider_at t.topology q ≡ o
-          → IsSomeAnd o (λ (z : Provider). rank t.topology z.geom < rank t.topology c.geom)
-          → IsSomeAnd o (λ (z : Provider). tall z.geom < tall c.geom)
-      over q None found less = less
-      over q (Some z) found less = let same : tall z.geom ≡ rank t.topology z.geom = tall_offer q z found in
-          let most : rank t.topology c.geom ≤ tall c.geom = tall_most c.geom in omega arith
-
-      by : (o : Option ℕ)
-          → IfSome o (λ q. IsSomeAnd (provider_at t.topology q) (λ (z : Provider). rank t.topology z.geom
-          < rank t.topology c.geom))
-          → IfSome o (λ q. IsSomeAnd (provider_at t.topology q) (λ (z : Provider). tall z.geom < tall c.geom))
-      by None less = less
-      by (Some q) less = over q (provider_at t.topology q) refl less
 
   -- so the graph with it is ranked
   pub opened_ranked : Ranked opened
@@ -200,20 +195,18 @@ module _ {C : Type 0} {t : TopoView C} (sound : IsSoundGraph t.topology) (told :
         sym (add-more (have (granted_by t) t.topology q) (have opened_grants opened q)
         (came_more (granted_by t) opened_grants t.topology 1 p comes.free comes.kind comes.agree q));
     sums = λ q. have_is_sum opened opened_ranked opened_known opened_grants q;
-    each = each_of_them;
-    old = λ q c at.
-        let inside = of_filter (λ (x : Consumer). names_number x.provider q) t.topology.consumers c at in
-        inr (
-          Contains-filter (λ (x : Consumer). names_number x.provider q) opened.consumers c
-              (Contains-append_left t.topology.consumers (newcomer ∷ []) c inside.0) inside.1,
-          old_number c inside.0,
-          old_wants c inside.0,
-        );
     opener = newcomer;
-    opener_at = Contains-filter (λ (x : Consumer). names_number x.provider p) opened.consumers newcomer
-        (Contains-push t.topology.consumers newcomer) (eq-eqb p p refl);
+    opener_there = Contains-push t.topology.consumers newcomer;
+    opener_place = refl;
     opener_is = refl;
     opener_wants = wants_grant opened_grants opened newcomer dev_holds ∙ own_grant;
+    cases = λ c there.
+        elim (Contains-push_cases t.topology.consumers newcomer c there)
+        [ inl old ↦ inr (old, old_number c old) | inr same ↦ inl (sym same) ];
+    kept = λ c there other. Contains-append_left t.topology.consumers (newcomer ∷ []) c there;
+    others = λ c there other. old_wants c there;
+    own_none = λ q c at same.
+        absurd (old_number c (of_filter (λ (x : Consumer). names_number x.provider q) t.topology.consumers c at).0 same);
     found = λ c there.
         elim (Contains-push_cases t.topology.consumers newcomer c there) [
           | inl old ↦ found-before (λ (x : Consumer). x.number == c.number) t.topology.consumers (newcomer ∷ []) c
@@ -226,29 +219,6 @@ module _ {C : Type 0} {t : TopoView C} (sound : IsSoundGraph t.topology) (told :
         ];
     errors = errors_came t.topology 1 p dev_bare p;
   }
-    where
-      each_of_them : (q : ℕ) (c : Consumer) → Contains (attached_to opened q) c
-          → ((c.number ≡ t.topology.next_consumer) × (p ≡ q) × (want opened_grants opened c ≡ add))
-          ⊎ (Contains (attached_to t.topology q) c × (c.number ≢ t.topology.next_consumer)
-          × (want opened_grants opened c ≡ add_counts (want (granted_by t) t.topology c) (opened_mores c)))
-      each_of_them q c at =
-          let inside = of_filter (λ (x : Consumer). names_number x.provider q) opened.consumers c at in
-          elim (Contains-push_cases t.topology.consumers newcomer c inside.0) [
-            | inl old ↦ inr (
-              Contains-filter (λ (x : Consumer). names_number x.provider q) t.topology.consumers c old
-                  inside.1,
-              old_number c old,
-              old_wants c old,
-            )
-            | inr same ↦
-                inl (
-                  ap (λ (x : Consumer). x.number) (sym same),
-                  (let e : Some p ≡ Some q = ap (λ (x : Consumer). x.provider) same
-                      ∙ names_some c.provider q inside.1 in cc),
-                  ap (want opened_grants opened) (sym same) ∙ wants_grant opened_grants opened newcomer dev_holds
-                      ∙ own_grant,
-                )
-          ]
 
   -- so it is a demand
   pub opener_demand : (order : List ℕ) → Covers t.topology p order
@@ -257,7 +227,6 @@ module _ {C : Type 0} {t : TopoView C} (sound : IsSoundGraph t.topology) (told :
     gain = opened_gains;
     more = opened_mores;
     stands = opening_after;
-    others = λ c there other. old_wants c there;
     demand =
         subst (λ a. Demands t.topology p a (have (granted_by t) t.topology) opened_gains opened_mores order) own_grant
         (coming_demands t.topology opened_known (granted_by t) opened_grants 1 p comes opened_ranked dev_bare

@@ -1,5 +1,5 @@
 -- A demand that was tried: what the judgement says, that nothing is left once it ends, and how many steps it took.
-use Rattle.std.specs.Prelude.{◌≢◌, ◌≡◌, ℕ, ◌+◌, ◌==◌, ◌<◌, ◌≤◌, Bool, true, false, not, ◌||◌, cond, List, [], ◌∷◌, length, map, filter, flat_map, find, fold, Option, Some, None, IsSome, IsSomeAnd, Contains, AllPairs, option_map, unwrap_or, if◌then◌else◌}
+use Rattle.std.specs.Prelude.{◌≡◌, ℕ, ◌+◌, ◌==◌, ◌<◌, ◌≤◌, Bool, true, false, not, ◌||◌, cond, List, [], ◌∷◌, length, map, filter, flat_map, find, fold, Option, Some, None, IsSome, IsSomeAnd, Contains, AllPairs, option_map, unwrap_or, if◌then◌else◌}
 use Rattle.std.specs.List.{list_any}
 use Rattle.std.specs.Option.{option_map_or}
 use Rattle.std.proofs.Common.{refl, sym, ◌∙◌, ap, subst, arith, inl, inr, eq-eqb}
@@ -241,8 +241,6 @@ pub record IsDemand {C : Type 0} (t : TopoView C) (p own : ℕ) (add : Counts) (
   pub more : Consumer → Counts
   pub stands : After t.topology p own add (granted_by t) after u gain more
   pub demand : Demands t.topology p add (have (granted_by t) t.topology) gain more order
-  pub others : (c : Consumer) → Contains t.topology.consumers c → c.number ≢ own
-      → want after u c ≡ add_counts (want (granted_by t) t.topology c) (more c)
 
 module _ {C : Type 0} {t : TopoView C} (sound : IsSoundGraph t.topology) (told : IsTold t) where
   -- the stored counts of a provider are the model's

@@ -1,5 +1,5 @@
 -- A grant that is tried at a consumer that holds nothing, and what it is told.
-use Rattle.std.specs.Prelude.{◌≡◌, ◌≢◌, ◌⊎◌, ℕ, ◌==◌, Bool, true, false, List, [], ◌∷◌, map, filter, Option, Some, None, IsSome, IfSome, IsSomeAnd, Contains, unwrap_or, if◌then◌else◌, ◌≤◌, Result, option_map}
+use Rattle.std.specs.Prelude.{◌≡◌, ◌≢◌, ℕ, ◌==◌, Bool, true, false, List, [], ◌∷◌, map, filter, Option, Some, None, IsSome, IfSome, IsSomeAnd, Contains, unwrap_or, if◌then◌else◌, ◌≤◌, Result, option_map}
 use Rattle.std.specs.Option.{option_and_then}
 use Rattle.std.proofs.Common.{refl, sym, ◌∙◌, ap, subst, arith, inl, inr, eq-eqb}
 use Rattle.std.proofs.lemmas.Bool.{eqb-true, cases_eq, ne_eqb}
@@ -8,9 +8,8 @@ use Rattle.std.proofs.lemmas.List.Kept.{AllPairs-from_increasing}
 use Rattle.geo_base.proofs.Options.{some_of, some_and_of}
 use Rattle.geo_base.proofs.FindLists.{found_in, find-Contains}
 use Rattle.geo_base.specs.declared.request.Counts.{Counts}
-use Rattle.geo_base.proofs.MemberLists.{Contains-filter}
 use Rattle.geo_model.specs.Words.{names_number}
-use Rattle.geo_model.specs.Topology.{Topology, Consumer, provider_at, consumer_at, attached_to}
+use Rattle.geo_model.specs.Topology.{Topology, Consumer, provider_at, consumer_at}
 use Rattle.geo_model.specs.Opens.{grant_refusal, with_grant}
 use Rattle.geo_model.specs.Demand.{no_counts, add_counts, have, want}
 use Rattle.geo_slots.specs.Slots.{value_at}
@@ -21,7 +20,7 @@ use Rattle.geo_laws_counts.proofs.Sums.{counts-same, at_most-same, add-more, zer
 use Rattle.geo_laws_counts.proofs.Levels.{have-at_most, want-at_most}
 use Rattle.geo_laws_counts.proofs.LimitFacts.{of_filter, all_of}
 use Rattle.geo_laws_counts.proofs.Numbers.{numbers_lead, only_of}
-use Rattle.geo_laws_counts.proofs.Upward.{names_some, have_is_sum}
+use Rattle.geo_laws_counts.proofs.Upward.{have_is_sum}
 use Rattle.geo_laws_counts.specs.DemandLaws.{DiffersAt}
 use Rattle.geo_laws_counts.proofs.Singles.{differing_stays}
 use Rattle.geo_laws_counts.proofs.Openers.{wants_grant}
@@ -176,46 +175,28 @@ module _ {C : Type 0} {t : TopoView C} {cons : ℕ} (sound : IsSoundGraph t.topo
             sym (add-more (have (granted_by t) t.topology q) (have after t.topology q)
             (have-at_most (granted_by t) after grants_rise t.topology q));
         sums = λ q. have_is_sum t.topology sound.ranked numbers_are after q;
-        each = λ q c at. each_of_them q c at;
-        old = λ q c at.
-            let inside = of_filter (λ (x : Consumer). names_number x.provider q) t.topology.consumers c at in
-            elim (cases_eq c.number cons) [
-              | inl same ↦
-                  inl (ap (λ a. add_counts a (mores c))
-                  (ap (want (granted_by t) t.topology) (one_only c inside.0 same)
-                  ∙ wants_grant (granted_by t) t.topology holder.one holder.kind ∙ ap (granted_by t) one_number
-                  ∙ none_granted)
-                  ∙ ap (λ b. add_counts no_counts
-                  (if b then no_counts else more_counts (want (granted_by t) t.topology c)
-                  (want after t.topology c))) (eq-eqb c.number cons same)
-                  ∙ zero-add no_counts)
-              | inr other ↦ inr (at, other, other_wants c other)
-            ];
         opener = holder.one;
-        opener_at = Contains-filter (λ (x : Consumer). names_number x.provider place) t.topology.consumers holder.one
-            one_is.0 (ap (λ o. names_number o place) holder.place ∙ eq-eqb place place refl);
+        opener_there = one_is.0;
+        opener_place = holder.place;
         opener_is = one_number;
         opener_wants = own_want holder.one one_is.0 one_number;
+        cases = λ c there.
+            elim (cases_eq c.number cons)
+            [ inl same ↦ inl (one_only c there same) | inr other ↦ inr (there, other) ];
+        kept = λ c there other. there;
+        others = λ c there other. other_wants c other;
+        own_none = λ q c at same.
+            ap (λ a. add_counts a (mores c))
+            (ap (want (granted_by t) t.topology)
+            (one_only c (of_filter (λ (x : Consumer). names_number x.provider q) t.topology.consumers c at).0 same)
+            ∙ wants_grant (granted_by t) t.topology holder.one holder.kind ∙ ap (granted_by t) one_number ∙ none_granted)
+            ∙ ap (λ b. add_counts no_counts
+            (if b then no_counts else more_counts (want (granted_by t) t.topology c)
+            (want after t.topology c))) (eq-eqb c.number cons same)
+            ∙ zero-add no_counts;
         found = consumer_known t sound;
         errors = refl;
       }
-        where
-          each_of_them : (q : ℕ) (c : Consumer) → Contains (attached_to t.topology q) c
-              → ((c.number ≡ cons) × (place ≡ q) × (want after t.topology c ≡ add))
-              ⊎ (Contains (attached_to t.topology q) c × (c.number ≢ cons)
-              × (want after t.topology c ≡ add_counts (want (granted_by t) t.topology c) (mores c)))
-          each_of_them q c at =
-              let inside = of_filter (λ (x : Consumer). names_number x.provider q) t.topology.consumers c at in
-              elim (cases_eq c.number cons) [
-                | inl same ↦ inl (
-                  same,
-                  (let e : Some place ≡ Some q = sym holder.place
-                      ∙ ap (λ (x : Consumer). x.provider) (sym (one_only c inside.0 same))
-                      ∙ names_some c.provider q inside.1 in cc),
-                  own_want c inside.0 same,
-                )
-                | inr other ↦ inr (at, other, other_wants c other)
-              ]
 
       -- so it is a demand
       pub grant_demand : (order : List ℕ) → Covers t.topology place order
@@ -224,7 +205,6 @@ module _ {C : Type 0} {t : TopoView C} {cons : ℕ} (sound : IsSoundGraph t.topo
         gain = gains;
         more = mores;
         stands = granting_after;
-        others = λ c there other. other_wants c other;
         demand =
             subst (λ a. Demands t.topology place a (have (granted_by t) t.topology) gains mores order) first_is
             (grant_demands t.topology sound.ranked numbers_are (granted_by t) after grants_rise cons place

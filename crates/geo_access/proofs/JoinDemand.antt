@@ -34,7 +34,7 @@ use Rattle.geo_model.specs.Opens.{below}
 use Rattle.geo_model.specs.Graph.{IsInOrder}
 use Rattle.geo_laws_graph.specs.LookupLaws.{AttachedIsFound}
 use Rattle.geo_laws_graph.proofs.Found.{attached-found}
-use Rattle.geo_laws_graph.proofs.Members.{Origin, Contains-map, map-Contains, at_contained, Contains-filter}
+use Rattle.geo_laws_graph.proofs.Members.{Origin, Contains-map, map-Contains, at_contained}
 use Rattle.geo_laws_graph.proofs.Numbered.{unique}
 use Rattle.geo_laws_counts.proofs.Numbers.{found_of}
 use Rattle.geo_laws_counts.proofs.Raising.{Demands, Covers, more-same, outside}
@@ -317,49 +317,21 @@ module _ {C : Type 0} (granted : ℕ → Counts) {t : Topology C} {c p : ℕ} (j
         sym (add-more (have granted t q) (have granted joined q)
         (JoiningRaises.counts joining_raises granted t c p j q));
     sums = λ q. have_is_sum joined j.after (joined_known t c p j) granted q;
-    each = each_of_them;
-    old = λ q d at.
-        let is = was_other q d at in
-        inr (
-          Contains-filter (λ (x : Consumer). names_number x.provider q) joined.consumers d (other_stays d is.0 is.1)
-              is.2,
-          is.1,
-          old_want d,
-        );
     opener = joiner;
-    opener_at =
-        Contains-filter (λ (x : Consumer). names_number x.provider p) joined.consumers joiner
-        (subst (Contains joined.consumers) put_it (Contains-map put t.consumers j.consumer (it_stands t c p j)))
-        (eq-eqb p p refl);
+    opener_there = subst (Contains joined.consumers) put_it (Contains-map put t.consumers j.consumer (it_stands t c p j));
+    opener_place = refl;
     opener_is = its_number t c p j;
     opener_wants = refl;
+    cases = joined_cases;
+    kept = other_stays;
+    others = λ d there other. old_want d;
+    own_none = λ q d at same. absurd ((was_other q d at).1 same);
     found =
         found_of (λ (x : Consumer). x.number) joined.consumers
         (AllPairs-from_increasing (map (λ (x : Consumer). x.number) joined.consumers)
         (AttachedIsFound.order attached-found t c p j.order).consumers.0);
     errors = JoiningKeepsBelow.errors joining_keeps_below t c p j;
   }
-    where
-      each_of_them : (q : ℕ) (d : Consumer) → Contains (attached_to joined q) d
-          → ((d.number ≡ c) × (p ≡ q) × (want granted joined d ≡ joined_want))
-          ⊎ (Contains (attached_to t q) d × (d.number ≢ c)
-          × (want granted joined d ≡ add_counts (want granted t d) (join_mores d)))
-      each_of_them q d at =
-          let inside = of_filter (λ (x : Consumer). names_number x.provider q) joined.consumers d at in
-          elim (joined_cases d inside.0) [
-            | inl same ↦
-                inl (
-                  ap (λ (x : Consumer). x.number) same ∙ its_number t c p j,
-                  (let e : Some p ≡ Some q = ap (λ (x : Consumer). x.provider) (sym same)
-                      ∙ names_some d.provider q inside.1 in cc),
-                  ap (want granted joined) same,
-                )
-            | inr old ↦ inr (
-              Contains-filter (λ (x : Consumer). names_number x.provider q) t.consumers d old.0 inside.1,
-              old.1,
-              old_want d,
-            )
-          ]
 
   -- what it makes them gain is a demand
   join_demands : (order : List ℕ) → Covers t p order
@@ -388,6 +360,5 @@ join_demand {C} {t} j order covers = record {
   gain = join_gains (granted_by t) j;
   more = join_mores (granted_by t) j;
   stands = join_after (granted_by t) j;
-  others = λ d there other. old_want (granted_by t) j d;
   demand = join_demands (granted_by t) j order covers;
 }

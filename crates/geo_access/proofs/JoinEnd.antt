@@ -32,7 +32,7 @@ use Rattle.geo_access.specs.Views.{order_of, IsTried, judged, grant_answer, give
 use Rattle.geo_access.specs.Join.{IsCountedBut, IsJoinRefusal, IsJoinNamed, join_answer, attach_told, errno_of_join, errored_below, error_answer, attach_answer, demand_answer, IsPlacedBut, joined_view, IsLoose, wanted}
 use Rattle.geo_access.proofs.Judging.{zero_min}
 use Rattle.geo_access.proofs.Walked.{walk, walk_covers, tried_graph, tried_order, walk_reached}
-use Rattle.geo_access.proofs.Verdict.{IsVerdict, After}
+use Rattle.geo_access.proofs.Verdict.{IsVerdict, After, opener_at}
 use Rattle.geo_access.proofs.Decided.{order, decided, IsDemand, IsTold, granted_found, grows}
 use Rattle.geo_access.proofs.Coming.{SaysError, open_errors, open_is}
 use Rattle.geo_access.proofs.JoinDemand.{Loose, but_told, joined_want, joined_want_is, join_demand, join_after, joined_cases, loose_is, loose_only, nothing_stored, other_stays, wanted_is, change_none}
@@ -420,7 +420,7 @@ module _ {C : Type 0} {t : TopoView C} {cons : ℕ} (sound : IsSoundGraph t.topo
       let at = provider_stands t sound p tried.offer tried.found in
       add_whole sound counted loose tried is j one
       ∙ capped_is its (subst (λ a. IsAtMost a greatest_counts) d.stands.opener_wants
-      (want_within granted u d.stands.sums limit p tried.offer at.0 at.1 d.stands.opener d.stands.opener_at))
+      (want_within granted u d.stands.sums limit p tried.offer at.0 at.1 d.stands.opener (opener_at d.stands)))
 
   -- what another consumer of the order comes to want is within the limit
   want_fits : (c : Consumer) → Contains t.topology.consumers c → c.number ≢ cons

@@ -277,11 +277,11 @@ module _ {C : Type 0} {t : TopoView C} {p own : ℕ} {add : Counts} {after : ℕ
     own = its;
     changes = λ c there other inside.
         ap (λ a. cap (add_counts a (cap (d.more c)))) (others c there other)
-        ∙ add-cap (want (granted_by t) t.topology c) (d.more c) ∙ ap cap (sym (d.others c there other))
+        ∙ add-cap (want (granted_by t) t.topology c) (d.more c) ∙ ap cap (sym (d.stands.others c there other))
         ∙ capped_is (want after u c) (fits c there other inside);
     stays = λ c there other none.
         others c there other
-        ∙ sym (d.others c there other ∙ ap (add_counts (want (granted_by t) t.topology c)) none
+        ∙ sym (d.stands.others c there other ∙ ap (add_counts (want (granted_by t) t.topology c)) none
         ∙ add-zero (want (granted_by t) t.topology c));
   }
 

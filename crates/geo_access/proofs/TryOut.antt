@@ -110,15 +110,23 @@ module _ {C : Type 0} (t : TopoView C) (sound : IsSoundGraph t.topology) (end : 
   abbrev geom_of : ℕ → Option ℕ
   geom_of p = option_map (λ (y : Provider). y.geom) (provider_at t.topology p)
 
+  -- geoms that live
+  abbrev AllLive : List ℕ → Type 0
+  AllLive xs = (y : ℕ) → Contains xs y → IsSome (geom_at t.topology y)
+
   module _ (k : ℕ) (so : (h : ℕ) (xs : List ℕ) → IsSome (geom_at t.topology h)
-      → ((y : ℕ) → Contains xs y → IsSome (geom_at t.topology y))
+      → AllLive xs
       → visit k h (gat xs) ≡ gat (order_from k t.topology h xs)) where
+    -- the walk over these consumers makes the order
+    abbrev Walks : List Consumer → Type 0
+    Walks cs = (xs : List ℕ) → AllLive xs
+        → fold (visit_under k) (gat xs) cs
+        ≡ gat (fold (pick k) xs (filter_map geom_of (filter_map (λ (x : Consumer). x.provider) cs)))
+
     -- over a geom that is there or isn't
     over_geom : (h : ℕ) (cs : List Consumer) (xs : List ℕ) → IsSome (geom_at t.topology h)
-        → ((y : ℕ) → Contains xs y → IsSome (geom_at t.topology y))
-        → ((ys : List ℕ) → ((y : ℕ) → Contains ys y → IsSome (geom_at t.topology y))
-        → fold (visit_under k) (gat ys) cs
-        ≡ gat (fold (pick k) ys (filter_map geom_of (filter_map (λ (x : Consumer). x.provider) cs))))
+        → AllLive xs
+        → Walks cs
         → (b m : Bool) → b ≡ not m
         → fold (visit_under k) (option_map_or (λ g. visit k g (gat xs)) (if b then Some h else None) (gat xs)) cs
         ≡ gat (fold (pick k) (if m then xs else order_from k t.topology h xs)
@@ -133,10 +141,8 @@ module _ {C : Type 0} (t : TopoView C) (sound : IsSoundGraph t.topology) (end : 
 
     -- over a provider that is found or isn't
     over_provider : (q : ℕ) (o : Option Provider) → provider_at t.topology q ≡ o
-        → (cs : List Consumer) (xs : List ℕ) → ((y : ℕ) → Contains xs y → IsSome (geom_at t.topology y))
-        → ((ys : List ℕ) → ((y : ℕ) → Contains ys y → IsSome (geom_at t.topology y))
-        → fold (visit_under k) (gat ys) cs
-        ≡ gat (fold (pick k) ys (filter_map geom_of (filter_map (λ (x : Consumer). x.provider) cs))))
+        → (cs : List Consumer) (xs : List ℕ) → AllLive xs
+        → Walks cs
         → fold (visit_under k) (option_map_or (λ g. visit k g (gat xs))
         (option_and_then (λ (y : Provider). if mark_at (trying t (order_tries end xs)) y.geom
         == 0 then Some y.geom else None) o) (gat xs)) cs
@@ -153,10 +159,8 @@ module _ {C : Type 0} (t : TopoView C) (sound : IsSoundGraph t.topology) (end : 
 
     -- over a consumer that is attached or isn't
     over_consumer : (o : Option ℕ) (cs : List Consumer) (xs : List ℕ)
-        → ((y : ℕ) → Contains xs y → IsSome (geom_at t.topology y))
-        → ((ys : List ℕ) → ((y : ℕ) → Contains ys y → IsSome (geom_at t.topology y))
-        → fold (visit_under k) (gat ys) cs
-        ≡ gat (fold (pick k) ys (filter_map geom_of (filter_map (λ (x : Consumer). x.provider) cs))))
+        → AllLive xs
+        → Walks cs
         → fold (visit_under k) (option_map_or (λ g. visit k g (gat xs))
         (option_and_then
         (λ q. option_and_then (λ (y : Provider). if mark_at (trying t (order_tries end xs)) y.geom
@@ -166,15 +170,13 @@ module _ {C : Type 0} (t : TopoView C) (sound : IsSoundGraph t.topology) (end : 
     over_consumer (Some q) cs xs all rest = over_provider q (provider_at t.topology q) refl cs xs all rest
 
     -- over all of a geom's consumers
-    over_consumers : (cs : List Consumer) (xs : List ℕ) → ((y : ℕ) → Contains xs y → IsSome (geom_at t.topology y))
-        → fold (visit_under k) (gat xs) cs
-        ≡ gat (fold (pick k) xs (filter_map geom_of (filter_map (λ (x : Consumer). x.provider) cs)))
+    over_consumers : (cs : List Consumer) → Walks cs
     over_consumers [] xs all = refl
     over_consumers (c ∷ cs) xs all = over_consumer c.provider cs xs all (over_consumers cs)
 
   -- what is gathered is the order
   pub visit_is : (k h : ℕ) (xs : List ℕ) → IsSome (geom_at t.topology h)
-      → ((y : ℕ) → Contains xs y → IsSome (geom_at t.topology y))
+      → AllLive xs
       → visit k h (gat xs) ≡ gat (order_from k t.topology h xs)
   visit_is zero h xs lives all = refl
   visit_is (suc k) h xs lives all =

@@ -35,28 +35,71 @@ use Rattle.geo_access.specs.Views.{raised, raised_have, has_side, other, pair_at
 use Rattle.geo_access.proofs.Judging.{errored_at, IsLeastOf, errored_is, other_some, other_none, Clash, Says, pair_says, first_none, first_of}
 use Rattle.std.proofs.lemmas.List.Folds.{list_any_none}
 
--- how the state with the demand stands to the one without: consumers at a provider are the one that makes it, or want
--- what they wanted and what they gain
+-- how the state with the demand stands to the one without: a consumer is the one that makes it, or stood before; each
+-- other one stays, and wants what it wanted and what it gains
 pub record After {C : Type 0} (t : Topology C) (p own : ℕ) (add : Counts) (granted after : ℕ
     → Counts) (u : Topology C) (gain : ℕ → Counts) (more : Consumer → Counts) : Type 0 where
   pub providers : u.providers ≡ t.providers
   pub stays : StaysAround granted t after u (below t p)
   pub haves : (q : ℕ) → have after u q ≡ add_counts (have granted t q) (gain q)
   pub sums : (q : ℕ) → have after u q ≡ sum_counts (map (want after u) (attached_to u q))
-  pub each : (q : ℕ) (c : Consumer) → Contains (attached_to u q) c
+  pub opener : Consumer
+  pub opener_there : Contains u.consumers opener
+  pub opener_place : opener.provider ≡ Some p
+  pub opener_is : opener.number ≡ own
+  pub opener_wants : want after u opener ≡ add
+  pub cases : (c : Consumer) → Contains u.consumers c → (c ≡ opener) ⊎ (Contains t.consumers c × (c.number ≢ own))
+  pub kept : (c : Consumer) → Contains t.consumers c → c.number ≢ own → Contains u.consumers c
+  pub others : (c : Consumer) → Contains t.consumers c → c.number ≢ own
+      → want after u c ≡ add_counts (want granted t c) (more c)
+  pub own_none : (q : ℕ) (c : Consumer) → Contains (attached_to t q) c → c.number ≡ own
+      → add_counts (want granted t c) (more c) ≡ no_counts
+  pub found : (c : Consumer) → Contains u.consumers c → consumer_at u c.number ≡ Some c
+  pub errors : has_error_below u p ≡ has_error_below t p
+
+module _ {C : Type 0} {t : Topology C} {p own : ℕ} {add : Counts} {granted after : ℕ → Counts} {u : Topology C}
+    {gain : ℕ → Counts} {more : Consumer → Counts} (ctx : After t p own add granted after u gain more) where
+  -- the one that makes the demand is at its provider
+  pub opener_at : Contains (attached_to u p) ctx.opener
+  opener_at =
+      Contains-filter (λ (x : Consumer). names_number x.provider p) u.consumers ctx.opener ctx.opener_there
+      (ap (λ o. names_number o p) ctx.opener_place ∙ eq-eqb p p refl)
+
+  -- a consumer at a provider is that one, or was there
+  each_after : (q : ℕ) (c : Consumer) → Contains (attached_to u q) c
       → ((c.number ≡ own) × (p ≡ q) × (want after u c ≡ add))
-      ⊎ (Contains (attached_to t q) c × (c.number ≢ own)
-      × (want after u c ≡ add_counts (want granted t c) (more c)))
-  pub old : (q : ℕ) (c : Consumer) → Contains (attached_to t q) c
+      ⊎ (Contains (attached_to t q) c × (want after u c ≡ add_counts (want granted t c) (more c)))
+  each_after q c at =
+      let inside = of_filter (λ (x : Consumer). names_number x.provider q) u.consumers c at in
+      elim (ctx.cases c inside.0) [
+        | inl same ↦ inl (
+          ap (λ (x : Consumer). x.number) same ∙ ctx.opener_is,
+          (let e : Some p ≡ Some q = sym ctx.opener_place ∙ ap (λ (x : Consumer). x.provider) (sym same)
+              ∙ names_some c.provider q inside.1 in cc),
+          ap (want after u) same ∙ ctx.opener_wants,
+        )
+        | inr old ↦ inr (
+          Contains-filter (λ (x : Consumer). names_number x.provider q) t.consumers c old.0 inside.1,
+          ctx.others c old.0 old.1,
+        )
+      ]
+
+  -- one that was there is still, where it wants something
+  old_after : (q : ℕ) (c : Consumer) → Contains (attached_to t q) c
       → (add_counts (want granted t c) (more c) ≡ no_counts)
       ⊎ (Contains (attached_to u q) c × (c.number ≢ own)
       × (want after u c ≡ add_counts (want granted t c) (more c)))
-  pub opener : Consumer
-  pub opener_at : Contains (attached_to u p) opener
-  pub opener_is : opener.number ≡ own
-  pub opener_wants : want after u opener ≡ add
-  pub found : (c : Consumer) → Contains u.consumers c → consumer_at u c.number ≡ Some c
-  pub errors : has_error_below u p ≡ has_error_below t p
+  old_after q c at =
+      let inside = of_filter (λ (x : Consumer). names_number x.provider q) t.consumers c at in
+      elim (cases_eq c.number own) [
+        | inl same ↦ inl (ctx.own_none q c at same)
+        | inr other ↦ inr (
+          Contains-filter (λ (x : Consumer). names_number x.provider q) u.consumers c
+              (ctx.kept c inside.0 other) inside.1,
+          other,
+          ctx.others c inside.0 other,
+        )
+      ]
 
 -- a side that is there isn't zero
 side_there : (n : ℕ) → not (n == 0) ≡ true → n ≢ 0
@@ -258,7 +301,7 @@ module _ {C : Type 0} (v : TopoView C) (p own : ℕ) (add : Counts) (granted aft
         → has_side side (sum_of c) ≡ true
         → Contains (attached_to u q) c × (c.number ≢ own) × (has_side side (want after u c) ≡ true)
     stays side q c at has =
-        elim (ctx.old q c at) [
+        elim (old_after ctx q c at) [
           | inl none ↦ let no : false ≡ true = sym (ap (has_side side) none ∙ no_side side) ∙ has in absurd (cc)
           | inr is ↦ (is.0, is.1, ap (has_side side) is.2 ∙ has)
         ]
@@ -283,7 +326,7 @@ module _ {C : Type 0} (v : TopoView C) (p own : ℕ) (add : Counts) (granted aft
         let one = other_some v sum_of raises p 0 Excludes e found in
         let there = stays Excludes p one.one one.at one.has in
         let is = stands p offer offered in
-        stand p offer (offered_after offer is.0) is.1 ctx.opener one.one ctx.opener_at there.0 own e ctx.opener_is
+        stand p offer (offered_after offer is.0) is.1 ctx.opener one.one (opener_at ctx) there.0 own e ctx.opener_is
         one.number (λ same. there.1 (one.number ∙ sym same))
         (ap (has_side Writes) ctx.opener_wants ∙ ap not (ne_eqb add.w 0 some)) there.2
 
@@ -294,7 +337,7 @@ module _ {C : Type 0} (v : TopoView C) (p own : ℕ) (add : Counts) (granted aft
         let one = other_some v sum_of raises p 0 Writes w found in
         let there = stays Writes p one.one one.at one.has in
         let is = stands p offer offered in
-        stand p offer (offered_after offer is.0) is.1 one.one ctx.opener there.0 ctx.opener_at w own one.number
+        stand p offer (offered_after offer is.0) is.1 one.one ctx.opener there.0 (opener_at ctx) w own one.number
         ctx.opener_is (λ same. there.1 (one.number ∙ same)) there.2
         (ap (has_side Excludes) ctx.opener_wants ∙ ap not (ne_eqb add.e 0 some))
 
@@ -384,17 +427,17 @@ module _ {C : Type 0} (v : TopoView C) (p own : ℕ) (add : Counts) (granted aft
         all_of (λ (b : Consumer). a.number ≢ b.number → ((want after u a).w ≡ 0) ⊎ ((want after u b).e ≡ 0))
         (attached_to u z.number)
         (λ b bt apart.
-        elim (ctx.each z.number a at) [
+        elim (each_after ctx z.number a at) [
           | inl own_a ↦
-              elim (ctx.each z.number b bt) [
+              elim (each_after ctx z.number b bt) [
                 | inl own_b ↦ absurd (apart (own_a.0 ∙ sym own_b.0))
-                | inr old_b ↦ own_writes no_exclusive z a b own_a.1 own_a.2 old_b.0 old_b.2
+                | inr old_b ↦ own_writes no_exclusive z a b own_a.1 own_a.2 old_b.0 old_b.1
               ]
           | inr old_a ↦
-              elim (ctx.each z.number b bt) [
-                | inl own_b ↦ own_excludes no_writer z a b own_b.1 own_b.2 old_a.0 old_a.2
+              elim (each_after ctx z.number b bt) [
+                | inl own_b ↦ own_excludes no_writer z a b own_b.1 own_b.2 old_a.0 old_a.1
                 | inr old_b ↦
-                    old_pair z there a b at bt old_a.0 old_b.0 apart old_a.2 old_b.2
+                    old_pair z there a b at bt old_a.0 old_b.0 apart old_a.1 old_b.1
                     ((raised_have v z.number).w == 0) ((raised_have v z.number).e == 0) refl refl (pair_at v z.number)
                     (pair_says v sum_of raises positive z.number) (no_fault_at Exclusion no_fault z there near)
               ]
