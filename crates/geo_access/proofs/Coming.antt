@@ -206,7 +206,8 @@ module _ {C : Type 0} {t : TopoView C} (sound : IsSoundGraph t.topology) (told :
     kept = λ c there other. Contains-append_left t.topology.consumers (newcomer ∷ []) c there;
     others = λ c there other. old_wants c there;
     own_none = λ q c at same.
-        absurd (old_number c (of_filter (λ (x : Consumer). names_number x.provider q) t.topology.consumers c at).0 same);
+        absurd (old_number c
+        (of_filter (λ (x : Consumer). names_number x.provider q) t.topology.consumers c at).0 same);
     found = λ c there.
         elim (Contains-push_cases t.topology.consumers newcomer c there) [
           | inl old ↦ found-before (λ (x : Consumer). x.number == c.number) t.topology.consumers (newcomer ∷ []) c

@@ -189,7 +189,8 @@ module _ {C : Type 0} {t : TopoView C} {cons : ℕ} (sound : IsSoundGraph t.topo
             ap (λ a. add_counts a (mores c))
             (ap (want (granted_by t) t.topology)
             (one_only c (of_filter (λ (x : Consumer). names_number x.provider q) t.topology.consumers c at).0 same)
-            ∙ wants_grant (granted_by t) t.topology holder.one holder.kind ∙ ap (granted_by t) one_number ∙ none_granted)
+            ∙ wants_grant (granted_by t) t.topology holder.one holder.kind ∙ ap (granted_by t) one_number
+            ∙ none_granted)
             ∙ ap (λ b. add_counts no_counts
             (if b then no_counts else more_counts (want (granted_by t) t.topology c)
             (want after t.topology c))) (eq-eqb c.number cons same)

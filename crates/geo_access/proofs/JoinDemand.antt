@@ -318,7 +318,8 @@ module _ {C : Type 0} (granted : ℕ → Counts) {t : Topology C} {c p : ℕ} (j
         (JoiningRaises.counts joining_raises granted t c p j q));
     sums = λ q. have_is_sum joined j.after (joined_known t c p j) granted q;
     opener = joiner;
-    opener_there = subst (Contains joined.consumers) put_it (Contains-map put t.consumers j.consumer (it_stands t c p j));
+    opener_there =
+        subst (Contains joined.consumers) put_it (Contains-map put t.consumers j.consumer (it_stands t c p j));
     opener_place = refl;
     opener_is = its_number t c p j;
     opener_wants = refl;

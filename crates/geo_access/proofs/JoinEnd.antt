@@ -28,7 +28,7 @@ use Rattle.geo_access.specs.declared.decide.Side.TheVariants.{Writes, Excludes}
 use Rattle.geo_access.specs.declared.refusal.GrantRefusal.TheVariants.{Enxio, Eperm, Eoverflow}
 use Rattle.geo_access.specs.Access.{granted_by, IsQuiet, leaves_zero, holds_grants, clear_scratches, IsCounted, noted}
 use Rattle.geo_access.specs.declared.refusal.JoinRefusal.{JoinRefusal}
-use Rattle.geo_access.specs.Views.{order_of, IsTried, judged, grant_answer, give, gain_at, other, first_errored, first_given, fault_in, gathered_from, spread_from, raise_want, raise_wants, finish_provider, finish_geom, made_at}
+use Rattle.geo_access.specs.Views.{order_of, IsTried, judged, grant_answer, give, gain_at, other, first_errored, first_given, fault_in, gathered_from, spread_from, raise_want, raise_wants, finish_provider, finish_geom, made_at, MayEnd}
 use Rattle.geo_access.specs.Join.{IsCountedBut, IsJoinRefusal, IsJoinNamed, join_answer, attach_told, errno_of_join, errored_below, error_answer, attach_answer, demand_answer, IsPlacedBut, joined_view, IsLoose, wanted}
 use Rattle.geo_access.proofs.Judging.{zero_min}
 use Rattle.geo_access.proofs.Walked.{walk, walk_covers, tried_graph, tried_order, walk_reached}
@@ -51,7 +51,6 @@ use Rattle.geo_access.proofs.Folding.{geom_graph, order_graph}
 use Rattle.geo_access.proofs.Trying.{trying, Tries}
 use Rattle.geo_slots.specs.Slots.{value_at}
 use Rattle.geo_mesh.specs.declared.records.Scratch.{Scratch}
-use Rattle.geo_access.proofs.Ready.{MayEnd}
 use Rattle.geo_access.proofs.Kept.{MayKeep, attached_below, kept_end, want_within, tries, walked_is, may_rise}
 use Rattle.geo_access.proofs.Granted.{capped_is, counted_by, numbers_of, noted_is}
 use Rattle.geo_access.proofs.Walking.{consumer_known, provider_stands}
@@ -466,7 +465,8 @@ module _ {C : Type 0} {t : TopoView C} {cons : ℕ} (sound : IsSoundGraph t.topo
       (λ x inside. (same_consumers x inside, refl)))
       ∙ ap (λ a. with_topology
       (with_want (fold (finish_geom (Some Rises)) (trying t its_tries) its_order) cons a) u) add_is
-      ∙ ap (λ v. with_topology v u) (kept_end sound its_told full d.demand (grows sound its_told full d) quiet joins_whole)
+      ∙ ap (λ v. with_topology v u)
+      (kept_end sound its_told full d.demand (grows sound its_told full d) quiet joins_whole)
       ∙ (λ i. record (joined_view t cons p) {
         wants =
             sym (map-changed (λ (c : Consumer). c.number == cons) (λ c. record c { provider = Some p })

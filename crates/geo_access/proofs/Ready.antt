@@ -14,7 +14,7 @@ use Rattle.geo_laws_counts.proofs.LimitFacts.{all_of}
 use Rattle.geo_access.specs.declared.counts.Way.{Way}
 use Rattle.geo_access.specs.declared.order.Order.{Order}
 use Rattle.geo_access.specs.Access.{clear_scratches, granted_by, consumers_below, IsCounted, IsHolder}
-use Rattle.geo_access.specs.Views.{Gathered, visit, gathered_from, order_of, give, spread_from, consumers_over, IsTried, finish_geom, judged, errno_of_refused}
+use Rattle.geo_access.specs.Views.{Gathered, visit, gathered_from, order_of, give, spread_from, consumers_over, IsTried, finish_geom, judged, errno_of_refused, MayEnd, MayJudge}
 use Rattle.geo_access.proofs.TryOut.{spreads_order}
 use Rattle.geo_access.proofs.Walked.{given_order, given_graph, below_lives, geoms_below, tried_graph, tried_lives, tried_apart}
 use Rattle.geo_base.proofs.Options.{there_with_fact}
@@ -24,10 +24,9 @@ use Rattle.geo_model.specs.Opens.{grant_refusal, with_grant, with_opener}
 use Rattle.geo_laws_counts.specs.CountWords.{HoldsGrants}
 use Rattle.geo_access.specs.declared.counts.Way.TheVariants.{Rises}
 use Rattle.geo_access.specs.declared.decide.Refused.{Refused}
-use Rattle.geo_access.specs.Tries.{Apart}
 use Rattle.geo_access.proofs.Folding.{order_graph}
 use Rattle.geo_access.proofs.Decided.{IsTold, counted_told, steps_bound}
-use Rattle.geo_access.proofs.Coming.{end_of, open_refused}
+use Rattle.geo_access.proofs.Coming.{end_of, open_refused, tells_of}
 
 -- the provider that is looked at
 pub provider_found : {C : Type 0} {cell : Option (Bor ProvRec)} {one : Bor ProvRec} (t : Topology C) (p : ℕ)
@@ -112,18 +111,18 @@ module _ {C : Type 0} {t : TopoView C} {p : ℕ} {add : Counts} {given new : Top
 
 -- The end of what was tried
 
--- a walk can be ended: the geoms of its order live and differ
-pub record MayEnd {C : Type 0} (v : TopoView C) (o : Order) : Type 0 where
-  pub lives : All (λ x. IsSome (geom_at v.topology x)) (order_of v o)
-  pub apart : Apart (order_of v o)
-
--- one that was tried can
+-- a walk that was tried can be ended
 pub may_end : {C : Type 0} {t : TopoView C} {p : ℕ} {add : Counts} {way : Way} {new : TopoView C} {o : Order}
     → IsTried t p add way new o → IsSoundGraph t.topology → t.scratches ≡ clear_scratches t.topology → MayEnd new o
 may_end {C} {t} {p} {add} {way} {new} {o} tried sound clear = record {
   lives = tried_lives sound clear tried;
   apart = tried_apart sound clear tried;
 }
+
+-- and judged, where the stored counts are told
+pub may_judge : {C : Type 0} {t : TopoView C} {p : ℕ} {add : Counts} {new : TopoView C} {o : Order}
+    → IsTried t p add Rises new o → IsSoundGraph t.topology → IsTold t → MayJudge new p o
+may_judge tried sound told = record { lives = tried_lives sound told.clear tried; tells = tells_of tried sound told }
 
 -- a demand of a consumer of DEV that would come to the provider: what it is told is the model's, the end that keeps
 -- nothing leaves the mesh as it was, and the steps are within the bound

@@ -1,6 +1,6 @@
 -- What the walks do to a mesh, step by step. Scratch has the walk's state: a geom's mark is the next geom of the
 -- order, and its counts are what each of its consumers gains; a provider's counts are what it gains.
-use Rattle.std.specs.Prelude.{◌≡◌, ℕ, zero, suc, ◌+◌, ◌-◌, ◌==◌, ◌<◌, ◌≤◌, ◌^◌, min, Bool, true, false, not, ◌&&◌, ◌||◌, List, [], ◌∷◌, length, fold, find, Option, Some, None, Result, Ok, Err, IsSome, IfSome, unwrap_or, option_map, if◌then◌else◌}
+use Rattle.std.specs.Prelude.{◌≡◌, ℕ, zero, suc, ◌+◌, ◌-◌, ◌==◌, ◌<◌, ◌≤◌, ◌^◌, min, Bool, true, false, not, ◌&&◌, ◌||◌, List, [], ◌∷◌, length, fold, find, Option, Some, None, Result, Ok, Err, IsSome, IfSome, All, unwrap_or, option_map, if◌then◌else◌}
 use Rattle.std.specs.Option.{option_map_or, option_and_then, option_or}
 use Rattle.geo_base.specs.declared.request.Counts.{Counts}
 use Rattle.geo_model.specs.Topology.{Topology, Provider, Consumer, geom_at, provider_at, consumer_at, providers_of, consumers_of, providers_under, attached_to}
@@ -28,7 +28,7 @@ use Rattle.geo_access.specs.declared.decide.Refused.TheVariants.{Named, Writer, 
 use Rattle.geo_base.specs.declared.errno.Errno.{Errno}
 use Rattle.geo_base.specs.declared.errno.Errno.TheVariants.{ENXIO, EPERM, EOVERFLOW}
 use Rattle.geo_laws_counts.specs.WalkWords.{cap}
-use Rattle.geo_access.specs.Tries.{is_too_great, had, shifted, made_of}
+use Rattle.geo_access.specs.Tries.{is_too_great, had, shifted, made_of, Apart}
 
 -- a walk over some consumers of the graph comes to this one next
 pub record IsNextConsumer {C : Type 0} (t : Topology C) (xs : List Consumer) (from_number id : ℕ)
@@ -245,6 +245,11 @@ module _ {C : Type 0} where
     pub exclusive : (have_at v q).e ≡ 0 → other v q 0 Excludes ≡ None
     pub writes : (have_at v q).w ≡ 0 → other v q 0 Writes ≡ None
 
+  -- a demand that was tried can be judged: the geoms of its order live, and the counts of its provider tell
+  pub record MayJudge (v : TopoView C) (q : ℕ) (o : Order) : Type 0 where
+    pub lives : All (λ x. IsSome (geom_at v.topology x)) (order_of v o)
+    pub tells : CountsTell v q
+
   -- another consumer's exclusive count, where the demand writes; another writer, where it has an exclusive count
   abbrev pub beside_exclusive : TopoView C → ℕ → Counts → Option Refused
   beside_exclusive v p add = if add.w == 0 then None else option_map (λ c. Exclusive c) (other v p 0 Excludes)
@@ -264,6 +269,11 @@ module _ {C : Type 0} where
       (option_or (first_given (fault_in v Exclusion) xs) (first_given (fault_in v Limit) xs))))
 
   -- The end of a walk
+
+  -- a walk can be ended: the geoms of its order live and differ
+  pub record MayEnd (v : TopoView C) (o : Order) : Type 0 where
+    pub lives : All (λ x. IsSome (geom_at v.topology x)) (order_of v o)
+    pub apart : Apart (order_of v o)
 
   -- with what a consumer of a geom gains in its counts
   abbrev pub raise_want : Way → Counts → TopoView C → Consumer → TopoView C

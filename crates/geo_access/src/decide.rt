@@ -5,7 +5,7 @@ ghost use Rattle.geo_model.specs.Topology.{geom_at, provider_at, consumer_at, pr
 ghost use Rattle.geo_mesh.specs.Cells.{consumer_seen};
 ghost use Rattle.geo_model.specs.Demand.{add_counts};
 ghost use Rattle.geo_laws_counts.specs.WalkWords.{cap};
-ghost use Rattle.geo_access.specs.Views.{CountsTell, grant_answer, errno_of_refused, judged, against, beside_exclusive, beside_writer, have_at, want_at, made_at, order_of, lesser, raised, has_side, other, second_pair, pair_with, pair_at, raised_have, fault_at, fault_in, first_given};
+ghost use Rattle.geo_access.specs.Views.{CountsTell, MayJudge, grant_answer, errno_of_refused, judged, against, beside_exclusive, beside_writer, have_at, want_at, made_at, order_of, lesser, raised, has_side, other, second_pair, pair_with, pair_at, raised_have, fault_at, fault_in, first_given};
 
 use crate::counts::{NO_COUNTS, add, is_over};
 use crate::order::{Order, take};
@@ -42,8 +42,7 @@ pub enum Refused {
 
 /// What refuses the demand that is tried, if anything does.
 pub fn judge<C>(topo: &Topo<C>, prov: ProvId, add: Counts, order: Order) -> Option<Refused>
-    requires lives { All (λ x. IsSome (geom_at topo.now.topology x)) (order_of topo.now order) }
-    requires tells { CountsTell topo.now prov }
+    requires { MayJudge topo.now prov order }
     ensures { result ≡ judged topo.now prov add (order_of topo.now order) }
 {
     if let Some(found) = first_errored(topo, prov, order) {

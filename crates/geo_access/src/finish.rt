@@ -1,12 +1,11 @@
 //! The end of a walk: what was tried is kept or dropped, and nothing is left to try.
-ghost use Rattle.std.specs.Prelude.{◌≡◌, ℕ, ◌+◌, fold, All, IsSome, Some};
+ghost use Rattle.std.specs.Prelude.{◌≡◌, ℕ, ◌+◌, fold, IsSome, Some};
 ghost use Rattle.geo_base.specs.declared.request.Counts.{Counts};
 ghost use Rattle.geo_model.specs.Topology.{geom_at, provider_at, consumers_of, providers_of};
 ghost use Rattle.std.specs.Option.{option_map_or};
 ghost use Rattle.geo_mesh.specs.Topo.{no_scratch, with_provider_scratch};
 ghost use Rattle.geo_mesh.specs.Cells.{provider_seen};
-ghost use Rattle.geo_access.specs.Tries.{Apart};
-ghost use Rattle.geo_access.specs.Views.{order_of, made_at, have_at, raise_want, raise_have, finish_provider, raise_wants, finish_geom};
+ghost use Rattle.geo_access.specs.Views.{order_of, MayEnd, made_at, have_at, raise_want, raise_have, finish_provider, raise_wants, finish_geom};
 
 use crate::counts::{NO_COUNTS, Way, shifted};
 use crate::order::{Order, take};
@@ -22,8 +21,7 @@ const NO_SCRATCH: Scratch = Scratch {
 /// Ends the walk: with a way, what the geoms' consumers and providers gain or lose comes into their counts, and write
 /// counts that left zero or came to it are noted.
 pub fn finish<C>(topo: &mut Topo<C>, order: Order, keep: Option<Way>)
-    requires lives { All (λ x. IsSome (geom_at topo.old.topology x)) (order_of topo.old order) }
-    requires apart { Apart (order_of topo.old order) }
+    requires { MayEnd topo.old order }
     ensures { topo.new ≡ fold (finish_geom keep) topo.old (order_of topo.old order) }
 {
     let mut rest = order;

@@ -1,8 +1,8 @@
 use Rattle.std.proofs.Common.{sym, ◌∙◌, arith}
 use Rattle.geo_access.proofs.Granting.{holder_is, holder_lives}
 use Rattle.geo_access.proofs.Decided.{counted_told}
-use Rattle.geo_access.proofs.Coming.{tells_of, end_of}
-use Rattle.geo_access.proofs.Ready.{may_end}
+use Rattle.geo_access.proofs.Coming.{end_of}
+use Rattle.geo_access.proofs.Ready.{may_end, may_judge}
 use Rattle.geo_access.proofs.Granting.{answered}
 use Rattle.geo_access.proofs.access.allowed.Goals as goal
 
@@ -19,17 +19,13 @@ try_out-order-requires g c = record {
 -- the geoms that were met stand, and counts that are right tell of each consumer at the provider
 pub judge-refused-requires : goal.judge-refused-requires
 judge-refused-requires g c =
-    let told = counted_told c.args.topo.now c.place_of-prov.ensures.sound c.requires.counted in
-    record {
-      lives = (may_end c.try_out-order.ensures.tried c.place_of-prov.ensures.sound c.requires.counted.clear).lives;
-      tells = tells_of c.try_out-order.ensures.tried c.place_of-prov.ensures.sound told;
-    }
+    may_judge c.try_out-order.ensures.tried c.place_of-prov.ensures.sound
+    (counted_told c.args.topo.now c.place_of-prov.ensures.sound c.requires.counted)
 
 -- the walk met geoms that stand, each once
 pub finish-requires : goal.finish-requires
 finish-requires g c =
-    let ends = may_end c.try_out-order.ensures.tried c.place_of-prov.ensures.sound c.requires.counted.clear in
-    record { lives = ends.lives; apart = ends.apart }
+    may_end c.try_out-order.ensures.tried c.place_of-prov.ensures.sound c.requires.counted.clear
 
 -- the walk ends as it began, and what is told is what the judgement says
 pub returns : goal.returns

@@ -1,7 +1,6 @@
 use Rattle.std.proofs.Common.{sym, ◌∙◌, arith}
 use Rattle.geo_access.proofs.Decided.{counted_told}
-use Rattle.geo_access.proofs.Coming.{tells_of}
-use Rattle.geo_access.proofs.Ready.{may_end, opener_asked}
+use Rattle.geo_access.proofs.Ready.{may_end, opener_asked, may_judge}
 use Rattle.geo_access.proofs.access.could_grant.Goals as goal
 
 pub try_out-order-requires : goal.try_out-order-requires
@@ -10,16 +9,12 @@ try_out-order-requires g c = record { lives = c.requires.lives; clear = c.requir
 -- the geoms that were met stand, and counts that are right tell of each consumer at the provider
 pub judge-refused-requires : goal.judge-refused-requires
 judge-refused-requires g c =
-    let told = counted_told c.args.topo.now c.try_out-order.ensures.sound c.requires.counted in
-    record {
-      lives = (may_end c.try_out-order.ensures.tried c.try_out-order.ensures.sound c.requires.counted.clear).lives;
-      tells = tells_of c.try_out-order.ensures.tried c.try_out-order.ensures.sound told;
-    }
+    may_judge c.try_out-order.ensures.tried c.try_out-order.ensures.sound
+    (counted_told c.args.topo.now c.try_out-order.ensures.sound c.requires.counted)
 
 pub finish-requires : goal.finish-requires
 finish-requires g c =
-    let ends = may_end c.try_out-order.ensures.tried c.try_out-order.ensures.sound c.requires.counted.clear in
-    record { lives = ends.lives; apart = ends.apart }
+    may_end c.try_out-order.ensures.tried c.try_out-order.ensures.sound c.requires.counted.clear
 
 -- for both ways: nothing that was tried is kept, and the judgement is that of the mesh with the new consumer
 pub returns-in-Some : goal.returns-in-Some

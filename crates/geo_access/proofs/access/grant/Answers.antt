@@ -4,8 +4,8 @@ use Rattle.geo_access.specs.declared.counts.Way.TheVariants.{Rises}
 use Rattle.geo_access.specs.Access.{IsCounted}
 use Rattle.geo_access.proofs.Granting.{holder_is, holder_lives}
 use Rattle.geo_access.proofs.Decided.{counted_told}
-use Rattle.geo_access.proofs.Coming.{tells_of, end_of}
-use Rattle.geo_access.proofs.Ready.{may_end, holder_stays}
+use Rattle.geo_access.proofs.Coming.{end_of}
+use Rattle.geo_access.proofs.Ready.{may_end, holder_stays, may_judge}
 use Rattle.geo_access.proofs.Granting.{answered}
 use Rattle.geo_access.proofs.Kept.{grant_stands}
 use Rattle.geo_access.proofs.access.grant.Goals as goal
@@ -22,16 +22,12 @@ try_out-order-requires g c = record {
 -- the geoms that were met stand, and counts that are right tell of each consumer at the provider
 pub judge-requires : goal.judge-requires
 judge-requires g c =
-    let told = counted_told c.args.topo.now c.place_of-prov.ensures.sound c.requires.counted in
-    record {
-      lives = (may_end c.try_out-order.ensures.tried c.place_of-prov.ensures.sound c.requires.counted.clear).lives;
-      tells = tells_of c.try_out-order.ensures.tried c.place_of-prov.ensures.sound told;
-    }
+    may_judge c.try_out-order.ensures.tried c.place_of-prov.ensures.sound
+    (counted_told c.args.topo.now c.place_of-prov.ensures.sound c.requires.counted)
 
 pub finish-requires : goal.finish-requires
 finish-requires g c =
-    let ends = may_end c.try_out-order.ensures.tried c.place_of-prov.ensures.sound c.requires.counted.clear in
-    record { lives = ends.lives; apart = ends.apart }
+    may_end c.try_out-order.ensures.tried c.place_of-prov.ensures.sound c.requires.counted.clear
 
 -- where something refuses, the mesh is as before
 pub returns-in-Some : goal.returns-in-Some
@@ -54,8 +50,7 @@ returns-in-Some g c =
 
 pub finish-requires-2 : goal.finish-requires-2
 finish-requires-2 g c =
-    let ends = may_end c.try_out-order.ensures.tried c.place_of-prov.ensures.sound c.requires.counted.clear in
-    record { lives = ends.lives; apart = ends.apart }
+    may_end c.try_out-order.ensures.tried c.place_of-prov.ensures.sound c.requires.counted.clear
 
 -- counts that rise take no consumer away
 pub set_want-requires : goal.set_want-requires

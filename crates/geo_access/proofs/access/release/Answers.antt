@@ -21,8 +21,7 @@ try_out-order-requires g c = record {
 -- the walk met geoms that stand, each once
 pub finish-requires : goal.finish-requires
 finish-requires g c =
-    let ends = may_end c.try_out-order.ensures.tried c.place_of-prov.ensures.sound c.requires.counted.clear in
-    record { lives = ends.lives; apart = ends.apart }
+    may_end c.try_out-order.ensures.tried c.place_of-prov.ensures.sound c.requires.counted.clear
 
 pub set_want-requires : goal.set_want-requires
 set_want-requires g c =

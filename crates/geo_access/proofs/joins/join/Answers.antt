@@ -1,22 +1,18 @@
 use Rattle.std.proofs.Common.{refl, sym, ap, ◌∙◌, subst, arith, None}
 use Rattle.std.specs.Prelude.{fold}
 use Rattle.geo_mesh.specs.Topo.{TopoView, with_want}
-use Rattle.geo_access.specs.Views.{order_of, finish_geom}
+use Rattle.geo_access.specs.Views.{order_of, finish_geom, MayEnd}
 use Rattle.geo_access.proofs.Decided.{steps_bound}
-use Rattle.geo_access.proofs.Coming.{tells_of, end_of}
-use Rattle.geo_access.proofs.Ready.{MayEnd, may_end}
+use Rattle.geo_access.proofs.Coming.{end_of}
+use Rattle.geo_access.proofs.Ready.{may_end, may_judge}
 use Rattle.geo_access.proofs.JoinEnd.{joiner_told, may_admit, attached_may_end, joiner_stays, join_told, join_stands}
 use Rattle.geo_access.proofs.joins.join.Goals as goal
 
 -- the joiner is attached to nothing, and all others' counts are right, so they tell of the provider's consumers
 pub judge-refused-requires : goal.judge-refused-requires
 judge-refused-requires g c =
-    let told =
-    joiner_told c.args.topo.now c.args.cons c.wanted-add.ensures.sound c.requires.counted c.requires.loose in
-    record {
-      lives = (may_end c.try_out-order.ensures.tried c.wanted-add.ensures.sound c.requires.counted.clear).lives;
-      tells = tells_of c.try_out-order.ensures.tried c.wanted-add.ensures.sound told;
-    }
+    may_judge c.try_out-order.ensures.tried c.wanted-add.ensures.sound
+    (joiner_told c.args.topo.now c.args.cons c.wanted-add.ensures.sound c.requires.counted c.requires.loose)
 
 -- what is tried leaves the graph and the stored counts, so the joiner is loose and holds nothing still
 pub admit-requires : goal.admit-requires
@@ -29,10 +25,8 @@ admit-requires g c =
 -- a refused consumer leaves the mesh as it was tried
 pub finish-requires : goal.finish-requires
 finish-requires g c =
-    let ends =
     subst (λ (v : TopoView g.row.C.Denot). MayEnd v c.try_out-order.result) (sym c.in-Err.ensures.same)
-    (may_end c.try_out-order.ensures.tried c.wanted-add.ensures.sound c.requires.counted.clear) in
-    record { lives = ends.lives; apart = ends.apart }
+    (may_end c.try_out-order.ensures.tried c.wanted-add.ensures.sound c.requires.counted.clear)
 
 -- so the walk ends as it began
 pub returns-in-Err : goal.returns-in-Err
@@ -61,11 +55,9 @@ returns-in-Err g c =
 -- a consumer that is attached changes no geom and no mark, so the walk can end
 pub finish-requires-2 : goal.finish-requires-2
 finish-requires-2 g c =
-    let ends =
     attached_may_end c.args.cons c.args.prov
     (may_end c.try_out-order.ensures.tried c.wanted-add.ensures.sound c.requires.counted.clear)
-    c.in_default.ensures.attached in
-    record { lives = ends.lives; apart = ends.apart }
+    c.in_default.ensures.attached
 
 -- the joiner stood before it was attached, and counts that rise take no consumer away
 pub set_want-requires : goal.set_want-requires
