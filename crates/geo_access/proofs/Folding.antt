@@ -43,15 +43,6 @@ module _ {X B : Type 0} (number : X → ℕ) (f : B → X → B) (xs : List X) w
       → fold f b (left_from number from_number xs) ≡ total → b ≡ total
   fold_end from_number b total left done = sym (ap (fold f b) left) ∙ done
 
--- so many are left
-pub count_more : {X : Type 0} (number : X → ℕ) (xs : List X) (from_number id : ℕ) (x : X) (steps new total : ℕ)
-    → left_from number from_number xs ≡ x ∷ left_from number (id + 1) xs → new ≡ steps + 1
-    → steps + length (left_from number from_number xs) ≡ total
-    → new + length (left_from number (id + 1) xs) ≡ total
-count_more number xs from_number id x steps new total left step done =
-    let one : length (left_from number from_number xs) ≡ suc (length (left_from number (id + 1) xs)) =
-    ap length left in omega arith
-
 module _ {X Y : Type 0} (number : X → ℕ) (f : X → Option Y) (xs : List X) where
   -- at the beginning all is left
   pub some_begin : first_given f (left_from number 0 xs) ≡ first_given f xs

@@ -28,7 +28,6 @@ use Rattle.geo_access.specs.Views.{Gathered, gain_at, have_at, order_of, give, s
 use Rattle.geo_access.proofs.Walking.{offerer_lives, provider_known}
 use Rattle.geo_access.proofs.Trying.{Tries, trying, trying-gain, trying-provider, order_tries}
 use Rattle.geo_access.proofs.TryOut.{lives_positive, spreads_graph, the_order_is, the_order_lives, gathered_is, order_at, Spread, spread_all}
-use Rattle.geo_access.proofs.Clearing.{link_outside}
 
 -- the tries before any geom has handed down
 abbrev pub first_tries : ℕ → List ℕ → ℕ → Counts → Tries
@@ -227,10 +226,6 @@ module _ {C : Type 0} (t : TopoView C) (sound : IsSoundGraph t.topology) (clear 
         (is-under t.topology c.geom z.number z
         (directly_under t.topology c z.number stands.0 (names_some c.provider z.number stands.1)) known)))))
         ∙ zero-add no_counts
-
-    -- and none of its marks stays
-    pub outside_mark : (n : ℕ) → has_number geoms_below n ≡ false → walked.tries.marks n ≡ 0
-    outside_mark n outside = walked.marks n ∙ link_outside y.geom geoms_below n outside
 
 -- the mesh after a demand was tried
 module _ {C : Type 0} {t : TopoView C} (sound : IsSoundGraph t.topology) (clear : t.scratches

@@ -7,7 +7,7 @@ use Rattle.geo_model.specs.World.{World, Config}
 use Rattle.geo_model.specs.Sound.{Sound}
 use Rattle.geo_model.specs.Steady.{Steady}
 use Rattle.geo_laws_graph.proofs.Numbered.{number_found}
-use Rattle.geo_access.proofs.Walking.{found_in}
+use Rattle.geo_base.proofs.FindLists.{find-Contains}
 use Rattle.geo_life.specs.Life.{IsDevMade}
 use Rattle.geo_life.specs.LifeLaws.{HandlesAreSpared}
 
@@ -20,7 +20,7 @@ dev_made w sound steady = by (geom_at w.topology 1) refl sound.ranks.dev.stands
     by None found never = absurd never
     by (Some x) found stands =
         All-contains (λ (g : Geom Config). (g.number ≡ 1) ⊎ (g.number ≡ 2) → g.automatic ≡ false) w.topology.geoms x
-        steady.made (found_in (λ (g : Geom Config). g.number == 1) w.topology.geoms x found)
+        steady.made (find-Contains (λ (g : Geom Config). g.number == 1) w.topology.geoms x found)
         (inl (number_found (λ (g : Geom Config). g.number) w.topology.geoms 1 x found))
 
 pub handles_are_spared : HandlesAreSpared
