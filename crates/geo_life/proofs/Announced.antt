@@ -1,21 +1,151 @@
--- One step of the loops over notes.
-use Rattle.std.specs.Prelude.{◌≡◌, ℕ, ◌+◌, Bool, true, false, List, ◌∷◌, map, fold, Some, None}
-use Rattle.std.proofs.Common.{refl, sym, ap, ◌∙◌, subst}
-use Rattle.geo_base.specs.declared.request.Counts.{Counts}
-use Rattle.geo_model.specs.Topology.{Provider}
+-- Notes that are taken in order, and one step of the loops over them.
+use Rattle.std.specs.Prelude.{◌≡◌, ℕ, suc, ◌+◌, ◌<◌, ◌==◌, Bool, true, false, cond, List, [], ◌∷◌, map, filter, find, length, Some, None, unwrap_or, option_map, if◌then◌else◌, fold}
+use Rattle.std.proofs.Common.{refl, sym, ap, ◌∙◌, arith, eq-eqb, subst}
+use Rattle.std.proofs.lemmas.Bool.{eqb-true}
+use Rattle.std.proofs.lemmas.Simd.{map-map}
+use Rattle.geo_model.specs.Topology.{Topology, Provider}
 use Rattle.geo_model.specs.Graph.{AreNumbers}
+use Rattle.geo_laws_graph.proofs.Lists.{Rise, rise-from}
+use Rattle.geo_slots.specs.Slots.{with_value}
+use Rattle.geo_access.specs.Access.{noted, first_noted, is_noted, granted_by, without_risen, without_fallen, IsCounted}
+use Rattle.geo_life.specs.Life.{notes, queued, IsDevMade, AreStored, without_rises, without_falls}
+use Rattle.geo_base.specs.declared.request.Counts.{Counts}
 use Rattle.geo_model.specs.Events.{QueuedTopology, spoil_at, is_to_spoil, offer_again, announce_risen, announce_fallen}
 use Rattle.geo_event.specs.EventQueue.{Queued}
-use Rattle.geo_slots.specs.Slots.{with_value}
 use Rattle.geo_mesh.specs.Topo.{TopoView, with_topology}
 use Rattle.geo_mesh.specs.Graph.{IsSoundGraph}
 use Rattle.geo_laws_counts.specs.CountWords.{seen_by_counts}
-use Rattle.geo_access.specs.Access.{granted_by, noted, first_noted, without_risen, without_fallen, IsCounted}
-use Rattle.geo_life.specs.Life.{queued, notes, IsDevMade, AreStored, without_rises, without_falls}
-use Rattle.geo_life.proofs.Announcing.{note_next, note_less, note_again, note_rows}
-use Rattle.geo_life.proofs.Seen.{seen_marks}
-use Rattle.geo_life.proofs.Unseen.{provider_rows}
+use Rattle.geo_life.proofs.Unseen.{seen_marks, provider_rows}
 use Rattle.geo_life.proofs.MarkWalk.{stored_still}
+
+-- the number of a row
+abbrev key : ℕ × Bool → ℕ
+key row = row.0
+
+-- a value put at a number below all
+put_below : (n low high : ℕ) (v : Bool) (rows : List (ℕ × Bool)) → Rise low (map key rows) high → n < low
+    → with_value rows n v ≡ rows
+put_below n low high v [] rise below = refl
+put_below n low high v (row ∷ rows) rise below =
+    by (row.0 == n) refl (put_below n (row.0 + 1) high v rows rise.2 (omega (arith, rise.0, below)))
+  where
+    by : (b : Bool) → (row.0 == n) ≡ b → with_value rows n v ≡ rows → with_value (row ∷ rows) n v ≡ row ∷ rows
+    by true e so = absurd (omega (arith, eqb-true row.0 n e, rise.0, below))
+    by false e so =
+        ap (λ c. (if c then (n, v) else row) ∷ with_value rows n v) e
+        ∙ ap (λ ys. row ∷ ys) so
+
+-- the value that stood, put again
+put_again : (n low high : ℕ) (rows : List (ℕ × Bool)) → Rise low (map key rows) high
+    → with_value rows n (is_noted rows n) ≡ rows
+put_again n low high [] rise = refl
+put_again n low high (row ∷ rows) rise =
+    by (row.0 == n) refl (put_again n (row.0 + 1) high rows rise.2)
+  where
+    by : (b : Bool) → (row.0 == n) ≡ b → with_value rows n (is_noted rows n) ≡ rows
+        → with_value (row ∷ rows) n (is_noted (row ∷ rows) n) ≡ row ∷ rows
+    by true e so =
+        let its : is_noted (row ∷ rows) n ≡ row.1 =
+        ap (λ c. unwrap_or (option_map (λ (r : ℕ × Bool). r.1)
+        (if c then Some row else find (λ (r : ℕ × Bool). r.0 == n) rows)) false) e in
+        let first : (n, row.1) ≡ row = let is : row.0 ≡ n = eqb-true row.0 n e in ap (λ m. (m, row.1)) (sym is) in
+        ap (λ v. with_value (row ∷ rows) n v) its
+        ∙ ap (λ c. (if c then (n, row.1) else row) ∷ with_value rows n row.1) e
+        ∙ ap (λ r. r ∷ with_value rows n row.1) first
+        ∙ ap (λ ys. row ∷ ys)
+        (put_below n (row.0 + 1) high row.1 rows rise.2 (omega (arith, eqb-true row.0 n e)))
+    by false e so =
+        let its : is_noted (row ∷ rows) n ≡ is_noted rows n =
+        ap (λ c. unwrap_or (option_map (λ (r : ℕ × Bool). r.1)
+        (if c then Some row else find (λ (r : ℕ × Bool). r.0 == n) rows)) false) e in
+        ap (λ v. with_value (row ∷ rows) n v) its
+        ∙ ap (λ c. (if c then (n, is_noted rows n) else row) ∷ with_value rows n (is_noted rows n)) e
+        ∙ ap (λ ys. row ∷ ys) so
+
+-- the least note comes first, and without it the others are noted
+next_note : (n low high : ℕ) (rows : List (ℕ × Bool)) → Rise low (map key rows) high → first_noted rows ≡ Some n
+    → noted rows ≡ n ∷ noted (with_value rows n false)
+next_note n low high [] rise never = absurd (cc)
+next_note n low high (row ∷ rows) rise first =
+    by row.1 (row.0 == n) refl refl (λ later. next_note n (row.0 + 1) high rows rise.2 later)
+  where
+    -- whether the first note counts
+    counts_if : (c : Bool) → row.1 ≡ c → noted (row ∷ rows) ≡ (if c then row.0 ∷ noted rows else noted rows)
+    counts_if true is =
+        ap (λ c. map key (cond c (row ∷ filter (λ (r : ℕ × Bool). r.1) rows) (filter (λ (r : ℕ × Bool). r.1) rows))) is
+    counts_if false is =
+        ap (λ c. map key (cond c (row ∷ filter (λ (r : ℕ × Bool). r.1) rows) (filter (λ (r : ℕ × Bool). r.1) rows))) is
+
+    later : row.1 ≡ false → first_noted rows ≡ Some n
+    later is = sym (ap (λ c. option_map (λ (r : ℕ × Bool). r.0)
+        (if c then Some row else find (λ (r : ℕ × Bool). r.1) rows)) is) ∙ first
+
+    by : (a b : Bool) → row.1 ≡ a → (row.0 == n) ≡ b
+        → (first_noted rows ≡ Some n → noted rows ≡ n ∷ noted (with_value rows n false))
+        → noted (row ∷ rows) ≡ n ∷ noted (with_value (row ∷ rows) n false)
+    by true b is e so =
+        let found : Some row.0 ≡ Some n = sym (ap (λ c. option_map (λ (r : ℕ × Bool). r.0)
+        (if c then Some row else find (λ (r : ℕ × Bool). r.1) rows)) is) ∙ first in
+        let here : row.0 ≡ n = cc in
+        let hit : (row.0 == n) ≡ true = eq-eqb row.0 n here in
+        let rest : with_value rows n false ≡ rows =
+        put_below n (row.0 + 1) high false rows rise.2 (omega (arith, here)) in
+        counts_if true is
+        ∙ ap (λ m. m ∷ noted rows) here
+        ∙ ap (λ ys. n ∷ noted ys) (sym rest)
+        ∙ sym (ap (λ c. n ∷ noted ((if c then (n, false) else row) ∷ with_value rows n false)) hit)
+    by false true is e so =
+        counts_if false is ∙ so (later is)
+        ∙ sym (ap (λ c. n ∷ noted ((if c then (n, false) else row) ∷ with_value rows n false)) e)
+    by false false is e so =
+        counts_if false is ∙ so (later is)
+        ∙ sym (ap (λ c. n ∷ map key (cond c (row ∷ filter (λ (r : ℕ × Bool). r.1) (with_value rows n false))
+        (filter (λ (r : ℕ × Bool). r.1) (with_value rows n false)))) is)
+        ∙ sym (ap (λ c. n ∷ noted ((if c then (n, false) else row) ∷ with_value rows n false)) e)
+
+-- where no note is first, none is set
+no_note : (rows : List (ℕ × Bool)) → first_noted rows ≡ None
+    → (noted rows ≡ []) × (rows ≡ map (λ n. (n, false)) (map key rows))
+no_note [] none = (refl, refl)
+no_note (row ∷ rows) none = by row.1 refl (λ later. no_note rows later)
+  where
+    by : (b : Bool) → row.1 ≡ b
+        → (first_noted rows ≡ None → (noted rows ≡ []) × (rows ≡ map (λ n. (n, false)) (map key rows)))
+        → (noted (row ∷ rows) ≡ []) × (row ∷ rows ≡ map (λ n. (n, false)) (map key (row ∷ rows)))
+    by true is so = let found : Some row.0 ≡ None = rw is at none in absurd (cc)
+    by false is so =
+        let later : first_noted rows ≡ None = rw is at none in
+        let rest = so later in
+        let first : row ≡ (row.0, false) = ap (λ v. (row.0, v)) is in
+        (rw is rest.0, ap (λ r. r ∷ rows) first ∙ ap (λ ys. (row.0, false) ∷ ys) rest.1)
+
+module _ (rows : List (ℕ × Bool)) (next n : ℕ) (order : AreNumbers (map key rows) next) where
+  -- the least note comes first, and without it the others are noted
+  pub note_next : first_noted rows ≡ Some n → noted rows ≡ n ∷ noted (with_value rows n false)
+  note_next first = next_note n 0 next rows (rise-from next (map key rows) order) first
+
+  -- there is one note less
+  pub note_less : first_noted rows ≡ Some n → notes rows ≡ notes (with_value rows n false) + 1
+  note_less first =
+      let more : notes rows ≡ suc (notes (with_value rows n false)) = ap length (note_next first) in omega (arith, more)
+
+  -- the note that stood, put again
+  pub note_again : with_value rows n (is_noted rows n) ≡ rows
+  note_again = put_again n 0 next rows (rise-from next (map key rows) order)
+
+module _ (rows : List (ℕ × Bool)) (none : first_noted rows ≡ None) where
+  -- where no note is first, none is set
+  pub note_none : noted rows ≡ []
+  note_none = (no_note rows none).0
+
+  -- and all rows say so
+  pub note_rows : (xs : List Provider) → map key rows ≡ map (λ (x : Provider). x.number) xs
+      → rows ≡ map (λ (x : Provider). (x.number, false)) xs
+  note_rows xs same =
+      let row : ℕ → ℕ × Bool = λ n. (n, false) in
+      (no_note rows none).1 ∙ ap (map row) same ∙ map-map row (λ (x : Provider). x.number) xs
+
+-- One step
 
 module _ {C : Type 0} (rows after : List (ℕ × Bool)) (p : ℕ) (first : noted rows ≡ p ∷ noted after)
     (q new : QueuedTopology C) where
@@ -29,108 +159,99 @@ module _ {C : Type 0} (rows after : List (ℕ × Bool)) (p : ℕ) (first : noted
   pub fall_step : new ≡ offer_again q p → announce_fallen (noted after) new ≡ announce_fallen (noted rows) q
   fall_step is = ap (λ r. fold offer_again r (noted after)) is ∙ sym (ap (fold offer_again q) first)
 
+-- the mesh without the least note, as it is taken: the other notes stand, and come in order
+pub record IsTaken {C : Type 0} (now mid after : TopoView C) (rows new : List (ℕ × Bool)) (p : ℕ) : Type 0 where
+  pub is : mid ≡ after
+  pub next : noted rows ≡ p ∷ noted new
+  pub less : notes rows ≡ notes new + 1
+
 -- the rows of notes stand in order
-risen_order : {C : Type 0} (now : TopoView C) → IsCounted now → IsSoundGraph now.topology
-    → AreNumbers (map (λ (row : ℕ × Bool). row.0) now.risen) now.topology.next_provider
-risen_order now counted sound =
-    subst (λ ns. AreNumbers ns now.topology.next_provider) (sym counted.risen) sound.orderly.order.providers
+in_order : {C : Type 0} {t : Topology C} → IsSoundGraph t → (rows : List (ℕ × Bool))
+    → map (λ (row : ℕ × Bool). row.0) rows ≡ map (λ (x : Provider). x.number) t.providers
+    → AreNumbers (map (λ (row : ℕ × Bool). row.0) rows) t.next_provider
+in_order {C} {t} sound rows same = subst (λ ns. AreNumbers ns t.next_provider) (sym same) sound.orderly.order.providers
 
-fallen_order : {C : Type 0} (now : TopoView C) → IsCounted now → IsSoundGraph now.topology
-    → AreNumbers (map (λ (row : ℕ × Bool). row.0) now.fallen) now.topology.next_provider
-fallen_order now counted sound =
-    subst (λ ns. AreNumbers ns now.topology.next_provider) (sym counted.fallen) sound.orderly.order.providers
+module _ {C : Type 0} {now mid : TopoView C} {p : ℕ} (counted : IsCounted now) (sound : IsSoundGraph now.topology) where
+  -- a note of a rise
+  pub rise_taken : first_noted now.risen ≡ Some p → mid ≡ without_risen now (Some p)
+      → IsTaken now mid (record now { risen = with_value now.risen p false }) now.risen (with_value now.risen p false) p
+  rise_taken first dropped = record {
+    is =
+        dropped
+        ∙ ap (λ rows. record now { risen = with_value now.risen p false; fallen = rows })
+        (note_again now.fallen now.topology.next_provider p (in_order sound now.fallen counted.fallen));
+    next = note_next now.risen now.topology.next_provider p (in_order sound now.risen counted.risen) first;
+    less = note_less now.risen now.topology.next_provider p (in_order sound now.risen counted.risen) first;
+  }
 
-module _ {C : Type 0} (start now : TopoView C) (counted : IsCounted now) (sound : IsSoundGraph now.topology) where
-  -- The notes of a rise
+  -- and of a fall
+  pub fall_taken : first_noted now.fallen ≡ Some p → mid ≡ without_fallen now (Some p)
+      → IsTaken now mid (record now { fallen = with_value now.fallen p false }) now.fallen
+      (with_value now.fallen p false) p
+  fall_taken first dropped = record {
+    is =
+        dropped
+        ∙ ap (λ rows. record now { risen = rows; fallen = with_value now.fallen p false })
+        (note_again now.risen now.topology.next_provider p (in_order sound now.risen counted.risen));
+    next = note_next now.fallen now.topology.next_provider p (in_order sound now.fallen counted.fallen) first;
+    less = note_less now.fallen now.topology.next_provider p (in_order sound now.fallen counted.fallen) first;
+  }
 
-  module _ (mesh : now ≡ record start { topology = now.topology; risen = now.risen })
-      (same : seen_by_counts now.topology ≡ seen_by_counts start.topology) where
-    -- grants whose counts are stored
-    pub rise_stored : (granted : ℕ → Counts) → AreStored granted start → AreStored granted now
-    rise_stored granted stored =
-        subst (AreStored granted) (sym mesh)
-        (stored_still granted start (with_topology start now.topology) refl same stored)
+-- The notes of a rise
 
-    -- no note is left at the end
-    pub rise_end : first_noted now.risen ≡ None → now ≡ with_topology (without_rises start) now.topology
-    rise_end none =
-        mesh
-        ∙ ap (λ rows. record start { topology = now.topology; risen = rows })
-        (note_rows now.risen none now.topology.providers counted.risen
-        ∙ provider_rows start now.topology same (λ n. false))
+module _ {C : Type 0} (start : TopoView C) {now : TopoView C}
+    (mesh : now ≡ record start { topology = now.topology; risen = now.risen })
+    (same : seen_by_counts now.topology ≡ seen_by_counts start.topology) where
+  -- grants whose counts are stored
+  pub rise_stored : (granted : ℕ → Counts) → AreStored granted start → AreStored granted now
+  rise_stored granted stored =
+      subst (AreStored granted) (sym mesh)
+      (stored_still granted start (with_topology start now.topology) refl same stored)
 
-    module _ (p : ℕ) (first : first_noted now.risen ≡ Some p) (mid : TopoView C)
-        (dropped : mid ≡ without_risen now (Some p)) where
-      -- the other notes stay
-      pub mid_is : mid ≡ record now { risen = with_value now.risen p false }
-      mid_is =
-          dropped
-          ∙ ap (λ rows. record now { risen = with_value now.risen p false; fallen = rows })
-          (note_again now.fallen now.topology.next_provider p (fallen_order now counted sound))
+  -- no note is left at the end
+  pub rise_end : IsCounted now → first_noted now.risen ≡ None → now ≡ with_topology (without_rises start) now.topology
+  rise_end counted none =
+      mesh
+      ∙ ap (λ rows. record start { topology = now.topology; risen = rows })
+      (note_rows now.risen none now.topology.providers counted.risen
+      ∙ provider_rows start now.topology same (λ n. false))
 
-      pub rise_next : noted now.risen ≡ p ∷ noted (with_value now.risen p false)
-      rise_next = note_next now.risen now.topology.next_provider p (risen_order now counted sound) first
+module _ {C : Type 0} {now mid new : TopoView C} {p : ℕ}
+    (taken : IsTaken now mid (record now { risen = with_value now.risen p false }) now.risen
+    (with_value now.risen p false) p) (rest : new ≡ with_topology mid new.topology) where
+  -- the others are noted after a spoil
+  pub rise_notes : new.risen ≡ with_value now.risen p false
+  rise_notes = ap (λ (v : TopoView C). v.risen) rest ∙ ap (λ (v : TopoView C). v.risen) taken.is
 
-      pub rise_less : notes now.risen ≡ notes (with_value now.risen p false) + 1
-      rise_less = note_less now.risen now.topology.next_provider p (risen_order now counted sound) first
+  -- and nothing else has changed since the start
+  pub rise_mesh : (start : TopoView C) → now ≡ record start { topology = now.topology; risen = now.risen }
+      → new ≡ record start { topology = new.topology; risen = new.risen }
+  rise_mesh start mesh =
+      rest
+      ∙ ap (λ (v : TopoView C). with_topology v new.topology) taken.is
+      ∙ ap (λ (v : TopoView C). record v { topology = new.topology; risen = with_value now.risen p false }) mesh
+      ∙ ap (λ rows. record start { topology = new.topology; risen = rows }) (sym rise_notes)
 
-      module _ (new : TopoView C) (rest : new ≡ with_topology mid new.topology) where
-        pub rise_notes : new.risen ≡ with_value now.risen p false
-        rise_notes =
-            ap (λ (v : TopoView C). v.risen) rest ∙ ap (λ (v : TopoView C). v.risen) mid_is
+-- The notes of a fall
 
-        -- one note fewer is set
-        pub rise_fewer : notes now.risen ≡ notes new.risen + 1
-        rise_fewer = rise_less ∙ ap (λ rows. notes rows + 1) (sym rise_notes)
+module _ {C : Type 0} (start : TopoView C) {now : TopoView C} (mesh : now ≡ record start { fallen = now.fallen }) where
+  -- no note is left at the end
+  pub fall_end : IsCounted now → first_noted now.fallen ≡ None → now ≡ without_falls start
+  fall_end counted none =
+      mesh
+      ∙ ap (λ rows. record start { fallen = rows })
+      (note_rows now.fallen none now.topology.providers counted.fallen
+      ∙ ap (λ (v : TopoView C). map (λ (x : Provider). (x.number, false)) v.topology.providers) mesh)
 
-        pub rise_mesh : new ≡ record start { topology = new.topology; risen = new.risen }
-        rise_mesh =
-            rest
-            ∙ ap (λ (v : TopoView C). with_topology v new.topology) mid_is
-            ∙ ap (λ (v : TopoView C). record v { topology = new.topology; risen = with_value now.risen p false }) mesh
-            ∙ ap (λ rows. record start { topology = new.topology; risen = rows }) (sym rise_notes)
-
-  -- The notes of a fall
-
-  module _ (mesh : now ≡ record start { fallen = now.fallen }) where
-    -- no note is left at the end
-    pub fall_end : first_noted now.fallen ≡ None → now ≡ without_falls start
-    fall_end none =
-        mesh
-        ∙ ap (λ rows. record start { fallen = rows })
-        (note_rows now.fallen none now.topology.providers counted.fallen
-        ∙ ap (λ (v : TopoView C). map (λ (x : Provider). (x.number, false)) v.topology.providers) mesh)
-
-    module _ (p : ℕ) (first : first_noted now.fallen ≡ Some p) (mid : TopoView C)
-        (dropped : mid ≡ without_fallen now (Some p)) where
-      -- the other notes stay
-      fallen_is : mid ≡ record now { fallen = with_value now.fallen p false }
-      fallen_is =
-          dropped
-          ∙ ap (λ rows. record now { risen = rows; fallen = with_value now.fallen p false })
-          (note_again now.risen now.topology.next_provider p (risen_order now counted sound))
-
-      pub fall_next : noted now.fallen ≡ p ∷ noted (with_value now.fallen p false)
-      fall_next = note_next now.fallen now.topology.next_provider p (fallen_order now counted sound) first
-
-      pub fall_less : notes now.fallen ≡ notes (with_value now.fallen p false) + 1
-      fall_less = note_less now.fallen now.topology.next_provider p (fallen_order now counted sound) first
-
-      pub fall_notes : mid.fallen ≡ with_value now.fallen p false
-      fall_notes = ap (λ (v : TopoView C). v.fallen) fallen_is
-
-      -- one note fewer is set
-      pub fall_fewer : notes now.fallen ≡ notes mid.fallen + 1
-      fall_fewer = fall_less ∙ ap (λ rows. notes rows + 1) (sym fall_notes)
-
-      pub fall_graph : mid.topology ≡ now.topology
-      fall_graph = ap (λ (v : TopoView C). v.topology) fallen_is
-
-      pub fall_mesh : mid ≡ record start { fallen = mid.fallen }
-      fall_mesh =
-          fallen_is
-          ∙ ap (λ (v : TopoView C). record v { fallen = with_value now.fallen p false }) mesh
-          ∙ ap (λ rows. record start { fallen = rows }) (sym fall_notes)
+  -- nothing but notes has changed since the start
+  pub fall_mesh : {mid : TopoView C} {p : ℕ}
+      → IsTaken now mid (record now { fallen = with_value now.fallen p false }) now.fallen
+      (with_value now.fallen p false) p
+      → mid ≡ record start { fallen = mid.fallen }
+  fall_mesh {mid} {p} taken =
+      taken.is
+      ∙ ap (λ (v : TopoView C). record v { fallen = with_value now.fallen p false }) mesh
+      ∙ ap (λ rows. record start { fallen = rows }) (sym (ap (λ (v : TopoView C). v.fallen) taken.is))
 
 -- a spoil isn't seen by counts
 pub rise_unseen : {C : Type 0} (mid : TopoView C) (queue : Queued) (new : QueuedTopology C) (p : ℕ) → IsCounted mid

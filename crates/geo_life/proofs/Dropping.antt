@@ -1,5 +1,5 @@
 -- Parts that go with no count leave grants, the other stored counts and notes.
-use Rattle.std.specs.Prelude.{◌≡◌, ◌≢◌, ◌⊎◌, ℕ, ◌==◌, Bool, true, false, not, cond, List, [], ◌∷◌, map, filter, find, Option, Some, None, Contains, unwrap_or, option_map, if◌then◌else◌}
+use Rattle.std.specs.Prelude.{◌≡◌, ◌≢◌, ◌⊎◌, ℕ, ◌==◌, Bool, true, false, not, List, [], map, filter, find, Option, Some, None, Contains, unwrap_or, option_map, if◌then◌else◌}
 use Rattle.std.specs.Option.{option_map_or}
 use Rattle.std.proofs.Common.{refl, sym, ◌∙◌, ap, subst, eq-eqb}
 use Rattle.std.proofs.lemmas.Bool.{eqb-true, not-false}
@@ -8,7 +8,6 @@ use Rattle.geo_base.specs.declared.request.Counts.{Counts}
 use Rattle.geo_model.specs.Words.{is_granted_kind}
 use Rattle.geo_model.specs.Topology.{Topology, Geom, Provider, Consumer, consumer_at, attached_to, consumers_of, remove_geom, remove_provider, remove_consumer}
 use Rattle.geo_model.specs.Demand.{no_counts, have, want}
-use Rattle.geo_model.proofs.DemandLemmas.{map_same}
 use Rattle.geo_slots.specs.Slots.{value_at, without}
 use Rattle.geo_mesh.specs.Topo.{TopoView, Scratches, no_scratch, IsButForRoom, without_geom, without_provider, without_consumer}
 use Rattle.geo_mesh.specs.Graph.{IsSoundGraph}
@@ -20,37 +19,25 @@ use Rattle.geo_laws_counts.specs.CountWords.{DemandStays, AnyConsumer}
 use Rattle.geo_laws_counts.proofs.LimitFacts.{all_of}
 use Rattle.geo_laws_counts.proofs.Numbers.{numbers_lead}
 use Rattle.geo_laws_counts.proofs.Stays.{grants_agree, consumers_went, provider_went, geom_went}
-use Rattle.geo_laws_counts.proofs.Flows.{each_of}
 use Rattle.geo_access.specs.Access.{granted_by, holds_grants, clear_scratches, IsQuiet}
-use Rattle.geo_access.proofs.Clearing.{rows-same_on}
+use Rattle.geo_access.proofs.Clearing.{rows-same_on, rows_agree}
 use Rattle.geo_access.proofs.Decided.{item_at, consumer_known}
 use Rattle.geo_life.specs.Life.{AreStored, CountsStay}
-
--- what is kept of what is seen
-pub filter_seen : {X Y : Type 0} (test : Y → Bool) (see : X → Y) (xs : List X)
-    → filter test (map see xs) ≡ map see (filter (λ x. test (see x)) xs)
-filter_seen test see [] = refl
-filter_seen {Y = Y} test see (x ∷ xs) = step (test (see x)) (filter_seen test see xs)
-  where
-    step : (b : Bool) → filter test (map see xs) ≡ map see (filter (λ x. test (see x)) xs)
-        → cond b (see x ∷ filter test (map see xs)) (filter test (map see xs))
-        ≡ map see (cond b (x ∷ filter (λ x. test (see x)) xs) (filter (λ x. test (see x)) xs))
-    step true more = ap (λ ys. see x ∷ ys) more
-    step false more = more
+use Rattle.geo_base.proofs.FilterLists.{filter-map}
 
 -- rows of items, without one
 without_rows : {X V : Type 0} (key : X → ℕ) (f : X → V) (xs : List X) (n : ℕ)
     → without (map (λ x. (key x, f x)) xs) n ≡ map (λ x. (key x, f x)) (filter (λ x. not (key x == n)) xs)
-without_rows {V = V} key f xs n = filter_seen (λ (row : ℕ × V). not (row.0 == n)) (λ x. (key x, f x)) xs
+without_rows {V = V} key f xs n = filter-map (λ (row : ℕ × V). not (row.0 == n)) (λ x. (key x, f x)) xs
 
 -- numbers of rows, without one
 without_keys : {X V : Type 0} (key : X → ℕ) (xs : List X) (rows : List (ℕ × V)) (n : ℕ)
     → map (λ row. row.0) rows ≡ map key xs
     → map (λ row. row.0) (without rows n) ≡ map key (filter (λ x. not (key x == n)) xs)
 without_keys {V = V} key xs rows n same =
-    sym (filter_seen (λ m. not (m == n)) (λ (row : ℕ × V). row.0) rows)
+    sym (filter-map (λ m. not (m == n)) (λ (row : ℕ × V). row.0) rows)
     ∙ ap (filter (λ m. not (m == n))) same
-    ∙ filter_seen (λ m. not (m == n)) key xs
+    ∙ filter-map (λ m. not (m == n)) key xs
 
 -- what is stored at another number stays
 value_kept : {V : Type 0} (rows : List (ℕ × V)) (n m : ℕ) → m ≢ n → value_at (without rows n) m ≡ value_at rows m
@@ -81,13 +68,8 @@ module _ {C : Type 0} (t new : TopoView C) where
     granted = less.granted;
     stored = λ granted stored.
         less.wants granted stored
-        ∙ map_same (λ (c : Consumer). (c.number, want granted t.topology c))
-        (λ (c : Consumer). (c.number, want granted new.topology c)) new.topology.consumers
-        (each_of (λ (c : Consumer). ◌≡◌ {A = ℕ × Counts} (c.number, want granted t.topology c)
-        (c.number, want granted new.topology c)) new.topology.consumers
-        (λ c there.
-        let P : Counts → ℕ × Counts = λ a. (c.number, a) in
-        ap P (sym ((less.demand granted stored).wants c there))));
+        ∙ rows_agree (λ (c : Consumer). c.number) (want granted t.topology) (want granted new.topology)
+        new.topology.consumers (λ c there. sym ((less.demand granted stored).wants c there));
     counted = λ counted.
         let first : DemandStays (granted_by t) t.topology (granted_by t) new.topology
         (Contains new.topology.consumers) = less.demand (granted_by t) counted.wants in
@@ -110,13 +92,9 @@ module _ {C : Type 0} (t new : TopoView C) where
               (λ z there. sym (second.haves z.number ∙ first.haves z.number));
           wants =
               less.wants (granted_by t) counted.wants
-              ∙ map_same (λ (c : Consumer). (c.number, want (granted_by t) t.topology c))
-              (λ (c : Consumer). (c.number, want (granted_by new) new.topology c)) new.topology.consumers
-              (each_of (λ (c : Consumer). ◌≡◌ {A = ℕ × Counts} (c.number, want (granted_by t) t.topology c)
-              (c.number, want (granted_by new) new.topology c)) new.topology.consumers
-              (λ c there.
-              let P : Counts → ℕ × Counts = λ a. (c.number, a) in
-              ap P (sym (second.wants c there ∙ first.wants c there))));
+              ∙ rows_agree (λ (c : Consumer). c.number) (want (granted_by t) t.topology)
+              (want (granted_by new) new.topology) new.topology.consumers
+              (λ c there. sym (second.wants c there ∙ first.wants c there));
           exclusive = second.exclusive (first.exclusive counted.exclusive);
           limit = second.limit (first.limit counted.limit);
           risen = less.risen_keys counted.risen;

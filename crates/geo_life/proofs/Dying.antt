@@ -5,7 +5,7 @@ use Rattle.geo_model.specs.Topology.{Topology, Consumer, attached_to}
 use Rattle.geo_model.specs.Events.{is_of_dev, dying_consumers}
 use Rattle.geo_laws_graph.specs.LookupLaws.{left_from}
 use Rattle.geo_laws_graph.proofs.Lists.{filter-filter}
-use Rattle.geo_life.proofs.Dropping.{filter_seen}
+use Rattle.geo_base.proofs.FilterLists.{filter-map}
 
 module _ {C : Type 0} (t : Topology C) (p : ℕ) where
   -- the consumers at the provider, from a number on
@@ -19,7 +19,7 @@ module _ {C : Type 0} (t : Topology C) (p : ℕ) where
   -- are those of DEV among the consumers that are left
   pub dying_is : (n : ℕ) → dying_left n ≡ map (λ c. c.number) (filter (is_of_dev t) (users_left n))
   dying_is n =
-      filter_seen (nat_le n) (λ (c : Consumer). c.number) (filter (is_of_dev t) (attached_to t p))
+      filter-map (nat_le n) (λ (c : Consumer). c.number) (filter (is_of_dev t) (attached_to t p))
       ∙ ap (map (λ (c : Consumer). c.number))
       (filter-filter (is_of_dev t) (λ (c : Consumer). nat_le n c.number) (attached_to t p))
 

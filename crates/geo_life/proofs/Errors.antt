@@ -1,15 +1,19 @@
 -- Providers without an error, before and after one of them gets one.
 use Rattle.std.specs.Prelude.{◌≡◌, ℕ, ◌+◌, ◌==◌, Bool, true, false, not, ◌&&◌, ◌||◌, cond, List, [], ◌∷◌, map, filter, find, length, suc, Option, Some, None, IsSomeAnd}
-use Rattle.std.specs.List.{AllByRecursion, list_any}
+use Rattle.std.specs.List.{list_any}
 use Rattle.std.specs.Option.{option_map_or, option_and_then}
 use Rattle.std.proofs.Common.{refl, sym, ap, ◌∙◌, arith, inl}
-use Rattle.std.proofs.Math.Bool.{or-false}
 use Rattle.std.proofs.lemmas.Bool.{eqb-true}
 use Rattle.geo_model.specs.Words.{change_where}
 use Rattle.geo_model.specs.Topology.{Topology, Provider, Geom, provider_at, geom_at, geom_of_provider, is_errored, set_error}
 use Rattle.geo_model.specs.Graph.{IsInOrder, AreNumbers}
 use Rattle.geo_laws_graph.proofs.Lists.{Rise, rise-from, none_outside, unhit}
 use Rattle.geo_life.specs.Life.{sound_providers}
+use Rattle.geo_base.proofs.FindLists.{found_in, any-contained}
+use Rattle.std.proofs.lemmas.List.Folds.{list_any_none}
+use Rattle.geo_laws_counts.proofs.LimitFacts.{all_of}
+use Rattle.geo_laws_graph.proofs.Members.{at_contained}
+use Rattle.geo_laws_graph.proofs.Numbered.{unique}
 
 -- whether it carries no error, and with one
 abbrev sound : Provider → Bool
@@ -71,43 +75,25 @@ error_owes t order p x found is =
 
 -- Whether a provider is offered
 
-module _ {X : Type 0} (number : X → ℕ) (test : X → Bool) (p : ℕ) where
-  -- none of another number passes
-  any_other : (xs : List X) → AllByRecursion (λ (z : X). (number z == p) ≡ false) xs
-      → list_any (λ (z : X). (number z == p) && test z) xs ≡ false
-  any_other [] others = refl
-  any_other (x ∷ xs) others = rw (others.0) (any_other xs others.1)
-
-  -- one item more
-  any_step : (low high : ℕ) (x : X) (xs : List X) (y : X) (b : Bool) → (number x == p) ≡ b
-      → Rise low (map number (x ∷ xs)) high
-      → find (λ (z : X). number z == p) (x ∷ xs) ≡ Some y
-      → (find (λ (z : X). number z == p) xs ≡ Some y
-      → list_any (λ (z : X). (number z == p) && test z) xs ≡ test y)
-      → list_any (λ (z : X). (number z == p) && test z) (x ∷ xs) ≡ test y
-  any_step low high x xs y true e rise found so =
-      let here : Some x ≡ Some y = rw e at found in
-      let same : x ≡ y = cc in
-      let is : number x ≡ p = eqb-true (number x) p e in
-      let rest : list_any (λ (z : X). (number z == p) && test z) xs ≡ false =
-      any_other xs (none_outside number (number x + 1) high p xs rise.2 (inl (omega (arith, is)))) in
-      rw (e, rest) (or-false (test x) ∙ ap test same)
-  any_step low high x xs y false e rise found so =
-      let later : find (λ (z : X). number z == p) xs ≡ Some y = rw e at found in rw e (so later)
-
-  any_rising : (low high : ℕ) (xs : List X) (y : X) → Rise low (map number xs) high
-      → find (λ (z : X). number z == p) xs ≡ Some y
-      → list_any (λ (z : X). (number z == p) && test z) xs ≡ test y
-  any_rising low high [] y rise never = absurd (cc)
-  any_rising low high (x ∷ xs) y rise found =
-      any_step low high x xs y (number x == p) refl rise found
-      (λ later. any_rising (number x + 1) high xs y rise.2 later)
-
-  -- the item that is found at a number tells whether one of that number passes
-  pub any_found : (next : ℕ) (xs : List X) (y : X) → AreNumbers (map number xs) next
-      → find (λ (z : X). number z == p) xs ≡ Some y
-      → list_any (λ (z : X). (number z == p) && test z) xs ≡ test y
-  any_found next xs y order found = any_rising 0 next xs y (rise-from next (map number xs) order) found
+-- the item that is found at a number tells whether one of that number passes
+pub any_found : {X : Type 0} (number : X → ℕ) (test : X → Bool) (p next : ℕ) (xs : List X) (y : X)
+    → AreNumbers (map number xs) next → find (λ (z : X). number z == p) xs ≡ Some y
+    → list_any (λ (z : X). (number z == p) && test z) xs ≡ test y
+any_found {X} number test p next xs y order found = by (test y) refl
+  where
+    by : (b : Bool) → test y ≡ b → list_any (λ (z : X). (number z == p) && test z) xs ≡ b
+    by true passes =
+        let at = found_in (λ (z : X). number z == p) xs y found in
+        any-contained (λ (z : X). (number z == p) && test z) xs y at.0 (rw (at.1, passes) refl)
+    by false fails =
+        list_any_none (λ (z : X). (number z == p) && test z) xs
+        (all_of (λ (z : X). ((number z == p) && test z) ≡ false) xs
+        (λ z there. other z (number z == p)
+        (at_contained (λ (w : X). (number w == p) ≡ true → w ≡ y) xs z (unique number next p xs y order found) there)))
+      where
+        other : (z : X) (c : Bool) → (c ≡ true → z ≡ y) → (c && test z) ≡ false
+        other z true same = ap test (same refl) ∙ fails
+        other z false same = refl
 
 module _ {C : Type 0} (t : Topology C) (order : IsInOrder t) (p : ℕ) (x : Provider)
     (found : provider_at t p ≡ Some x) where

@@ -1,30 +1,24 @@
 -- How many places events can take, and by which grants counts are stored.
 use Rattle.std.specs.Prelude.{◌≡◌, ℕ, ◌≤◌, Bool, not, List, map, filter, length, Contains}
-use Rattle.std.proofs.Common.{sym, ap, ◌∙◌, subst, arith}
-use Rattle.std.proofs.lemmas.List.Sums.{count_by-le-length, length-filter}
+use Rattle.std.proofs.Common.{sym, ap, ◌∙◌, arith}
 use Rattle.std.proofs.lemmas.List.{length-map}
-use Rattle.geo_base.specs.declared.request.Counts.{Counts}
 use Rattle.geo_model.specs.Topology.{Provider, Consumer}
 use Rattle.geo_model.specs.Demand.{want}
-use Rattle.geo_model.proofs.DemandLemmas.{map_same}
 use Rattle.geo_laws_counts.specs.CountWords.{DemandStays}
 use Rattle.geo_laws_counts.proofs.LimitFacts.{all_of}
 use Rattle.geo_laws_counts.proofs.Stays.{grants_agree}
-use Rattle.geo_laws_counts.proofs.Flows.{each_of}
 use Rattle.geo_access.specs.Access.{granted_by}
 use Rattle.geo_life.specs.Life.{notes}
 use Rattle.geo_life.specs.LifeLaws.{PlacesAreFew, CountsAreStored}
+use Rattle.geo_base.proofs.FilterLists.{length-kept}
+use Rattle.geo_access.proofs.Clearing.{rows_agree}
 
--- what a filter keeps is no more
-fewer : {X : Type 0} (test : X → Bool) (xs : List X) → length (filter test xs) ≤ length xs
-fewer test xs = subst (λ n. n ≤ length xs) (sym (length-filter test xs)) (count_by-le-length test xs)
-
--- so are notes, where rows and providers have the same numbers
+-- notes are no more than providers, where rows and providers have the same numbers
 few_notes : (rows : List (ℕ × Bool)) (ps : List Provider)
     → map (λ (row : ℕ × Bool). row.0) rows ≡ map (λ (p : Provider). p.number) ps → notes rows ≤ length ps
 few_notes rows ps same =
     let kept : length (filter (λ (row : ℕ × Bool). row.1) rows) ≤ length rows =
-    fewer (λ (row : ℕ × Bool). row.1) rows in
+    length-kept (λ (row : ℕ × Bool). row.1) rows in
     let named : notes rows ≡ length (filter (λ (row : ℕ × Bool). row.1) rows) =
     length-map (filter (λ (row : ℕ × Bool). row.1) rows) (λ (row : ℕ × Bool). row.0) in
     let as_many : length rows ≡ length ps =
@@ -33,7 +27,7 @@ few_notes rows ps same =
 
 pub places_are_few : {C : Type 0} → PlacesAreFew C
 places_are_few = record {
-  sound = λ t. fewer (λ (x : Provider). not x.errored) t.providers;
+  sound = λ t. length-kept (λ (x : Provider). not x.errored) t.providers;
   risen = λ t counted. few_notes t.risen t.topology.providers counted.risen;
   fallen = λ t counted. few_notes t.fallen t.topology.providers counted.fallen;
 }
@@ -45,8 +39,5 @@ counts_are_stored t granted counted agree =
     (all_of (λ (c : Consumer). granted c.number ≡ granted_by t c.number) t.topology.consumers
     (λ c there. agree c.number)) in
     counted.wants
-    ∙ map_same (λ (c : Consumer). (c.number, want (granted_by t) t.topology c))
-    (λ (c : Consumer). (c.number, want granted t.topology c)) t.topology.consumers
-    (each_of (λ (c : Consumer). ◌≡◌ {A = ℕ × Counts} (c.number, want (granted_by t) t.topology c)
-    (c.number, want granted t.topology c)) t.topology.consumers
-    (λ c there. let P : Counts → ℕ × Counts = λ a. (c.number, a) in ap P (sym (same.wants c there))))
+    ∙ rows_agree (λ (c : Consumer). c.number) (want (granted_by t) t.topology) (want granted t.topology)
+    t.topology.consumers (λ c there. sym (same.wants c there))

@@ -1,8 +1,10 @@
 -- What stays beside the graph and the events, over several changes.
-use Rattle.std.specs.Prelude.{◌≡◌, ◌⊎◌, ℕ, ◌+◌, ◌-◌, ◌≤◌, List, [], ◌∷◌, ◌++◌, length}
+use Rattle.std.specs.Prelude.{Bool, true, false, not, map, filter, if◌then◌else◌, ◌≡◌, ◌⊎◌, ℕ, ◌+◌, ◌-◌, ◌≤◌, List, [], ◌∷◌, ◌++◌, length}
 use Rattle.std.proofs.Common.{refl, sym, ap, ◌∙◌, subst, inl, inr, arith}
 use Rattle.std.proofs.lemmas.List.{length-append}
-use Rattle.geo_model.specs.Topology.{Topology}
+use Rattle.geo_model.specs.Topology.{Topology, Consumer, providers_of, is_withering, set_error, set_withering}
+use Rattle.geo_model.specs.Events.{QueuedTopology, orphan_provider, wither, wither_unless_withering, is_of_dev, orphan_consumer}
+use Rattle.geo_access.proofs.Folding.{fold_leaves}
 use Rattle.geo_event.specs.EventQueue.{Queued}
 use Rattle.geo_mesh.specs.Graph.{IsSoundGraph}
 use Rattle.geo_mesh.specs.Topo.{TopoView, with_topology}
@@ -40,3 +42,38 @@ pub post_room : {X : Type 0} (xs : List X) (x : X) (s : ℕ) → 1 ≤ s
     → (s - 1) + length (xs ++ x ∷ []) ≡ s + length xs
 post_room xs x s some =
     let more : length (xs ++ x ∷ []) ≡ length xs + 1 = length-append xs (x ∷ []) in omega (arith, more, some)
+
+-- What a geom that withers leaves
+
+module _ {C V : Type 0} (see : Topology C → V)
+    (errors : (t : Topology C) (p : ℕ) → see (set_error t p) ≡ see t)
+    (withers : (t : Topology C) (g : ℕ) → see (set_withering t g) ≡ see t) where
+  -- what neither an error nor a mark of withering changes is left by a geom that withers, with its providers
+  pub wither_leaves : (q : QueuedTopology C) (g : ℕ) → see (wither q g).topology ≡ see q.topology
+  wither_leaves q g =
+      fold_leaves (λ (r : QueuedTopology C). see r.topology) orphan_provider (λ r p. errors r.topology p)
+      (map (λ x. x.number) (filter (λ x. not x.errored) (providers_of q.topology g)))
+      (record q { topology = set_withering q.topology g })
+      ∙ withers q.topology g
+
+  -- unless it does so already
+  pub unless_leaves : (q : QueuedTopology C) (g : ℕ) → see (wither_unless_withering q g).topology ≡ see q.topology
+  unless_leaves q g = by (is_withering q.topology g)
+    where
+      by : (b : Bool) → see (if b then q else wither q g).topology ≡ see q.topology
+      by true = refl
+      by false = wither_leaves q g
+
+  -- by a consumer that hears of an orphan
+  pub orphan_leaves : (q : QueuedTopology C) (x : Consumer) → see (orphan_consumer q x).topology ≡ see q.topology
+  orphan_leaves q x = by (is_of_dev q.topology x)
+    where
+      by : (b : Bool) → see (if b then q else wither_unless_withering q x.geom).topology ≡ see q.topology
+      by true = refl
+      by false = unless_leaves q x.geom
+
+  -- and by what was done where a geom may wither
+  pub if_leaves : (b : Bool) (q new : QueuedTopology C) (g : ℕ) → new ≡ (if b then wither q g else q)
+      → see new.topology ≡ see q.topology
+  if_leaves true q new g is = ap (λ (r : QueuedTopology C). see r.topology) is ∙ wither_leaves q g
+  if_leaves false q new g is = ap (λ (r : QueuedTopology C). see r.topology) is

@@ -1,75 +1,34 @@
 -- The walks over the consumers above a provider that hear of its spoil or its orphan.
-use Rattle.std.specs.Prelude.{◌≡◌, ℕ, ◌+◌, ◌==◌, Bool, true, false, not, List, [], ◌∷◌, map, filter, fold, if◌then◌else◌}
+use Rattle.std.specs.Prelude.{◌≡◌, ℕ, ◌+◌, ◌==◌, Bool, true, false, not, List, [], ◌∷◌, filter, fold, if◌then◌else◌}
 use Rattle.std.proofs.Common.{refl, sym, ap, ◌∙◌, arith}
 use Rattle.geo_base.specs.declared.request.Counts.{Counts}
 use Rattle.geo_model.specs.Words.{names_number}
-use Rattle.geo_model.specs.Topology.{Topology, Consumer, providers_of, is_withering, set_marks, set_withering}
-use Rattle.geo_model.specs.Events.{QueuedTopology, orphan_provider, wither, wither_unless_withering, spoil_consumer, spoil, is_of_dev, orphan_consumer, is_outgrown, outgrow_consumer}
+use Rattle.geo_model.specs.Topology.{Topology, Consumer, set_marks}
+use Rattle.geo_model.specs.Events.{QueuedTopology, orphan_provider, wither, wither_unless_withering, spoil_consumer, spoil, orphan_consumer, is_outgrown, outgrow_consumer}
 use Rattle.geo_laws_graph.specs.LookupLaws.{left_from}
 use Rattle.geo_laws_graph.proofs.Walks.{walk-begin}
 use Rattle.geo_life.specs.Life.{consumers_above, AreHandlesUnmarked}
 use Rattle.geo_life.proofs.Uppers.{spoil_above, above_marked}
-use Rattle.geo_life.proofs.Lefts.{left_past}
+use Rattle.geo_life.proofs.Withering.{left_past}
+use Rattle.geo_life.proofs.Rest.{if_leaves, orphan_leaves, unless_leaves}
 
 module _ {C : Type 0} where
-  -- providers that are orphaned leave all consumers
-  orphans_leave : (q : QueuedTopology C) (ps : List ℕ)
-      → (fold orphan_provider q ps).topology.consumers ≡ q.topology.consumers
-  orphans_leave q [] = refl
-  orphans_leave q (p ∷ ps) = orphans_leave (orphan_provider q p) ps
-
-  -- so does a geom that withers
-  pub wither_leaves : (q : QueuedTopology C) (g : ℕ) → (wither q g).topology.consumers ≡ q.topology.consumers
-  wither_leaves q g =
-      orphans_leave (record q { topology = set_withering q.topology g })
-      (map (λ x. x.number) (filter (λ x. not x.errored) (providers_of q.topology g)))
-
-  -- unless it does so already
-  pub unless_leaves : (q : QueuedTopology C) (g : ℕ)
-      → (wither_unless_withering q g).topology.consumers ≡ q.topology.consumers
-  unless_leaves q g = by (is_withering q.topology g)
-    where
-      by : (b : Bool) → (if b then q else wither q g).topology.consumers ≡ q.topology.consumers
-      by true = refl
-      by false = wither_leaves q g
-
-  -- a consumer that hears of an orphan leaves all consumers
-  pub orphan_leaves : (q : QueuedTopology C) (x : Consumer)
-      → (orphan_consumer q x).topology.consumers ≡ q.topology.consumers
-  orphan_leaves q x = by (is_of_dev q.topology x)
-    where
-      by : (b : Bool) → (if b then q else wither_unless_withering q x.geom).topology.consumers ≡ q.topology.consumers
-      by true = refl
-      by false = unless_leaves q x.geom
-
-  -- and so does one that is outgrown
+  -- a consumer that is outgrown leaves all consumers
   pub outgrow_leaves : (granted : ℕ → Counts) (q : QueuedTopology C) (x : Consumer)
       → (outgrow_consumer granted q x).topology.consumers ≡ q.topology.consumers
-  outgrow_leaves granted q x = by (is_outgrown granted q.topology x)
-    where
-      by : (b : Bool) → (if b then wither q x.geom else q).topology.consumers ≡ q.topology.consumers
-      by true = wither_leaves q x.geom
-      by false = refl
+  outgrow_leaves granted q x =
+      if_leaves (λ (t : Topology C). t.consumers) (λ t p. refl) (λ t g. refl) (is_outgrown granted q.topology x) q
+      (outgrow_consumer granted q x) x.geom refl
 
-module _ {C : Type 0} where
-  -- the next number of consumers stays where geoms wither
-  orphans_next : (q : QueuedTopology C) (ps : List ℕ)
-      → (fold orphan_provider q ps).topology.next_consumer ≡ q.topology.next_consumer
-  orphans_next q [] = refl
-  orphans_next q (p ∷ ps) = orphans_next (orphan_provider q p) ps
+  -- so does one that hears of an orphan
+  pub heard_leaves : (q : QueuedTopology C) (x : Consumer)
+      → (orphan_consumer q x).topology.consumers ≡ q.topology.consumers
+  heard_leaves = orphan_leaves (λ (t : Topology C). t.consumers) (λ t p. refl) (λ t g. refl)
 
-  wither_next : (q : QueuedTopology C) (g : ℕ) → (wither q g).topology.next_consumer ≡ q.topology.next_consumer
-  wither_next q g =
-      orphans_next (record q { topology = set_withering q.topology g })
-      (map (λ x. x.number) (filter (λ x. not x.errored) (providers_of q.topology g)))
-
+  -- the next number of consumers stays where a geom withers
   pub unless_next : (q : QueuedTopology C) (g : ℕ)
       → (wither_unless_withering q g).topology.next_consumer ≡ q.topology.next_consumer
-  unless_next q g = by (is_withering q.topology g)
-    where
-      by : (b : Bool) → (if b then q else wither q g).topology.next_consumer ≡ q.topology.next_consumer
-      by true = refl
-      by false = wither_next q g
+  unless_next = unless_leaves (λ (t : Topology C). t.next_consumer) (λ t p. refl) (λ t g. refl)
 
   -- it is that of what the model says
   pub next_is : (after new : QueuedTopology C) → new ≡ after → new.topology.next_consumer ≡ after.topology.next_consumer
@@ -78,8 +37,7 @@ module _ {C : Type 0} where
   -- so where a geom may wither
   pub if_next : (b : Bool) (q new : QueuedTopology C) (g : ℕ) → new ≡ (if b then wither q g else q)
       → new.topology.next_consumer ≡ q.topology.next_consumer
-  if_next true q new g is = ap (λ (r : QueuedTopology C). r.topology.next_consumer) is ∙ wither_next q g
-  if_next false q new g is = ap (λ (r : QueuedTopology C). r.topology.next_consumer) is
+  if_next = if_leaves (λ (t : Topology C). t.next_consumer) (λ t p. refl) (λ t g. refl)
 
   -- a provider that may be orphaned leaves the next number of providers
   pub error_next : (b : Bool) (q new : QueuedTopology C) (p : ℕ) → new ≡ (if b then q else orphan_provider q p)
@@ -122,7 +80,8 @@ module _ {C : Type 0} (p : ℕ) where
       → users_left (spoil_consumer q x).topology (x.number + 1) ≡ users_left q.topology (x.number + 1)
   spoil_past q x =
       same_users (set_marks q.topology (λ c. c.number == x.number) false) (spoil_consumer q x).topology
-      (unless_leaves (record q { topology = set_marks q.topology (λ c. c.number == x.number) false }) x.geom)
+      (unless_leaves (λ (t : Topology C). t.consumers) (λ t p. refl) (λ t g. refl)
+      (record q { topology = set_marks q.topology (λ c. c.number == x.number) false }) x.geom)
       (x.number + 1)
       ∙ ap (left_from (λ (c : Consumer). c.number) (x.number + 1))
       (above_marked q.topology (λ c. c.number == x.number) false p)

@@ -1,5 +1,5 @@
--- Changes of a graph that counts don't see leave grants, stored counts and notes.
-use Rattle.std.specs.Prelude.{◌≡◌, ◌⊎◌, ℕ, ◌==◌, Bool, true, false, cond, List, [], ◌∷◌, map, find, Option, Some, None, Contains, All, unwrap_or, option_map, if◌then◌else◌}
+-- Changes of a graph that counts don't see leave grants, stored counts and notes; so do all but washing.
+use Rattle.std.specs.Prelude.{◌≡◌, ◌⊎◌, ℕ, ◌==◌, Bool, true, false, List, map, find, Option, Some, None, Contains, All, unwrap_or, option_map, if◌then◌else◌, filter}
 use Rattle.std.specs.Option.{option_map_or}
 use Rattle.std.proofs.Common.{refl, sym, ◌∙◌, ap, subst}
 use Rattle.std.proofs.lemmas.List.Elements.{All-contains}
@@ -7,9 +7,8 @@ use Rattle.std.proofs.lemmas.Simd.{map-map}
 use Rattle.geo_base.specs.declared.kind.Kind.{Kind}
 use Rattle.geo_base.specs.declared.request.Counts.{Counts}
 use Rattle.geo_model.specs.Words.{is_granted_kind}
-use Rattle.geo_model.specs.Topology.{Topology, Geom, Provider, Consumer, geom_at, consumer_at}
+use Rattle.geo_model.specs.Topology.{Topology, Geom, Provider, Consumer, geom_at, consumer_at, attached_to, set_error, set_withering, set_marks}
 use Rattle.geo_model.specs.Demand.{no_counts, have, want}
-use Rattle.geo_model.proofs.DemandLemmas.{map_same}
 use Rattle.geo_slots.specs.Slots.{value_at}
 use Rattle.geo_mesh.specs.Topo.{TopoView, no_scratch, with_topology}
 use Rattle.geo_laws_graph.proofs.Members.{map-Contains, Contains-map}
@@ -17,22 +16,15 @@ use Rattle.geo_laws_counts.specs.CountWords.{Seen, seen_by_counts, DemandStays, 
 use Rattle.geo_laws_counts.proofs.LimitFacts.{all_of}
 use Rattle.geo_laws_counts.proofs.SeenCounts.{seen_stays}
 use Rattle.geo_laws_counts.proofs.Stays.{grants_agree}
-use Rattle.geo_laws_counts.proofs.Flows.{each_of}
 use Rattle.geo_access.specs.Access.{granted_by, holds_grants, clear_scratches, IsCounted}
-use Rattle.geo_access.proofs.Clearing.{rows-same_on}
-use Rattle.geo_life.specs.Life.{AreStored, CountsStay}
-
--- what is found among what is seen
-find_seen : {X Y : Type 0} (test : Y → Bool) (see : X → Y) (xs : List X)
-    → find test (map see xs) ≡ option_map see (find (λ x. test (see x)) xs)
-find_seen test see [] = refl
-find_seen {Y = Y} test see (x ∷ xs) = step (test (see x)) (find_seen test see xs)
-  where
-    step : (b : Bool) → find test (map see xs) ≡ option_map see (find (λ x. test (see x)) xs)
-        → cond b (Some (see x)) (find test (map see xs))
-        ≡ option_map see (cond b (Some x) (find (λ x. test (see x)) xs))
-    step true more = refl
-    step false more = more
+use Rattle.geo_access.proofs.Clearing.{rows-same_on, rows_agree}
+use Rattle.geo_life.specs.Life.{AreStored, CountsStay, queued, RestStays}
+use Rattle.geo_base.proofs.FindLists.{find-map}
+use Rattle.geo_model.specs.Events.{QueuedTopology, wither, spoil_consumer, spoil, orphan_consumer, orphan}
+use Rattle.geo_event.specs.EventQueue.{Queued}
+use Rattle.geo_laws_graph.proofs.Lists.{map-changed}
+use Rattle.geo_life.proofs.Rest.{wither_leaves, if_leaves, orphan_leaves, unless_leaves}
+use Rattle.geo_access.proofs.Folding.{fold_leaves}
 
 -- what is seen of a consumer, and of a provider
 abbrev consumer_seen : Consumer → ℕ × ℕ × Option ℕ
@@ -63,7 +55,7 @@ module _ {C : Type 0} where
   holds_is_seen t g =
       at (geom_at t g)
       ∙ ap (λ o. option_map_or (λ (x : ℕ × Kind). is_granted_kind x.1) o false)
-      (sym (find_seen (λ (y : ℕ × Kind). y.0 == g) geom_seen t.geoms))
+      (sym (find-map (λ (y : ℕ × Kind). y.0 == g) geom_seen t.geoms))
     where
       at : (o : Option (Geom C))
           → option_map_or (λ (x : Geom C). is_granted_kind x.kind) o false
@@ -81,7 +73,7 @@ module _ {C : Type 0} where
       (λ (x : ℕ × ℕ × Option ℕ).
       if holds_seen (seen_by_counts t.topology) x.1 then unwrap_or (value_at t.wants c) no_counts else no_counts) o
       no_counts)
-      (sym (find_seen (λ (y : ℕ × ℕ × Option ℕ). y.0 == c) consumer_seen t.topology.consumers))
+      (sym (find-map (λ (y : ℕ × ℕ × Option ℕ). y.0 == c) consumer_seen t.topology.consumers))
     where
       at : (o : Option Consumer)
           → option_map_or
@@ -146,13 +138,8 @@ module _ {C : Type 0} (t : TopoView C) (u : Topology C) (same : seen_by_counts u
         provider = None;
         spoiled = false;
       })))
-      ∙ map_same (λ (c : Consumer). (c.number, want granted t.topology c))
-      (λ (c : Consumer). (c.number, want granted u c)) u.consumers
-      (each_of (λ (c : Consumer). ◌≡◌ {A = ℕ × Counts} (c.number, want granted t.topology c)
-      (c.number, want granted u c)) u.consumers
-      (λ c there.
-      let P : Counts → ℕ × Counts = λ a. (c.number, a) in
-      ap P (sym ((seen_stays granted t.topology u (sym same)).wants c tt))))
+      ∙ rows_agree (λ (c : Consumer). c.number) (want granted t.topology) (want granted u) u.consumers
+      (λ c there. sym ((seen_stays granted t.topology u (sym same)).wants c tt))
 
   -- only the first two geoms are of DEV or TASTE
   kinds_stay : All (λ (g : Geom C). is_granted_kind g.kind ≡ true → (g.number ≡ 1) ⊎ (g.number ≡ 2)) t.topology.geoms
@@ -169,13 +156,11 @@ module _ {C : Type 0} (t : TopoView C) (u : Topology C) (same : seen_by_counts u
 
   -- nothing is left to try
   clear_stays : clear_scratches u ≡ clear_scratches t.topology
-  clear_stays =
-      ap (λ rows. record (clear_scratches u) { geoms = rows }) (geom_rows (λ n. no_scratch))
-      ∙ ap (λ rows. record (clear_scratches u) {
-        geoms = map (λ (x : Geom C). (x.number, no_scratch)) t.topology.geoms;
-        providers = rows;
-      }) (provider_rows (λ n. no_scratch))
-      ∙ ap (λ rows. record (clear_scratches t.topology) { consumers = rows }) (consumer_rows (λ n g. no_scratch))
+  clear_stays = λ i. record {
+    geoms = geom_rows (λ n. no_scratch) i;
+    providers = provider_rows (λ n. no_scratch) i;
+    consumers = consumer_rows (λ n g. no_scratch) i;
+  }
 
   -- all stored counts are what the model sums up
   counted_stays : IsCounted t → IsCounted other
@@ -196,11 +181,8 @@ module _ {C : Type 0} (t : TopoView C) (u : Topology C) (same : seen_by_counts u
             (λ z there. sym (second.haves z.number ∙ first.haves z.number));
         wants =
             stores_stay (granted_by t) counted.wants
-            ∙ map_same (λ (c : Consumer). (c.number, want (granted_by t) u c))
-            (λ (c : Consumer). (c.number, want (granted_by other) u c)) u.consumers
-            (each_of (λ (c : Consumer). ◌≡◌ {A = ℕ × Counts} (c.number, want (granted_by t) u c)
-            (c.number, want (granted_by other) u c)) u.consumers
-            (λ c there. let P : Counts → ℕ × Counts = λ a. (c.number, a) in ap P (sym (second.wants c there))));
+            ∙ rows_agree (λ (c : Consumer). c.number) (want (granted_by t) u) (want (granted_by other) u) u.consumers
+            (λ c there. sym (second.wants c there));
         exclusive = second.exclusive (first.exclusive counted.exclusive);
         limit = second.limit (first.limit counted.limit);
         risen = counted.risen ∙ sym provider_keys;
@@ -219,3 +201,65 @@ module _ {C : Type 0} (t : TopoView C) (u : Topology C) (same : seen_by_counts u
       fallen = quiet.fallen ∙ sym (provider_rows (λ n. false));
     };
   }
+
+-- What this crate does
+
+module _ {C : Type 0} where
+  -- an error
+  seen_error : (t : Topology C) (p : ℕ) → seen_by_counts (set_error t p) ≡ seen_by_counts t
+  seen_error t p =
+      ap (λ ps. record (seen_by_counts t) { providers = ps })
+      (map-changed (λ (x : Provider). x.number == p) (λ x. record x { errored = true })
+      (λ (x : Provider). (x.number, x.geom)) (λ x hit. refl) t.providers)
+
+  -- a geom that withers
+  seen_withering : (t : Topology C) (g : ℕ) → seen_by_counts (set_withering t g) ≡ seen_by_counts t
+  seen_withering t g =
+      ap (λ gs. record (seen_by_counts t) { geoms = gs })
+      (map-changed (λ (x : Geom C). x.number == g) (λ x. record x { withering = true })
+      (λ (x : Geom C). (x.number, x.kind)) (λ x hit. refl) t.geoms)
+
+  -- marks
+  pub seen_marks : (t : Topology C) (test : Consumer → Bool) (mark : Bool)
+      → seen_by_counts (set_marks t test mark) ≡ seen_by_counts t
+  seen_marks t test mark =
+      ap (λ cs. record (seen_by_counts t) { consumers = cs })
+      (map-changed test (λ x. record x { spoiled = mark })
+      (λ (x : Consumer). (x.number, x.geom, x.provider)) (λ x hit. refl) t.consumers)
+
+  -- a geom that withers, with its providers
+  pub seen_wither : (q : QueuedTopology C) (g : ℕ) → seen_by_counts (wither q g).topology ≡ seen_by_counts q.topology
+  seen_wither = wither_leaves seen_by_counts seen_error seen_withering
+
+  -- a spoil
+  pub seen_spoil : (q : QueuedTopology C) (p : ℕ) → seen_by_counts (spoil q p).topology ≡ seen_by_counts q.topology
+  seen_spoil q p =
+      fold_leaves (λ (r : QueuedTopology C). seen_by_counts r.topology) spoil_consumer
+      (λ r c.
+      unless_leaves seen_by_counts seen_error seen_withering
+      (record r { topology = set_marks r.topology (λ x. x.number == c.number) false }) c.geom
+      ∙ seen_marks r.topology (λ x. x.number == c.number) false)
+      (filter (λ c. c.spoiled) (attached_to q.topology p)) q
+
+  -- an orphan
+  pub seen_orphan : (q : QueuedTopology C) (p : ℕ) → seen_by_counts (orphan q p).topology ≡ seen_by_counts q.topology
+  seen_orphan q p =
+      fold_leaves (λ (r : QueuedTopology C). seen_by_counts r.topology) orphan_consumer
+      (orphan_leaves seen_by_counts seen_error seen_withering) (attached_to q.topology p) q
+
+  -- what was done where a geom may wither
+  pub seen_if : (b : Bool) (q new : QueuedTopology C) (g : ℕ) → new ≡ (if b then wither q g else q)
+      → seen_by_counts new.topology ≡ seen_by_counts q.topology
+  seen_if = if_leaves seen_by_counts seen_error seen_withering
+
+  -- a change of the graph alone that isn't seen leaves all that counts keep
+  pub mesh_kept : (t new : TopoView C) → new ≡ with_topology t new.topology
+      → seen_by_counts new.topology ≡ seen_by_counts t.topology → CountsStay t new
+  mesh_kept t new mesh same = subst (CountsStay t) (sym mesh) (unseen_stays t new.topology same)
+
+  -- the same of what the model says
+  pub seen_kept : (t : TopoView C) (q : Queued) (new : TopoView C) (queue : Queued) (after : QueuedTopology C)
+      → RestStays t q new queue
+      → queued new queue ≡ after → seen_by_counts after.topology ≡ seen_by_counts t.topology → CountsStay t new
+  seen_kept t q new queue after rest is same =
+      mesh_kept t new rest.mesh (ap (λ (r : QueuedTopology C). seen_by_counts r.topology) is ∙ same)

@@ -1,12 +1,30 @@
--- The walk over the providers of a geom that withers.
-use Rattle.std.specs.Prelude.{◌≡◌, ℕ, ◌+◌, Bool, true, false, not, List, [], ◌∷◌, map, filter, fold, if◌then◌else◌}
-use Rattle.std.proofs.Common.{refl, ap, ◌∙◌, arith}
+-- The walk over the providers of a geom that withers, and what is left of a walk after a change that it has passed.
+use Rattle.std.specs.Prelude.{◌≡◌, ℕ, ◌<◌, ◌≤◌, ◌==◌, nat_le, false, List, ◌+◌, Bool, true, not, [], ◌∷◌, map, filter, fold, if◌then◌else◌}
+use Rattle.std.proofs.Common.{ap, ◌∙◌, arith, refl}
+use Rattle.std.proofs.lemmas.Bool.{leb-true, ne_eqb}
+use Rattle.geo_model.specs.Words.{change_where}
+use Rattle.geo_laws_graph.specs.LookupLaws.{left_from, ErrorIsFound}
+use Rattle.geo_laws_graph.proofs.Lists.{filter-changed, unhit}
+use Rattle.geo_laws_graph.proofs.Members.{All-from_contained, filter-Contains}
 use Rattle.geo_model.specs.Topology.{Topology, Provider, providers_of, set_error}
 use Rattle.geo_model.specs.Events.{QueuedTopology, orphan_provider}
-use Rattle.geo_laws_graph.specs.LookupLaws.{left_from, ErrorIsFound}
 use Rattle.geo_laws_graph.proofs.Found.{error-found}
 use Rattle.geo_laws_graph.proofs.Walks.{walk-begin}
-use Rattle.geo_life.proofs.Lefts.{left_past}
+
+module _ {X : Type 0} (number : X → ℕ) (change : X → X) (same : (x : X) → number (change x) ≡ number x) (n : ℕ) where
+  -- a change of the item of a number leaves what is left from a greater number on
+  pub left_past : (m : ℕ) → n < m → (xs : List X)
+      → left_from number m (change_where (λ x. number x == n) change xs) ≡ left_from number m xs
+  left_past m less xs =
+      filter-changed (λ (x : X). number x == n) change (λ (x : X). nat_le m (number x))
+      (λ x hit. ap (nat_le m) (same x))
+      xs
+      ∙ unhit (λ (x : X). number x == n) change (left_from number m xs)
+      (All-from_contained (λ (x : X). (number x == n) ≡ false) (left_from number m xs)
+      (λ x there.
+      let past : m ≤ number x =
+      leb-true m (number x) (filter-Contains (λ (y : X). nat_le m (number y)) xs x there).1 in
+      ne_eqb (number x) n (λ is. omega (arith, is, past, less))))
 
 module _ {C : Type 0} (g : ℕ) where
   -- the providers of the geom from a number on

@@ -6,60 +6,50 @@ use Rattle.geo_access.specs.Access.{noted}
 use Rattle.geo_slots.specs.Slots.{with_value}
 use Rattle.geo_mesh.specs.Topo.{TopoView}
 use Rattle.geo_life.specs.Life.{queued, notes}
-use Rattle.geo_life.proofs.Announced.{fall_step, fall_next, fall_less, fall_fewer, fall_notes, fall_graph, fall_mesh, fall_end}
-use Rattle.geo_life.proofs.Announcing.{note_none}
+use Rattle.geo_life.proofs.Announced.{fall_step, fall_taken, fall_mesh, fall_end, note_none}
 use Rattle.geo_life.proofs.announces.announce_fallen.Goals as goal
 
 -- the note that was taken counted for one place, which is spare still
 pub offer_again-requires : goal.offer_again-requires
 offer_again-requires g c =
-    let less =
-    fall_less c.args.topo.now c.loop-prov.topo c.loop-prov.invariant.counted c.in-Some.ensures.sound
-    c.loop-prov.invariant.mesh c.in-Some.prov (sym c.in-Some.ensures.first)
-    c.next_fallen.new.topo c.in-Some.ensures.dropped in
-    omega (arith, less, c.loop-prov.invariant.room)
+    let taken =
+    fall_taken c.loop-prov.invariant.counted c.in-Some.ensures.sound (sym c.in-Some.ensures.first)
+    c.in-Some.ensures.dropped in
+    omega (arith, taken.less, c.loop-prov.invariant.room)
 
 pub loop-prov-smaller : goal.loop-prov-smaller
 loop-prov-smaller g c =
-    let fewer = fall_fewer c.args.topo.now c.loop-prov.topo c.loop-prov.invariant.counted c.in-Some.ensures.sound
-    c.loop-prov.invariant.mesh c.in-Some.prov (sym c.in-Some.ensures.first) c.next_fallen.new.topo
+    let taken =
+    fall_taken c.loop-prov.invariant.counted c.in-Some.ensures.sound (sym c.in-Some.ensures.first)
     c.in-Some.ensures.dropped in
-    omega (arith, fewer)
+    omega (arith, taken.less, ap (λ (v : TopoView g.row.C.Denot). notes v.fallen) taken.is)
 
 -- the least note is gone, its provider was offered or not as the model does first, and the graph is as before
 pub loop-prov-preserved : goal.loop-prov-preserved
 loop-prov-preserved g c =
-    let first = sym c.in-Some.ensures.first in
+    let taken =
+    fall_taken c.loop-prov.invariant.counted c.in-Some.ensures.sound (sym c.in-Some.ensures.first)
+    c.in-Some.ensures.dropped in
     let rows = with_value c.loop-prov.topo.fallen c.in-Some.prov false in
-    let less =
-    fall_less c.args.topo.now c.loop-prov.topo c.loop-prov.invariant.counted c.in-Some.ensures.sound
-    c.loop-prov.invariant.mesh c.in-Some.prov first c.next_fallen.new.topo c.in-Some.ensures.dropped in
-    let kept : c.next_fallen.new.topo.fallen ≡ rows =
-    fall_notes c.args.topo.now c.loop-prov.topo c.loop-prov.invariant.counted c.in-Some.ensures.sound
-    c.loop-prov.invariant.mesh c.in-Some.prov first c.next_fallen.new.topo c.in-Some.ensures.dropped in
+    let kept : c.next_fallen.new.topo.fallen ≡ rows = ap (λ (v : TopoView g.row.C.Denot). v.fallen) taken.is in
     let now : notes c.next_fallen.new.topo.fallen ≡ notes rows = ap notes kept in
     record {
       counted = c.in-Some.ensures.counted;
       announced =
           ap (λ rs. announce_fallen (noted rs) (queued c.next_fallen.new.topo c.offer_again.new.queue)) kept
-          ∙ fall_step c.loop-prov.topo.fallen rows c.in-Some.prov
-          (fall_next c.args.topo.now c.loop-prov.topo c.loop-prov.invariant.counted c.in-Some.ensures.sound
-          c.loop-prov.invariant.mesh c.in-Some.prov first c.next_fallen.new.topo c.in-Some.ensures.dropped)
+          ∙ fall_step c.loop-prov.topo.fallen rows c.in-Some.prov taken.next
           (queued c.loop-prov.topo c.loop-prov.queue) (queued c.next_fallen.new.topo c.offer_again.new.queue)
           (c.offer_again.ensures.offered
           ∙ ap (λ (u : Topology g.row.C.Denot). offer_again (record {
             topology = u;
             events = c.loop-prov.queue.events;
           }) c.in-Some.prov)
-          (fall_graph c.args.topo.now c.loop-prov.topo c.loop-prov.invariant.counted c.in-Some.ensures.sound
-          c.loop-prov.invariant.mesh c.in-Some.prov first c.next_fallen.new.topo c.in-Some.ensures.dropped))
+          (ap (λ (v : TopoView g.row.C.Denot). v.topology) taken.is))
           ∙ c.loop-prov.invariant.announced;
-      mesh =
-          fall_mesh c.args.topo.now c.loop-prov.topo c.loop-prov.invariant.counted c.in-Some.ensures.sound
-          c.loop-prov.invariant.mesh c.in-Some.prov first c.next_fallen.new.topo c.in-Some.ensures.dropped;
+      mesh = fall_mesh c.args.topo.now c.loop-prov.invariant.mesh taken;
       memory = c.offer_again.ensures.memory ∙ c.loop-prov.invariant.memory;
-      owed = omega (arith, less, now, c.loop-prov.invariant.owed, c.offer_again.ensures.room);
-      room = omega (arith, less, now, c.loop-prov.invariant.room, c.offer_again.ensures.room);
+      owed = omega (arith, taken.less, now, c.loop-prov.invariant.owed, c.offer_again.ensures.room);
+      room = omega (arith, taken.less, now, c.loop-prov.invariant.room, c.offer_again.ensures.room);
     }
 
 pub returns-clause-announced : goal.returns-clause-announced
@@ -72,5 +62,5 @@ returns-clause-announced g c =
 pub returns-clause-mesh : goal.returns-clause-mesh
 returns-clause-mesh g c =
     c.in_default.ensures.dropped
-    ∙ fall_end c.args.topo.now c.loop-prov.topo c.loop-prov.invariant.counted c.in_default.ensures.sound
-    c.loop-prov.invariant.mesh (sym c.in_default.ensures.first)
+    ∙ fall_end c.args.topo.now c.loop-prov.invariant.mesh c.loop-prov.invariant.counted
+    (sym c.in_default.ensures.first)

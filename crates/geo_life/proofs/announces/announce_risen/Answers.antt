@@ -6,53 +6,43 @@ use Rattle.geo_slots.specs.Slots.{with_value}
 use Rattle.geo_mesh.specs.Topo.{TopoView}
 use Rattle.geo_laws_counts.specs.CountWords.{seen_by_counts}
 use Rattle.geo_life.specs.Life.{queued, notes, without_rises, IsDevMade, AreStored, CountsStay}
-use Rattle.geo_life.proofs.Seen.{mesh_kept}
-use Rattle.geo_life.proofs.Announcing.{note_none}
-use Rattle.geo_life.proofs.Announced.{rise_step, rise_stored, rise_end, rise_next, rise_less, rise_fewer, rise_notes, rise_mesh, rise_unseen, rise_made, rise_out, mid_is}
+use Rattle.geo_life.proofs.Unseen.{mesh_kept}
+use Rattle.geo_life.proofs.Announced.{note_none, rise_step, rise_taken, rise_stored, rise_end, rise_notes, rise_mesh, rise_unseen, rise_made, rise_out}
 use Rattle.geo_life.proofs.announces.announce_risen.Goals as goal
 
 -- taking a note leaves the graph, so DEV is as it was made
 pub spoil_at-requires-clause-made : goal.spoil_at-requires-clause-made
 spoil_at-requires-clause-made g c =
-    subst (λ (v : TopoView g.row.C.Denot). IsDevMade v.topology)
-    (sym (mid_is c.args.topo.now c.loop-prov.topo c.loop-prov.invariant.counted c.in-Some.ensures.sound
-    c.loop-prov.invariant.mesh c.loop-prov.invariant.seen c.in-Some.prov (sym c.in-Some.ensures.first)
-    c.next_risen.new.topo c.in-Some.ensures.dropped)) c.loop-prov.invariant.made
+    let taken =
+    rise_taken c.loop-prov.invariant.counted c.in-Some.ensures.sound (sym c.in-Some.ensures.first)
+    c.in-Some.ensures.dropped in
+    subst (λ (v : TopoView g.row.C.Denot). IsDevMade v.topology) (sym taken.is) c.loop-prov.invariant.made
 
 -- the note that was taken counted for one place, which is spare still
 pub spoil_at-requires-clause-room : goal.spoil_at-requires-clause-room
 spoil_at-requires-clause-room g c =
-    let less =
-    rise_less c.args.topo.now c.loop-prov.topo c.loop-prov.invariant.counted c.in-Some.ensures.sound
-    c.loop-prov.invariant.mesh c.loop-prov.invariant.seen c.in-Some.prov (sym c.in-Some.ensures.first)
-    c.next_risen.new.topo c.in-Some.ensures.dropped in
-    omega (arith, less, c.loop-prov.invariant.room)
+    let taken =
+    rise_taken c.loop-prov.invariant.counted c.in-Some.ensures.sound (sym c.in-Some.ensures.first)
+    c.in-Some.ensures.dropped in
+    omega (arith, taken.less, c.loop-prov.invariant.room)
 
 pub loop-prov-smaller : goal.loop-prov-smaller
 loop-prov-smaller g c =
-    let fewer = rise_fewer c.args.topo.now c.loop-prov.topo c.loop-prov.invariant.counted c.in-Some.ensures.sound
-    c.loop-prov.invariant.mesh c.loop-prov.invariant.seen c.in-Some.prov (sym c.in-Some.ensures.first)
-    c.next_risen.new.topo c.in-Some.ensures.dropped c.spoil_at.new.topo c.spoil_at.ensures.rest.mesh in
-    omega (arith, fewer)
+    let taken =
+    rise_taken c.loop-prov.invariant.counted c.in-Some.ensures.sound (sym c.in-Some.ensures.first)
+    c.in-Some.ensures.dropped in
+    omega (arith, taken.less, ap notes (rise_notes taken c.spoil_at.ensures.rest.mesh))
 
 -- the provider noted first was spoiled as the model does it first; counts see no marks, so all stored ones are right
 pub loop-prov-preserved : goal.loop-prov-preserved
 loop-prov-preserved g c =
-    let first = sym c.in-Some.ensures.first in
+    let taken =
+    rise_taken c.loop-prov.invariant.counted c.in-Some.ensures.sound (sym c.in-Some.ensures.first)
+    c.in-Some.ensures.dropped in
     let rows = with_value c.loop-prov.topo.risen c.in-Some.prov false in
-    let less =
-    rise_less c.args.topo.now c.loop-prov.topo c.loop-prov.invariant.counted c.in-Some.ensures.sound
-    c.loop-prov.invariant.mesh c.loop-prov.invariant.seen c.in-Some.prov first
-    c.next_risen.new.topo c.in-Some.ensures.dropped in
-    let kept : c.spoil_at.new.topo.risen ≡ rows =
-    rise_notes c.args.topo.now c.loop-prov.topo c.loop-prov.invariant.counted c.in-Some.ensures.sound
-    c.loop-prov.invariant.mesh c.loop-prov.invariant.seen c.in-Some.prov first
-    c.next_risen.new.topo c.in-Some.ensures.dropped c.spoil_at.new.topo c.spoil_at.ensures.rest.mesh in
+    let kept : c.spoil_at.new.topo.risen ≡ rows = rise_notes taken c.spoil_at.ensures.rest.mesh in
     let now : notes c.spoil_at.new.topo.risen ≡ notes rows = ap notes kept in
-    let mid : c.next_risen.new.topo ≡ record c.loop-prov.topo { risen = rows } =
-    mid_is c.args.topo.now c.loop-prov.topo c.loop-prov.invariant.counted c.in-Some.ensures.sound
-    c.loop-prov.invariant.mesh c.loop-prov.invariant.seen c.in-Some.prov first
-    c.next_risen.new.topo c.in-Some.ensures.dropped in
+    let mid : c.next_risen.new.topo ≡ record c.loop-prov.topo { risen = rows } = taken.is in
     record {
       made =
           rise_made c.next_risen.new.topo c.loop-prov.queue (queued c.spoil_at.new.topo c.spoil_at.new.queue)
@@ -61,29 +51,22 @@ loop-prov-preserved g c =
       counted = CountsStay.counted c.spoil_at.ensures.kept c.in-Some.ensures.counted;
       announced = λ granted stored.
           ap (λ rs. announce_risen granted (noted rs) (queued c.spoil_at.new.topo c.spoil_at.new.queue)) kept
-          ∙ rise_step c.loop-prov.topo.risen rows c.in-Some.prov
-          (rise_next c.args.topo.now c.loop-prov.topo c.loop-prov.invariant.counted c.in-Some.ensures.sound
-          c.loop-prov.invariant.mesh c.loop-prov.invariant.seen c.in-Some.prov first
-          c.next_risen.new.topo c.in-Some.ensures.dropped)
+          ∙ rise_step c.loop-prov.topo.risen rows c.in-Some.prov taken.next
           (queued c.loop-prov.topo c.loop-prov.queue) (queued c.spoil_at.new.topo c.spoil_at.new.queue) granted
           (c.spoil_at.ensures.spoiled granted
           (subst (AreStored granted) (sym mid)
-          (rise_stored c.args.topo.now c.loop-prov.topo c.loop-prov.invariant.counted c.in-Some.ensures.sound
-          c.loop-prov.invariant.mesh c.loop-prov.invariant.seen granted stored))
+          (rise_stored c.args.topo.now c.loop-prov.invariant.mesh c.loop-prov.invariant.seen granted stored))
           ∙ ap (λ (v : TopoView g.row.C.Denot). spoil_at granted (queued v c.loop-prov.queue) c.in-Some.prov) mid)
           ∙ c.loop-prov.invariant.announced granted stored;
-      mesh =
-          rise_mesh c.args.topo.now c.loop-prov.topo c.loop-prov.invariant.counted c.in-Some.ensures.sound
-          c.loop-prov.invariant.mesh c.loop-prov.invariant.seen c.in-Some.prov first
-          c.next_risen.new.topo c.in-Some.ensures.dropped c.spoil_at.new.topo c.spoil_at.ensures.rest.mesh;
+      mesh = rise_mesh taken c.spoil_at.ensures.rest.mesh c.args.topo.now c.loop-prov.invariant.mesh;
       seen =
           rise_unseen c.next_risen.new.topo c.loop-prov.queue (queued c.spoil_at.new.topo c.spoil_at.new.queue)
           c.in-Some.prov c.in-Some.ensures.counted c.spoil_at.ensures.spoiled
           ∙ ap (λ (v : TopoView g.row.C.Denot). seen_by_counts v.topology) mid
           ∙ c.loop-prov.invariant.seen;
       memory = c.spoil_at.ensures.rest.room ∙ c.loop-prov.invariant.memory;
-      owed = omega (arith, less, now, c.loop-prov.invariant.owed, c.spoil_at.ensures.room);
-      room = omega (arith, less, now, c.loop-prov.invariant.room, c.spoil_at.ensures.room);
+      owed = omega (arith, taken.less, now, c.loop-prov.invariant.owed, c.spoil_at.ensures.room);
+      room = omega (arith, taken.less, now, c.loop-prov.invariant.room, c.spoil_at.ensures.room);
     }
 
 pub returns-clause-announced : goal.returns-clause-announced
@@ -99,8 +82,8 @@ pub returns-clause-rest : goal.returns-clause-rest
 returns-clause-rest g c = record {
   mesh =
       rise_out c.args.topo.now c.loop-prov.topo c.next_risen.new.topo
-      (rise_end c.args.topo.now c.loop-prov.topo c.loop-prov.invariant.counted c.in_default.ensures.sound
-      c.loop-prov.invariant.mesh c.loop-prov.invariant.seen (sym c.in_default.ensures.first))
+      (rise_end c.args.topo.now c.loop-prov.invariant.mesh c.loop-prov.invariant.seen c.loop-prov.invariant.counted
+      (sym c.in_default.ensures.first))
       c.in_default.ensures.dropped;
   room = c.loop-prov.invariant.memory;
 }
@@ -115,8 +98,8 @@ pub returns-clause-kept : goal.returns-clause-kept
 returns-clause-kept g c =
     mesh_kept (without_rises c.args.topo.now) c.next_risen.new.topo
     (rise_out c.args.topo.now c.loop-prov.topo c.next_risen.new.topo
-    (rise_end c.args.topo.now c.loop-prov.topo c.loop-prov.invariant.counted c.in_default.ensures.sound
-    c.loop-prov.invariant.mesh c.loop-prov.invariant.seen (sym c.in_default.ensures.first))
+    (rise_end c.args.topo.now c.loop-prov.invariant.mesh c.loop-prov.invariant.seen c.loop-prov.invariant.counted
+    (sym c.in_default.ensures.first))
     c.in_default.ensures.dropped)
     (ap (λ (v : TopoView g.row.C.Denot). seen_by_counts v.topology) c.in_default.ensures.dropped
     ∙ c.loop-prov.invariant.seen)

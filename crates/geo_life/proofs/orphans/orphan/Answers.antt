@@ -3,15 +3,15 @@ use Rattle.geo_model.specs.Events.{orphan, orphan_consumer}
 use Rattle.geo_life.specs.Life.{queued}
 use Rattle.geo_life.proofs.Uppers.{orphan_above}
 use Rattle.geo_life.proofs.Rest.{rest_none, rest_more, sound_known}
-use Rattle.geo_life.proofs.Seen.{seen_kept, seen_orphan}
-use Rattle.geo_life.proofs.Spoiling.{hear_begin, hear_step, hear_end, orphan_leaves}
+use Rattle.geo_life.proofs.Unseen.{seen_kept, seen_orphan}
+use Rattle.geo_life.proofs.Spoiling.{hear_begin, hear_step, hear_end, heard_leaves}
 use Rattle.geo_life.proofs.orphans.orphan.Goals as goal
 
 -- nothing is done yet; consumers of DEV hear nothing, so those above that aren't DEV's are enough
 pub loop-id-init : goal.loop-id-init
 loop-id-init g c = record {
   orphaned = λ sound.
-      hear_begin c.args.prov orphan_consumer orphan_leaves (queued c.args.topo.now c.args.queue.now)
+      hear_begin c.args.prov orphan_consumer heard_leaves (queued c.args.topo.now c.args.queue.now)
       ∙ orphan_above (queued c.args.topo.now c.args.queue.now) c.args.prov sound;
   known = inl refl;
   rest = rest_none c.args.topo.now c.args.queue.now;
@@ -24,7 +24,7 @@ pub loop-id-preserved : goal.loop-id-preserved
 loop-id-preserved g c = record {
   orphaned = λ sound.
       rw c.number-from.ensures
-      (hear_step c.args.prov orphan_consumer orphan_leaves (queued c.loop-id.topo c.loop-id.queue)
+      (hear_step c.args.prov orphan_consumer heard_leaves (queued c.loop-id.topo c.loop-id.queue)
       (queued c.orphan_consumer.new.topo c.orphan_consumer.new.queue) c.loop-id.from
       _ c.in-Some.ensures.next.left
       (c.orphan_consumer.ensures.orphaned c.in-Some.id)
@@ -39,7 +39,7 @@ loop-id-preserved g c = record {
 
 pub returns-clause-orphaned : goal.returns-clause-orphaned
 returns-clause-orphaned g c =
-    sym (hear_end c.args.prov orphan_consumer orphan_leaves (queued c.loop-id.topo c.loop-id.queue) c.loop-id.from
+    sym (hear_end c.args.prov orphan_consumer heard_leaves (queued c.loop-id.topo c.loop-id.queue) c.loop-id.from
     c.in_default.ensures.next)
     ∙ c.loop-id.invariant.orphaned
     (sound_known c.args.topo.now c.loop-id.topo c.loop-id.invariant.known c.in_default.ensures.sound)
@@ -48,7 +48,7 @@ pub returns-clause-kept : goal.returns-clause-kept
 returns-clause-kept g c =
     seen_kept c.args.topo.now c.args.queue.now c.loop-id.topo c.loop-id.queue
     (orphan (queued c.args.topo.now c.args.queue.now) c.args.prov) c.loop-id.invariant.rest
-    (sym (hear_end c.args.prov orphan_consumer orphan_leaves (queued c.loop-id.topo c.loop-id.queue) c.loop-id.from
+    (sym (hear_end c.args.prov orphan_consumer heard_leaves (queued c.loop-id.topo c.loop-id.queue) c.loop-id.from
     c.in_default.ensures.next)
     ∙ c.loop-id.invariant.orphaned
     (sound_known c.args.topo.now c.loop-id.topo c.loop-id.invariant.known c.in_default.ensures.sound))

@@ -3,9 +3,8 @@ use Rattle.geo_model.specs.Events.{outgrow_consumer}
 use Rattle.geo_life.specs.Life.{queued}
 use Rattle.geo_life.proofs.Uppers.{outgrow_above}
 use Rattle.geo_life.proofs.Rest.{rest_none, rest_more}
-use Rattle.geo_life.proofs.Seen.{mesh_kept, seen_if}
-use Rattle.geo_life.proofs.Growing.{outgrow_is}
-use Rattle.geo_life.proofs.MarkWalk.{stored_still}
+use Rattle.geo_life.proofs.Unseen.{mesh_kept, seen_if}
+use Rattle.geo_life.proofs.MarkWalk.{outgrow_is, stored_still}
 use Rattle.geo_life.proofs.Spoiling.{hear_begin, hear_step, hear_end, outgrow_leaves, if_next}
 use Rattle.geo_life.proofs.resizes.outgrow.Goals as goal
 

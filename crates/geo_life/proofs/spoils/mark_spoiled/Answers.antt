@@ -1,7 +1,7 @@
 use Rattle.std.proofs.Common.{refl, sym, ap, ◌∙◌, inl, inr}
 use Rattle.geo_mesh.specs.Topo.{TopoView}
 use Rattle.geo_life.proofs.Rest.{mesh_self, sound_known}
-use Rattle.geo_life.proofs.Seen.{mesh_kept}
+use Rattle.geo_life.proofs.Unseen.{mesh_kept}
 use Rattle.geo_life.proofs.MarkWalk.{marks_begin, marks_step, marks_end, mark_mesh, mark_unseen}
 use Rattle.geo_life.proofs.spoils.mark_spoiled.Goals as goal
 

@@ -7,7 +7,7 @@ use Rattle.geo_mesh.specs.Graph.{IsSoundGraph}
 use Rattle.geo_mesh.specs.Topo.{with_topology}
 use Rattle.geo_laws_counts.specs.CountWords.{seen_by_counts}
 use Rattle.geo_life.specs.Life.{AreStored}
-use Rattle.geo_life.proofs.Marking.{still}
+use Rattle.geo_life.proofs.MarkWalk.{still}
 use Rattle.geo_life.proofs.Rest.{IsKnown}
 use Rattle.geo_life.proofs.spoils.mark_spoiled.Given as goal
 

@@ -2,7 +2,7 @@ use Rattle.std.proofs.Common.{refl, sym, arith, ◌∙◌}
 use Rattle.geo_life.specs.Life.{queued}
 use Rattle.geo_life.proofs.Rest.{rest_none, rest_more}
 use Rattle.geo_model.specs.Events.{spoil}
-use Rattle.geo_life.proofs.Seen.{seen_kept, seen_spoil}
+use Rattle.geo_life.proofs.Unseen.{seen_kept, seen_spoil}
 use Rattle.geo_life.proofs.Spoiling.{spoil_begin, spoil_step, spoil_end}
 use Rattle.geo_life.proofs.spoils.spoil.Goals as goal
 

@@ -2,7 +2,7 @@ use Rattle.geo_model.specs.Topology.{Consumer, consumers_of}
 use Rattle.geo_model.specs.Freeing.{is_idle}
 use Rattle.geo_access.proofs.Folding.{found_begin}
 use Rattle.geo_life.specs.Life.{is_out}
-use Rattle.geo_life.proofs.Washing.{idle_more, idle_found}
+use Rattle.geo_life.proofs.FirstWash.{idle_more, idle_found}
 use Rattle.geo_life.proofs.washes.free_consumer.Goals as goal
 
 pub loop-id-init : goal.loop-id-init

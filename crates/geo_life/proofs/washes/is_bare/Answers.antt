@@ -1,7 +1,7 @@
 use Rattle.std.proofs.Common.{sym, ap, ◌∙◌, ◌≡◌}
 use Rattle.std.specs.Prelude.{is_none, ◌&&◌, ◌==◌, length, true, false}
 use Rattle.geo_model.specs.Topology.{Provider, Consumer, providers_of, consumers_of}
-use Rattle.geo_life.proofs.Washing.{none_first, told_none}
+use Rattle.geo_life.proofs.FirstWash.{none_first, told_none}
 use Rattle.geo_life.proofs.washes.is_bare.Goals as goal
 
 -- for both ways: a geom has no part of a kind just where none is found from number 0 on

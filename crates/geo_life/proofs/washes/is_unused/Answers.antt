@@ -1,7 +1,7 @@
 use Rattle.std.proofs.Common.{sym, ap, ◌∙◌}
 use Rattle.std.specs.Prelude.{is_none}
 use Rattle.geo_model.specs.Topology.{Consumer, attached_to}
-use Rattle.geo_life.proofs.Washing.{none_first, none_there, told_none}
+use Rattle.geo_life.proofs.FirstWash.{none_first, none_there, told_none}
 use Rattle.geo_life.proofs.washes.is_unused.Goals as goal
 
 -- nothing is attached just where no consumer is found there from number 0 on

@@ -2,7 +2,7 @@ use Rattle.std.proofs.Common.{sym, subst}
 use Rattle.geo_mesh.specs.Topo.{without_geom}
 use Rattle.geo_life.specs.Life.{CountsStay}
 use Rattle.geo_life.specs.Wash.{IsFree}
-use Rattle.geo_life.proofs.Washing.{not_withering}
+use Rattle.geo_life.proofs.FirstWash.{not_withering}
 use Rattle.geo_life.proofs.Dropping.{unused_stays, bare_stays, roomy}
 use Rattle.geo_life.proofs.washes.wash.Goals as goal
 

@@ -1,6 +1,6 @@
 use Rattle.std.proofs.Common.{sym, ◌∙◌}
 use Rattle.geo_life.specs.Life.{is_out}
-use Rattle.geo_life.proofs.Washing.{work_provider, work_consumer, work_geom, work_none}
+use Rattle.geo_life.proofs.FirstWash.{work_provider, work_consumer, work_geom, work_none}
 use Rattle.geo_life.proofs.washes.wash_work_of.Goals as goal
 
 -- for each find: the model looks in this order, and what comes before was looked for and not found

@@ -4,7 +4,7 @@ use Rattle.geo_mesh.specs.Topo.{TopoView}
 use Rattle.geo_life.specs.Life.{queued, sound_providers}
 use Rattle.geo_life.proofs.Rest.{mesh_self, rest_more}
 use Rattle.geo_model.specs.Events.{wither}
-use Rattle.geo_life.proofs.Seen.{seen_kept, seen_wither}
+use Rattle.geo_life.proofs.Unseen.{seen_kept, seen_wither}
 use Rattle.geo_life.proofs.Withering.{orphan_begin, orphan_step, orphan_end}
 use Rattle.geo_life.proofs.Spoiling.{error_next}
 use Rattle.geo_life.proofs.withers.wither.Goals as goal
