@@ -37,9 +37,9 @@ use Rattle.geo_drain.specs.Running.{IsRunning}
 use Rattle.geo_drain.specs.Turns.{MakesStep, MakesTurn, ServesTake}
 
 -- a run that made no step
-pub begins : (order : StepOrder) (m : MeshView) (drives : List DriveView) → NoneBusy (world_of m) → IsHistory m
+pub begins : (order : StepOrder) (m : MeshView) (drives : List DriveView) → NoneBusy (world_of m)
     → DrivesFit m drives → IsRunning order m m drives drives
-begins order m drives none_busy history fit = record {
+begins order m drives none_busy fit = record {
   runs = record {
     added = [];
     grown = ap (λ l. record m { log = l }) (sym (append-nil m.log));
@@ -48,7 +48,6 @@ begins order m drives none_busy history fit = record {
     served = all_served_none drives;
   };
   none_busy = none_busy;
-  history = history;
   fit = fit;
 }
 
@@ -86,9 +85,9 @@ follows_more order old added e before last =
 -- a step that neither takes nor delivers
 plain_turn : (order : StepOrder) (old new next : MeshView) (before after later : List DriveView) (s : Step)
     → taken_in s ≡ None → delivered_in s ≡ None → IsRunning order old new before after
-    → order (world_of new) new.log ≡ Some s → IsHistory next → MakesStep new next after later s
+    → order (world_of new) new.log ≡ Some s → MakesStep new next after later s
     → IsRunning order old next before later
-plain_turn order old new next before after later s takes delivers run due history turn = record {
+plain_turn order old new next before after later s takes delivers run due turn = record {
   runs = record {
     added = run.runs.added ++ e ∷ [];
     grown = grown_more order old new run.runs.added run.runs.grown next e turn.made.logged;
@@ -103,7 +102,6 @@ plain_turn order old new next before after later s takes delivers run due histor
       (All-from_recursion (λ (x : Bio). is_busy x.phase ≡ false) (world_by (world_of new) 0 s).bios
       (step_idle (world_of new)
       (recursion_from_All (λ (x : Bio). is_busy x.phase ≡ false) (world_of new).bios run.none_busy) 0 s takes));
-  history = history;
   fit = subst (λ ds. DrivesFit next ds) (sym turn.drives)
       (run.fit ∙ ap (λ (m : MeshView). m.facts) (sym turn.made.logged));
 }
@@ -169,7 +167,6 @@ take_turn order old new next before after later disk b run due history turn = re
       (take_idle (world_of new)
       (recursion_from_All (λ (x : Bio). is_busy x.phase ≡ false) (world_of new).bios run.none_busy) b turn.got disk
       enabled));
-  history = history;
   fit = ap (λ (ds : List DriveView). map sizes ds) turn.answers.drives
       ∙ slot-seen sizes after turn.request.disk turn.answers.new turn.answers.old turn.answers.is_its
       (sizes_same turn.answers.new turn.answers.old turn.answers.serves.sector turn.answers.serves.count)
@@ -246,4 +243,4 @@ goes_on order old new next before after later (steps.Deliver b got) run due hist
     absurd (none_delivered (world_of new) b got run.none_busy
     (made_enabled new next (steps.Deliver b got) turn.outcome turn.made))
 goes_on order old new next before after later s run due history turn =
-    plain_turn order old new next before after later s refl refl run due history turn
+    plain_turn order old new next before after later s refl refl run due turn

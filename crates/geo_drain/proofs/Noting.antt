@@ -31,9 +31,9 @@ module _ (knows : World → List Entry → Type 0) where
 
   -- so it is after a turn
   pub part_after : (order : StepOrder) (old new : MeshView) (before after : List DriveView) (s : Step)
-      → NoneBusy (world_of old) → IsHistory old → DrivesFit old before → order (world_of old) old.log ≡ Some s
+      → NoneBusy (world_of old) → DrivesFit old before → order (world_of old) old.log ≡ Some s
       → IsHistory new → MakesTurn old new before after s → KnowsAll knows old → KnowsPart knows new
-  part_after order old new before after s none_busy history fit due then turn all =
+  part_after order old new before after s none_busy fit due then turn all =
       let run : IsRunning order old new before after =
-      goes_on order old old new before before after s (begins order old before none_busy history fit) due then turn in
+      goes_on order old old new before before after s (begins order old before none_busy fit) due then turn in
       part_of_more old new run.runs.added run.runs.grown all

@@ -5,7 +5,7 @@ use Rattle.geo_model.specs.FixedOrder.{StepOrder}
 use Rattle.geo_model.specs.Laws.{NoneBusy}
 use Rattle.geo_model.specs.World.{World}
 use Rattle.geo_serve.specs.Drives.{DriveView}
-use Rattle.geo_core.specs.Mesh.{IsHistory, MeshView, world_of}
+use Rattle.geo_core.specs.Mesh.{MeshView, world_of}
 use Rattle.geo_drain.specs.Drain.{DrivesFit, Runs}
 use Rattle.geo_drain.specs.Noted.{KnowsPart}
 
@@ -13,7 +13,6 @@ use Rattle.geo_drain.specs.Noted.{KnowsPart}
 pub record IsRunning (order : StepOrder) (old new : MeshView) (before after : List DriveView) : Type 0 where
   pub runs : Runs order old new before after
   pub none_busy : NoneBusy (world_of new)
-  pub history : IsHistory new
   pub fit : DrivesFit new after
 
 -- the order, which began as `first`, is the same one, and knows a part of what the mesh did

@@ -41,8 +41,6 @@ pub fn run_to_rest<D: Disk, O: Order>(
     ensures known { OnOk result (KnowsAll (O.knows order.new) mesh.new) }
     ensures part { OnErr result (KnowsPart (O.knows order.new) mesh.new) }
 {
-    // The log is one that a mesh can have, so each step that is due can be made.
-    let _log = mesh.log();
     let mut pool = Pool::new(alloc);
     while let Some(step) = next_step(mesh, order)? {
         turn(alloc, mesh, disks, &mut pool, step)?;
@@ -59,6 +57,7 @@ fn next_step<O: Order>(mesh: &Mesh, order: &mut O) -> Result<Option<Step>, Drain
     ensures same { O.due order.new ≡ O.due order.old }
     ensures refused { IfErr result (λ refusal. refusal ≡ DrainRefusal.NoMemory) }
     ensures part { OnErr result (KnowsPart (O.knows order.new) mesh.now) }
+    ensures history { IsHistory mesh.now }
 {
     match order.note(mesh) {
         Ok(()) => Ok(order.next(mesh)),

@@ -6,7 +6,7 @@ ghost use Rattle.geo_model.specs.Laws.{NoneBusy, OrderEnds, OrderGoesOn};
 ghost use Rattle.geo_model.specs.World.{World};
 ghost use Rattle.geo_model.proofs.RestLemmas.{pick-rest};
 ghost use Rattle.geo_laws_rest.proofs.Picking.{pick_goes_on};
-ghost use Rattle.geo_core.specs.Mesh.{opened, world_of};
+ghost use Rattle.geo_core.specs.Mesh.{IsHistory, opened, world_of};
 ghost use Rattle.geo_drain.specs.Noted.{KnowsAll, KnowsPart};
 
 use crate::picking::pick;
@@ -27,13 +27,16 @@ pub trait Order {
     fn next(&self, mesh: &Mesh) -> Option<Step>
         requires none_busy { NoneBusy (world_of mesh.now) }
         requires known { KnowsAll (knows self.now) mesh.now }
-        ensures { result ≡ due self.now (world_of mesh.now) mesh.now.log };
+        ensures due { result ≡ due self.now (world_of mesh.now) mesh.now.log }
+        ensures history { IsHistory mesh.now };
 
-    /// Notes what the mesh did since. On `NoMemory` it may know nothing, as before the first entry.
+    /// Notes what the mesh did since. On `NoMemory`, which comes only of a look at the mesh, it may know nothing, as
+    /// before the first entry.
     fn note(&mut self, mesh: &Mesh) -> Result<(), NoMemory>
         requires earlier { KnowsPart (knows self.old) mesh.now }
         ensures noted { OnOk result (KnowsAll (knows self.new) mesh.now) }
         ensures forgot { OnErr result (knows self.new (opened mesh.now) []) }
+        ensures history { OnErr result (IsHistory mesh.now) }
         ensures due { due self.new ≡ due self.old };
 
     /// Where a legal log leads without a Busy bio, the step that is due is enabled and lowers the measure.

@@ -4,7 +4,7 @@ ghost use Rattle.std.specs.Option.{option_map};
 ghost use Rattle.geo_model.specs.declared.step.Step.TheVariants as steps;
 ghost use Rattle.geo_model.specs.Laws.{NoneBusy};
 ghost use Rattle.geo_model.specs.Order.{Rest, earliest, if_enabled, pick, ready_actors};
-ghost use Rattle.geo_core.specs.Mesh.{world_of};
+ghost use Rattle.geo_core.specs.Mesh.{IsHistory, world_of};
 ghost use Rattle.geo_drain.specs.Earliest.{earlier_of, ready_at};
 
 use geo_core::Mesh;
@@ -17,6 +17,7 @@ pub fn pick(mesh: &Mesh) -> Option<Step>
     requires { NoneBusy (world_of mesh.now) }
     ensures picked { result ≡ pick (world_of mesh.now) }
     ensures rest { IsNone result ↔ Rest (world_of mesh.now) }
+    ensures history { IsHistory mesh.now }
 {
     if mesh.at_rest() {
         return None;

@@ -14,7 +14,7 @@ pub loop-pool-init : goal.loop-pool-init
 loop-pool-init g c =
     let seen = drive_view g.D.Disk.view in (
       begins (g.O.Order.due c.args.order.now) c.args.mesh.now (map seen c.args.disks.now) c.requires.none_busy
-          c.log-log.ensures.history c.requires.fit,
+          c.requires.fit,
       record { same = refl; part = c.requires.known },
     )
 
@@ -33,7 +33,7 @@ loop-pool-preserved g c =
       record {
         same = c.in_ok-step.ensures.same ∙ l.invariant.1.same;
         part = part_after (g.O.Order.knows c.next_step.new.order) order l.mesh c.turn.new.mesh (map seen l.disks)
-            (map seen c.turn.new.disks) c.in-Some.step run.none_busy run.history run.fit due
+            (map seen c.turn.new.disks) c.in-Some.step run.none_busy run.fit due
             c.in_ok-turn.ensures.history c.in_ok-turn.ensures.made c.in_ok-step.ensures.known;
       },
     )
@@ -51,4 +51,4 @@ returns-in_err-turn-clause-full g c =
     let same = sym p.1 ∙ e in
     let full : c.in_err-turn.field-0.0 ≡ LogFull = cc (same, p.2) in
     subst (λ (m : MeshView). RanFull order m) (sym c.in_err-turn.ensures.mesh)
-    (ran_full order l.mesh c.in-Some.step l.invariant.0.history due (c.in_err-turn.ensures.full (ap Err full)))
+    (ran_full order l.mesh c.in-Some.step c.in_ok-step.ensures.history due (c.in_err-turn.ensures.full (ap Err full)))
