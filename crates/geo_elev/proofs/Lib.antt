@@ -8,4 +8,5 @@ pub mod Spots
 pub mod Histories
 pub mod Gathered
 pub mod Nexts
+pub mod Parts
 pub mod Forgetting

@@ -49,7 +49,7 @@ one_given w None can = refl
 one_given w (Some s) can = ap (λ (b : Bool). if b then Some s else None) (can s refl)
 
 -- the Take that is next can be made
-pub first_given : (m : MeshView) → IsHistory m → NoneBusy (world_of m)
+first_given : (m : MeshView) → IsHistory m → NoneBusy (world_of m)
     → enabled_one (world_of m) (first_take (world_of m) m.log) ≡ first_take (world_of m) m.log
 first_given m history idle =
     one_given w (first_take w m.log)
@@ -66,3 +66,8 @@ first_given m history idle =
         (λ y found. next_holds (λ (z : Waiting). is_enabled w 0 (steps.Take disk z.bio) ≡ true) (head_of m.log disk)
         (waiting_for w disk) y
         (waiting_can_be_taken w (firm_after m.plan m.facts history.plan history.facts m.log) idle disk) found)
+
+-- so what is first in the elevator order by what is kept is what is given of the mesh
+pub next_given : (m : MeshView) → IsHistory m → NoneBusy (world_of m) → (h : HeadsView) → AreHeads (opened m) m.log h
+    → first_by h ≡ enabled_one (world_of m) (first_take (world_of m) m.log)
+next_given m history idle h are = first_is m history h are ∙ sym (first_given m history idle)

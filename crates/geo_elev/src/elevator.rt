@@ -57,6 +57,7 @@ impl Heads {
             × IsPrefixOf seen mesh.now.log × AreHeads (opened mesh.now) seen self.old }
         ensures noted { OnOk result (AreHeads (opened mesh.now) mesh.now.log self.new) }
         ensures forgot { OnErr result (self.new ≡ no_heads (length self.old.disks)) }
+        ensures history { OnErr result (IsHistory mesh.now) }
     {
         match catch_up(&mut self.disks, mesh, self.noted) {
             Ok(()) => {
@@ -94,6 +95,7 @@ fn catch_up(disks: &mut [DiskHead], mesh: &Mesh, noted: usize) -> Result<(), NoM
     ensures caught { OnOk result (disks.old ≡ heads_at (opened mesh.now) (take noted mesh.now.log) (length disks.old)
         → disks.new ≡ heads_at (opened mesh.now) mesh.now.log (length disks.old)) }
     ensures length { length disks.new ≡ length disks.old }
+    ensures history { IsHistory mesh.now }
 {
     if follow_all(disks, mesh, noted)? {
         return Ok(());

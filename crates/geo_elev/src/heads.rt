@@ -43,6 +43,7 @@ pub fn follow_all(disks: &mut [DiskHead], mesh: &Mesh, noted: usize) -> Result<b
         → disks.old ≡ heads_at (opened mesh.now) (take noted mesh.now.log) n
         → disks.new ≡ heads_at (opened mesh.now) mesh.now.log n) }
     ensures length { length disks.new ≡ length disks.old }
+    ensures history { IsHistory mesh.now }
 {
     let entries = mesh.log().entries();
     let mut at = noted;

@@ -4,12 +4,13 @@ ghost use Rattle.geo_model.specs.declared.step.Entry.{Entry as EntryValue};
 ghost use Rattle.geo_model.specs.Laws.{NoneBusy};
 ghost use Rattle.geo_model.specs.Log.{IsPrefixOf};
 ghost use Rattle.geo_model.specs.Order.{Rest};
-ghost use Rattle.geo_headline.specs.Sweep.{enabled_one, first_take, pick_sweep, sweep_order};
+ghost use Rattle.geo_headline.specs.Sweep.{pick_sweep, sweep_order};
 ghost use Rattle.geo_laws_sweep.proofs.Sweeping.{sweep_goes_on};
 ghost use Rattle.geo_laws_sweep.proofs.SweepRest.{sweep_ends};
 ghost use Rattle.geo_serve.specs.Drives.{drive_view};
 ghost use Rattle.geo_drain.specs.Drain.{DrivesFit, RanFull, Runs};
 ghost use Rattle.geo_drain.specs.Meshes.{IsHistory, opened, world_of};
+ghost use Rattle.geo_elev.specs.Due.{before_takes, behind_takes};
 ghost use Rattle.geo_elev.specs.Heads.{AreHeads};
 
 use crate::elevator::Heads;
@@ -27,19 +28,25 @@ pub fn pick_sweep(mesh: &Mesh, heads: &Heads) -> Option<Step>
     requires heads { AreHeads (opened mesh.now) mesh.now.log heads.now }
     ensures picked { result ≡ pick_sweep (world_of mesh.now) mesh.now.log }
     ensures rest { IsNone result ↔ Rest (world_of mesh.now) }
+    ensures history { IsHistory mesh.now }
 {
     if mesh.at_rest() {
         return None;
     }
-    first_enabled(mesh, heads)
+    if let Some(step) = before_takes(mesh) {
+        return Some(step);
+    }
+    // It is enabled, since no bio is Busy.
+    if let Some(step) = heads.next_take() {
+        return Some(step);
+    }
+    behind_takes(mesh)
 }
 
-// The first enabled step.
-#[tactic(auto, unfolding(geo_headline::specs::Sweep::pick_sweep))]
-fn first_enabled(mesh: &Mesh, heads: &Heads) -> Option<Step>
-    requires none_busy { NoneBusy (world_of mesh.now) }
-    requires heads { AreHeads (opened mesh.now) mesh.now.log heads.now }
-    ensures { result ≡ pick_sweep (world_of mesh.now) mesh.now.log }
+// The first enabled step of those that come before each Take.
+#[tactic(auto, unfolding(crate::specs::Due::before_takes))]
+fn before_takes(mesh: &Mesh) -> Option<Step>
+    ensures { result ≡ before_takes (world_of mesh.now) }
 {
     if let Some(step) = mesh.first_up() {
         return Some(step);
@@ -53,12 +60,17 @@ fn first_enabled(mesh: &Mesh, heads: &Heads) -> Option<Step>
     if let Some(step) = if_enabled(mesh, Step::Event) {
         return Some(step);
     }
-    if let Some(actor) = earliest(mesh) {
-        return Some(Step::Go { actor });
+    match earliest(mesh) {
+        Some(actor) => Some(Step::Go { actor }),
+        None => None,
     }
-    if let Some(step) = next_take(mesh, heads) {
-        return Some(step);
-    }
+}
+
+// The first enabled step of those that come behind each Take.
+#[tactic(auto, unfolding(crate::specs::Due::behind_takes))]
+fn behind_takes(mesh: &Mesh) -> Option<Step>
+    ensures { result ≡ behind_takes (world_of mesh.now) }
+{
     if let Some(step) = if_enabled(mesh, Step::Reap) {
         return Some(step);
     }
@@ -66,17 +78,6 @@ fn first_enabled(mesh: &Mesh, heads: &Heads) -> Option<Step>
         Some(step) => Some(step),
         None => None,
     }
-}
-
-// The Take of what is next at the first disk for which something waits. It is enabled, since no bio is Busy.
-fn next_take(mesh: &Mesh, heads: &Heads) -> Option<Step>
-    requires none_busy { NoneBusy (world_of mesh.now) }
-    requires heads { AreHeads (opened mesh.now) mesh.now.log heads.now }
-    ensures { result ≡ enabled_one (world_of mesh.now) (first_take (world_of mesh.now) mesh.now.log) }
-{
-    // The log is one that a mesh can have, so what is kept is what waits.
-    let _log = mesh.log();
-    heads.next_take()
 }
 
 impl Order for Heads {
