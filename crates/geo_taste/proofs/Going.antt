@@ -18,6 +18,14 @@ use Rattle.geo_laws_graph.proofs.Found.{each-found}
 use Rattle.geo_taste.specs.Going.{going}
 use Rattle.geo_taste.proofs.Tests.{some_passes}
 
+-- a provider that is found with an error carries one
+pub errored_there : {C : Type 0} (t : Topology C) (p : ℕ) (x : Provider) → provider_at t p ≡ Some x → x.errored ≡ true
+    → is_errored t p ≡ true
+errored_there t p x found errored =
+    any-contained (λ (y : Provider). (y.number == p) && y.errored) t.providers x
+    (find-Contains (λ (y : Provider). y.number == p) t.providers x found)
+    (and_from (x.number == p) x.errored (find_passes (λ (y : Provider). y.number == p) t.providers x found) errored)
+
 -- whether a provider carries an error is what stands at it
 pub errored_told : {C : Type 0} (t : Topology C) → IsInOrder t → (p : ℕ)
     → is_errored t p ≡ option_map_or (λ (x : Provider). x.errored) (provider_at t p) false
@@ -41,10 +49,7 @@ errored_told {C} t order p = same_tests (is_errored t p) told forth back
     back : told ≡ true → is_errored t p ≡ true
     back some =
         let found = some_passes (λ (x : Provider). x.errored) (provider_at t p) some in
-        any-contained (λ (x : Provider). (x.number == p) && x.errored) t.providers found.0
-        (find-Contains (λ (x : Provider). x.number == p) t.providers found.0 found.1)
-        (and_from (found.0.number == p) found.0.errored
-        (find_passes (λ (x : Provider). x.number == p) t.providers found.0 found.1) found.2)
+        errored_there t p found.0 found.1 found.2
 
 -- a provider has sectors of some bytes
 pub sector_some : {C : Type 0} (t : Topology C) → IsSoundGraph t → (p : ℕ) (x : Provider) → provider_at t p ≡ Some x

@@ -36,7 +36,7 @@ use Rattle.geo_taste.specs.Judging.{IsJudged, IsKnownAfter, IsKnownWith, IsMadeO
 use Rattle.geo_taste.specs.Saying.{IsAccepting, IsSaid, accepting, is_plain, with_said}
 use Rattle.geo_taste.specs.Taster.{IsSettled, IsTasteOf, judging, makes, with_judged}
 use Rattle.geo_taste.proofs.Begun.{settled_roomed}
-use Rattle.geo_taste.proofs.Going.{errored_told}
+use Rattle.geo_taste.proofs.Going.{errored_there}
 use Rattle.geo_taste.proofs.Growing.{HoldsTaste, accepted_held}
 use Rattle.geo_taste.proofs.Naming.{back_named}
 use Rattle.geo_taste.proofs.Resting.{accepted_idle, ended_rest, rest_tasting, roomed_tasting}
@@ -152,23 +152,30 @@ module _ (t : Topology Config) (s : Taste) where
       by false e found = (e, found)
 
   -- which carries no error
-  goes_sound : (p : Provider) → IsSoundGraph t → going t s ≡ Some p → p.errored ≡ false
-  goes_sound p sound goes =
-      sym (ap (λ o. option_map_or (λ (x : Provider). x.errored) o false) (goes_found p goes).1)
-      ∙ sym (errored_told t sound.orderly.order s.provider)
-      ∙ (or_parts (is_errored t s.provider)
-      (option_map_or (λ (c : Consumer). c.spoiled) (consumer_at t s.consumer) false) (goes_found p goes).0).0
+  goes_sound : (p : Provider) → going t s ≡ Some p → p.errored ≡ false
+  goes_sound p goes = by p.errored refl
+    where
+      none : is_errored t s.provider ≡ false
+      none =
+          (or_parts (is_errored t s.provider)
+          (option_map_or (λ (c : Consumer). c.spoiled) (consumer_at t s.consumer) false) (goes_found p goes).0).0
+
+      by : (b : Bool) → p.errored ≡ b → p.errored ≡ false
+      by true errored =
+          let some : is_errored t s.provider ≡ true = errored_there t s.provider p (goes_found p goes).1 errored in
+          absurd (cc)
+      by false good = good
 
   -- so a geom can stand on it where it isn't too high
-  pub goes_stands : (p : Provider) → IsSoundGraph t → going t s ≡ Some p
+  goes_stands : (p : Provider) → going t s ≡ Some p
       → IfSome (provider_at t s.provider) (λ x. rank t x.geom < UNTASTED_RANK) → CanStandOn t s.provider
-  goes_stands p sound goes low =
+  goes_stands p goes low =
       let found = (goes_found p goes).1 in
       let below : rank t p.geom < UNTASTED_RANK =
       at-found _ (λ (x : Provider). rank t x.geom < UNTASTED_RANK) p found low in
       let under : rank t p.geom < MAX_RANK = omega (arith, below) in
       subst (λ (o : Option Provider). IsSomeAnd o (λ x. (x.errored ≡ false) × (rank t x.geom < MAX_RANK))) (sym found)
-      (goes_sound p sound goes, under)
+      (goes_sound p goes, under)
 
 -- A whole step
 
@@ -339,10 +346,10 @@ module _ (t u : TopoView Config) (s z : Taste) (said : Said) (is : IsSaid t s u 
       said_kept (Err e) kept = kept ∙ told.1
 
 -- a taste that goes on stands on its provider
-pub some_stands : (t : Topology Config) (s : Taste) → IsSoundGraph t → IsSome (going t s)
+pub some_stands : (t : Topology Config) (s : Taste) → IsSome (going t s)
     → IfSome (provider_at t s.provider) (λ p. rank t p.geom < UNTASTED_RANK) → CanStandOn t s.provider
-some_stands t s sound goes low = by (going t s) refl goes
+some_stands t s goes low = by (going t s) refl goes
   where
     by : (o : Option Provider) → going t s ≡ o → IsSome o → CanStandOn t s.provider
     by None e never = absurd (let no : false ≡ true = never in cc)
-    by (Some p) e there = goes_stands t s p sound e low
+    by (Some p) e there = goes_stands t s p e low

@@ -1,6 +1,7 @@
 //! What becomes of a provider that a class accepts.
 ghost use Rattle.std.specs.Prelude.{◌≡◌, ◌+◌, ◌≤◌, IfOk, IfSome, OnErr};
 ghost use Rattle.geo_model.specs.Topology.{provider_at};
+ghost use Rattle.geo_mesh.specs.Graph.{IsSoundGraph};
 ghost use Rattle.geo_taste.specs.Making.{both, queued, AreBoth};
 ghost use Rattle.geo_taste.specs.Accepting.{accepted, IsAccepted};
 ghost use Rattle.geo_taste.specs.Accepts.{MayAccept, NamesAPlace};
@@ -44,6 +45,7 @@ pub fn accept(
         IsAccepted answer topo.new queue.new old (accepted old p shape.now) (MayAccept (queued old) p shape.now))) }
     ensures same { OnErr result (AreBoth topo.new queue.new (both topo.old queue.old)) }
     ensures spare { queue.old.spare ≤ queue.new.spare + MAX_LINKS }
+    ensures sound { IsSoundGraph topo.old.topology }
 {
     let Some(below) = topo.provider(prov) else {
         unreachable!()

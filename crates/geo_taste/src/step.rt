@@ -3,7 +3,6 @@ ghost use Rattle.std.specs.Prelude.{◌≡◌, ◌+◌, ◌≤◌, ◌<◌, ◌^
 ghost use Rattle.geo_model.specs.Rank.{rank};
 ghost use Rattle.geo_model.specs.Topology.{Provider as ProviderValue, provider_at};
 ghost use Rattle.geo_model.specs.World.{is_read_out};
-ghost use Rattle.geo_mesh.specs.Graph.{IsSoundGraph};
 ghost use Rattle.geo_access.specs.Access.{consumers_below};
 ghost use Rattle.geo_class.specs.Taste.{sector_back};
 ghost use Rattle.geo_taste.specs.Accepts.{NamesAPlace};
@@ -15,7 +14,7 @@ ghost use Rattle.geo_taste.specs.Taster.{IsSettled, IsTasteOf};
 use crate::judge::{Said, say};
 use crate::{Accepted, accept};
 use geo_access::Steps;
-use geo_base::{MAX_LINKS, NoMemory, ProvId, UNTASTED_RANK};
+use geo_base::{MAX_LINKS, NoMemory, UNTASTED_RANK};
 use geo_class::{Config, Taste};
 use geo_event::EventQueue;
 use geo_mesh::Topo;
@@ -79,20 +78,10 @@ fn take_shape(
     ensures taste { OnErr result (taste.new ≡ taste.old) }
     ensures spare { queue.old.spare ≤ queue.new.spare + MAX_LINKS }
 {
-    let prov = tasted(topo, taste);
+    let prov = taste.provider();
     let accepted = accept(alloc, topo, queue, prov, shape)?;
     taste.end_class();
     Ok(judged_of(accepted))
-}
-
-// The tasted provider.
-fn tasted(topo: &Topo<Config>, taste: &Taste) -> ProvId
-    ensures number { result ≡ taste.now.provider }
-    ensures sound { IsSoundGraph topo.now.topology }
-{
-    let prov = taste.provider();
-    let _stands = topo.provider(prov).is_some();
-    prov
 }
 
 // What a step comes to where a class accepted.
