@@ -1,6 +1,6 @@
 -- Parts of bytes.
 use Rattle.std.specs.Prelude.{◌≡◌, ℕ, ◌+◌, ◌-◌, ◌≤◌, List, length, take, drop, min, slice_range}
-use Rattle.std.proofs.Common.{sym, ◌∙◌, ap, arith, inl, inr}
+use Rattle.std.proofs.Common.{sym, ◌∙◌, ap, subst, arith, inl, inr}
 use Rattle.std.proofs.Math.Seq.{take-length, take-nil}
 use Rattle.std.proofs.lemmas.Bool.{cases_lt}
 use Rattle.std.proofs.lemmas.List.{drop_all, drop-drop, drop-take, length-drop, length-take, take_all, take-take}
@@ -27,7 +27,7 @@ module _ (xs : List ℕ) (from len : ℕ) where
   start = min (length xs) from
 
   -- so many bytes from a place on, or as many as there are
-  pub part_from : slice_range xs start (start + min (length xs - start) len) ≡ take len (drop from xs)
+  part_from : slice_range xs start (start + min (length xs - start) len) ≡ take len (drop from xs)
   part_from = elim (cases_lt (length xs) from) [
     | inl past ↦
         let short : length xs ≤ from = omega arith in
@@ -44,7 +44,7 @@ module _ (xs : List ℕ) (from len : ℕ) where
   ]
 
 -- a part of a part, whose places are counted from the part's first byte
-pub part_of_part : (xs : List ℕ) (s e from to : ℕ) → from ≤ to → to ≤ e - s
+part_of_part : (xs : List ℕ) (s e from to : ℕ) → from ≤ to → to ≤ e - s
     → slice_range xs (s + from) (s + to) ≡ slice_range (slice_range xs s e) from to
 part_of_part xs s e from to rising inside =
     let many : s + to - (s + from) ≡ to - from = omega arith in
@@ -56,6 +56,18 @@ part_of_part xs s e from to rising inside =
     ∙ ap (take (to - from)) (drop-take from (e - s - from) (drop s xs))
     ∙ take-take (to - from) (e - s - from) (drop from (drop s xs)) few)
 
--- a part is no longer than its two places are apart
-pub part_ends : (xs : List ℕ) (s e : ℕ) → length (slice_range xs s e) ≤ e - s
-part_ends xs s e = let is = length-take (e - s) (drop s xs) in omega (arith, is)
+-- so many bytes from a place on, or as many as there are, of the bytes from a start on and before an end
+pub part_within : (xs : List ℕ) (s e from len : ℕ) → s ≤ e → e ≤ length xs
+    → slice_range xs (s + min (e - s) from) (s + min (e - s) from + min (e - (s + min (e - s) from)) len)
+    ≡ take len (drop from (slice_range xs s e))
+part_within xs s e from len rising inside =
+    let ys = slice_range xs s e in
+    let fits : e - s ≤ length (drop s xs) = let is = length-drop s xs in omega (arith, is, rising, inside) in
+    let many : length ys ≡ e - s = let is = length-take (e - s) (drop s xs) in omega (arith, is, fits) in
+    let first = min (e - s) from in
+    let most = min (e - s - first) len in
+    let last : s + first + min (e - (s + first)) len ≡ s + (first + most) = omega arith in
+    ap (slice_range xs (s + first)) last
+    ∙ part_of_part xs s e first (first + most) (omega arith) (omega arith)
+    ∙ subst (λ n. slice_range ys (min n from) (min n from + min (n - min n from) len) ≡ take len (drop from ys)) many
+    (part_from ys from len)

@@ -1,5 +1,7 @@
 //! Bytes that have several holders.
-ghost use Rattle.std.specs.Prelude.{◌≡◌, ◌≤◌, [], length, take, drop, slice_range, IfOk};
+ghost use Rattle.std.specs.Prelude.{◌≡◌, ℕ, ◌≤◌, List, [], length, take, drop, slice_range, IfOk};
+ghost use Rattle.std.specs.Arc.{arc_value};
+ghost use Rattle.geo_base.specs.Shared.{IsWithin};
 
 use crate::block::{Block, NoMemory};
 use std::alloc::Global;
@@ -75,40 +77,25 @@ impl SharedBytes {
     pub fn copy(&self, alloc: Global) -> Result<SharedBytes, NoMemory>
         ensures { IfOk result (λ copied. copied ≡ self.now) }
     {
-        self.between(alloc, 0, self.len())
+        match &self.cells {
+            Cells::Own(block) => Ok(SharedBytes::from_block(block.copy(alloc)?)),
+            Cells::Shared { all, start, end } => another(all, *start, *end),
+        }
     }
 
     /// So many of the bytes from a place on, or as many as there are: another holder of what is shared, else a copy.
     pub fn part(&self, alloc: Global, from: u64, len: u64) -> Result<SharedBytes, NoMemory>
         ensures { IfOk result (λ part. part ≡ take len (drop from self.now)) }
     {
-        let all = self.len();
-        let start = all.min(from as usize);
-        let size = (all - start).min(len as usize);
-        self.between(alloc, start, start + size)
-    }
-
-    // The bytes from a start on, and before an end.
-    fn between(&self, alloc: Global, from: usize, to: usize) -> Result<SharedBytes, NoMemory>
-        requires rising { from ≤ to }
-        requires inside { to ≤ length self.now }
-        ensures { IfOk result (λ part. part ≡ slice_range self.now from to) }
-    {
         match &self.cells {
             Cells::Own(block) => {
-                let part = Block::from_slice(alloc, &block.bytes()[from..to])?;
+                let (first, last) = places(0, block.len(), from, len);
+                let part = Block::from_slice(alloc, &block.bytes()[first..last])?;
                 Ok(SharedBytes::from_block(part))
             }
-            Cells::Shared { all, start, .. } => {
-                // The length of the block says that each place in it is a number.
-                let _ = all.len();
-                Ok(SharedBytes {
-                    cells: Cells::Shared {
-                        all: Arc::try_clone(all)?,
-                        start: *start + from,
-                        end: *start + to,
-                    },
-                })
+            Cells::Shared { all, start, end } => {
+                let (first, last) = places(*start, *end, from, len);
+                another(all, first, last)
             }
         }
     }
@@ -132,4 +119,32 @@ impl SharedBytes {
             Cells::Shared { start, end, .. } => *end - *start,
         }
     }
+}
+
+// Another holder of a block, for its bytes from a start on and before an end.
+fn another(all: &Arc<Block>, start: usize, end: usize) -> Result<SharedBytes, NoMemory>
+    requires { IsWithin (arc_value all.now) start end }
+    ensures { IfOk result (λ shared. shared ≡ slice_range (arc_value all.now) start end) }
+{
+    Ok(SharedBytes {
+        cells: Cells::Shared {
+            all: Arc::try_clone(all)?,
+            start,
+            end,
+        },
+    })
+}
+
+// Where so many bytes from a place on begin and end, or as many as there are, among those from a start on and before an
+// end.
+#[tactic(auto, using(crate::proofs::Parts::part_within))]
+fn places(start: usize, end: usize, from: u64, len: u64) -> (usize, usize)
+    requires { start ≤ end }
+    ensures rising { result.0 ≤ result.1 }
+    ensures inside { result.1 ≤ end }
+    ensures part { (bytes : List ℕ) → end ≤ length bytes
+        → slice_range bytes result.0 result.1 ≡ take len (drop from (slice_range bytes start end)) }
+{
+    let first = start + (end - start).min(from as usize);
+    (first, first + (end - first).min(len as usize))
 }
