@@ -1,5 +1,5 @@
--- The configuration of an assembly, and what it is with one more place filled.
-use Rattle.std.specs.Prelude.{◌≡◌, ◌≢◌, ◌⊎◌, ℕ, zero, suc, true, false, List, [], ◌∷◌, flat_map, Option, Some, None, Contains, slice_get, slice_set}
+-- Assemblies: the places and sizes of a concat or a stripe, and what is known of a standing one with no provider.
+use Rattle.std.specs.Prelude.{◌≡◌, ◌≢◌, ◌⊎◌, ℕ, zero, suc, true, false, List, [], ◌∷◌, flat_map, Option, Some, None, Contains, slice_get, slice_set, ◌==◌, IsSome, IsSomeAnd}
 use Rattle.std.specs.List.{AllZip}
 use Rattle.std.specs.Option.{option_flatten, option_to_list}
 use Rattle.std.proofs.Common.{inl, inr, refl, sym, ◌∙◌, subst}
@@ -7,14 +7,23 @@ use Rattle.geo_base.specs.declared.kind.Kind.{Kind}
 use Rattle.geo_base.specs.declared.kind.Kind.TheVariants as kinds
 use Rattle.geo_base.proofs.MemberLists.{in_flat_map}
 use Rattle.geo_model.specs.Words.{is_kind}
-use Rattle.geo_model.specs.World.{Config, Concat, Stripe}
+use Rattle.geo_model.specs.World.{Config, Concat, Stripe, World, granted_in}
 use Rattle.geo_model.specs.Place.{component, components, disk_of}
 use Rattle.geo_model.specs.Acceptance.{places_of, fill_place}
-use Rattle.geo_model.specs.Sound.{fits_kind}
-use Rattle.geo_model.specs.Fitting.{IsWholeIn, sizes_of}
-use Rattle.geo_laws_graph.proofs.Members.{Contains-here, Contains-there, Contains-cases, nothing_in, All-from_contained, at_contained}
-use Rattle.geo_laws_making.specs.PlaceLaws.{IsAssembly}
+use Rattle.geo_model.specs.Sound.{fits_kind, IsOfItsClass}
+use Rattle.geo_model.specs.Fitting.{IsWholeIn, sizes_of, Firm}
+use Rattle.geo_laws_graph.proofs.Members.{Contains-here, Contains-there, Contains-cases, nothing_in, All-from_contained, at_contained, find-Contains, Contains-filter}
+use Rattle.geo_laws_making.specs.PlaceLaws.{IsAssembly, IsOpenAssembly}
 use Rattle.geo_laws_life.proofs.Standers.{PairsByRecursion}
+use Rattle.std.proofs.lemmas.Bool.{eq-eqb}
+use Rattle.std.proofs.lemmas.List.Elements.{All-contains}
+use Rattle.geo_model.specs.Topology.{Topology, Geom, Provider, geom_at, consumer_at}
+use Rattle.geo_model.specs.Steady.{HasItsComponents}
+use Rattle.geo_laws_graph.proofs.Lists.{found_itself}
+use Rattle.geo_laws_graph.proofs.Living.{sound-order}
+use Rattle.geo_laws_life.proofs.Found.{one-found}
+
+-- The configuration of an assembly, and what it is with one more place filled.
 
 -- Configurations
 
@@ -148,3 +157,59 @@ zip-set R [] (y ∷ ys) k a b facts new = absurd facts
 zip-set R (x ∷ xs) [] k a b facts new = absurd facts
 zip-set R (x ∷ xs) (y ∷ ys) zero a b facts new = (new, facts.1)
 zip-set R (x ∷ xs) (y ∷ ys) (suc k) a b facts new = (facts.0, zip-set R xs ys k a b facts.1 new)
+
+-- A standing assembly that has no provider: what is known of it in a firm world.
+
+module _ (w : World) (g : Geom Config) (firm : Firm w) (waits : IsOpenAssembly w g) where
+  -- the graph
+  abbrev t : Topology Config
+  t = w.topology
+
+  -- the geom is one of its geoms
+  pub is-there : Contains t.geoms g
+  is-there = find-Contains (λ (x : Geom Config). x.number == g.number) t.geoms g waits.stands
+
+  -- each one of its number is it
+  pub only-one : (x : Geom Config) → Contains t.geoms x → x.number ≡ g.number → x ≡ g
+  only-one x stands same =
+      one-found (geom_at t g.number) x g
+      (subst (λ m. geom_at t m ≡ Some x) same
+      (found_itself (λ (z : Geom Config). z.number) t.next_geom t.geoms x
+      (sound-order w firm.graph.numbers).geoms stands))
+      waits.stands
+
+  -- its class
+  pub its-class : IsOfItsClass g
+  its-class = All-contains IsOfItsClass t.geoms g firm.graph.numbers.classes is-there
+
+  -- is that of an assembly
+  pub its-assembly : IsOfAssembly g.kind g.config
+  its-assembly = of-assembly g.kind g.config waits.assembly its-class.config
+
+  -- so it isn't DEV
+  pub isnt-dev : g.number ≢ 1
+  isnt-dev same =
+      let e : true ≡ false = sym (eq-eqb g.number 1 same) ∙ sym its-class.dev ∙ its-assembly.dev in
+      let no : ⊥ = cc in no
+
+  -- nor TASTE
+  pub isnt-taste : g.number ≢ 2
+  isnt-taste same =
+      let e : true ≡ false = sym (eq-eqb g.number 2 same) ∙ sym its-class.taste ∙ its-assembly.taste in
+      let no : ⊥ = cc in no
+
+  -- no provider is of it
+  pub offers-not : (x : Provider) → Contains t.providers x → x.geom ≢ g.number
+  offers-not x stands same =
+      nothing_in x
+      (subst (λ xs. Contains xs x) waits.offers_none
+      (Contains-filter (λ (z : Provider). z.geom == g.number) t.providers x stands (eq-eqb x.geom g.number same)))
+
+  -- what is in a place is an attached consumer of it
+  pub component-there : (d : ℕ) → Contains (components g.config) d
+      → IsSomeAnd (consumer_at t d) (λ x. (x.geom ≡ g.number) × IsSome x.provider)
+  component-there d stands =
+      All-contains (λ d. IsSomeAnd (consumer_at t d) (λ x. (x.geom ≡ g.number) × IsSome x.provider))
+      (components g.config) d
+      (All-contains (HasItsComponents (granted_in w) t) t.geoms g firm.demand.components is-there
+      (inl waits.upright)) stands

@@ -40,8 +40,7 @@ use Rattle.geo_laws_making.specs.JudgeLaws.{JudgesStayFirm}
 use Rattle.geo_laws_making.proofs.Asking.{asking-firm}
 use Rattle.geo_laws_making.proofs.Submitting.{submitted-firm}
 use Rattle.geo_laws_making.proofs.Ending.{abort-firm}
-use Rattle.geo_laws_making.proofs.Chains.{more_links}
-use Rattle.geo_laws_making.proofs.Firsts.{first_inside, has_sector, judge_no_more}
+use Rattle.geo_laws_making.proofs.Firsts.{more_links, first_inside, has_sector, judge_no_more}
 
 -- a class that is asked is one
 not_asked : {A : Type 0} (kind : Kind) → None ≡ Some kind → A

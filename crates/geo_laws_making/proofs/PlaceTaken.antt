@@ -43,8 +43,7 @@ use Rattle.geo_laws_making.specs.MoreLaws.{IsUntouched, GeomFits, ConsumerFits, 
 use Rattle.geo_laws_life.proofs.Frames.{fact_still, IsPart, FitsOver}
 use Rattle.geo_laws_making.proofs.MoreFirm.{more-firm}
 use Rattle.geo_laws_making.specs.PlaceLaws.{CanTakePlace, IsOpenAssembly, TakesStayFirm}
-use Rattle.geo_laws_making.proofs.OpenAssembly.{is-there, its-class, its-assembly, isnt-dev, isnt-taste, offers-not, only-one, component-there}
-use Rattle.geo_laws_making.proofs.Assembled.{has-places, filled-is, filled_of, filled-cases, filled-differ, in-places, zip-set, IsOfAssembly}
+use Rattle.geo_laws_making.proofs.Assembled.{is-there, its-class, its-assembly, isnt-dev, isnt-taste, offers-not, only-one, component-there, has-places, filled-is, filled_of, filled-cases, filled-differ, in-places, zip-set, IsOfAssembly}
 
 -- a geom that is one of the list with another configuration, or is as it was
 configured : (n : ℕ) (config : Config) (xs : List (Geom Config)) (y : Geom Config)

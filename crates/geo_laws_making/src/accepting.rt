@@ -3,7 +3,7 @@
 ghost use Rattle.geo_laws_making.specs.AcceptLaws.{AcceptsStayFirm, LabelsStayFirm, PartitionsStayFirm, PlacesStayFirm, SlicesStayFirm};
 
 /// A firm mesh stays firm with a label that is accepted.
-#[tactic(auto, using(crate::proofs::Labelled::labels_stay))]
+#[tactic(auto, using(crate::proofs::Accepts::labels_stay))]
 pub fn labels_stay_firm()
     ensures { LabelsStayFirm }
 {}

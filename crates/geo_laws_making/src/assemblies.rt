@@ -9,13 +9,13 @@ pub fn finishes_stay_firm()
 {}
 
 /// A firm mesh stays firm where a provider takes a place of a concat.
-#[tactic(auto, using(crate::proofs::Placed::concat_places_stay))]
+#[tactic(auto, using(crate::proofs::PlacedInside::concat_places_stay))]
 pub fn concat_places_stay_firm()
     ensures { ConcatPlacesStayFirm }
 {}
 
 /// A firm mesh stays firm where a provider takes a place of a stripe.
-#[tactic(auto, using(crate::proofs::Placed::stripe_places_stay))]
+#[tactic(auto, using(crate::proofs::PlacedInside::stripe_places_stay))]
 pub fn stripe_places_stay_firm()
     ensures { StripePlacesStayFirm }
 {}

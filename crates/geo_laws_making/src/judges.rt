@@ -3,7 +3,7 @@ ghost use Rattle.geo_laws_making.specs.ChainSteps.{LinksStayInOrder};
 ghost use Rattle.geo_laws_making.specs.JudgeLaws.{JudgesStayFirm};
 
 /// A link that leads on leaves the chain of a taste in order.
-#[tactic(auto, using(crate::proofs::Chains::links_stay_in_order))]
+#[tactic(auto, using(crate::proofs::Firsts::links_stay_in_order))]
 pub fn links_stay_in_order()
     ensures { LinksStayInOrder }
 {}
