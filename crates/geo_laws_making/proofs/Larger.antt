@@ -46,8 +46,7 @@ use Rattle.geo_laws_life.specs.LessLaws.{ComesFrom}
 use Rattle.geo_laws_life.proofs.Found.{found-with, some-with, some-there, none-there, if-found, at-found, at-some, one-found, pairs-from}
 use Rattle.geo_laws_making.specs.MoreLaws.{IsGrownFrom, StandsGrown, IsUntouched, GeomFits, ProviderFits, ConsumerFits, IsMore}
 use Rattle.geo_laws_life.proofs.Frames.{fact_still, IsPart, FitsOver}
-use Rattle.geo_laws_making.proofs.More.{fits_grown, inside_grown}
-use Rattle.geo_laws_making.proofs.MoreFirm.{more-firm}
+use Rattle.geo_laws_making.proofs.MoreFirm.{fits_grown, inside_grown, more-firm}
 use Rattle.geo_laws_making.proofs.Over.{false_true}
 use Rattle.geo_laws_making.proofs.Made.{through}
 use Rattle.geo_laws_making.proofs.Concats.{IsConcat, concat_of, IsStanding, still_fits, no_more, all-components, filled_still}

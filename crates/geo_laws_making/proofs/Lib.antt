@@ -1,4 +1,3 @@
-pub mod More
 pub mod MoreFirm
 pub mod Over
 pub mod Offered
