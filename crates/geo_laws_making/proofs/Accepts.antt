@@ -1,6 +1,6 @@
 -- What a class makes of what it accepts: labels, and by the verdict all the others.
-use Rattle.std.specs.Prelude.{◌≡◌, ◌≢◌, ℕ, ◌-◌, ◌<◌, ◌≤◌, true, false, List, [], ◌∷◌, Some, IsSome, ◌*◌, Bool, Option, None, Result, Ok, Err, if◌then◌else◌}
-use Rattle.std.proofs.Common.{inl, inr, refl, subst, arith, sym}
+use Rattle.std.specs.Prelude.{◌≡◌, ℕ, ◌-◌, ◌<◌, ◌≤◌, true, false, List, [], ◌∷◌, Some, ◌*◌, Bool, Option, None, Result, Ok, Err, if◌then◌else◌}
+use Rattle.std.proofs.Common.{inr, refl, subst, arith, sym}
 use Rattle.std.proofs.lemmas.List.Elements.{All-from_recursion}
 use Rattle.std.proofs.lemmas.Nat.Gcd.{dvd_of_mod-eq-zero, mod-eq-zero_of_dvd, dvd_refl}
 use Rattle.std.proofs.Math.Nat.{dvd-sub}
@@ -10,19 +10,17 @@ use Rattle.geo_model.specs.declared.class.LabelRecord.{LabelRecord}
 use Rattle.geo_model.specs.declared.class.Shape.TheVariants.{Named, Slices, Logical, Joined, Striped}
 use Rattle.geo_model.specs.Words.{same_name, first_error}
 use Rattle.geo_model.specs.Names.{label_name}
-use Rattle.geo_model.specs.Topology.{Provider, provider_at}
+use Rattle.geo_model.specs.Topology.{Provider}
 use Rattle.geo_model.specs.World.{World, Config, Label, Taste}
 use Rattle.geo_model.specs.Events.{QueuedTopology}
 use Rattle.geo_model.specs.WorldEvents.{queued_of, with_queued}
 use Rattle.geo_model.specs.Acceptance.{NewSlice, are_names_free, with_label, verdict_of, is_other_size, label_verdict}
 use Rattle.geo_model.specs.Sound.{IsMediaSize}
-use Rattle.geo_model.specs.Fitting.{IsWholeIn, Firm}
+use Rattle.geo_model.specs.Fitting.{Firm}
 use Rattle.geo_laws_graph.proofs.Members.{Contains-here}
 use Rattle.geo_laws_life.proofs.Standers.{pairs-from_recursion}
-use Rattle.geo_laws_life.proofs.Found.{some-with, some-there}
-use Rattle.geo_laws_making.specs.MakingLaws.{below_new, HasPlace, CanOffer, CanMake}
-use Rattle.geo_laws_making.proofs.Over.{false_true, below-here}
-use Rattle.geo_laws_making.proofs.Made.{made-firm}
+use Rattle.geo_laws_making.specs.MakingLaws.{HasPlace, CanOffer, CanMake}
+use Rattle.geo_laws_making.proofs.Made.{made-firm, IsPlain, plain-place, plain-can}
 use Rattle.geo_laws_making.proofs.MadeFree.{free-made, not-taken}
 use Rattle.geo_laws_making.specs.AcceptLaws.{IsAccepted, LabelsStayFirm, AcceptsStayFirm}
 use Rattle.geo_laws_making.proofs.Accepted.{found, media, sector_size, asks, low, longer}
@@ -75,11 +73,24 @@ module _ (w : World) (s : Taste) (p : Provider) (bytes : List ℕ) (record_of : 
         limited = omega arith;
       }
 
+  -- the configuration is one over one consumer
+  plain : IsPlain kinds.Label config c
+  plain = record {
+    fits = refl;
+    dev = refl;
+    taste = refl;
+    concat = refl;
+    stripe = refl;
+    one_component = refl;
+    first_component = refl;
+    no_places = refl;
+    no_sizes = refl;
+    no_disk = refl;
+  }
+
   -- an offset has its place
   has_place : (o : ℕ) → o < p.size - p.sector → HasPlace config (p ∷ []) c p.sector slice.name o
-  has_place o short =
-      some-with (below_new c (p ∷ []) c) (λ q. (o < q.size) × (q.sector ≡ p.sector)) p (below-here c p [] c refl)
-      (omega arith, refl)
+  has_place o short = plain-place w kinds.Label config p plain p.sector slice.name o o refl (omega arith) refl
 
   -- what is made
   names : are_names_free w.topology (slice.name ∷ []) ≡ true
@@ -87,38 +98,20 @@ module _ (w : World) (s : Taste) (p : Provider) (bytes : List ℕ) (record_of : 
 
   -- so the label can be made
   label_can : CanMake w kinds.Label config (p ∷ []) p.sector (slice ∷ [])
-  label_can = record {
-    fits = refl;
-    dev = refl;
-    taste = refl;
-    found = All-from_recursion (λ (x : Provider). provider_at w.topology x.number ≡ Some x) (p ∷ [])
-        (found w s p kinds.Label bytes (Named record_of) made firm accepted, tt);
-    low = low w s p kinds.Label bytes (Named record_of) made firm accepted;
-    wholes = All-from_recursion (λ (x : Provider). IsWholeIn config x.sector) (p ∷ []) (tt, tt);
-    filled = All-from_recursion (λ d. IsSome (below_new c (p ∷ []) d)) (c ∷ [])
-        (some-there (below_new c (p ∷ []) c) p (below-here c p [] c refl), tt);
-    apart = pairs-from_recursion (λ a b. a ≢ b) (c ∷ []) (tt, tt);
-    few = omega arith;
-    places = tt;
-    disk = tt;
-    sectors = sector_size w s p kinds.Label bytes (Named record_of) made firm accepted;
-    offers = All-from_recursion (CanOffer w config (p ∷ []) p.sector) (slice ∷ []) (
-      record {
-        free = not-taken w.topology (slice.name ∷ []) names slice.name (Contains-here slice.name []);
-        size = label_media;
-        leads = inr has_place;
-      },
-      tt,
-    );
-    names = pairs-from_recursion (λ (x y : NewSlice). same_name x.name y.name ≡ false) (slice ∷ []) (tt, tt);
-    partial = λ some. false_true some;
-    one = λ concat. absurd (let no : ⊥ = cc in no);
-    sums = λ joined.
-        elim joined [
-          | inl concat ↦ absurd (let no : ⊥ = cc in no)
-          | inr stripe ↦ absurd (let no : ⊥ = cc in no)
-        ];
-  }
+  label_can =
+      plain-can w kinds.Label config p plain p.sector (slice ∷ [])
+      (found w s p kinds.Label bytes (Named record_of) made firm accepted)
+      (low w s p kinds.Label bytes (Named record_of) made firm accepted) tt
+      (sector_size w s p kinds.Label bytes (Named record_of) made firm accepted)
+      (All-from_recursion (CanOffer w config (p ∷ []) p.sector) (slice ∷ []) (
+        record {
+          free = not-taken w.topology (slice.name ∷ []) names slice.name (Contains-here slice.name []);
+          size = label_media;
+          leads = inr has_place;
+        },
+        tt,
+      ))
+      (pairs-from_recursion (λ (x y : NewSlice). same_name x.name y.name ≡ false) (slice ∷ []) (tt, tt))
 
   -- and the mesh with it is firm
   pub label-firm : Firm (with_queued w made)

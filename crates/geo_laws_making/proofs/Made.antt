@@ -1,17 +1,18 @@
 -- A new geom with its parts: the graph has come to more, and a firm world with it is firm.
-use Rattle.std.specs.Prelude.{◌≡◌, ◌≢◌, ◌⊎◌, ℕ, ◌+◌, ◌<◌, ◌≤◌, ◌%◌, ◌==◌, max, Bool, true, false, not, ◌&&◌, List, [], ◌∷◌, ◌++◌, length, map, filter, find, Option, Some, None, IsSome, IsSomeAnd, IfSome, All, AllPairs, Contains, option_and_then, slice_get}
-use Rattle.std.specs.List.{AllByRecursion, list_any}
+use Rattle.std.specs.Prelude.{◌≡◌, ◌≢◌, ◌⊎◌, ℕ, ◌+◌, ◌<◌, ◌≤◌, ◌%◌, ◌==◌, max, Bool, true, false, not, ◌&&◌, List, [], ◌∷◌, ◌++◌, length, map, filter, find, Option, Some, None, IsSome, IsSomeAnd, IfSome, All, AllPairs, Contains, option_and_then, slice_get, is_none, IsTrue}
+use Rattle.std.specs.List.{AllByRecursion, list_any, AllZip}
 use Rattle.std.specs.Option.{option_map_or}
 use Rattle.std.proofs.Common.{inl, inr, refl, sym, ◌∙◌, ap, subst, arith, get_or}
 use Rattle.std.proofs.lemmas.Bool.{eq-eqb, ne_eqb, eqb-true}
-use Rattle.std.proofs.lemmas.List.Elements.{All-contains, All-push, All-weaker, Contains-push_cases, Contains-get_or, recursion_from_All}
+use Rattle.std.proofs.lemmas.List.Elements.{All-contains, All-push, All-weaker, Contains-push_cases, Contains-get_or, recursion_from_All, All-from_recursion}
 use Rattle.std.proofs.lemmas.List.{nil_from_length}
 use Rattle.std.proofs.lemmas.List.Quantifiers.{all_pairs_push}
 use Rattle.geo_base.specs.Sectors.{IsSectorSize}
 use Rattle.geo_base.specs.declared.kind.Kind.{Kind}
+use Rattle.geo_base.specs.declared.kind.Kind.TheVariants as kinds
 use Rattle.geo_base.specs.declared.limits.TheConstants.{MAX_RANK, UNTASTED_RANK}
 use Rattle.geo_base.proofs.MemberLists.{zip_members}
-use Rattle.geo_model.specs.Words.{largest, same_name}
+use Rattle.geo_model.specs.Words.{largest, same_name, is_kind}
 use Rattle.geo_model.specs.Topology.{Topology, Geom, Provider, Consumer, geom_at, provider_at, consumer_at, geom_of_provider, providers_of, is_name_taken, add_geom}
 use Rattle.geo_model.specs.Rank.{rank}
 use Rattle.geo_model.specs.Demand.{want, is_zero}
@@ -20,9 +21,9 @@ use Rattle.geo_model.specs.World.{World, Config, Taste, granted_in}
 use Rattle.geo_model.specs.WorldEvents.{queued_of, with_queued}
 use Rattle.geo_model.specs.Place.{place, component, components, disk_of}
 use Rattle.geo_model.specs.Acceptance.{NewSlice, places_of, joined_size}
-use Rattle.geo_model.specs.GeomCommands.{is_geom_of_disk}
+use Rattle.geo_model.specs.GeomCommands.{is_geom_of_disk, rank_over}
 use Rattle.geo_model.specs.Graph.{IsInOrder, PartsLive}
-use Rattle.geo_model.specs.Sound.{RanksHold, DifferInName, DifferInDisk, IsMediaSize, HasDiskSizes, IsPlaceInside, IsPlaced, IsTasteInOrder}
+use Rattle.geo_model.specs.Sound.{RanksHold, DifferInName, DifferInDisk, IsMediaSize, HasDiskSizes, IsPlaceInside, IsPlaced, IsTasteInOrder, fits_kind}
 use Rattle.geo_model.specs.Fitting.{IsWholeIn, sizes_of, FitsPlace, FitsPlaces, Firm}
 use Rattle.geo_model.proofs.DemandLemmas.{map_same}
 use Rattle.geo_laws_graph.specs.LookupLaws.{new_geom}
@@ -38,13 +39,13 @@ use Rattle.geo_laws_counts.specs.CountWords.{IsAtMost, DemandStays}
 use Rattle.geo_laws_counts.proofs.LimitFacts.{all_of}
 use Rattle.geo_laws_counts.proofs.Stays.{geom_came}
 use Rattle.geo_laws_counts.proofs.Sums.{at_most-same}
-use Rattle.geo_laws_life.proofs.Standers.{recursion-from_pairs}
+use Rattle.geo_laws_life.proofs.Standers.{recursion-from_pairs, pairs-from_recursion}
 use Rattle.geo_laws_life.proofs.Frames.{FitsOver}
 use Rattle.geo_laws_life.proofs.Found.{found-with, some-with, some-there, none-there, if-found, at-found, one-found}
 use Rattle.geo_laws_life.proofs.Bare.{stands-at}
 use Rattle.geo_laws_making.specs.MakingLaws.{below_new, HasPlace, CanOffer, IsNewDisk, CanMake, MakesKeepFirm}
 use Rattle.geo_laws_making.specs.MoreLaws.{IsUntouched, GeomFits, ProviderFits, IsMore}
-use Rattle.geo_laws_making.proofs.Over.{IsNewOne, attached_one, below-among, over-geoms, over-providers, over-found, over-new, over-cases, over-others, over-order, over-live, over-demand}
+use Rattle.geo_laws_making.proofs.Over.{IsNewOne, attached_one, below-among, over-geoms, over-providers, over-found, over-new, over-cases, over-others, over-order, over-live, over-demand, false_true, below-here}
 use Rattle.geo_laws_making.proofs.Offered.{offered, IsOffered, KeepsGraph, offered-geoms, offered-consumers, offered-found, offered-cases, offered-others, offered-number, offered-living, offered-keeps, offered-names}
 use Rattle.geo_laws_making.proofs.MoreFirm.{more-firm}
 
@@ -533,3 +534,78 @@ makes_keep = record {
   made = λ w kind name config automatic ps sector slices firm can.
       made-firm w kind name config automatic ps sector slices firm can;
 }
+
+-- a configuration of its class over one new consumer, which is of no disk, concat or stripe
+pub record IsPlain (kind : Kind) (config : Config) (c : ℕ) : Type 0 where
+  pub fits : IsTrue (fits_kind kind config)
+  pub dev : is_kind kind kinds.Dev ≡ false
+  pub taste : is_kind kind kinds.Taste ≡ false
+  pub concat : is_kind kind kinds.Concat ≡ false
+  pub stripe : is_kind kind kinds.Stripe ≡ false
+  pub one_component : components config ≡ c ∷ []
+  pub first_component : component config 0 ≡ Some c
+  pub no_places : places_of config ≡ []
+  pub no_sizes : sizes_of config ≡ []
+  pub no_disk : disk_of config ≡ None
+
+module _ (w : World) (kind : Kind) (config : Config) (p : Provider)
+    (plain : IsPlain kind config w.topology.next_consumer) where
+  -- the new consumer
+  abbrev c : ℕ
+  c = w.topology.next_consumer
+
+  -- an offset that lands inside the one provider has its place
+  pub plain-place : (sector : ℕ) (name : List ℕ) (o offset : ℕ)
+      → place config name o ≡ Some (record { component = 0; offset = offset }) → offset < p.size → p.sector ≡ sector
+      → HasPlace config (p ∷ []) c sector name o
+  plain-place sector name o offset lands inside same =
+      some-with (place config name o) (λ spot.
+      IsSomeAnd (option_and_then (below_new c (p ∷ [])) (component config spot.component)) (λ q.
+      (spot.offset < q.size) × (q.sector ≡ sector))) (record { component = 0; offset = offset }) lands
+      (some-with (option_and_then (below_new c (p ∷ [])) (component config 0)) (λ q.
+      (offset < q.size) × (q.sector ≡ sector)) p
+      (ap (option_and_then (below_new c (p ∷ []))) plain.first_component ∙ below-here c p [] c refl) (inside, same))
+
+  -- so over one provider such a geom can be made
+  pub plain-can : (sector : ℕ) (slices : List NewSlice) → provider_at w.topology p.number ≡ Some p
+      → rank_over w.topology (p ∷ []) ≤ MAX_RANK → IsWholeIn config p.sector → IsSectorSize sector
+      → All (CanOffer w config (p ∷ []) sector) slices → AllPairs (λ x y. same_name x.name y.name ≡ false) slices
+      → CanMake w kind config (p ∷ []) sector slices
+  plain-can sector slices found low whole sectors offers names = record {
+    fits = plain.fits;
+    dev = plain.dev;
+    taste = plain.taste;
+    found = All-from_recursion (λ (x : Provider). provider_at w.topology x.number ≡ Some x) (p ∷ []) (found, tt);
+    low = low;
+    wholes = All-from_recursion (λ (x : Provider). IsWholeIn config x.sector) (p ∷ []) (whole, tt);
+    filled = subst (All (λ d. IsSome (below_new c (p ∷ []) d))) (sym plain.one_component)
+        (All-from_recursion (λ d. IsSome (below_new c (p ∷ []) d)) (c ∷ [])
+        (some-there (below_new c (p ∷ []) c) p (below-here c p [] c refl), tt));
+    apart = subst (AllPairs (λ a b. a ≢ b)) (sym plain.one_component)
+        (pairs-from_recursion (λ a b. a ≢ b) (c ∷ []) (tt, tt));
+    few = let none : length (places_of config) ≡ 0 = ap length plain.no_places in omega arith;
+    places = no_places_fit (places_of config) (sizes_of config) plain.no_places plain.no_sizes;
+    disk = subst (λ o. IfSome o (IsNewDisk w sector slices)) (sym plain.no_disk) tt;
+    sectors = sectors;
+    offers = offers;
+    names = names;
+    partial = λ some. false_true (sym (ap (list_any is_none) plain.no_places) ∙ some);
+    one = λ concat. not_concat concat;
+    sums = λ joined. elim joined [ | inl concat ↦ not_concat concat | inr stripe ↦ not_stripe stripe ];
+  }
+    where
+      -- without places all of them fit
+      no_places_fit : (xs : List (Option ℕ)) (ys : List ℕ) → xs ≡ [] → ys ≡ []
+          → AllZip (λ place size. IfSome (option_and_then (below_new c (p ∷ [])) place) (λ q.
+          (size ≤ q.size) × (size % q.sector ≡ 0))) xs ys
+      no_places_fit [] [] none nothing = tt
+      no_places_fit (x ∷ xs) ys none nothing = absurd (let no : ⊥ = cc in no)
+      no_places_fit [] (y ∷ ys) none nothing = absurd (let no : ⊥ = cc in no)
+
+      -- it is no concat
+      not_concat : {A : Type 0} → kind ≡ kinds.Concat → A
+      not_concat same = false_true (sym plain.concat ∙ ap (λ k. is_kind k kinds.Concat) same)
+
+      -- and no stripe
+      not_stripe : {A : Type 0} → kind ≡ kinds.Stripe → A
+      not_stripe same = false_true (sym plain.stripe ∙ ap (λ k. is_kind k kinds.Stripe) same)

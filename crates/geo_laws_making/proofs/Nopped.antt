@@ -1,6 +1,6 @@
 -- A nop: a geom over one provider, with a provider for its window; or the command is refused.
-use Rattle.std.specs.Prelude.{◌≡◌, ◌≢◌, ℕ, ◌+◌, ◌<◌, ◌≤◌, ◌%◌, ◌==◌, nat_lt, false, not, ◌||◌, List, [], ◌∷◌, Option, Some, None, IsSome}
-use Rattle.std.proofs.Common.{inl, inr, refl, sym, ◌∙◌, subst, arith}
+use Rattle.std.specs.Prelude.{◌≡◌, ◌≢◌, ℕ, ◌+◌, ◌<◌, ◌≤◌, ◌%◌, ◌==◌, nat_lt, false, not, ◌||◌, List, [], ◌∷◌, Option, Some, None}
+use Rattle.std.proofs.Common.{inr, refl, sym, ◌∙◌, subst, arith}
 use Rattle.std.proofs.lemmas.Bool.{or_parts, not-false, ltb-false, eqb-true, eq-eqb}
 use Rattle.std.proofs.lemmas.List.Elements.{All-contains, All-from_recursion}
 use Rattle.geo_model.proofs.RefusalLemmas.{none_refused}
@@ -15,16 +15,15 @@ use Rattle.geo_model.specs.World.{World}
 use Rattle.geo_model.specs.Acceptance.{NewSlice}
 use Rattle.geo_model.specs.GeomCommands.{rank_over, with_made, is_invalid_nop, nop_tests, nop_config, do_nop, found_provider}
 use Rattle.geo_model.specs.Sound.{IsMediaSize}
-use Rattle.geo_model.specs.Fitting.{IsWholeIn, Firm}
+use Rattle.geo_model.specs.Fitting.{Firm}
 use Rattle.geo_laws_graph.proofs.Members.{find-Contains}
 use Rattle.geo_laws_graph.proofs.Numbered.{number_found}
 use Rattle.geo_laws_life.proofs.Standers.{pairs-from_recursion}
-use Rattle.geo_laws_life.proofs.Found.{some-with, some-there}
 use Rattle.geo_laws_making.specs.GeomLaws.{NopsStayFirm}
-use Rattle.geo_laws_making.specs.MakingLaws.{below_new, HasPlace, CanOffer, CanMake}
+use Rattle.geo_laws_making.specs.MakingLaws.{HasPlace, CanOffer, CanMake}
 use Rattle.geo_laws_making.proofs.Pulled.{answered-firm}
-use Rattle.geo_laws_making.proofs.Over.{false_true, below-here}
-use Rattle.geo_laws_making.proofs.Made.{through, made-firm}
+use Rattle.geo_laws_making.proofs.Over.{false_true}
+use Rattle.geo_laws_making.proofs.Made.{through, made-firm, IsPlain, plain-place, plain-can}
 
 -- a provider that is found by its number
 pub found_by_number : (w : World) (n : ℕ) (p : Provider) → provider_at w.topology n ≡ Some p
@@ -88,42 +87,38 @@ module _ (w : World) (firm : Firm w) (p : Provider) (name : List ℕ) (offset si
       let m : p.size ≤ MAX_MEDIA_BYTES = media.limited in
       record { positive = window.some; whole = window.size_whole; limited = omega arith }
 
+  -- the configuration is one over one consumer
+  plain : IsPlain kinds.Nop (nop_config w.topology offset fail) c
+  plain = record {
+    fits = refl;
+    dev = refl;
+    taste = refl;
+    concat = refl;
+    stripe = refl;
+    one_component = refl;
+    first_component = refl;
+    no_places = refl;
+    no_sizes = refl;
+    no_disk = refl;
+  }
+
   -- an offset has its place in it
   has_place : (o : ℕ) → o < size → HasPlace (nop_config w.topology offset fail) (p ∷ []) c p.sector name o
   has_place o short =
       let i : offset + size ≤ p.size = window.inside in
-      some-with (below_new c (p ∷ []) c) (λ q. (offset + o < q.size) × (q.sector ≡ p.sector)) p
-      (below-here c p [] c refl) (omega arith, refl)
+      plain-place w kinds.Nop (nop_config w.topology offset fail) p plain p.sector name o (offset + o) refl
+      (omega arith) refl
 
   -- so the nop can be made
   nop_can : CanMake w kinds.Nop (nop_config w.topology offset fail) (p ∷ []) p.sector (slice ∷ [])
-  nop_can = record {
-    fits = refl;
-    dev = refl;
-    taste = refl;
-    found = All-from_recursion (λ (x : Provider). provider_at w.topology x.number ≡ Some x) (p ∷ []) (found, tt);
-    low = ltb-false MAX_RANK (rank_over w.topology (p ∷ [])) low;
-    wholes = All-from_recursion (λ (x : Provider). IsWholeIn (nop_config w.topology offset fail) x.sector) (p ∷ [])
-        (window.offset_whole, tt);
-    filled = All-from_recursion (λ d. IsSome (below_new c (p ∷ []) d)) (c ∷ [])
-        (some-there (below_new c (p ∷ []) c) p (below-here c p [] c refl), tt);
-    apart = pairs-from_recursion (λ a b. a ≢ b) (c ∷ []) (tt, tt);
-    few = omega arith;
-    places = tt;
-    disk = tt;
-    sectors = All-contains (λ (x : Provider). IsSectorSize x.sector) w.topology.providers p firm.sizes.sectors
-        (find-Contains (λ (x : Provider). x.number == p.number) w.topology.providers p found);
-    offers = All-from_recursion (CanOffer w (nop_config w.topology offset fail) (p ∷ []) p.sector) (slice ∷ [])
-        (record { free = free; size = window_size; leads = inr has_place }, tt);
-    names = pairs-from_recursion (λ (x y : NewSlice). same_name x.name y.name ≡ false) (slice ∷ []) (tt, tt);
-    partial = λ some. false_true some;
-    one = λ concat. absurd (let no : ⊥ = cc in no);
-    sums = λ joined.
-        elim joined [
-          | inl concat ↦ absurd (let no : ⊥ = cc in no)
-          | inr stripe ↦ absurd (let no : ⊥ = cc in no)
-        ];
-  }
+  nop_can =
+      plain-can w kinds.Nop (nop_config w.topology offset fail) p plain p.sector (slice ∷ []) found
+      (ltb-false MAX_RANK (rank_over w.topology (p ∷ [])) low) window.offset_whole
+      (All-contains (λ (x : Provider). IsSectorSize x.sector) w.topology.providers p firm.sizes.sectors
+      (find-Contains (λ (x : Provider). x.number == p.number) w.topology.providers p found))
+      (All-from_recursion (CanOffer w (nop_config w.topology offset fail) (p ∷ []) p.sector) (slice ∷ [])
+      (record { free = free; size = window_size; leads = inr has_place }, tt))
+      (pairs-from_recursion (λ (x y : NewSlice). same_name x.name y.name ≡ false) (slice ∷ []) (tt, tt))
 
   -- and it stands
   pub nopped-firm : Firm (with_made w kinds.Nop name (nop_config w.topology offset fail) (p ∷ []) name size
