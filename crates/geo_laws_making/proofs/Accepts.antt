@@ -33,8 +33,7 @@ use Rattle.geo_model.specs.declared.class.Verdict.TheVariants.{Decline, More, Ac
 use Rattle.geo_model.specs.Chain.{Chain, with_link, link_tests, table_of, chain_verdict, leads_on}
 use Rattle.geo_model.specs.Records.{mbr_table, label_record, concat_record, stripe_record}
 use Rattle.geo_model.specs.Tasting.{facts_of}
-use Rattle.geo_laws_making.proofs.Sliced.{slices-firm}
-use Rattle.geo_laws_making.proofs.Parted.{parts-firm}
+use Rattle.geo_laws_making.proofs.Parted.{slices-firm, parts-firm}
 use Rattle.geo_laws_making.proofs.PlacedInside.{places_stay}
 
 -- A label: a geom over the tasted provider, with a provider that is one sector smaller.

@@ -18,7 +18,6 @@ pub mod Finished
 pub mod MadeFree
 pub mod Accepted
 pub mod NewSlices
-pub mod Sliced
 pub mod Parted
 pub mod PlacedInside
 pub mod Accepts

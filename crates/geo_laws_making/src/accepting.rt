@@ -9,7 +9,7 @@ pub fn labels_stay_firm()
 {}
 
 /// A firm mesh stays firm with the slices of a table that is accepted.
-#[tactic(auto, using(crate::proofs::Sliced::slices_stay))]
+#[tactic(auto, using(crate::proofs::Parted::slices_stay))]
 pub fn slices_stay_firm()
     ensures { SlicesStayFirm }
 {}
