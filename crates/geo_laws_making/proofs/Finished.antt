@@ -7,8 +7,8 @@ use Rattle.std.proofs.lemmas.List.Sums.{sum_by-cons}
 use Rattle.std.proofs.lemmas.Nat.Gcd.{dvd-zero, dvd_of_mod-eq-zero, mod-eq-zero_of_dvd}
 use Rattle.std.proofs.Math.Nat.{dvd-add, dvd-mul_left_of_dvd, div-mul-le_self}
 use Prim.Native.Nat.{◌∣◌}
-use Rattle.geo_model.specs.Topology.{Topology, Provider, Consumer, provider_at, consumer_at, Geom, geom_at, geom_of_provider, providers_of, add_provider}
-use Rattle.geo_model.specs.World.{Config, Concat, Stripe, World, Taste, granted_in}
+use Rattle.geo_model.specs.Topology.{Topology, Provider, Consumer, provider_at, consumer_at, Geom, geom_at, providers_of, add_provider}
+use Rattle.geo_model.specs.World.{Config, Concat, Stripe, World, granted_in}
 use Rattle.geo_model.specs.Place.{Spot, place, concat_spot, stripe_spot, component, components, disk_of}
 use Rattle.geo_model.specs.Acceptance.{places_of, joined_size, smallest, NewSlice}
 use Rattle.geo_model.specs.Fitting.{IsWholeIn, sizes_of, FitsBelow, FitsPlace, FitsPlaces, PlacesHold, Firm}
@@ -19,13 +19,12 @@ use Rattle.geo_laws_making.specs.PlaceLaws.{IsAssembly, IsOpenAssembly}
 use Rattle.std.specs.Option.{option_flatten}
 use Rattle.std.proofs.lemmas.List.Elements.{All-contains, All-from_recursion, Contains-push_cases}
 use Rattle.geo_base.proofs.MemberLists.{zip_members}
-use Rattle.geo_base.specs.declared.limits.TheConstants.{UNTASTED_RANK}
 use Rattle.geo_model.specs.Rank.{rank}
 use Rattle.geo_model.specs.Demand.{want, is_zero}
 use Rattle.geo_model.specs.Events.{offer}
 use Rattle.geo_model.specs.WorldEvents.{queued_of, with_queued}
 use Rattle.geo_model.specs.Graph.{IsInOrder, PartsLive}
-use Rattle.geo_model.specs.Sound.{IsMediaSize, IsPlaceInside, IsPlaced, IsTasteInOrder}
+use Rattle.geo_model.specs.Sound.{IsMediaSize, IsPlaceInside, IsPlaced}
 use Rattle.geo_model.specs.Steady.{HasItsComponents}
 use Rattle.geo_laws_graph.specs.LookupLaws.{new_provider}
 use Rattle.geo_laws_graph.proofs.Found.{added-provider}
@@ -35,10 +34,9 @@ use Rattle.geo_laws_counts.proofs.LimitFacts.{all_true}
 use Rattle.geo_laws_counts.proofs.Sums.{at_most-same}
 use Rattle.geo_laws_life.proofs.Frames.{FitsOver}
 use Rattle.geo_laws_making.proofs.Over.{false_true}
-use Rattle.geo_laws_making.proofs.Made.{through}
 use Rattle.geo_laws_making.proofs.Offered.{KeepsGraph, offered-keeps, offered-living, offered-names}
 use Rattle.geo_laws_making.specs.MoreLaws.{IsUntouched, GeomFits, ProviderFits, IsMore}
-use Rattle.geo_laws_making.proofs.MoreFirm.{more-firm}
+use Rattle.geo_laws_making.proofs.MoreFirm.{more-firm, tastes-low}
 use Rattle.geo_laws_making.proofs.Assembled.{has-places, in-places, is-there, its-class, isnt-dev, isnt-taste, offers-not, only-one, component-there}
 use Rattle.geo_laws_making.specs.AssemblyLaws.{CanFinish, FinishesStayFirm}
 
@@ -413,17 +411,6 @@ module _ (w : World) (g : Geom Config) (name : List ℕ) (sector : ℕ) (firm : 
         (find-Contains (λ (z : Provider). z.number == m) t.providers x e),
   )
 
-  -- the taste isn't too high
-  low_still : (o : Option Taste) → IfSome o (IsTasteInOrder t)
-      → IfSome o (λ s. IsSomeAnd (geom_of_provider u s.provider) (λ h. rank u h.number < UNTASTED_RANK))
-  low_still None old = tt
-  low_still (Some s) old =
-      let h = found-with (geom_of_provider t s.provider) (λ h. rank t h.number < UNTASTED_RANK) old.rank in
-      let x = through (λ (x : Provider). geom_at t x.geom) (provider_at t s.provider) h.item h.is in
-      some-with (geom_of_provider u s.provider) (λ h. rank u h.number < UNTASTED_RANK) h.item
-      (ap (option_and_then (λ (x : Provider). geom_at t x.geom)) (provider_still s.provider x.first x.is) ∙ x.then)
-      (subst (λ m. m < UNTASTED_RANK) (sym (kept.same h.item.number)) h.fact)
-
   -- the graph has come to more
   finished-more : IsMore w u g
   finished-more = record {
@@ -457,7 +444,10 @@ module _ (w : World) (g : Geom Config) (name : List ℕ) (sector : ℕ) (firm : 
     opened = λ y stands used. inl (sym (ap is_zero (kept.demand.haves y.number)) ∙ used);
     bios = λ x stands. untouched x.target;
     tasted = if-found w.taste (λ s. IsUntouched t u g s.provider) (λ s e. untouched s.provider);
-    rank = low_still w.taste firm.taste.order;
+    rank = tastes-low w u firm (λ s e x is h of. (
+        ap (option_and_then (λ (z : Provider). geom_at t z.geom)) (provider_still s.provider x is) ∙ of,
+        kept.same h.number,
+      ));
   }
 
   -- so the world is firm

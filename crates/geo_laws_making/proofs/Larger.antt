@@ -15,9 +15,9 @@ use Rattle.geo_base.proofs.MemberLists.{zip_members}
 use Rattle.geo_base.proofs.Options.{if-with}
 use Rattle.geo_base.specs.Sectors.{IsSectorSize}
 use Rattle.geo_base.specs.declared.kind.Kind.TheVariants as kinds
-use Rattle.geo_base.specs.declared.limits.TheConstants.{MAX_COMPONENTS, MAX_MEDIA_BYTES, UNTASTED_RANK}
+use Rattle.geo_base.specs.declared.limits.TheConstants.{MAX_COMPONENTS, MAX_MEDIA_BYTES}
 use Rattle.geo_model.specs.Words.{is_kind}
-use Rattle.geo_model.specs.Topology.{Topology, Geom, Provider, Consumer, geom_at, provider_at, consumer_at, geom_of_provider, providers_of, consumers_of, add_consumer, set_config}
+use Rattle.geo_model.specs.Topology.{Topology, Geom, Provider, Consumer, geom_at, provider_at, consumer_at, providers_of, consumers_of, add_consumer, set_config}
 use Rattle.geo_model.specs.Rank.{rank, reaches}
 use Rattle.geo_model.specs.Opens.{is_below}
 use Rattle.geo_model.specs.Demand.{have, is_zero}
@@ -27,7 +27,7 @@ use Rattle.geo_model.specs.Place.{Spot, place, component, components, disk_of}
 use Rattle.geo_model.specs.Acceptance.{places_of, add_place, joined_size}
 use Rattle.geo_model.specs.Append.{Growing, is_invalid_append, is_growth_busy, component_refusal, with_component}
 use Rattle.geo_model.specs.Graph.{IsInOrder, PartsLive}
-use Rattle.geo_model.specs.Sound.{fits_kind, DifferInName, DifferInDisk, IsMediaSize, IsOfItsClass, IsPlaceInside, IsPlaced, IsTasteInOrder, LeadsDown}
+use Rattle.geo_model.specs.Sound.{fits_kind, DifferInName, DifferInDisk, IsMediaSize, IsOfItsClass, IsPlaceInside, IsPlaced, LeadsDown}
 use Rattle.geo_model.specs.Steady.{HasItsComponents, WaitsForPlaces}
 use Rattle.geo_model.specs.Fitting.{IsWholeIn, sizes_of, FitsPlace, FitsPlaces, PlacesHold, HasItsSum, Firm}
 use Rattle.geo_model.proofs.FirmLemmas.{sound_of, steady_of}
@@ -46,9 +46,8 @@ use Rattle.geo_laws_life.specs.LessLaws.{ComesFrom}
 use Rattle.geo_laws_life.proofs.Found.{found-with, some-with, some-there, none-there, if-found, at-found, at-some, one-found, pairs-from}
 use Rattle.geo_laws_making.specs.MoreLaws.{IsGrownFrom, StandsGrown, IsUntouched, GeomFits, ProviderFits, ConsumerFits, IsMore}
 use Rattle.geo_laws_life.proofs.Frames.{fact_still, IsPart, FitsOver}
-use Rattle.geo_laws_making.proofs.MoreFirm.{fits_grown, inside_grown, more-firm}
+use Rattle.geo_laws_making.proofs.MoreFirm.{fits_grown, inside_grown, more-firm, tastes-low}
 use Rattle.geo_laws_making.proofs.Over.{false_true}
-use Rattle.geo_laws_making.proofs.Made.{through}
 use Rattle.geo_laws_making.proofs.Concats.{IsConcat, concat_of, IsStanding, still_fits, no_more, all-components, filled_still}
 use Rattle.geo_laws_making.proofs.Rises.{order, live, geom_here, provider_here, provider_own, own_only, apart_from, wants_more, opened_upright, rank_away}
 use Rattle.geo_laws_making.proofs.Assembled.{in-places}
@@ -511,29 +510,9 @@ module _ (w : World) (x : Growing) (q : Provider) (firm : Firm w) (is : IsStandi
   bio_away b here = false_from_ne_true (is_below t p b.target) (λ yes.
       false_true (sym above.0 ∙ any-contained (λ (b : Bio). is_below t p b.target) w.bios b here yes))
 
-  -- nor is a taste, which isn't too high either
-  taste_away : (o : Option Taste) → option_map_or (λ (s : Taste). is_below t p s.provider) o false ≡ false
-      → IfSome o (λ s. IsUntouched t u g s.provider)
-  taste_away None away = tt
-  taste_away (Some s) away = untouched s.provider away
-
-  -- so its rank stays
-  taste_low : (o : Option Taste) → option_map_or (λ (s : Taste). is_below t p s.provider) o false ≡ false
-      → IfSome o (IsTasteInOrder t)
-      → IfSome o (λ s. IsSomeAnd (geom_of_provider u s.provider) (λ h. rank u h.number < UNTASTED_RANK))
-  taste_low None away old = tt
-  taste_low (Some s) away old =
-      let h = found-with (geom_of_provider t s.provider) (λ h. rank t h.number < UNTASTED_RANK) old.rank in
-      let y = through (λ (z : Provider). geom_at t z.geom) (provider_at t s.provider) h.item h.is in
-      let apart = apart_from w x firm is s.provider y.first y.is away in
-      let number = number_found (λ (z : Geom Config). z.number) t.geoms y.first.geom h.item y.then in
-      let same = rank_away w x firm is q there none h.item.number
-      (ap (λ k. reaches t k n) number ∙ apart.unreached) in
-      some-with (geom_of_provider u s.provider) (λ h. rank u h.number < UNTASTED_RANK) h.item
-      (ap (option_and_then (λ (z : Provider). geom_at u z.geom))
-      (grown_is_found.other_providers w x q s.provider apart.number ∙ y.is)
-      ∙ grown_is_found.other_geoms w x q y.first.geom apart.geom ∙ y.then)
-      (subst (λ m. m < UNTASTED_RANK) (sym same) h.fact)
+  -- nor is a taste
+  taste_away : (s : Taste) → w.taste ≡ Some s → is_below t p s.provider ≡ false
+  taste_away s e = sym (ap (λ o. option_map_or (λ (z : Taste). is_below t p z.provider) o false) e) ∙ above.1
 
   -- each provider comes from one that stood
   provider_comes : (y : Provider) → Contains u.providers y → ComesFrom IsGrownFrom t.providers y
@@ -619,8 +598,15 @@ module _ (w : World) (x : Growing) (q : Provider) (firm : Firm w) (is : IsStandi
     wants = λ d here. wants_more w x firm is q there none d;
     opened = opened_upright w x firm is q there none;
     bios = λ b here. untouched b.target (bio_away b here);
-    tasted = taste_away w.taste above.1;
-    rank = taste_low w.taste above.1 firm.taste.order;
+    tasted = if-found w.taste (λ s. IsUntouched t u g s.provider) (λ s e. untouched s.provider (taste_away s e));
+    rank = tastes-low w u firm (λ s e y found h of.
+        let apart = apart_from w x firm is s.provider y found (taste_away s e) in
+        let number = number_found (λ (z : Geom Config). z.number) t.geoms y.geom h of in (
+          ap (option_and_then (λ (z : Provider). geom_at u z.geom))
+              (grown_is_found.other_providers w x q s.provider apart.number ∙ found)
+              ∙ grown_is_found.other_geoms w x q y.geom apart.geom ∙ of,
+          rank_away w x firm is q there none h.number (ap (λ k. reaches t k n) number ∙ apart.unreached),
+        ));
   }
 
   -- events are of providers that live still

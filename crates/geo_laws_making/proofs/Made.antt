@@ -10,20 +10,20 @@ use Rattle.std.proofs.lemmas.List.Quantifiers.{all_pairs_push}
 use Rattle.geo_base.specs.Sectors.{IsSectorSize}
 use Rattle.geo_base.specs.declared.kind.Kind.{Kind}
 use Rattle.geo_base.specs.declared.kind.Kind.TheVariants as kinds
-use Rattle.geo_base.specs.declared.limits.TheConstants.{MAX_RANK, UNTASTED_RANK}
+use Rattle.geo_base.specs.declared.limits.TheConstants.{MAX_RANK}
 use Rattle.geo_base.proofs.MemberLists.{zip_members}
 use Rattle.geo_model.specs.Words.{largest, same_name, is_kind}
-use Rattle.geo_model.specs.Topology.{Topology, Geom, Provider, Consumer, geom_at, provider_at, consumer_at, geom_of_provider, providers_of, is_name_taken, add_geom}
+use Rattle.geo_model.specs.Topology.{Topology, Geom, Provider, Consumer, geom_at, provider_at, consumer_at, providers_of, is_name_taken, add_geom}
 use Rattle.geo_model.specs.Rank.{rank}
 use Rattle.geo_model.specs.Demand.{want, is_zero}
 use Rattle.geo_model.specs.Events.{QueuedTopology, provider_of_event}
-use Rattle.geo_model.specs.World.{World, Config, Taste, granted_in}
+use Rattle.geo_model.specs.World.{World, Config, granted_in}
 use Rattle.geo_model.specs.WorldEvents.{queued_of, with_queued}
 use Rattle.geo_model.specs.Place.{place, component, components, disk_of}
 use Rattle.geo_model.specs.Acceptance.{NewSlice, places_of, joined_size}
 use Rattle.geo_model.specs.GeomCommands.{is_geom_of_disk, rank_over}
 use Rattle.geo_model.specs.Graph.{IsInOrder, PartsLive}
-use Rattle.geo_model.specs.Sound.{RanksHold, DifferInName, DifferInDisk, IsMediaSize, HasDiskSizes, IsPlaceInside, IsPlaced, IsTasteInOrder, fits_kind}
+use Rattle.geo_model.specs.Sound.{RanksHold, DifferInName, DifferInDisk, IsMediaSize, HasDiskSizes, IsPlaceInside, IsPlaced, fits_kind}
 use Rattle.geo_model.specs.Fitting.{IsWholeIn, sizes_of, FitsPlace, FitsPlaces, Firm}
 use Rattle.geo_model.proofs.DemandLemmas.{map_same}
 use Rattle.geo_laws_graph.specs.LookupLaws.{new_geom}
@@ -47,19 +47,8 @@ use Rattle.geo_laws_making.specs.MakingLaws.{below_new, HasPlace, CanOffer, IsNe
 use Rattle.geo_laws_making.specs.MoreLaws.{IsUntouched, GeomFits, ProviderFits, IsMore}
 use Rattle.geo_laws_making.proofs.Over.{IsNewOne, attached_one, below-among, over-geoms, over-providers, over-found, over-new, over-cases, over-others, over-order, over-live, over-demand, false_true, below-here}
 use Rattle.geo_laws_making.proofs.Offered.{offered, IsOffered, KeepsGraph, offered-geoms, offered-consumers, offered-found, offered-cases, offered-others, offered-number, offered-living, offered-keeps, offered-names}
-use Rattle.geo_laws_making.proofs.MoreFirm.{more-firm}
-
--- the provider that is found through a number that there may be
-pub record Through {X Y : Type 0} (f : X → Option Y) (o : Option X) (y : Y) : Type 0 where
-  pub first : X
-  pub is : o ≡ Some first
-  pub then : f first ≡ Some y
-
--- what is found so
-pub through : {X Y : Type 0} (f : X → Option Y) (o : Option X) (y : Y) → option_and_then f o ≡ Some y
-    → Through f o y
-through f None y e = absurd (let no : ⊥ = cc in no)
-through f (Some x) y e = record { first = x; is = refl; then = e }
+pub use Rattle.geo_laws_making.proofs.MoreFirm.{through}
+use Rattle.geo_laws_making.proofs.MoreFirm.{tastes-low, more-firm}
 
 module _ (w : World) (kind : Kind) (name : List ℕ) (config : Config) (automatic : Bool) (ps : List Provider)
     (sector : ℕ)
@@ -438,21 +427,6 @@ module _ (w : World) (kind : Kind) (name : List ℕ) (config : Config) (automati
     old_provider_apart x (find-Contains (λ (z : Provider). z.number == p) t.providers x e),
   )
 
-  -- the taste isn't too high
-  low_still : (o : Option Taste) → IfSome o (IsTasteInOrder t)
-      → IfSome o (λ s. IsSomeAnd (geom_of_provider u s.provider) (λ h. rank u h.number < UNTASTED_RANK))
-  low_still None old = tt
-  low_still (Some s) old =
-      let h = found-with (geom_of_provider t s.provider) (λ h. rank t h.number < UNTASTED_RANK) old.rank in
-      let p = through (λ (x : Provider). geom_at t x.geom) (provider_at t s.provider) h.item h.is in
-      let here = find-Contains (λ (z : Geom Config). z.number == p.first.geom) t.geoms h.item p.then in
-      let same = rank_same h.item.number (old_geom_apart h.item here) in
-      some-with (geom_of_provider u s.provider) (λ h. rank u h.number < UNTASTED_RANK) h.item
-      (ap (option_and_then (λ (x : Provider). geom_at u x.geom)) (provider_in_end s.provider p.first p.is)
-      ∙ geom_in_end p.first.geom h.item (found-before (λ (z : Geom Config). z.number == p.first.geom) t.geoms _
-      h.item p.then))
-      (subst (λ m. m < UNTASTED_RANK) (sym same) h.fact)
-
   -- names differ
   names_differ : AllPairs DifferInName u.providers
   names_differ =
@@ -515,7 +489,12 @@ module _ (w : World) (kind : Kind) (name : List ℕ) (config : Config) (automati
     opened = λ y here used. inl (sym (ap is_zero (demand.haves y.number)) ∙ used);
     bios = λ x here. untouched x.target;
     tasted = if-found w.taste (λ s. IsUntouched t u g s.provider) (λ s e. untouched s.provider);
-    rank = low_still w.taste firm.taste.order;
+    rank = tastes-low w u firm (λ s e x is h of. (
+        ap (option_and_then (λ (z : Provider). geom_at u z.geom)) (provider_in_end s.provider x is)
+            ∙ geom_in_end x.geom h (found-before (λ (z : Geom Config). z.number == x.geom) t.geoms _ h of),
+        rank_same h.number
+            (old_geom_apart h (find-Contains (λ (z : Geom Config). z.number == x.geom) t.geoms h of)),
+      ));
   }
 
   -- so the world is firm

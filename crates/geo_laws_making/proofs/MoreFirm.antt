@@ -137,6 +137,34 @@ with_kind p o = record {
   sectors = p.size / p.sector;
 }
 
+-- the provider that is found through a number that there may be
+pub record Through {X Y : Type 0} (f : X → Option Y) (o : Option X) (y : Y) : Type 0 where
+  pub first : X
+  pub is : o ≡ Some first
+  pub then : f first ≡ Some y
+
+-- what is found so
+pub through : {X Y : Type 0} (f : X → Option Y) (o : Option X) (y : Y) → option_and_then f o ≡ Some y
+    → Through f o y
+through f None y e = absurd (let no : ⊥ = cc in no)
+through f (Some x) y e = record { first = x; is = refl; then = e }
+
+-- a taste isn't too high where its provider and the geom of that stand, and the rank of the geom is what it was
+pub tastes-low : (w : World) (u : Topology Config) → Firm w
+    → ((s : Taste) → w.taste ≡ Some s → (x : Provider) → provider_at w.topology s.provider ≡ Some x
+    → (h : Geom Config) → geom_at w.topology x.geom ≡ Some h
+    → (geom_of_provider u s.provider ≡ Some h) × (rank u h.number ≡ rank w.topology h.number))
+    → IfSome w.taste (λ s. IsSomeAnd (geom_of_provider u s.provider) (λ h. rank u h.number < UNTASTED_RANK))
+tastes-low w u firm still =
+    if-found w.taste (λ s. IsSomeAnd (geom_of_provider u s.provider) (λ h. rank u h.number < UNTASTED_RANK)) (λ s e.
+    let old = at-found w.taste (IsTasteInOrder w.topology) s e firm.taste.order in
+    let h = found-with (geom_of_provider w.topology s.provider) (λ h. rank w.topology h.number < UNTASTED_RANK)
+    old.rank in
+    let x = through (λ (x : Provider). geom_at w.topology x.geom) (provider_at w.topology s.provider) h.item h.is in
+    let now = still s e x.first x.is h.item x.then in
+    some-with (geom_of_provider u s.provider) (λ h. rank u h.number < UNTASTED_RANK) h.item now.0
+    (subst (λ m. m < UNTASTED_RANK) (sym now.1) h.fact))
+
 module _ (w : World) (u : Topology Config) (g : Geom Config) (firm : Firm w) (more : IsMore w u g) where
   -- the graph before
   abbrev t : Topology Config

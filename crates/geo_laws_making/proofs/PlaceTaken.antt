@@ -8,16 +8,16 @@ use Rattle.std.proofs.lemmas.List.Elements.{All-contains, All-nil, Contains-push
 use Rattle.std.proofs.lemmas.Nat.Gcd.{dvd_of_mod-eq-zero, mod-eq-zero_of_dvd, dvd_refl}
 use Rattle.std.proofs.Math.Nat.{dvd-sub}
 use Rattle.geo_base.proofs.MemberLists.{zip_members}
-use Rattle.geo_base.specs.declared.limits.TheConstants.{MAX_COMPONENTS, MAX_RANK, UNTASTED_RANK}
+use Rattle.geo_base.specs.declared.limits.TheConstants.{MAX_COMPONENTS, MAX_RANK}
 use Rattle.geo_model.specs.Words.{change_where}
-use Rattle.geo_model.specs.Topology.{Topology, Geom, Provider, Consumer, geom_at, provider_at, consumer_at, geom_of_provider, providers_of, add_consumer, set_config}
+use Rattle.geo_model.specs.Topology.{Topology, Geom, Provider, Consumer, geom_at, provider_at, consumer_at, providers_of, add_consumer, set_config}
 use Rattle.geo_model.specs.Rank.{rank}
 use Rattle.geo_model.specs.Demand.{want, is_zero}
-use Rattle.geo_model.specs.World.{World, Config, Taste, granted_in}
+use Rattle.geo_model.specs.World.{World, Config, granted_in}
 use Rattle.geo_model.specs.Place.{components, disk_of}
 use Rattle.geo_model.specs.Acceptance.{places_of, fill_place, joined_size}
 use Rattle.geo_model.specs.Graph.{IsInOrder, PartsLive}
-use Rattle.geo_model.specs.Sound.{RanksHold, DifferInDisk, IsMediaSize, IsOfItsClass, IsTasteInOrder}
+use Rattle.geo_model.specs.Sound.{RanksHold, DifferInDisk, IsMediaSize, IsOfItsClass}
 use Rattle.geo_model.specs.Fitting.{IsWholeIn, FitsBelow, sizes_of, FitsPlace, FitsPlaces, PlacesHold, Firm}
 use Rattle.geo_laws_graph.specs.LookupLaws.{new_consumer}
 use Rattle.geo_laws_graph.proofs.Members.{find-Contains, map-Contains}
@@ -38,10 +38,9 @@ use Rattle.geo_laws_life.specs.LessLaws.{ComesFrom}
 use Rattle.geo_laws_life.proofs.Found.{found-with, some-with, some-there, none-there, if-found, at-found, one-found, pairs-from}
 use Rattle.geo_laws_life.proofs.Less.{demand-trans}
 use Rattle.geo_laws_making.proofs.Over.{over-demand}
-use Rattle.geo_laws_making.proofs.Made.{through}
 use Rattle.geo_laws_making.specs.MoreLaws.{IsUntouched, GeomFits, ConsumerFits, IsMore}
 use Rattle.geo_laws_life.proofs.Frames.{fact_still, IsPart, FitsOver}
-use Rattle.geo_laws_making.proofs.MoreFirm.{more-firm}
+use Rattle.geo_laws_making.proofs.MoreFirm.{more-firm, tastes-low}
 use Rattle.geo_laws_making.specs.PlaceLaws.{CanTakePlace, IsOpenAssembly, TakesStayFirm}
 use Rattle.geo_laws_making.proofs.Assembled.{is-there, its-class, its-assembly, isnt-dev, isnt-taste, offers-not, only-one, component-there, has-places, filled-is, filled_of, filled-cases, filled-differ, in-places, zip-set, IsOfAssembly}
 
@@ -350,23 +349,6 @@ module _ (w : World) (p : Provider) (g : Geom Config) (k : ℕ) (firm : Firm w) 
   untouched : (m : ℕ) → IsUntouched t u joined m
   untouched m x e = (e, not_of_it x (find-Contains (λ (z : Provider). z.number == m) t.providers x e))
 
-  -- the taste isn't too high
-  low_still : (o : Option Taste) → IfSome o (IsTasteInOrder t)
-      → IfSome o (λ s. IsSomeAnd (geom_of_provider u s.provider) (λ h. rank u h.number < UNTASTED_RANK))
-  low_still None old = tt
-  low_still (Some s) old =
-      let h = found-with (geom_of_provider t s.provider) (λ h. rank t h.number < UNTASTED_RANK) old.rank in
-      let x = through (λ (x : Provider). geom_at t x.geom) (provider_at t s.provider) h.item h.is in
-      let apart =
-      not_of_it x.first (find-Contains (λ (z : Provider). z.number == s.provider) t.providers x.first x.is) in
-      let number : h.item.number ≡ x.first.geom =
-      number_found (λ (z : Geom Config). z.number) t.geoms x.first.geom h.item x.then in
-      let same = rank_same h.item.number (λ e. apart (sym number ∙ e)) in
-      some-with (geom_of_provider u s.provider) (λ h. rank u h.number < UNTASTED_RANK) h.item
-      (ap (option_and_then (λ (x : Provider). geom_at u x.geom)) x.is
-      ∙ config-found.others v n filled x.first.geom apart ∙ x.then)
-      (subst (λ m. m < UNTASTED_RANK) (sym same) h.fact)
-
   -- a consumer was there, or is the new one
   consumer_cases : (y : Consumer) → Contains u.consumers y
       → Contains t.consumers y ⊎ (new_consumer t n (Some p.number) ≡ y)
@@ -429,7 +411,13 @@ module _ (w : World) (p : Provider) (g : Geom Config) (k : ℕ) (firm : Firm w) 
     opened = λ y stands used. inl (sym (ap is_zero (demand.haves y.number)) ∙ used);
     bios = λ x stands. untouched x.target;
     tasted = if-found w.taste (λ s. IsUntouched t u joined s.provider) (λ s e. untouched s.provider);
-    rank = low_still w.taste firm.taste.order;
+    rank = tastes-low w u firm (λ s e x is h of.
+        let apart = not_of_it x (find-Contains (λ (z : Provider). z.number == s.provider) t.providers x is) in
+        let number : h.number ≡ x.geom = number_found (λ (z : Geom Config). z.number) t.geoms x.geom h of in (
+          ap (option_and_then (λ (z : Provider). geom_at u z.geom)) is
+              ∙ config-found.others v n filled x.geom apart ∙ of,
+          rank_same h.number (λ same. apart (sym number ∙ same)),
+        ));
   }
 
   -- so the world is firm
