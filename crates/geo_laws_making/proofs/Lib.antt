@@ -24,7 +24,6 @@ pub mod Accepts
 pub mod Asking
 pub mod Tasters
 pub mod Ending
-pub mod Reading
 pub mod Submitting
 pub mod Tastes
 pub mod Firsts
