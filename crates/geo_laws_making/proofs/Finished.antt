@@ -37,7 +37,7 @@ use Rattle.geo_laws_making.proofs.Over.{false_true}
 use Rattle.geo_laws_making.proofs.Offered.{KeepsGraph, offered-keeps, offered-living, offered-names}
 use Rattle.geo_laws_making.specs.MoreLaws.{IsUntouched, GeomFits, ProviderFits, IsMore}
 use Rattle.geo_laws_making.proofs.MoreFirm.{more-firm, tastes-low}
-use Rattle.geo_laws_making.proofs.Assembled.{has-places, in-places, is-there, its-class, isnt-dev, isnt-taste, offers-not, only-one, component-there}
+use Rattle.geo_laws_making.proofs.PlaceTaken.{has-places, in-places, is-there, its-class, isnt-dev, isnt-taste, offers-not, only-one, component-there}
 use Rattle.geo_laws_making.specs.AssemblyLaws.{CanFinish, FinishesStayFirm}
 
 -- An assembly whose places are all filled: where each offset lands, and that its size is in whole sectors.

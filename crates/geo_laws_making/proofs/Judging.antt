@@ -37,9 +37,7 @@ use Rattle.geo_laws_making.proofs.Accepts.{accepts_stay}
 use Rattle.geo_laws_making.specs.TasteLaws.{taste_asking, world_with_taste}
 use Rattle.geo_laws_making.specs.ChainSteps.{GoesOnTo}
 use Rattle.geo_laws_making.specs.JudgeLaws.{JudgesStayFirm}
-use Rattle.geo_laws_making.proofs.Asking.{asking-firm}
-use Rattle.geo_laws_making.proofs.Submitting.{submitted-firm}
-use Rattle.geo_laws_making.proofs.Ending.{abort-firm}
+use Rattle.geo_laws_making.proofs.Tastes.{asking-firm, submitted-firm, abort-firm}
 use Rattle.geo_laws_making.proofs.Firsts.{more_links, first_inside, has_sector, judge_no_more}
 
 -- a class that is asked is one

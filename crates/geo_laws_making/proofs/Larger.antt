@@ -50,7 +50,7 @@ use Rattle.geo_laws_making.proofs.MoreFirm.{fits_grown, inside_grown, more-firm,
 use Rattle.geo_laws_making.proofs.Over.{false_true}
 use Rattle.geo_laws_making.proofs.Concats.{IsConcat, concat_of, IsStanding, still_fits, no_more, all-components, filled_still}
 use Rattle.geo_laws_making.proofs.Rises.{order, live, geom_here, provider_here, provider_own, own_only, apart_from, wants_more, opened_upright, rank_away}
-use Rattle.geo_laws_making.proofs.Assembled.{in-places}
+use Rattle.geo_laws_making.proofs.PlaceTaken.{in-places}
 
 -- what an append asks of the concat and the provider: not too many consumers, one sector size, and a size that
 -- isn't too large

@@ -12,7 +12,6 @@ pub mod Rises
 pub mod Larger
 pub mod Appended
 pub mod Commanded
-pub mod Assembled
 pub mod PlaceTaken
 pub mod Finished
 pub mod MadeFree
@@ -21,10 +20,8 @@ pub mod NewSlices
 pub mod Parted
 pub mod PlacedInside
 pub mod Accepts
-pub mod Asking
 pub mod Tasters
-pub mod Ending
-pub mod Submitting
 pub mod Tastes
+pub mod Ending
 pub mod Firsts
 pub mod Judging

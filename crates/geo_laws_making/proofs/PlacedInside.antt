@@ -38,8 +38,7 @@ use Rattle.geo_laws_making.proofs.Over.{false_true}
 use Rattle.geo_laws_making.proofs.Made.{made-firm}
 use Rattle.geo_laws_making.specs.PlaceLaws.{CanTakePlace, IsAssembly, IsOpenAssembly}
 use Rattle.geo_laws_making.specs.AssemblyLaws.{ConcatPlacesStayFirm, StripePlacesStayFirm}
-use Rattle.geo_laws_making.proofs.Assembled.{has-places, filled-is, filled_of, filled-cases, of-places, component-there}
-use Rattle.geo_laws_making.proofs.PlaceTaken.{taken-firm, new-found, consumer-still, components-now}
+use Rattle.geo_laws_making.proofs.PlaceTaken.{has-places, filled-is, filled_of, filled-cases, of-places, component-there, taken-firm, new-found, consumer-still, components-now}
 use Rattle.geo_laws_making.proofs.Finished.{finished-firm}
 use Rattle.geo_laws_making.proofs.MadeFree.{free-made, not-taken}
 use Rattle.geo_model.proofs.RefusalLemmas.{none_refused, none_behind}
