@@ -16,9 +16,7 @@ use Rattle.geo_laws_counts.proofs.SeenCounts.{seen_stays}
 use Rattle.geo_laws_life.specs.LessLaws.{IsLess}
 use Rattle.geo_laws_life.proofs.Less.{less-self, same_tasting}
 use Rattle.geo_laws_life.proofs.LessFitting.{less-firm}
-use Rattle.geo_model.proofs.RefusalLemmas.{none_refused}
 use Rattle.geo_base.specs.declared.errno.Errno.{Errno}
-use Rattle.geo_base.specs.declared.errno.Errno.TheVariants.{EBUSY, EINVAL}
 use Rattle.geo_base.specs.declared.request.Counts.{Counts}
 use Rattle.geo_model.specs.declared.step.Event.TheVariants as events
 use Rattle.geo_model.specs.Words.{first_error}
@@ -35,6 +33,7 @@ use Rattle.geo_laws_making.proofs.Nopped.{found_by_number}
 use Rattle.geo_laws_making.specs.AppendLaws.{AppendsStayFirm}
 use Rattle.geo_laws_making.proofs.Concats.{IsStanding, growing_stands}
 use Rattle.geo_laws_making.proofs.Larger.{valid_from, larger-firm, larger-lives, provider-lives}
+use Rattle.geo_laws_making.proofs.Pulled.{none-refuses}
 
 -- One consumer number is used up, by an append that is refused: a firm world stays firm.
 
@@ -137,10 +136,8 @@ module _ (w : World) (x : Growing) (q : Provider) (firm : Firm w) (is : IsStandi
   tested-firm : (line : ℕ) (e : Option Errno) → first_error (append_tests w x q) ≡ e
       → Firm (append_tested w line x q e).0
   tested-firm line None none =
-      let a = none_refused (is_invalid_append w.topology x q) EINVAL
-      ((is_growth_busy w x.provider.number, EBUSY) ∷ []) none in
-      let b = none_refused (is_growth_busy w x.provider.number) EBUSY [] a.1 in
-      joined-firm line a.0 b.0 (component_refusal w x q) refl
+      let tests = none-refuses (append_tests w x q) none in
+      joined-firm line tests.0 tests.1.0 (component_refusal w x q) refl
   tested-firm line (Some e) some = firm
 
 -- an append of what is found keeps a firm world firm

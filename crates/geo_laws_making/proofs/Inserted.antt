@@ -3,10 +3,8 @@ use Rattle.std.specs.Prelude.{◌≡◌, ℕ, ◌+◌, suc, false, List, [], ◌
 use Rattle.std.specs.List.{list_any, enumerate_from}
 use Rattle.std.proofs.Common.{inl, inr, refl, ap, subst, arith}
 use Rattle.std.proofs.lemmas.List.Elements.{All-contains, All-from_recursion}
-use Rattle.geo_model.proofs.RefusalLemmas.{none_refused}
-use Rattle.geo_base.specs.declared.errno.Errno.TheVariants.{EBUSY, EEXIST}
 use Rattle.geo_base.specs.declared.kind.Kind.TheVariants as kinds
-use Rattle.geo_model.specs.Words.{first_error, same_name}
+use Rattle.geo_model.specs.Words.{same_name}
 use Rattle.geo_model.specs.Topology.{is_name_taken}
 use Rattle.geo_model.specs.World.{World, Disk, HeaderDisk}
 use Rattle.geo_model.specs.Acceptance.{NewSlice}
@@ -110,15 +108,11 @@ insert-firm : (w : World) (line : ℕ) (disk : List ℕ) (o : Option (ℕ × Hea
     → Firm (do_insert w line o).0
 insert-firm w line disk None found firm = firm
 insert-firm w line disk (Some item) found firm =
-    answered-firm w line (first_error (insert_tests w.topology item)) (stand w item) firm (λ refused.
-    let first = none_refused (list_any (is_geom_of_disk item.0) w.topology.geoms) EBUSY
-    ((is_name_taken w.topology item.1.name, EEXIST) ∷ []) refused in
-    let second = none_refused (is_name_taken w.topology item.1.name) EEXIST [] first.1 in
+    answered-firm w line (insert_tests w.topology item) (stand w item) firm (λ none.
     stand-firm w item firm
     (numbered 0 w.disks item (find-Contains (λ (z : ℕ × HeaderDisk). same_name z.1.name disk)
-    (enumerate_from 0 w.disks) item
-    found))
-    first.0 second.0)
+    (enumerate_from 0 w.disks) item found))
+    none.0 none.1.0)
 
 -- so say all inserts
 pub inserts_stay : InsertsStayFirm

@@ -1,6 +1,6 @@
 -- A concat and a stripe: a geom over some providers, with one provider over all of them; or the command is refused.
-use Rattle.std.specs.Prelude.{◌≡◌, ◌≢◌, ℕ, ◌+◌, ◌*◌, ◌/◌, ◌%◌, ◌<◌, ◌≤◌, ◌==◌, nat_le, nat_lt, Bool, true, false, not, ◌||◌, List, [], ◌∷◌, length, Some, None, IsSome, IsSomeAnd, IfSome, All, AllPairs, Contains, option_and_then, slice_get}
-use Rattle.std.specs.List.{AllZip, list_any, list_all, range_with_len}
+use Rattle.std.specs.Prelude.{◌≡◌, ◌≢◌, ℕ, ◌+◌, ◌*◌, ◌/◌, ◌%◌, ◌<◌, ◌≤◌, ◌==◌, nat_le, nat_lt, Bool, true, false, not, List, [], ◌∷◌, length, Some, IsSome, IsSomeAnd, IfSome, All, AllPairs, Contains, option_and_then, slice_get}
+use Rattle.std.specs.List.{AllZip, list_all, range_with_len, AllByRecursion}
 use Rattle.std.specs.Option.{option_flatten}
 use Rattle.std.proofs.Common.{inl, inr, refl, sym, ◌∙◌, ap, subst, arith}
 use Rattle.std.proofs.lemmas.Bool.{and_parts, or_parts, not-false, ltb-false, leb-true, eqb-true}
@@ -9,12 +9,11 @@ use Rattle.std.proofs.lemmas.List.FromFn.{length-map-range_with_len}
 use Rattle.std.proofs.lemmas.List.Elements.{All-contains, All-from_recursion}
 use Rattle.std.proofs.lemmas.Nat.Gcd.{dvd_of_mod-eq-zero, mod-eq-zero_of_dvd}
 use Rattle.std.proofs.Math.Nat.{dvd-mul_left_of_dvd, div-mul-le_self}
-use Rattle.geo_model.proofs.RefusalLemmas.{none_refused}
 use Rattle.geo_base.specs.Sectors.{IsSectorSize}
-use Rattle.geo_base.specs.declared.errno.Errno.TheVariants.{EEXIST, ENOENT, ENXIO, EINVAL, EDEEP}
+use Rattle.geo_base.specs.declared.errno.Errno.{Errno}
 use Rattle.geo_base.specs.declared.kind.Kind.TheVariants as kinds
 use Rattle.geo_base.specs.declared.limits.TheConstants.{MAX_COMPONENTS, MAX_MEDIA_BYTES, MAX_RANK, MAX_STRIPE_BYTES}
-use Rattle.geo_model.specs.Words.{first_error, same_name}
+use Rattle.geo_model.specs.Words.{same_name}
 use Rattle.geo_model.specs.Names.{concat_name, stripe_name}
 use Rattle.geo_model.specs.Topology.{Provider, provider_at, find_provider, is_name_taken}
 use Rattle.geo_model.specs.World.{World, Config}
@@ -60,30 +59,21 @@ pub record CanJoin (w : World) (name : List ℕ) (config : Config) (wanted : ℕ
 
 -- so they do
 joined-tested : (w : World) (name : List ℕ) (config : Config) (wanted : ℕ) (ps : List Provider) (invalid : Bool)
-    → first_error (joined_tests w.topology name config wanted ps invalid) ≡ None
+    → AllByRecursion (λ (test : Bool × Errno). test.0 ≡ false) (joined_tests w.topology name config wanted ps invalid)
     → CanJoin w name config wanted ps invalid
 joined-tested w name config wanted ps invalid none =
-    let bad : Bool = invalid || is_invalid_joined config ps in
-    let deep : Bool = nat_lt MAX_RANK (rank_over w.topology ps) in
-    let a = none_refused (is_name_taken w.topology name) EEXIST ((not (length ps == wanted), ENOENT)
-    ∷ (list_any (λ p. p.errored) ps, ENXIO) ∷ (bad, EINVAL) ∷ (deep, EDEEP) ∷ []) none in
-    let b = none_refused (not (length ps == wanted)) ENOENT
-    ((list_any (λ p. p.errored) ps, ENXIO) ∷ (bad, EINVAL) ∷ (deep, EDEEP) ∷ []) a.1 in
-    let c = none_refused (list_any (λ p. p.errored) ps) ENXIO ((bad, EINVAL) ∷ (deep, EDEEP) ∷ []) b.1 in
-    let d = none_refused bad EINVAL ((deep, EDEEP) ∷ []) c.1 in
-    let e = none_refused deep EDEEP [] d.1 in
-    let f = or_parts invalid (is_invalid_joined config ps) d.0 in
+    let f = or_parts invalid (is_invalid_joined config ps) none.1.1.1.0 in
     let g = or_parts (not (list_all (λ p. p.sector == sector_of ps) ps)) (not (is_size (joined_size config))) f.1 in
     let h = and_parts (nat_le 1 (joined_size config)) (nat_le (joined_size config) MAX_MEDIA_BYTES)
     (not-false (is_size (joined_size config)) g.1) in
     record {
-      free = a.0;
-      all = eqb-true (length ps) wanted (not-false (length ps == wanted) b.0);
+      free = none.0;
+      all = eqb-true (length ps) wanted (not-false (length ps == wanted) none.1.0);
       valid = f.0;
       same = not-false (list_all (λ p. p.sector == sector_of ps) ps) g.0;
       some = leb-true 1 (joined_size config) h.0;
       limited = leb-true (joined_size config) MAX_MEDIA_BYTES h.1;
-      low = ltb-false MAX_RANK (rank_over w.topology ps) e.0;
+      low = ltb-false MAX_RANK (rank_over w.topology ps) none.1.1.1.1.0;
     }
 
 module _ (w : World) (firm : Firm w) (ps : List Provider)
@@ -295,7 +285,7 @@ concat-firm : (w : World) (line : ℕ) (name : List ℕ) (wanted : ℕ) (ps : Li
     → Firm (do_concat w line name wanted ps).0
 concat-firm w line name wanted ps few found firm =
     let config : Config = concat_config w.topology ps in
-    answered-firm w line (first_error (joined_tests w.topology (concat_name name) config wanted ps false))
+    answered-firm w line (joined_tests w.topology (concat_name name) config wanted ps false)
     (with_made w kinds.Concat name config ps (concat_name name) (joined_size config) (sector_of ps)) firm (λ none.
     let can = joined-tested w (concat_name name) config wanted ps false none in
     made-firm w kinds.Concat name config false ps (sector_of ps)
@@ -309,7 +299,7 @@ stripe-firm : (w : World) (line : ℕ) (name : List ℕ) (stripe wanted : ℕ) (
 stripe-firm w line name stripe wanted ps some few found firm =
     let config : Config = stripe_config w.topology stripe ps in
     answered-firm w line
-    (first_error (joined_tests w.topology (stripe_name name) config wanted ps (is_invalid_stripe stripe ps)))
+    (joined_tests w.topology (stripe_name name) config wanted ps (is_invalid_stripe stripe ps))
     (with_made w kinds.Stripe name config ps (stripe_name name) (joined_size config) (sector_of ps)) firm (λ none.
     let can = joined-tested w (stripe_name name) config wanted ps (is_invalid_stripe stripe ps) none in
     let whole = eqb-true (stripe % sector_of ps) 0 (not-false (stripe % sector_of ps == 0)

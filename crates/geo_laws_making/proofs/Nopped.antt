@@ -3,13 +3,11 @@ use Rattle.std.specs.Prelude.{◌≡◌, ◌≢◌, ℕ, ◌+◌, ◌<◌, ◌�
 use Rattle.std.proofs.Common.{inr, refl, sym, ◌∙◌, subst, arith}
 use Rattle.std.proofs.lemmas.Bool.{or_parts, not-false, ltb-false, eqb-true, eq-eqb}
 use Rattle.std.proofs.lemmas.List.Elements.{All-contains, All-from_recursion}
-use Rattle.geo_model.proofs.RefusalLemmas.{none_refused}
 use Rattle.geo_base.specs.Name.{is_name}
 use Rattle.geo_base.specs.Sectors.{IsSectorSize}
-use Rattle.geo_base.specs.declared.errno.Errno.TheVariants.{ENXIO, EEXIST, EINVAL, EDEEP}
 use Rattle.geo_base.specs.declared.kind.Kind.TheVariants as kinds
 use Rattle.geo_base.specs.declared.limits.TheConstants.{MAX_MEDIA_BYTES, MAX_RANK}
-use Rattle.geo_model.specs.Words.{first_error, same_name}
+use Rattle.geo_model.specs.Words.{same_name}
 use Rattle.geo_model.specs.Topology.{Provider, provider_at, find_provider, is_name_taken}
 use Rattle.geo_model.specs.World.{World}
 use Rattle.geo_model.specs.Acceptance.{NewSlice}
@@ -133,17 +131,9 @@ nop-firm : (w : World) (line : ℕ) (name : List ℕ) (offset size fail : ℕ) (
     → Firm (do_nop w line name offset size fail o).0
 nop-firm w line name offset size fail None found firm = firm
 nop-firm w line name offset size fail (Some p) found firm =
-    answered-firm w line (first_error (nop_tests w.topology name offset size p))
+    answered-firm w line (nop_tests w.topology name offset size p)
     (with_made w kinds.Nop name (nop_config w.topology offset fail) (p ∷ []) name size p.sector) firm (λ none.
-    let a = none_refused p.errored ENXIO ((is_name_taken w.topology name, EEXIST)
-    ∷ (is_invalid_nop p name offset size, EINVAL)
-    ∷ (nat_lt MAX_RANK (rank_over w.topology (p ∷ [])), EDEEP) ∷ []) none in
-    let b = none_refused (is_name_taken w.topology name) EEXIST ((is_invalid_nop p name offset size, EINVAL)
-    ∷ (nat_lt MAX_RANK (rank_over w.topology (p ∷ [])), EDEEP) ∷ []) a.1 in
-    let d = none_refused (is_invalid_nop p name offset size) EINVAL
-    ((nat_lt MAX_RANK (rank_over w.topology (p ∷ [])), EDEEP) ∷ []) b.1 in
-    let e = none_refused (nat_lt MAX_RANK (rank_over w.topology (p ∷ []))) EDEEP [] d.1 in
-    nopped-firm w firm p name offset size fail (found p refl) b.0 d.0 e.0)
+    nopped-firm w firm p name offset size fail (found p refl) none.1.0 none.1.1.0 none.1.1.1.0)
 
 -- so say all nops
 pub nops_stay : NopsStayFirm

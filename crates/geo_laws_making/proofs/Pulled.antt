@@ -1,5 +1,5 @@
 -- A pull and a destroy: a geom withers, or the command is refused.
-use Rattle.std.specs.Prelude.{◌≡◌, ◌≢◌, ℕ, ◌==◌, Bool, true, false, not, ◌&&◌, List, find, Option, Some, None}
+use Rattle.std.specs.Prelude.{◌≡◌, ◌≢◌, ℕ, ◌==◌, Bool, true, false, not, ◌&&◌, List, find, Option, Some, None, [], ◌∷◌}
 use Rattle.std.specs.Option.{option_map_or}
 use Rattle.std.proofs.Common.{inl, inr, refl, sym, ◌∙◌, ap, subst}
 use Rattle.std.proofs.lemmas.Bool.{and_parts, eqb-true, eq-eqb}
@@ -25,6 +25,8 @@ use Rattle.geo_laws_graph.proofs.Members.{Has, find-Contains}
 use Rattle.geo_laws_life.proofs.Withering.{withered-firm}
 use Rattle.geo_laws_making.proofs.Over.{false_true}
 use Rattle.geo_laws_making.specs.GeomLaws.{PullsStayFirm, DestroysStayFirm}
+use Rattle.geo_model.proofs.RefusalLemmas.{none_refused}
+use Rattle.std.specs.List.{AllByRecursion}
 
 -- a geom that isn't of DEV or TASTE has neither's number
 pub neither_fixed : (g : Geom Config) → IsOfItsClass g → is_kind g.kind kinds.Dev ≡ false
@@ -86,11 +88,22 @@ pull-firm w line (Some item) firm =
 pub pulls_stay : PullsStayFirm
 pulls_stay = record { pull = pull-firm }
 
--- an answer leaves a world firm where the world that is made is
-pub answered-firm : (w : World) (line : ℕ) (o : Option Errno) (after : World) → Firm w → (o ≡ None → Firm after)
-    → Firm (answer w line o after).0
-answered-firm w line None after firm made = made refl
-answered-firm w line (Some e) after firm made = firm
+-- where nothing is refused each test fails
+pub none-refuses : (tests : List (Bool × Errno)) → first_error tests ≡ None
+    → AllByRecursion (λ (test : Bool × Errno). test.0 ≡ false) tests
+none-refuses [] none = tt
+none-refuses (test ∷ tests) none =
+    let first = none_refused test.0 test.1 tests none in (first.0, none-refuses tests first.1)
+
+-- an answer leaves a world firm where the world that is made is, once each test fails
+pub answered-firm : (w : World) (line : ℕ) (tests : List (Bool × Errno)) (after : World) → Firm w
+    → (AllByRecursion (λ (test : Bool × Errno). test.0 ≡ false) tests → Firm after)
+    → Firm (answer w line (first_error tests) after).0
+answered-firm w line tests after firm made = by (first_error tests) refl where
+  -- by whether one refuses
+  by : (o : Option Errno) → first_error tests ≡ o → Firm (answer w line o after).0
+  by None none = made (none-refuses tests none)
+  by (Some e) some = firm
 
 -- a class that a command names isn't DEV or TASTE
 named_class : (kind : Kind) → IsNamedClass kind → (is_kind kind kinds.Dev ≡ false)
@@ -122,7 +135,7 @@ destroy-firm w line kind name named firm (Some g) found =
     let apart = class_apart kind named g (class_of_found w firm test g found)
     (and_parts (is_kind g.kind kind) (not g.withering && same_name g.name name)
     (find_passes test w.topology.geoms g found)).0 in
-    answered-firm w line (first_error (destroy_tests (granted_in w) w.topology g.number))
+    answered-firm w line (destroy_tests (granted_in w) w.topology g.number)
     (with_queued w (wither (queued_of w) g.number)) firm (λ free. withered-firm w g.number firm apart.0 apart.1)
 
 -- so say all destroys
