@@ -445,9 +445,9 @@ module _ (w : World) (g : Geom Config) (name : List ℕ) (sector : ℕ) (firm : 
     bios = λ x stands. untouched x.target;
     tasted = if-found w.taste (λ s. IsUntouched t u g s.provider) (λ s e. untouched s.provider);
     rank = tastes-low w u firm (λ s e x is h of. (
-        ap (option_and_then (λ (z : Provider). geom_at t z.geom)) (provider_still s.provider x is) ∙ of,
-        kept.same h.number,
-      ));
+      ap (option_and_then (λ (z : Provider). geom_at t z.geom)) (provider_still s.provider x is) ∙ of,
+      kept.same h.number,
+    ));
   }
 
   -- so the world is firm

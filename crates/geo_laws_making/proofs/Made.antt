@@ -490,11 +490,11 @@ module _ (w : World) (kind : Kind) (name : List ℕ) (config : Config) (automati
     bios = λ x here. untouched x.target;
     tasted = if-found w.taste (λ s. IsUntouched t u g s.provider) (λ s e. untouched s.provider);
     rank = tastes-low w u firm (λ s e x is h of. (
-        ap (option_and_then (λ (z : Provider). geom_at u z.geom)) (provider_in_end s.provider x is)
-            ∙ geom_in_end x.geom h (found-before (λ (z : Geom Config). z.number == x.geom) t.geoms _ h of),
-        rank_same h.number
-            (old_geom_apart h (find-Contains (λ (z : Geom Config). z.number == x.geom) t.geoms h of)),
-      ));
+      ap (option_and_then (λ (z : Provider). geom_at u z.geom)) (provider_in_end s.provider x is)
+          ∙ geom_in_end x.geom h (found-before (λ (z : Geom Config). z.number == x.geom) t.geoms _ h of),
+      rank_same h.number
+          (old_geom_apart h (find-Contains (λ (z : Geom Config). z.number == x.geom) t.geoms h of)),
+    ));
   }
 
   -- so the world is firm
@@ -570,7 +570,7 @@ module _ (w : World) (kind : Kind) (config : Config) (p : Provider)
     names = names;
     partial = λ some. false_true (sym (ap (list_any is_none) plain.no_places) ∙ some);
     one = λ concat. not_concat concat;
-    sums = λ joined. elim joined [ | inl concat ↦ not_concat concat | inr stripe ↦ not_stripe stripe ];
+    sums = λ joined. elim joined [ inl concat ↦ not_concat concat | inr stripe ↦ not_stripe stripe ];
   }
     where
       -- without places all of them fit

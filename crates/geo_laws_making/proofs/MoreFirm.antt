@@ -510,7 +510,7 @@ module _ (w : World) (u : Topology Config) (g : Geom Config) (firm : Firm w) (mo
     made = each_geom (λ (x : Geom Config). (x.number ≡ 1) ⊎ (x.number ≡ 2) → x.automatic ≡ false)
         (λ (x : Geom Config). (x.number ≡ 1) ⊎ (x.number ≡ 2) → x.automatic ≡ false) firm.graph.made
         (λ y here apart old. old)
-        (λ which. absurd (elim which [ | inl dev ↦ more.fits.dev dev | inr taste ↦ more.fits.taste taste ]));
+        (λ which. absurd (elim which [ inl dev ↦ more.fits.dev dev | inr taste ↦ more.fits.taste taste ]));
     parts = record { providers = more.live.offerers; consumers = more.live.geoms };
     attached = all_of (λ (c : Consumer). IsSome (option_and_then (provider_at u) c.provider)) u.consumers (λ c here.
         elim (more.consumers c here) [
