@@ -13,7 +13,7 @@ use Rattle.geo_model.specs.Chain.{Chain}
 use Rattle.geo_model.specs.World.{World, Config, Handle, Taste, Asked, Bio, granted_in, taste_grant, is_read_out, is_taste_root, ReadOut, bio_at, children_of, is_waiting, is_done, is_busy, is_sent, is_child_of}
 use Rattle.geo_model.specs.Sound.{IsTasting, HasTasteConsumer, IsTasteInOrder, IsHandleConsumer, HasItsConsumer, IsPlaced, LeadsDown}
 use Rattle.geo_model.specs.Steady.{ComesFromItsOwner, HasItsComponents, HasItsResult}
-use Rattle.geo_model.specs.Fitting.{Firm}
+use Rattle.geo_model.specs.Fitting.{BiosOf, Firm}
 use Rattle.geo_laws_life.proofs.Frames.{held-firm, Frame, went, has_its-still, framed-firm}
 use Rattle.geo_laws_life.proofs.Killed.{grants-same}
 use Rattle.geo_laws_making.specs.TasteLaws.{taste_asking, world_with_taste, IsAsking, IsGranted, TastesStayFirm}
@@ -44,7 +44,6 @@ use Rattle.geo_laws_counts.specs.DemandLaws.{DiffersAt, StaysAround}
 use Rattle.geo_laws_counts.specs.AllowedLaws.{IsAllowed}
 use Rattle.geo_laws_counts.proofs.Singles.{differing_stays}
 use Rattle.geo_laws_counts.proofs.Refusing.{allowed}
-use Rattle.geo_laws_bios.specs.BioFrames.{BiosOf}
 use Rattle.std.proofs.Math.Bool.{or-true}
 use Rattle.std.proofs.lemmas.List.Quantifiers.{all_pairs_push}
 use Rattle.std.proofs.lemmas.List.Sums.{length-filter}
