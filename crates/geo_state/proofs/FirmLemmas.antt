@@ -28,7 +28,7 @@ use Rattle.geo_state.specs.Parts.{IsUnderWay, AreUnderWay, HasLineHandle}
 use Rattle.geo_state.specs.Trips.{Trip, trip_of, trips, is_out, out_through}
 use Rattle.geo_state.specs.World.{world, StandsFirm}
 use Rattle.geo_state.proofs.Lists.{count-none, find-none}
-use Rattle.geo_state.proofs.Owned.{none-counted}
+use Rattle.geo_state.proofs.TripLemmas.{none-counted}
 
 module _ (log : List Entry) (s : State) (actors : List (List LineCommand)) where
   -- what was granted to a consumer of DEV or TASTE

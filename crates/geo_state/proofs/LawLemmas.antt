@@ -1,10 +1,9 @@
 -- What is kept beside the parts follows each change of a part.
 use Rattle.std.specs.Prelude.{◌≡◌, ℕ, ◌==◌, Bool, true, false, not, ◌&&◌, List, [], ◌∷◌, ◌++◌, map, filter, slice_get}
-use Rattle.std.specs.List.{AllByRecursion}
 use Rattle.std.specs.Option.{option_map, option_map_or}
 use Rattle.std.proofs.Common.{refl, sym, ◌∙◌, ap}
 use Rattle.std.proofs.lemmas.List.{map-append}
-use Rattle.geo_base.proofs.AllLists.{all_weaker}
+use Rattle.geo_base.proofs.AllLists.{all_weaker, of_each}
 use Rattle.geo_base.proofs.Options.{if_some_weaker}
 use Rattle.geo_base.proofs.FindLists.{find_agree}
 use Rattle.geo_base.specs.declared.request.Counts.{Counts}
@@ -64,11 +63,10 @@ seats-stay seats t u xs stay are disk =
 
 -- where the parts are the same the disks stay
 pub parts-stay : (t u : Topology Config) (xs : List Trip) → SameParts t u → DisksStay t u xs
-parts-stay t u xs same = record { geoms = parts-geom t u same; targets = each xs }
-  where
-    each : (ys : List Trip) → AllByRecursion (λ (x : Trip). disk_at u x.target ≡ disk_at t x.target) ys
-    each [] = tt
-    each (y ∷ ys) = (parts-disk t u same y.target, each ys)
+parts-stay t u xs same = record {
+  geoms = parts-geom t u same;
+  targets = of_each (λ (x : Trip). disk_at u x.target ≡ disk_at t x.target) (λ x. parts-disk t u same x.target) xs;
+}
 
 pub holds_after_effects : HoldsAfterEffects
 holds_after_effects s u q h same active granted counted quiet room =

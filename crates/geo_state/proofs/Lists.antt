@@ -1,5 +1,5 @@
 -- Counts and searches in lists, after one more item, after some are gone, and around the one item of a number.
-use Rattle.std.specs.Prelude.{◌≡◌, ℕ, ◌+◌, ◌==◌, Bool, true, false, not, List, [], ◌∷◌, ◌++◌, map, filter, find, count_by, Some, None, if◌then◌else◌}
+use Rattle.std.specs.Prelude.{◌≡◌, ℕ, ◌+◌, ◌==◌, Bool, true, false, not, List, [], ◌∷◌, ◌++◌, map, filter, find, count_by, Some, None, if◌then◌else◌, Option}
 use Rattle.std.specs.List.{AllByRecursion}
 use Rattle.std.proofs.Common.{refl, sym, ◌∙◌, ap, arith, inl}
 use Rattle.std.proofs.lemmas.Bool.{eqb-true}
@@ -7,7 +7,8 @@ use Rattle.std.proofs.lemmas.List.Sums.{sum_by-append}
 use Rattle.geo_base.proofs.AllLists.{all_appended}
 use Rattle.geo_model.specs.Graph.{AreNumbers}
 use Rattle.geo_model.specs.Words.{change_where}
-use Rattle.geo_laws_graph.proofs.Lists.{Rise, rise-from, none_outside, unhit}
+use Rattle.geo_laws_graph.proofs.Lists.{Rise, rise-from, none_outside, unhit, find-changed, changed-keeps}
+use Rattle.std.specs.Option.{option_map}
 
 module _ {X : Type 0} (p : X → Bool) where
   -- how many pass of two lists
@@ -99,6 +100,18 @@ module _ {X : Type 0} (P : X → Type 0) where
   pub all-back : (xs ys : List X) → AllByRecursion P (xs ++ ys) → AllByRecursion P ys
   all-back [] ys all = all
   all-back (x ∷ xs) ys all = all-back xs ys all.1
+
+-- what is read of the item that is found, where a change of items leaves what finds it and what is read of it
+pub found-changed : {X Y : Type 0} (hit : X → Bool) (change : X → X) (test : X → Bool) (read : Option X → Y)
+    → ((x : X) → hit x ≡ true → test (change x) ≡ test x)
+    → ((x : X) → hit x ≡ true → read (Some (change x)) ≡ read (Some x)) → (xs : List X)
+    → read (find test (change_where hit change xs)) ≡ read (find test xs)
+found-changed {X} hit change test read same kept xs =
+    ap read (find-changed hit change test same xs) ∙ on (find test xs)
+  where
+    on : (o : Option X) → read (option_map (λ x. if hit x then change x else x) o) ≡ read o
+    on None = refl
+    on (Some x) = changed-keeps hit change (λ y. read (Some y)) kept x
 
 -- The one item of a number
 

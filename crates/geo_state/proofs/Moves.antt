@@ -1,22 +1,22 @@
--- What is kept beside the parts, after requests came.
-use Rattle.std.specs.Prelude.{◌≡◌, ◌≢◌, ℕ, ◌+◌, ◌≤◌, ◌==◌, Bool, true, false, List, [], ◌∷◌, ◌++◌, length, map, find, Option, Some, None, IfSome, slice_get, if◌then◌else◌}
+-- What is kept beside the parts, after a request came, and after one was split into children.
+use Rattle.std.specs.Prelude.{◌≡◌, ◌≢◌, ℕ, ◌+◌, ◌≤◌, ◌==◌, Bool, true, false, List, [], ◌∷◌, ◌++◌, length, map, find, Option, Some, None, IfSome, slice_get, if◌then◌else◌, ◌<◌, ◌^◌, IsTrue, drop, get_or, IsSome}
 use Rattle.std.specs.List.{AllByRecursion}
 use Rattle.std.specs.Option.{option_map, option_map_or}
 use Rattle.std.proofs.Common.{refl, sym, ◌∙◌, ap, subst, arith, eq-eqb, append_assoc}
 use Rattle.std.proofs.lemmas.Bool.{eqb-true, ne_eqb}
 use Rattle.std.proofs.lemmas.List.{map-append, append-nil}
-use Rattle.geo_base.proofs.AllLists.{all_weaker, two_facts}
+use Rattle.geo_base.proofs.AllLists.{all_weaker, two_facts, of_each}
 use Rattle.geo_base.proofs.Options.{if_some_weaker, at-found}
-use Rattle.geo_base.proofs.PlaceLists.{slot-same, slot-other}
+use Rattle.geo_base.proofs.PlaceLists.{first_left}
 use Rattle.geo_base.proofs.FindLists.{find_agree}
 use Rattle.geo_base.specs.declared.request.BioCmd.{BioCmd}
 use Rattle.geo_model.specs.declared.span.Piece.{Piece}
 use Rattle.geo_model.specs.declared.step.Owner.{Owner}
 use Rattle.geo_model.specs.declared.step.Owner.TheVariants as owners
 use Rattle.geo_model.specs.Graph.{AreNumbers}
-use Rattle.geo_model.specs.Topology.{Consumer}
+use Rattle.geo_model.specs.Topology.{Consumer, consumer_at}
 use Rattle.geo_model.specs.Words.{names_number}
-use Rattle.geo_model.specs.World.{BioOf, Config, Handle, is_of_handle, is_taste_root}
+use Rattle.geo_model.specs.World.{BioOf, Config, Handle, is_of_handle, is_taste_root, change_number, is_down, bio_among}
 use Rattle.geo_model.specs.Bios.{new_bio}
 use Rattle.geo_bio.specs.declared.bio.Held.{Held}
 use Rattle.geo_bio.specs.Split.{split_into}
@@ -29,13 +29,18 @@ use Rattle.geo_state.specs.declared.state.DiskSeat.{DiskSeat}
 use Rattle.geo_state.specs.declared.state.OwnBios.{OwnBios}
 use Rattle.geo_state.specs.Trips.{Trip, trip_of, trips, out_through, handle_of_owner, is_own, taste_read, IsOwnCount}
 use Rattle.geo_state.specs.Own.{with_bio, change_own, entered}
-use Rattle.geo_state.specs.Bios.{all_out}
+use Rattle.geo_state.specs.Bios.{all_out, IsNoHandles, OnlyBios}
 use Rattle.geo_state.specs.Holds.{Holds, OutAreCounted, ReapableAreNoted, AreOwn, AreSeats}
 use Rattle.geo_state.proofs.Lists.{Around, around, around-all, around-fact}
-use Rattle.geo_state.proofs.Outs.{eqb_sym, rows-changed, out-more}
-use Rattle.geo_state.proofs.Owned.{own-other, own-more, read-other, read-first, busy-other}
-use Rattle.geo_state.proofs.ReadyLemmas.{ready-alive, nobodys-alive}
-use Rattle.geo_state.proofs.Fields.{apart, seats-same}
+use Rattle.geo_state.proofs.TripLemmas.{eqb_sym, rows-changed, out-more, own-other, own-more, read-other, read-first, busy-other, trips-same}
+use Rattle.geo_state.proofs.Fields.{ready-alive, nobodys-alive, seats-same, InPhase, in-phase, down-is, each-slot, rest-is, with_bios_of, trip-unseen}
+use Rattle.geo_model.specs.declared.step.Phase.TheVariants as phases
+use Rattle.geo_bio.specs.BioTable.{BioTableView, has_phase, with_phase}
+use Rattle.geo_slots.specs.Slots.{value_at}
+use Rattle.geo_state.specs.World.{disk_of_seat}
+use Rattle.std.proofs.Math.ListN.{drop_of_length-le}
+
+-- Requests that came
 
 -- the fields that read the requests on their way
 pub record Kept (t : TopoView Config) (v : HandlesView) (owns : List OwnBios) (read : Option ℕ)
@@ -52,25 +57,11 @@ kept-of s h = record { active = h.active; ready = h.ready; own = h.own; taste = 
 
 -- all of it again, where nothing else changed
 pub holds-moved : (s new : State)
-    → new ≡ record s {
-      topo = record s.topo { active = new.topo.active };
-      handles = record s.handles { ready = new.handles.ready };
-      traffic = new.traffic;
-      read = new.read;
-      disks = new.disks;
-      own = new.own;
-    }
+    → new ≡ with_bios_of s new
     → Kept new.topo new.handles new.own.items new.read new.disks.items (trips new.traffic.bios)
     → Holds s → Holds new
 holds-moved s new is kept h =
-    let v : State = record s {
-      topo = record s.topo { active = new.topo.active };
-      handles = record s.handles { ready = new.handles.ready };
-      traffic = new.traffic;
-      read = new.read;
-      disks = new.disks;
-      own = new.own;
-    } in
+    let v : State = with_bios_of s new in
     let counted : IsCounted v.topo = record {
       kinds = h.counted.kinds;
       haves = h.counted.haves;
@@ -143,35 +134,13 @@ module _ (t : TopoView Config) (v : HandlesView) (xs : List Trip) (z : Trip) (c 
   -- it is an actor's own
   pub owns-more : (owns : List OwnBios) (actor : ℕ) → ((a : ℕ) → is_own v.handles a z ≡ (actor == a))
       → AreOwn owns v.handles xs → AreOwn (entered owns actor z.number) v.handles (xs ++ z ∷ [])
-  owns-more owns actor mine own a = on (slice_get owns actor) refl (actor == a) refl
-    where
-      kept : (actor == a) ≡ false → IfSome (slice_get owns a) (λ o. IsOwnCount v.handles (xs ++ z ∷ []) a o.count o.low)
-      kept e =
-          if_some_weaker (λ (o : OwnBios). IsOwnCount v.handles xs a o.count o.low)
-          (λ (o : OwnBios). IsOwnCount v.handles (xs ++ z ∷ []) a o.count o.low)
-          (λ o is. own-other v.handles a xs z o.count o.low (mine a ∙ e) is) (slice_get owns a) (own a)
-
-      on : (o : Option OwnBios) → slice_get owns actor ≡ o → (b : Bool) → (actor == a) ≡ b
-          → IfSome (slice_get (change_own (with_bio z.number) owns actor (slice_get owns actor)) a)
-          (λ x. IsOwnCount v.handles (xs ++ z ∷ []) a x.count x.low)
-      on None is true e =
-          let same : actor ≡ a = eqb-true actor a e in
-          let nothing : slice_get owns a ≡ None = ap (slice_get owns) (sym same) ∙ is in
-          rw (is, nothing) tt
-      on None is false e = rw is (kept e)
-      on (Some o) is true e =
-          let same : actor ≡ a = eqb-true actor a e in
-          let at : slice_get (change_own (with_bio z.number) owns actor (Some o)) a ≡ Some (with_bio z.number o) =
-          ap (slice_get (change_own (with_bio z.number) owns actor (Some o))) (sym same)
-          ∙ slot-same owns actor (with_bio z.number o) o is in
-          let old : IsOwnCount v.handles xs a o.count o.low =
-          at-found (slice_get owns a) (λ (x : OwnBios). IsOwnCount v.handles xs a x.count x.low) o
-          (ap (slice_get owns) (sym same) ∙ is) (own a) in
-          rw (is, at) (own-more v.handles a xs z o.count o.low (mine a ∙ e) old)
-      on (Some o) is false e =
-          let at : slice_get (change_own (with_bio z.number) owns actor (Some o)) a ≡ slice_get owns a =
-          slot-other owns actor a (with_bio z.number o) (λ same. apart actor a e (sym same)) in
-          rw (is, at) (kept e)
+  owns-more owns actor mine own =
+      let change : OwnBios → OwnBios = with_bio z.number in
+      each-slot owns (entered owns actor z.number) actor change (λ e. ap (change_own change owns actor) e)
+      (λ o e. ap (change_own change owns actor) e) (λ a o. IsOwnCount v.handles xs a o.count o.low)
+      (λ a o. IsOwnCount v.handles (xs ++ z ∷ []) a o.count o.low)
+      (λ o old. own-more v.handles actor xs z o.count o.low (mine actor ∙ eq-eqb actor actor refl) old)
+      (λ a o e old. own-other v.handles a xs z o.count o.low (mine a ∙ eqb_sym actor a ∙ e) old) own
 
 -- the handle that asks isn't dead, and no other has its consumer
 pub asker-alive : (v : HandlesView) (c hd : ℕ) (h : Handle)
@@ -206,11 +175,8 @@ pub own-of_line : (handles : List Handle) (hd line : ℕ) (h : Handle) (z : Trip
 own-of_line handles hd line h z found owner a =
     ap (λ o. option_map_or (λ (k : Handle). k.actor == a) (handle_of_owner handles o) false) owner
     ∙ ap (λ o. option_map_or (λ (k : Handle). k.actor == a) o false)
-    (find_agree (λ (k : Handle). hd == k.number) (λ (k : Handle). k.number == hd) handles (each handles) ∙ found)
-  where
-    each : (ks : List Handle) → AllByRecursion (λ k. (hd == k.number) ≡ (k.number == hd)) ks
-    each [] = tt
-    each (k ∷ ks) = (eqb_sym hd k.number, each ks)
+    (find_agree (λ (k : Handle). hd == k.number) (λ (k : Handle). k.number == hd) handles
+    (of_each (λ (k : Handle). (hd == k.number) ≡ (k.number == hd)) (λ k. eqb_sym hd k.number) handles) ∙ found)
 
 -- a request of no line is nobody's own
 pub own-of_nobody : (handles : List Handle) (z : Trip) → ((n : ℕ) → is_of_handle z.owner n ≡ false) → (a : ℕ)
@@ -295,35 +261,6 @@ kept-children v owns read seats first x (piece ∷ pieces) (target ∷ targets) 
 
 -- The state after one more request
 
--- what changed is told in the words of `OnlyBios`
-pub rest-is : (s new : State) → {v : State} → new ≡ v
-    → v ≡ record s {
-      topo = record s.topo { active = v.topo.active };
-      handles = record s.handles { ready = v.handles.ready };
-      traffic = v.traffic;
-      read = v.read;
-      disks = v.disks;
-      own = v.own;
-    }
-    → new ≡ record s {
-      topo = record s.topo { active = new.topo.active };
-      handles = record s.handles { ready = new.handles.ready };
-      traffic = new.traffic;
-      read = new.read;
-      disks = new.disks;
-      own = new.own;
-    }
-rest-is s new is so =
-    subst
-    (λ (z : State). z ≡ record s {
-      topo = record s.topo { active = z.topo.active };
-      handles = record s.handles { ready = z.handles.ready };
-      traffic = z.traffic;
-      read = z.read;
-      disks = z.disks;
-      own = z.own;
-    }) (sym is) so
-
 -- a new bio is underway
 pub new-bio : (next : ℕ) (cmd : BioCmd) (offset len : ℕ) (bytes : List ℕ) (source target : ℕ) (owner : Owner)
     → IsNew (trip_of (new_bio {R = Held} next cmd offset len bytes source target owner)) source
@@ -373,3 +310,218 @@ module _ (s new : State) (c : ℕ) (x : BioOf Held) (bios : new.traffic.bios ≡
       (kept-read s.topo s.handles s.own.items s.read s.disks.items (trips s.traffic.bios) (trip_of x) c fresh owner
       nobodys none (kept-of s h)))
       h
+
+-- A request that was split into children
+
+-- only what is out changes
+pub all-out-active : (targets : List (ℕ × ℕ)) (t : TopoView Config)
+    → all_out t targets ≡ (let u : TopoView Config = record t { active = (all_out t targets).active } in u)
+all-out-active [] t = refl
+all-out-active (z ∷ zs) t = all-out-active zs (with_active t z.0 (λ n. n + 1))
+
+-- a bio that waits isn't seen otherwise than one that is down
+waiting-seen : (x : BioOf Held) → is_down x.phase ≡ true → trip_of (with_phase phases.Waiting x) ≡ trip_of x
+waiting-seen x down = trip-unseen x (down-is x.phase down)
+
+module _ (s new : State) (next b : ℕ) (x : BioOf Held) (pieces : List Piece) (targets : List (ℕ × ℕ))
+    (are : AreNumbers (map (λ (y : BioOf Held). y.number) s.traffic.bios) next)
+    (down : IsTrue (has_phase is_down s.traffic.bios b)) (same : length targets ≡ length pieces)
+    (through : AllByRecursion (λ (z : ℕ × ℕ). IsNoHandles s z.0) targets)
+    (bios : new.traffic.bios ≡ change_number b (with_phase phases.Waiting) s.traffic.bios
+    ++ split_into next x 0 pieces targets)
+    (is : new ≡ record s { traffic = new.traffic; topo = all_out s.topo targets }) where
+  seen_split : trips new.traffic.bios ≡ trips s.traffic.bios ++ trips (split_into next x 0 pieces targets)
+  seen_split =
+      let at : InPhase is_down s.traffic.bios b = in-phase is_down s.traffic.bios next b are down in
+      ap trips bios
+      ∙ map-append trip_of (change_number b (with_phase phases.Waiting) s.traffic.bios)
+      (split_into next x 0 pieces targets)
+      ∙ ap (λ ys. ys ++ trips (split_into next x 0 pieces targets))
+      (trips-same b (with_phase phases.Waiting) s.traffic.bios
+      (around-all (λ (y : BioOf Held). y.number) b at.bio s.traffic.bios at.alone
+      (λ y. trip_of (with_phase phases.Waiting y) ≡ trip_of y) (waiting-seen at.bio at.passes)))
+
+  rest : new ≡ with_bios_of s new
+  rest =
+      rest-is s new is
+      (ap (λ (t : TopoView Config). let z : State = record s { traffic = new.traffic; topo = t } in z)
+      (all-out-active targets s.topo))
+
+  pub only-split : OnlyBios s new
+  only-split = record { rest = rest; disks = ap (λ (z : State). map disk_of_seat z.disks.items) is }
+
+  pub holds-split : Holds s → Holds new
+  holds-split h =
+      let topo : new.topo ≡ all_out s.topo targets = ap (λ (z : State). z.topo) is in
+      let handles : new.handles ≡ s.handles = ap (λ (z : State). z.handles) is in
+      let read : new.read ≡ s.read = ap (λ (z : State). z.read) is in
+      let disks : new.disks.items ≡ s.disks.items = ap (λ (z : State). z.disks.items) is in
+      let own : new.own.items ≡ s.own.items = ap (λ (z : State). z.own.items) is in
+      holds-moved s new rest
+      (rw (seen_split, topo, handles, read, disks, own)
+      (kept-children s.handles s.own.items s.read s.disks.items next x pieces targets s.topo (trips s.traffic.bios) 0
+      same
+      (all_weaker (λ (z : ℕ × ℕ). IsNoHandles s z.0) (λ z. holding_handle s.handles.handles z.0 ≡ None)
+      (λ z of. of.nobodys) targets through) (kept-of s h)))
+      h
+
+-- The table split the request, and then the mesh noted the children
+
+module _ (s : State) (v : BioTableView) (u : TopoView Config) (b : ℕ) (pieces : List Piece)
+    (targets : List (ℕ × ℕ)) {pairs : List (ℕ × ℕ)}
+    (are : AreNumbers (map (λ (y : BioOf Held). y.number) s.traffic.bios) s.traffic.next)
+    (down : IsTrue (has_phase is_down s.traffic.bios b)) (same : length targets ≡ length pieces)
+    (through : AllByRecursion (λ (z : ℕ × ℕ). IsNoHandles s z.0) targets)
+    (split : IfSome (bio_among s.traffic.bios b) (λ (x : BioOf Held). v.bios
+    ≡ change_number b (with_phase phases.Waiting) s.traffic.bios ++ split_into s.traffic.next x 0 pieces targets))
+    (noted : u ≡ all_out s.topo pairs) (pairs_are : pairs ≡ targets) where
+  abbrev after : State
+  after = record s { traffic = v; topo = u }
+
+  -- the request
+  request : InPhase is_down s.traffic.bios b
+  request = in-phase is_down s.traffic.bios s.traffic.next b are down
+
+  -- what became of it
+  bios_are : v.bios ≡ change_number b (with_phase phases.Waiting) s.traffic.bios
+      ++ split_into s.traffic.next request.bio 0 pieces targets
+  bios_are =
+      at-found (bio_among s.traffic.bios b) (λ (x : BioOf Held). v.bios
+      ≡ change_number b (with_phase phases.Waiting) s.traffic.bios ++ split_into s.traffic.next x 0 pieces targets)
+      request.bio request.found split
+
+  after_is : after ≡ record s { traffic = v; topo = all_out s.topo targets }
+  after_is =
+      ap (λ (t : TopoView Config). let z : State = record s { traffic = v; topo = t } in z)
+      (noted ∙ ap (all_out s.topo) pairs_are)
+
+  -- nothing but requests changed
+  pub split-only : OnlyBios s after
+  split-only =
+      only-split s after s.traffic.next b request.bio pieces targets are down same through bios_are after_is
+
+  -- all is kept
+  pub split-kept : Holds s → Holds after
+  split-kept =
+      holds-split s after s.traffic.next b request.bio pieces targets are down same through bios_are after_is
+
+-- What can be counted
+
+-- a count after one more is out
+more_at : (rows : List (ℕ × ℕ)) (c d k : ℕ) → IfSome (value_at rows d) (λ n. n + (1 + k) ≤ 2 ^ 63)
+    → IfSome (value_at (change_at (λ n. n + 1) rows c) d) (λ n. n + k ≤ 2 ^ 63)
+more_at [] c d k fits = fits
+more_at (row ∷ rows) c d k fits = at (row.0 == d) refl (row.0 == c) refl (more_at rows c d k)
+  where
+    at : (a : Bool) → (row.0 == d) ≡ a → (b : Bool) → (row.0 == c) ≡ b
+        → (IfSome (value_at rows d) (λ n. n + (1 + k) ≤ 2 ^ 63)
+        → IfSome (value_at (change_at (λ n. n + 1) rows c) d) (λ n. n + k ≤ 2 ^ 63))
+        → IfSome (value_at (change_at (λ n. n + 1) (row ∷ rows) c) d) (λ n. n + k ≤ 2 ^ 63)
+    at true e true f rest =
+        let it : c ≡ row.0 = sym (eqb-true row.0 c f) in
+        let here : (c == d) ≡ true = ap (λ n. n == d) it ∙ e in
+        let old : row.1 + (1 + k) ≤ 2 ^ 63 = (rw e at fits) in
+        rw (f, here) (omega (arith, old))
+    at true e false f rest =
+        let old : row.1 + (1 + k) ≤ 2 ^ 63 = (rw e at fits) in
+        rw (f, e) (omega (arith, old))
+    at false e true f rest =
+        let it : c ≡ row.0 = sym (eqb-true row.0 c f) in
+        let here : (c == d) ≡ false = ap (λ n. n == d) it ∙ e in
+        rw (f, here) (rest (rw e at fits))
+    at false e false f rest = rw (f, e) (rest (rw e at fits))
+
+pub few-after : (rows : List (ℕ × ℕ)) (c k : ℕ) (zs : List (ℕ × ℕ))
+    → AllByRecursion (λ (z : ℕ × ℕ). IfSome (value_at rows z.0) (λ n. n + (1 + k) ≤ 2 ^ 63)) zs
+    → AllByRecursion (λ (z : ℕ × ℕ). IfSome (value_at (change_at (λ n. n + 1) rows c) z.0) (λ n. n + k ≤ 2 ^ 63)) zs
+few-after rows c k [] all = tt
+few-after rows c k (z ∷ zs) all = (more_at rows c z.0 k all.0, few-after rows c k zs all.1)
+
+-- where each is below 2 ^ 62, and so is the number of those to come
+pub few-enough : (rows : List (ℕ × ℕ)) (k : ℕ) (zs : List (ℕ × ℕ)) → k < 2 ^ 62
+    → AllByRecursion (λ (z : ℕ × ℕ). IfSome (value_at rows z.0) (λ n. n < 2 ^ 62)) zs
+    → AllByRecursion (λ (z : ℕ × ℕ). IfSome (value_at rows z.0) (λ n. n + k ≤ 2 ^ 63)) zs
+few-enough rows k zs few all =
+    all_weaker (λ (z : ℕ × ℕ). IfSome (value_at rows z.0) (λ n. n < 2 ^ 62))
+    (λ z. IfSome (value_at rows z.0) (λ n. n + k ≤ 2 ^ 63)) (λ z. on (value_at rows z.0)) zs all
+  where
+    on : (o : Option ℕ) → IfSome o (λ n. n < 2 ^ 62) → IfSome o (λ n. n + k ≤ 2 ^ 63)
+    on None fact = fact
+    on (Some n) fact = omega (arith, few, fact)
+
+-- The requests of a split, noted one after another
+
+-- how far the requests are noted: what is left makes of this mesh what all make of the first one
+pub record NotedSoFar (t u : TopoView Config) (rest all : List (ℕ × ℕ)) : Type 0 where
+  pub same : all_out u rest ≡ all_out t all
+  pub live : AllByRecursion (λ (z : ℕ × ℕ). IsSome (consumer_at u.topology z.0)) rest
+  pub few : AllByRecursion (λ (z : ℕ × ℕ). IfSome (value_at u.active z.0) (λ n. n + length rest ≤ 2 ^ 63)) rest
+
+-- one more is noted
+one_more : (t u : TopoView Config) (z : ℕ × ℕ) (rest all : List (ℕ × ℕ)) → NotedSoFar t u (z ∷ rest) all
+    → NotedSoFar t (with_active u z.0 (λ n. n + 1)) rest all
+one_more t u z rest all far = record {
+  same = far.same;
+  live = far.live.1;
+  few =
+      few-after u.active z.0 (length rest) rest
+      (all_weaker (λ (y : ℕ × ℕ). IfSome (value_at u.active y.0) (λ n. n + length (z ∷ rest) ≤ 2 ^ 63))
+      (λ y. IfSome (value_at u.active y.0) (λ n. n + (1 + length rest) ≤ 2 ^ 63))
+      (λ y. on (value_at u.active y.0)) rest far.few.1);
+}
+  where
+    on : (o : Option ℕ) → IfSome o (λ n. n + length (z ∷ rest) ≤ 2 ^ 63)
+        → IfSome o (λ n. n + (1 + length rest) ≤ 2 ^ 63)
+    on None fact = tt
+    on (Some n) fact = omega (arith, fact)
+
+module _ (t u : TopoView Config) (i : ℕ) (zs : List (ℕ × ℕ)) where
+  -- one of the list
+  pub noted_step : (v : TopoView Config) (z : ℕ × ℕ) → i < length zs → z ≡ get_or zs i z
+      → v ≡ with_active u z.0 (λ n. n + 1) → NotedSoFar t u (drop i zs) zs → NotedSoFar t v (drop (i + 1) zs) zs
+  noted_step v z less is made far =
+      subst (λ (w : TopoView Config). NotedSoFar t w (drop (i + 1) zs) zs) (sym made)
+      (one_more t u z (drop (i + 1) zs) zs
+      (subst (λ xs. NotedSoFar t u xs zs) (first_left zs i z less is) far))
+
+  -- the next one lives, and can be counted
+  pub noted_lives : (z : ℕ × ℕ) → i < length zs → z ≡ get_or zs i z → NotedSoFar t u (drop i zs) zs
+      → IsSome (consumer_at u.topology z.0)
+  noted_lives z less is far = (subst (λ xs. NotedSoFar t u xs zs) (first_left zs i z less is) far).live.0
+
+  pub noted_few : (z : ℕ × ℕ) → i < length zs → z ≡ get_or zs i z → NotedSoFar t u (drop i zs) zs
+      → IfSome (value_at u.active z.0) (λ n. n < 2 ^ 63)
+  noted_few z less is far =
+      on (value_at u.active z.0) (subst (λ xs. NotedSoFar t u xs zs) (first_left zs i z less is) far).few.0
+    where
+      on : (o : Option ℕ) → IfSome o (λ n. n + length (z ∷ drop (i + 1) zs) ≤ 2 ^ 63)
+          → IfSome o (λ n. n < 2 ^ 63)
+      on None fact = tt
+      on (Some n) fact = omega (arith, fact)
+
+  -- at the end all are noted
+  pub noted_end : length zs ≤ i → NotedSoFar t u (drop i zs) zs → u ≡ all_out t zs
+  noted_end all far = (subst (λ xs. NotedSoFar t u xs zs) (drop_of_length-le zs all) far).same
+
+-- what holds of the rest, so far
+
+module _ {X : Type 0} (P : X → Type 0) (xs : List X) (i : ℕ) where
+  pub all_step : (x : X) → i < length xs → x ≡ get_or xs i x → P x
+      → (AllByRecursion P (drop i xs) → AllByRecursion P xs) → AllByRecursion P (drop (i + 1) xs) → AllByRecursion P xs
+  all_step x less is fact so rest = so (subst (AllByRecursion P) (sym (first_left xs i x less is)) (fact, rest))
+
+  pub all_end : length xs ≤ i → (AllByRecursion P (drop i xs) → AllByRecursion P xs) → AllByRecursion P xs
+  all_end all so = so (subst (AllByRecursion P) (sym (drop_of_length-le xs all)) tt)
+
+-- What a split asks of the mesh
+
+pub through-live : (s : State) (zs : List (ℕ × ℕ)) → AllByRecursion (λ (z : ℕ × ℕ). IsNoHandles s z.0) zs
+    → AllByRecursion (λ (z : ℕ × ℕ). IsSome (consumer_at s.topo.topology z.0)) zs
+through-live s zs through =
+    all_weaker (λ (z : ℕ × ℕ). IsNoHandles s z.0) (λ z. IsSome (consumer_at s.topo.topology z.0)) (λ z of. of.lives)
+    zs through
+
+pub through-few : (s : State) (zs : List (ℕ × ℕ)) → length zs < 2 ^ 62
+    → AllByRecursion (λ (z : ℕ × ℕ). IfSome (value_at s.topo.active z.0) (λ n. n < 2 ^ 62)) zs
+    → AllByRecursion (λ (z : ℕ × ℕ). IfSome (value_at s.topo.active z.0) (λ n. n + length zs ≤ 2 ^ 63)) zs
+through-few s zs few counts = few-enough s.topo.active (length zs) zs few counts

@@ -7,12 +7,30 @@ use Rattle.std.proofs.lemmas.List.{map-append}
 use Rattle.std.proofs.lemmas.List.Elements.{filter-append, recursion_from_All}
 use Rattle.geo_base.proofs.FilterLists.{keeps_all}
 use Rattle.geo_model.specs.declared.step.Phase.{Phase}
-use Rattle.geo_model.specs.World.{BioOf, change_number, bio_among}
+use Rattle.geo_model.specs.declared.step.Phase.TheVariants as phases
+use Rattle.geo_model.specs.World.{BioOf, change_number, bio_among, is_up, is_done}
 use Rattle.geo_bio.specs.declared.bio.Held.{Held}
 use Rattle.geo_bio.specs.BioTable.{BioTableView, AreInOrder, has_phase}
 use Rattle.geo_laws_graph.proofs.Finding.{found_fact}
 use Rattle.geo_laws_graph.proofs.Lists.{unhit}
 use Rattle.geo_state.specs.Cursors.{others}
+
+-- what the phases are that pass
+pub phase_up : (p : Phase) → is_up p ≡ true → p ≡ phases.Up
+phase_up phases.Down e = absurd cc
+phase_up phases.Sent e = absurd cc
+phase_up (phases.Busy seat) e = absurd cc
+phase_up phases.Waiting e = absurd cc
+phase_up phases.Up e = refl
+phase_up phases.Done e = absurd cc
+
+pub phase_done : (p : Phase) → is_done p ≡ true → p ≡ phases.Done
+phase_done phases.Down e = absurd cc
+phase_done phases.Sent e = absurd cc
+phase_done (phases.Busy seat) e = absurd cc
+phase_done phases.Waiting e = absurd cc
+phase_done phases.Up e = absurd cc
+phase_done phases.Done e = refl
 
 -- each number is below all later ones
 abbrev pub Rising : List (BioOf Held) → Type 0

@@ -1,47 +1,45 @@
--- What is kept beside the parts, after a request went up to its owner.
-use Rattle.std.specs.Prelude.{◌≡◌, ◌≢◌, ℕ, ◌-◌, ◌≤◌, ◌==◌, Bool, true, false, not, ◌&&◌, List, [], ◌∷◌, map, filter, find, count_by, Option, Some, None, IsTrue, IsSome, IsSomeAnd, IfSome, slice_get, if◌then◌else◌}
+-- What is kept beside the parts, after a request went up to its owner, and after a handle became dead.
+use Rattle.std.specs.Prelude.{◌≡◌, ◌≢◌, ℕ, ◌-◌, ◌≤◌, ◌==◌, Bool, true, false, not, List, [], ◌∷◌, map, filter, find, count_by, Option, Some, None, IsTrue, IsSome, IsSomeAnd, IfSome, slice_get, if◌then◌else◌}
 use Rattle.std.specs.List.{AllByRecursion}
 use Rattle.std.specs.Option.{option_map, option_map_or}
-use Rattle.std.proofs.Common.{refl, sym, ◌∙◌, ap, eq-eqb}
-use Rattle.std.proofs.lemmas.Bool.{eqb-true, ne_eqb, and_parts, not-false}
-use Rattle.geo_base.proofs.FindLists.{found_passes}
-use Rattle.geo_base.proofs.AllLists.{all_weaker}
-use Rattle.geo_base.proofs.Options.{if_some_weaker, at-found, if-found}
-use Rattle.geo_base.proofs.PlaceLists.{slot-same, slot-other}
+use Rattle.std.proofs.Common.{refl, sym, ◌∙◌, ap, eq-eqb, subst}
+use Rattle.std.proofs.lemmas.Bool.{eqb-true, ne_eqb, not-false}
+use Rattle.geo_base.proofs.FindLists.{found_passes, none_passes}
+use Rattle.geo_base.proofs.AllLists.{all_weaker, two_facts, of_each}
+use Rattle.geo_base.proofs.Options.{if_some_weaker, at-found, if-found, at-some}
 use Rattle.geo_model.specs.declared.step.Owner.{Owner}
 use Rattle.geo_model.specs.declared.step.Owner.TheVariants as owners
-use Rattle.geo_model.specs.declared.step.Phase.{Phase}
 use Rattle.geo_model.specs.declared.step.Phase.TheVariants as phases
 use Rattle.geo_model.specs.Graph.{AreNumbers}
 use Rattle.geo_model.specs.Topology.{Topology, Consumer, consumer_at}
 use Rattle.geo_model.specs.Words.{change_where, names_number}
-use Rattle.geo_model.specs.World.{BioOf, Config, Handle, change_number, is_done, is_up, is_waiting, is_child_of, is_of_handle, is_taste_root, bio_among}
+use Rattle.geo_model.specs.World.{BioOf, Config, Handle, change_number, is_done, is_up, is_waiting, is_child_of, is_of_handle, is_taste_root, bio_among, Taste, taste_grant, granted_of}
 use Rattle.geo_model.specs.Bios.{up_with}
 use Rattle.geo_bio.specs.declared.bio.Held.{Held}
-use Rattle.geo_bio.specs.BioTable.{HasParent, has_phase, with_phase}
+use Rattle.geo_bio.specs.BioTable.{HasParent, has_phase, with_phase, BioTableView}
 use Rattle.geo_bio.specs.Up.{after_up, are_in, completed, gathered}
-use Rattle.geo_slots.specs.Slots.{value_at}
+use Rattle.geo_slots.specs.Slots.{value_at, with_value}
 use Rattle.geo_mesh.specs.Topo.{TopoView, with_active}
 use Rattle.geo_mesh.specs.Rows.{change_at}
-use Rattle.geo_handles.specs.Handles.{HandlesView, HoldsAlone, holding_handle, handle_at}
+use Rattle.geo_handles.specs.Handles.{HandlesView, HoldsAlone, holding_handle, handle_at, killed}
 use Rattle.geo_handles.specs.HandleLaws.{noted_handles}
-use Rattle.geo_laws_graph.proofs.Lists.{find-changed, all-changed, found_itself}
+use Rattle.geo_laws_graph.proofs.Lists.{find-changed, all-changed, found_itself, numbers-changed, unhit}
 use Rattle.geo_laws_graph.proofs.Members.{find-Contains}
 use Rattle.geo_state.specs.declared.state.State.{State}
 use Rattle.geo_state.specs.declared.state.OwnBios.{OwnBios}
 use Rattle.geo_state.specs.Trips.{Trip, trip_of, trips, out_through, can_be_reaped, taste_read, is_at_disk, busy_at, is_own, IsOwnCount}
 use Rattle.geo_state.specs.Own.{with_one_less, change_own, left_by}
-use Rattle.geo_state.specs.Bios.{own_after, taste_read_after, CanLeave, IsOfItsOwner}
-use Rattle.geo_state.specs.Ready.{refreshed}
+use Rattle.geo_state.specs.Bios.{own_after, taste_read_after, CanLeave, IsOfItsOwner, CameThrough}
+use Rattle.geo_state.specs.Ready.{refreshed, is_idle_now, renoted}
 use Rattle.geo_state.specs.Holds.{Holds, OutAreCounted, ReapableAreNoted, AreOwn, AreSeats}
-use Rattle.geo_state.proofs.Lists.{Around, around-all}
-use Rattle.geo_state.proofs.TripLemmas.{trips-changed, trips-same, trips-kept}
-use Rattle.geo_state.proofs.Outs.{rows-changed, out-back, out-gone, out-some, reaped-same}
-use Rattle.geo_state.proofs.Owned.{own-gone, own-some, own-kept, only-fails, read-kept, read-gone, busy-kept}
-use Rattle.geo_state.proofs.Unseen.{SameReads, reads-same, reads-gone, busy-gone, IsGoneChild, count-changed, InPhase, in-phase, trips-around, up-is, waiting-is, done-is}
-use Rattle.geo_state.proofs.ReadyLemmas.{holder, refreshed-none, refreshed-one}
-use Rattle.geo_state.proofs.Fields.{apart, seats-same}
+use Rattle.geo_state.proofs.Lists.{Around, around-all, found-changed}
+use Rattle.geo_state.proofs.TripLemmas.{trips-changed, trips-same, trips-kept, rows-changed, out-back, out-gone, out-some, reaped-same, own-gone, own-some, own-kept, only-fails, read-kept, read-gone, busy-kept, eqb_sym}
+use Rattle.geo_state.proofs.Fields.{SameReads, reads-same, reads-gone, busy-gone, IsGoneChild, count-changed, InPhase, in-phase, trips-around, up-is, waiting-is, done-is, holder, refreshed-none, refreshed-one, seats-same, IsHolder, owns-alike_at, each-slot, rest-is, with_bios_of, trip-unseen}
 use Rattle.geo_state.proofs.Moves.{holds-moved, own-of_line, own-of_nobody}
+use Rattle.geo_state.proofs.OrderLemmas.{phase_up}
+use Rattle.geo_state.proofs.TrafficLemmas.{each_done}
+
+-- A request that went up to its owner
 
 -- from the one list to the other one request less is out through a consumer, and the rest is kept
 pub record Rise (s : State) (x : Trip) (ys : List Trip) : Type 0 where
@@ -70,44 +68,23 @@ module _ (handles : List Handle) (b : ℕ) (x : Trip) (xs : List Trip) (r : Arou
   rest = filter (λ (z : Trip). not (z.number == b)) xs
 
   -- one that isn't an actor's own is gone
-  one-kept : (a : ℕ) → is_own handles a x ≡ false
-      → IfSome (slice_get owns a) (λ (o : OwnBios). IsOwnCount handles xs a o.count o.low)
-      → IfSome (slice_get owns a) (λ (o : OwnBios). IsOwnCount handles rest a o.count o.low)
-  one-kept a other is =
+  pub owns-kept : ((a : ℕ) → is_own handles a x ≡ false) → AreOwn owns handles xs → AreOwn owns handles rest
+  owns-kept nobodys own a =
       if_some_weaker (λ (o : OwnBios). IsOwnCount handles xs a o.count o.low)
       (λ (o : OwnBios). IsOwnCount handles rest a o.count o.low)
-      (λ o own. own-kept handles a (λ z. not (z.number == b)) xs o.count o.low
-      (only-fails b x xs (is_own handles a) r other) own) (slice_get owns a) is
-
-  pub owns-kept : ((a : ℕ) → is_own handles a x ≡ false) → AreOwn owns handles xs → AreOwn owns handles rest
-  owns-kept nobodys own a = one-kept a (nobodys a) (own a)
+      (λ o is. own-kept handles a (λ z. not (z.number == b)) xs o.count o.low
+      (only-fails b x xs (is_own handles a) r (nobodys a)) is) (slice_get owns a) (own a)
 
   -- one of an actor is gone
   pub owns-left : (actor : ℕ) → ((a : ℕ) → is_own handles a x ≡ (actor == a)) → AreOwn owns handles xs
       → AreOwn (left_by owns actor) handles rest
-  owns-left actor mine own a = on (slice_get owns actor) refl (actor == a) refl
-    where
-      on : (o : Option OwnBios) → slice_get owns actor ≡ o → (c : Bool) → (actor == a) ≡ c
-          → IfSome (slice_get (change_own with_one_less owns actor (slice_get owns actor)) a)
-          (λ y. IsOwnCount handles rest a y.count y.low)
-      on None is true e =
-          let same : actor ≡ a = eqb-true actor a e in
-          let nothing : slice_get owns a ≡ None = ap (slice_get owns) (sym same) ∙ is in
-          rw (is, nothing) tt
-      on None is false e = rw is (one-kept a (mine a ∙ e) (own a))
-      on (Some o) is true e =
-          let same : actor ≡ a = eqb-true actor a e in
-          let at : slice_get (change_own with_one_less owns actor (Some o)) a ≡ Some (with_one_less o) =
-          ap (slice_get (change_own with_one_less owns actor (Some o))) (sym same)
-          ∙ slot-same owns actor (with_one_less o) o is in
-          let old : IsOwnCount handles xs a o.count o.low =
-          at-found (slice_get owns a) (λ (y : OwnBios). IsOwnCount handles xs a y.count y.low) o
-          (ap (slice_get owns) (sym same) ∙ is) (own a) in
-          rw (is, at) (own-gone handles a b x xs o.count o.low r (mine a ∙ e) old)
-      on (Some o) is false e =
-          let at : slice_get (change_own with_one_less owns actor (Some o)) a ≡ slice_get owns a =
-          slot-other owns actor a (with_one_less o) (λ same. apart actor a e (sym same)) in
-          rw (is, at) (one-kept a (mine a ∙ e) (own a))
+  owns-left actor mine own =
+      each-slot owns (left_by owns actor) actor with_one_less (λ e. ap (change_own with_one_less owns actor) e)
+      (λ o e. ap (change_own with_one_less owns actor) e) (λ a o. IsOwnCount handles xs a o.count o.low)
+      (λ a o. IsOwnCount handles rest a o.count o.low)
+      (λ o old. own-gone handles actor b x xs o.count o.low r (mine actor ∙ eq-eqb actor actor refl) old)
+      (λ a o e old. own-kept handles a (λ z. not (z.number == b)) xs o.count o.low
+      (only-fails b x xs (is_own handles a) r (mine a ∙ eqb_sym actor a ∙ e)) old) own
 
 -- Roots
 
@@ -184,45 +161,14 @@ module _ (s : State) (b : ℕ) (x : BioOf Held) (at : InPhase is_up s.traffic.bi
       taste =
           rw owner
           (h.read
-          ∙ sym (ap (option_map (λ (y : Trip). y.number))
-          (find-changed (λ (y : Trip). y.number == b) (λ y. record y { done = true }) (λ y. is_taste_root y.owner)
-          (λ y e. refl) xs) ∙ seen (find (λ y. is_taste_root y.owner) xs)));
+          ∙ sym (found-changed (λ (y : Trip). y.number == b) (λ y. record y { done = true })
+          (λ y. is_taste_root y.owner) (option_map (λ (y : Trip). y.number)) (λ y e. refl) (λ y e. refl) xs));
       busy = λ disk.
-          ap (option_map (λ (y : Trip). y.number))
-          (find-changed (λ (y : Trip). y.number == b) (λ y. record y { done = true })
-          (is_at_disk s.topo.topology disk) (λ y e. refl) xs)
-          ∙ seen (find (is_at_disk s.topo.topology disk) xs);
+          found-changed (λ (y : Trip). y.number == b) (λ y. record y { done = true }) (is_at_disk s.topo.topology disk)
+          (option_map (λ (y : Trip). y.number)) (λ y e. refl) (λ y e. refl) xs;
     }
-      where
-        by : (y : Trip) (c : Bool)
-            → (let w : Trip = if c then record y { done = true } else y in w.number) ≡ y.number
-        by y true = refl
-        by y false = refl
-
-        seen : (o : Option Trip)
-            → option_map (λ (y : Trip). y.number)
-            (option_map (λ (y : Trip). if y.number == b then record y { done = true } else y) o)
-            ≡ option_map (λ (y : Trip). y.number) o
-        seen None = refl
-        seen (Some y) = ap (λ n. Some n) (by y (y.number == b))
 
 -- Parents that are complete
-
--- where each child is done, each that is a child is
-all-children : (parent : ℕ) (bios : List (BioOf Held)) → are_in bios parent ≡ true
-    → AllByRecursion (λ (y : BioOf Held). is_child_of y.owner parent ≡ true → is_done y.phase ≡ true) bios
-all-children parent [] all = tt
-all-children parent (y ∷ ys) all = one (is_child_of y.owner parent) refl (all-children parent ys)
-  where
-    one : (c : Bool) → is_child_of y.owner parent ≡ c
-        → (are_in ys parent ≡ true
-        → AllByRecursion (λ (y : BioOf Held). is_child_of y.owner parent ≡ true → is_done y.phase ≡ true) ys)
-        → AllByRecursion (λ (y : BioOf Held). is_child_of y.owner parent ≡ true → is_done y.phase ≡ true) (y ∷ ys)
-    one true e rest =
-        let both : (is_done y.phase && are_in ys parent) ≡ true = (rw e at all) in
-        let parts = and_parts (is_done y.phase) (are_in ys parent) both in
-        ((λ f. parts.0), rest parts.1)
-    one false e rest = ((λ f. let never : false ≡ true = sym e ∙ f in absurd cc), rest (rw e at all))
 
 -- a child's trip, once it is done
 gone-child : (parent : ℕ) (y : BioOf Held) → (is_child_of y.owner parent ≡ true → is_done y.phase ≡ true)
@@ -256,10 +202,7 @@ all-gone parent (y ∷ ys) all = (gone-child parent y all.0, all-gone parent ys 
 -- a parent that waits goes up unseen
 waiting-unseen : (result : Held) (y : BioOf Held) → is_waiting y.phase ≡ true
     → trip_of (up_with result y) ≡ trip_of y
-waiting-unseen result y waits =
-    let p = waiting-is y.phase waits in
-    ap (λ (d : Bool × Bool). let w : Trip = record (trip_of y) { done = d.0; busy = d.1 } in w)
-    (λ i. (sym p.0 i, sym p.1 i))
+waiting-unseen result y waits = trip-unseen y (waiting-is y.phase waits)
 
 module _ (log : ℕ → Option (List ℕ)) (bios : List (BioOf Held)) (parent : ℕ) (t : Topology Config)
     (waits : AllByRecursion (λ (y : BioOf Held). (y.number == parent) ≡ true → is_waiting y.phase ≡ true) bios)
@@ -294,7 +237,7 @@ module _ (log : ℕ → Option (List ℕ)) (bios : List (BioOf Held)) (parent : 
       on (Some y) =
           rw (left_trips (gathered log bios y))
           (reads-gone (λ (w : Trip). not (is_child_of w.owner parent)) (trips bios)
-          (all-gone parent bios (all-children parent bios all)))
+          (all-gone parent bios (each_done parent bios all)))
 
   pub complete-busy : (disk : ℕ) → busy_at t (trips (completed log bios parent)) disk ≡ busy_at t (trips bios) disk
   complete-busy disk = on (bio_among bios parent)
@@ -310,17 +253,9 @@ module _ (log : ℕ → Option (List ℕ)) (bios : List (BioOf Held)) (parent : 
       on (Some y) =
           ap (λ ws. busy_at t ws disk) (left_trips (gathered log bios y))
           ∙ busy-gone (λ (w : Trip). not (is_child_of w.owner parent)) (trips bios)
-          (all-gone parent bios (all-children parent bios all)) t disk
+          (all-gone parent bios (each_done parent bios all)) t disk
 
 -- Each owner
-
-up_not_waiting : (p : Phase) → is_up p ≡ true → is_waiting p ≡ false
-up_not_waiting phases.Down e = absurd cc
-up_not_waiting phases.Sent e = absurd cc
-up_not_waiting (phases.Busy seat) e = absurd cc
-up_not_waiting phases.Waiting e = absurd cc
-up_not_waiting phases.Up e = refl
-up_not_waiting phases.Done e = absurd cc
 
 module _ (s : State) (next b : ℕ) (x : BioOf Held) (log : ℕ → Option (List ℕ))
     (are : AreNumbers (map (λ (y : BioOf Held). y.number) s.traffic.bios) next)
@@ -368,7 +303,7 @@ module _ (s : State) (next b : ℕ) (x : BioOf Held) (log : ℕ → Option (List
           let it : Some w.bio ≡ Some x = sym found ∙ at.found ∙ ap (λ y. Some y) is in
           let one : w.bio ≡ x = cc in
           let waiting : is_waiting x.phase ≡ true = rw one at w.passes in
-          let no : false ≡ true = sym (up_not_waiting x.phase up) ∙ waiting in
+          let no : false ≡ true = sym (ap is_waiting (phase_up x.phase up)) ∙ waiting in
           cc
 
   -- it has gone up
@@ -451,20 +386,16 @@ pub refreshed-ready : (v : HandlesView) (t : TopoView Config) (c : ℕ) (xs ys :
     → refreshed v t c ≡ noted_handles (can_be_reaped ys) v.handles
 refreshed-ready v t c xs ys numbers alone others out ready = on (holding_handle v.handles c) refl
   where
-    each : (ks : List Handle)
-        → AllByRecursion (λ k. names_number k.consumer c ≡ false → can_be_reaped ys k ≡ can_be_reaped xs k) ks
-    each [] = tt
-    each (k ∷ ks) = (
-      (λ no. reaped-same c xs ys others k
-          (λ yes. let never : false ≡ true = sym no ∙ yes in absurd cc)),
-      each ks,
-    )
+    each : AllByRecursion (λ k. names_number k.consumer c ≡ false → can_be_reaped ys k ≡ can_be_reaped xs k) v.handles
+    each =
+        of_each (λ (k : Handle). names_number k.consumer c ≡ false → can_be_reaped ys k ≡ can_be_reaped xs k)
+        (λ k no. reaped-same c xs ys others k (λ yes. let never : false ≡ true = sym no ∙ yes in absurd cc)) v.handles
 
     on : (o : Option Handle) → holding_handle v.handles c ≡ o
         → refreshed v t c ≡ noted_handles (can_be_reaped ys) v.handles
-    on None e = refreshed-none v t c ys (can_be_reaped xs) (each v.handles) out e ready
+    on None e = refreshed-none v t c ys (can_be_reaped xs) each out e ready
     on (Some k) e =
-        refreshed-one v t c ys (can_be_reaped xs) (each v.handles) out k e
+        refreshed-one v t c ys (can_be_reaped xs) each out k e
         (holder v c k numbers alone e
         (found_itself (λ (j : Handle). j.number) v.next v.handles k numbers
         (find-Contains (λ (j : Handle). names_number j.consumer c) v.handles k e))
@@ -478,15 +409,7 @@ pub holds-rose : (s new : State) (x : BioOf Held) (ys : List Trip) → Rise s (t
     → trips new.traffic.bios ≡ ys → new.topo ≡ with_active s.topo x.source (λ n. n - 1)
     → new.handles ≡ record s.handles { ready = refreshed s.handles new.topo x.source }
     → new.own.items ≡ own_after s x.owner → new.read ≡ taste_read_after s x.owner → new.disks ≡ s.disks
-    → new ≡ record s {
-      topo = record s.topo { active = new.topo.active };
-      handles = record s.handles { ready = new.handles.ready };
-      traffic = new.traffic;
-      read = new.read;
-      disks = new.disks;
-      own = new.own;
-    }
-    → Holds s → Holds new
+    → new ≡ with_bios_of s new → Holds s → Holds new
 holds-rose s new x ys r lives alone seen topo handles own read disks rest h =
     let c : ℕ = x.source in
     let xs : List Trip = trips s.traffic.bios in
@@ -511,3 +434,229 @@ holds-rose s new x ys r lives alone seen topo handles own read disks rest h =
       taste = read ∙ r.taste;
       seat = rw (disks, topo) seats;
     })) h
+
+-- What the parts ask for, and that all is kept
+
+module _ (s : State) (b : ℕ) (x : BioOf Held) (log : ℕ → Option (List ℕ))
+    (told : Some x ≡ bio_among s.traffic.bios b)
+    (are : AreNumbers (map (λ (y : BioOf Held). y.number) s.traffic.bios) s.traffic.next)
+    (up : IsTrue (has_phase is_up s.traffic.bios b)) (came : CameThrough s b) (h : Holds s) where
+  -- the bio that is up
+  at : InPhase is_up s.traffic.bios b
+  at = in-phase is_up s.traffic.bios s.traffic.next b are up
+
+  -- it is the one that was found
+  is : at.bio ≡ x
+  is = let e : Some at.bio ≡ Some x = sym at.found ∙ sym told in cc
+
+  through : IsSome (consumer_at s.topo.topology x.source) × IsOfItsOwner s x.source x.owner
+  through =
+      at-some (bio_among s.traffic.bios b)
+      (λ (y : BioOf Held). IsSome (consumer_at s.topo.topology y.source) × IsOfItsOwner s y.source y.owner) x
+      (sym told) came
+
+  -- its consumer is there
+  pub back-lives : IsSome (consumer_at s.topo.topology x.source)
+  back-lives = through.0
+
+  -- something is out through it
+  pub back-out : IfSome (value_at s.topo.active x.source) (λ n. 1 ≤ n)
+  back-out =
+      rw (active-at s.topo (trips s.traffic.bios) x.source h.active through.0)
+      (some-out s s.traffic.next b x log are at is h)
+
+  -- and something is its actor's
+  pub back-own : CanLeave s x.owner
+  back-own = can-leave s s.traffic.next b x log are at is h x.owner refl
+
+  module _ (new : State) (v : BioTableView) (parent : HasParent s.traffic.bios x.owner)
+      (alone : HoldsAlone s.handles.handles x.source
+      (option_map (λ (k : Handle). k.number) (holding_handle s.handles.handles x.source)))
+      (rose : IfSome (bio_among s.traffic.bios b) (λ (y : BioOf Held). v.bios ≡ after_up log s.traffic.bios y y.owner))
+      (own : new.own.items ≡ own_after s x.owner) (read : new.read ≡ taste_read_after s x.owner)
+      (left : new ≡ record s {
+        traffic = v;
+        topo = with_active s.topo x.source (λ n. n - 1);
+        handles = record s.handles {
+          ready = refreshed s.handles (with_active s.topo x.source (λ n. n - 1)) x.source;
+        };
+        own = new.own;
+        read = new.read;
+      }) where
+    -- the requests are those of the table
+    from_table : new.traffic ≡ v
+    from_table = ap (λ (z : State). z.traffic) left
+
+    -- and only what is out, what is ready and what is its owner's changes beside them
+    all : new ≡ record s {
+      traffic = new.traffic;
+      topo = with_active s.topo x.source (λ n. n - 1);
+      handles = record s.handles {
+        ready = refreshed s.handles (with_active s.topo x.source (λ n. n - 1)) x.source;
+      };
+      own = new.own;
+      read = new.read;
+    }
+    all =
+        left
+        ∙ ap (λ (w : BioTableView). let z : State = record s {
+          traffic = w;
+          topo = with_active s.topo x.source (λ n. n - 1);
+          handles = record s.handles {
+            ready = refreshed s.handles (with_active s.topo x.source (λ n. n - 1)) x.source;
+          };
+          own = new.own;
+          read = new.read;
+        } in z) (sym from_table)
+
+    -- what became of it
+    bios : new.traffic.bios ≡ after_up log s.traffic.bios x x.owner
+    bios =
+        ap (λ (w : BioTableView). w.bios) from_table
+        ∙ at-found (bio_among s.traffic.bios b)
+        (λ (y : BioOf Held). v.bios ≡ after_up log s.traffic.bios y y.owner) x (sym told) rose
+
+    -- all is kept
+    pub holds-back : Holds new
+    holds-back =
+        let topo : new.topo ≡ with_active s.topo x.source (λ n. n - 1) = ap (λ (z : State). z.topo) all in
+        let handles : new.handles
+        ≡ record s.handles { ready = refreshed s.handles (with_active s.topo x.source (λ n. n - 1)) x.source } =
+        ap (λ (z : State). z.handles) all in
+        holds-rose s new x (trips (after_up log s.traffic.bios x x.owner))
+        (rises s s.traffic.next b x log are at is h x.owner refl parent through.1) through.0 alone
+        (ap trips bios) topo
+        (handles
+        ∙ ap (λ (t : TopoView Config).
+        let v : HandlesView = record s.handles { ready = refreshed s.handles t x.source } in v) (sym topo))
+        own read (ap (λ (z : State). z.disks) all) (rest-is s new all refl) h
+
+-- The handle of a consumer that became dead
+
+module _ (hs : List Handle) (c : ℕ) where
+  -- the grants are the same
+  pub killed-grants : (taste : Option Taste) (d : ℕ) → granted_of (killed hs c) taste d ≡ granted_of hs taste d
+  killed-grants taste d =
+      found-changed (λ (h : Handle). names_number h.consumer c) (λ h. record h { dead = true })
+      (λ h. names_number h.consumer d) (λ o. option_map_or (λ (h : Handle). h.grant) o (taste_grant taste d))
+      (λ h e. refl) (λ h e. refl) hs
+
+  -- and so are the actors
+  pub killed-own : (actor : ℕ) (x : Trip) → is_own (killed hs c) actor x ≡ is_own hs actor x
+  killed-own actor x =
+      found-changed (λ (h : Handle). names_number h.consumer c) (λ h. record h { dead = true })
+      (λ h. is_of_handle x.owner h.number) (λ o. option_map_or (λ (h : Handle). h.actor == actor) o false)
+      (λ h e. refl) (λ h e. refl) hs
+
+  -- no handle has the consumer
+  killed-none : holding_handle hs c ≡ None → killed hs c ≡ hs
+  killed-none none =
+      unhit (λ (h : Handle). names_number h.consumer c) (λ h. record h { dead = true }) hs
+      (none_passes (λ (h : Handle). names_number h.consumer c) hs none)
+
+  module _ (h : Handle) (xs : List Trip) (has : h.consumer ≡ Some c) where
+    -- what is noted of the dead one
+    dead_can : can_be_reaped xs (record h { dead = true }) ≡ (out_through xs c == 0)
+    dead_can = ap (λ o. option_map_or (λ d. out_through xs d == 0) o false) has
+
+    -- the note of each, after it became dead
+    rows_killed : (ks : List Handle)
+        → AllByRecursion (λ (k : Handle). ((k.number == h.number) ≡ true → k ≡ h)
+        × (names_number k.consumer c ≡ (k.number == h.number))) ks
+        → with_value (noted_handles (can_be_reaped xs) ks) h.number (out_through xs c == 0)
+        ≡ noted_handles (can_be_reaped xs) (killed ks c)
+    rows_killed [] all = refl
+    rows_killed (k ∷ ks) all = at (k.number == h.number) refl (rows_killed ks all.1)
+      where
+        at : (b : Bool) → (k.number == h.number) ≡ b
+            → with_value (noted_handles (can_be_reaped xs) ks) h.number (out_through xs c == 0)
+            ≡ noted_handles (can_be_reaped xs) (killed ks c)
+            → with_value (noted_handles (can_be_reaped xs) (k ∷ ks)) h.number (out_through xs c == 0)
+            ≡ noted_handles (can_be_reaped xs) (killed (k ∷ ks) c)
+        at true e rest =
+            let named : names_number k.consumer c ≡ true = all.0.1 ∙ e in
+            let same : k ≡ h = all.0.0 e in
+            let can : can_be_reaped xs (record k { dead = true }) ≡ (out_through xs c == 0) =
+            ap (λ (j : Handle). can_be_reaped xs (record j { dead = true })) same ∙ dead_can in
+            let number : k.number ≡ h.number = eqb-true k.number h.number e in
+            rw (e, named, rest, can, number) refl
+        at false e rest =
+            let named : names_number k.consumer c ≡ false = all.0.1 ∙ e in
+            rw (e, named, rest) refl
+
+-- the notes follow
+pub killed-ready : (v : HandlesView) (t : TopoView Config) (c : ℕ) (xs : List Trip)
+    → AreNumbers (map (λ (k : Handle). k.number) v.handles) v.next
+    → HoldsAlone v.handles c (option_map (λ (k : Handle). k.number) (holding_handle v.handles c))
+    → value_at t.active c ≡ Some (out_through xs c) → ReapableAreNoted v xs
+    → refreshed (record v { handles = killed v.handles c }) t c ≡ noted_handles (can_be_reaped xs) (killed v.handles c)
+killed-ready v t c xs numbers alone out ready = on (holding_handle v.handles c) refl
+  where
+    idle : is_idle_now t c ≡ (out_through xs c == 0)
+    idle = ap (λ o. option_map_or (λ n. n == 0) o false) out
+
+    -- the dead one is found
+    dead_found : (h : Handle) → holding_handle v.handles c ≡ Some h → names_number h.consumer c ≡ true
+        → holding_handle (killed v.handles c) c ≡ Some (record h { dead = true })
+    dead_found h is named =
+        find-changed (λ (k : Handle). names_number k.consumer c) (λ k. record k { dead = true })
+        (λ k. names_number k.consumer c) (λ k e. refl) v.handles
+        ∙ ap (option_map (λ (k : Handle). if names_number k.consumer c then record k { dead = true } else k)) is
+        ∙ ap (λ b. let k : Handle = if b then record h { dead = true } else h in Some k) named
+
+    on : (o : Option Handle) → holding_handle v.handles c ≡ o
+        → refreshed (record v { handles = killed v.handles c }) t c
+        ≡ noted_handles (can_be_reaped xs) (killed v.handles c)
+    on None is =
+        let same : killed v.handles c ≡ v.handles = killed-none v.handles c is in
+        ap (λ ks. renoted v.ready (is_idle_now t c) (holding_handle ks c)) same
+        ∙ ap (renoted v.ready (is_idle_now t c)) is
+        ∙ ready
+        ∙ ap (noted_handles (can_be_reaped xs)) (sym same)
+    on (Some h) is =
+        let named : names_number h.consumer c ≡ true =
+        found_passes (λ (j : Handle). names_number j.consumer c) v.handles h is in
+        let one : IsHolder v c h =
+        holder v c h numbers alone is
+        (found_itself (λ (j : Handle). j.number) v.next v.handles h numbers
+        (find-Contains (λ (j : Handle). names_number j.consumer c) v.handles h is)) named in
+        let at : AllByRecursion (λ (k : Handle). names_number k.consumer c ≡ (k.number == h.number)) v.handles =
+        rw (ap (option_map (λ (k : Handle). k.number)) is) at alone in
+        ap (renoted v.ready (is_idle_now t c)) (dead_found h is named)
+        ∙ ap (λ b. with_value v.ready h.number b) idle
+        ∙ ap (λ rows. with_value rows h.number (out_through xs c == 0)) ready
+        ∙ rows_killed v.handles c h xs one.has v.handles
+        (two_facts (λ (k : Handle). (k.number == h.number) ≡ true → k ≡ h)
+        (λ k. names_number k.consumer c ≡ (k.number == h.number)) v.handles one.numbered at)
+
+-- all is kept
+pub holds-killed : (s new : State) (c : ℕ) → IsSome (consumer_at s.topo.topology c)
+    → HoldsAlone s.handles.handles c (option_map (λ (k : Handle). k.number) (holding_handle s.handles.handles c))
+    → new ≡ record s {
+      handles = record s.handles {
+        handles = killed s.handles.handles c;
+        ready = refreshed (record s.handles { handles = killed s.handles.handles c }) s.topo c;
+      };
+    }
+    → Holds s → Holds new
+holds-killed s new c lives alone is h =
+    let xs : List Trip = trips s.traffic.bios in
+    subst Holds (sym is)
+    (record {
+      counted = h.counted;
+      quiet = h.quiet;
+      numbers =
+          numbers-changed (λ (k : Handle). k.number) (λ k. names_number k.consumer c) (λ k. record k { dead = true })
+          (λ k e. refl) s.handles.next s.handles.handles h.numbers;
+      grants = h.grants ∙ (λ i d. sym (killed-grants s.handles.handles c s.taste d) i);
+      active = h.active;
+      ready = killed-ready s.handles s.topo c xs h.numbers alone (active-at s.topo xs c h.active lives) h.ready;
+      own =
+          owns-alike_at s.own.items s.handles.handles (killed s.handles.handles c) xs
+          (λ actor. of_each (λ (x : Trip). is_own (killed s.handles.handles c) actor x
+          ≡ is_own s.handles.handles actor x) (killed-own s.handles.handles c actor) xs) h.own;
+      read = h.read;
+      seats = h.seats;
+      providers = h.providers;
+      room = h.room;
+    })

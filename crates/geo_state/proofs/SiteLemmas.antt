@@ -1,5 +1,5 @@
 -- All is kept after geoms, providers and consumers came or went.
-use Rattle.std.specs.Prelude.{◌≡◌, ℕ, ◌+◌, ◌==◌, Bool, true, false, not, ◌&&◌, List, [], ◌∷◌, ◌++◌, length, map, filter, find, Option, Some, None, IsSome, IsSomeAnd, IfSome, AllPairs, slice_get, if◌then◌else◌}
+use Rattle.std.specs.Prelude.{◌≡◌, ℕ, ◌+◌, ◌==◌, Bool, true, false, not, ◌&&◌, List, [], ◌∷◌, ◌++◌, length, map, filter, find, Option, Some, None, IsSome, IsSomeAnd, AllPairs, if◌then◌else◌}
 use Rattle.std.specs.List.{AllByRecursion}
 use Rattle.std.specs.Option.{option_map, option_map_or, option_and_then, option_flatten}
 use Rattle.std.proofs.Common.{refl, sym, ◌∙◌, ap, subst, eq-eqb}
@@ -7,10 +7,9 @@ use Rattle.std.proofs.lemmas.Bool.{eqb-true, ne_eqb, not-false}
 use Rattle.std.proofs.lemmas.List.{map-append, length-append, length-map}
 use Rattle.std.proofs.lemmas.List.Elements.{recursion_from_All}
 use Rattle.geo_base.specs.declared.request.Counts.{Counts}
-use Rattle.geo_base.proofs.AllLists.{pairs_head, pairs_tail, all_appended, all_weaker}
-use Rattle.geo_base.proofs.Options.{none-mapped, if_some_weaker, at-found, map_there}
+use Rattle.geo_base.proofs.AllLists.{pairs_head, pairs_tail, all_appended, all_weaker, of_each}
+use Rattle.geo_base.proofs.Options.{none-mapped, map_there}
 use Rattle.geo_base.proofs.FindLists.{none_passes, found-before, find_agree}
-use Rattle.geo_base.proofs.PlaceLists.{slot-same, slot-other}
 use Rattle.geo_model.specs.declared.step.Entry.{Entry}
 use Rattle.geo_model.specs.Words.{names_number}
 use Rattle.geo_model.specs.Topology.{Topology, Geom, Provider, Consumer, attached_to, consumer_at, geom_at, provider_at, providers_of}
@@ -33,7 +32,7 @@ use Rattle.geo_state.specs.Holds.{Holds, OutAreCounted, AreSeats, IsSeat}
 use Rattle.geo_state.specs.Changes.{IsSettled}
 use Rattle.geo_state.specs.Sites.{AreFresh, no_row, seats_without, KeptAfterComers, KeptAfterInsert, KeptAfterProvider, KeptAfterConsumer, KeptAfterGeom, KeptWithSites}
 use Rattle.geo_state.proofs.Lists.{Around, around, around-all, find-before, find-past, find-kept_by}
-use Rattle.geo_state.proofs.Fields.{apart}
+use Rattle.geo_state.proofs.Fields.{apart, each-slot}
 use Rattle.geo_state.proofs.Frames.{first_of, first_read, under, under_read, disk_under, disk_read}
 use Rattle.geo_state.proofs.Rises.{active-at}
 use Rattle.geo_state.proofs.LawLemmas.{fields_follow, rows_out, row_out, seats-stay}
@@ -58,45 +57,19 @@ busy-stays t u xs stay disk =
 pub seats-geom : (seats : List DiskSeat) (t u : Topology Config) (xs : List Trip) (disk : ℕ) (geom : Option ℕ)
     → ((d : ℕ) → geom_of_disk u d ≡ (if d == disk then geom else geom_of_disk t d)) → TargetsStay t u xs
     → AreSeats seats t xs → AreSeats (with_disk_geom seats disk geom) u xs
-seats-geom seats t u xs disk geom same stay are = on (slice_get seats disk) refl
-  where
-    kept : (d : ℕ) → (d == disk) ≡ false → IfSome (slice_get seats d) (λ (x : DiskSeat). IsSeat u xs d x.geom x.busy)
-    kept d e =
-        if_some_weaker (λ (x : DiskSeat). IsSeat t xs d x.geom x.busy) (λ (x : DiskSeat). IsSeat u xs d x.geom x.busy)
-        (λ x old. record {
-          geom_is = old.geom_is ∙ sym (same d ∙ ap (λ c. if c then geom else geom_of_disk t d) e);
-          busy_is = old.busy_is ∙ sym (busy-stays t u xs stay d);
-        }) (slice_get seats d) (are d)
-
-    one : (seat : DiskSeat) → slice_get seats disk ≡ Some seat → (d : ℕ) (b : Bool) → (d == disk) ≡ b
-        → IfSome (slice_get (with_disk_geom seats disk geom) d) (λ (x : DiskSeat). IsSeat u xs d x.geom x.busy)
-    one seat is d true e =
-        let here : d ≡ disk = eqb-true d disk e in
-        let new : DiskSeat = record seat { geom = geom } in
-        let at : slice_get (change_seat (λ x. record x { geom = geom }) seats disk (Some seat)) disk ≡ Some new =
-        slot-same seats disk new seat is in
-        let old : IsSeat t xs disk seat.geom seat.busy =
-        at-found (slice_get seats disk) (λ (x : DiskSeat). IsSeat t xs disk x.geom x.busy) seat is (are disk) in
-        rw (here, is, at)
-        (record {
-          geom_is = sym (same disk ∙ ap (λ c. if c then geom else geom_of_disk t disk) (rw here at e));
-          busy_is = old.busy_is ∙ sym (busy-stays t u xs stay disk);
-        })
-    one seat is d false e =
-        let at : slice_get (change_seat (λ x. record x { geom = geom }) seats disk (Some seat)) d ≡ slice_get seats d =
-        slot-other seats disk d (record seat { geom = geom }) (apart d disk e) in
-        rw (is, at) (kept d e)
-
-    none : slice_get seats disk ≡ None → (d : ℕ) (b : Bool) → (d == disk) ≡ b
-        → IfSome (slice_get (with_disk_geom seats disk geom) d) (λ (x : DiskSeat). IsSeat u xs d x.geom x.busy)
-    none is d true e =
-        let here : d ≡ disk = eqb-true d disk e in
-        rw (here, is, is) tt
-    none is d false e = rw is (kept d e)
-
-    on : (o : Option DiskSeat) → slice_get seats disk ≡ o → AreSeats (with_disk_geom seats disk geom) u xs
-    on None is d = none is d (d == disk) refl
-    on (Some seat) is d = one seat is d (d == disk) refl
+seats-geom seats t u xs disk geom same stay are =
+    let change : DiskSeat → DiskSeat = λ x. record x { geom = geom } in
+    each-slot seats (with_disk_geom seats disk geom) disk change (λ e. ap (change_seat change seats disk) e)
+    (λ x e. ap (change_seat change seats disk) e) (λ d x. IsSeat t xs d x.geom x.busy)
+    (λ d x. IsSeat u xs d x.geom x.busy)
+    (λ x old. record {
+      geom_is = sym (same disk ∙ ap (λ c. if c then geom else geom_of_disk t disk) (eq-eqb disk disk refl));
+      busy_is = old.busy_is ∙ sym (busy-stays t u xs stay disk);
+    })
+    (λ d x e old. record {
+      geom_is = old.geom_is ∙ sym (same d ∙ ap (λ c. if c then geom else geom_of_disk t d) e);
+      busy_is = old.busy_is ∙ sym (busy-stays t u xs stay d);
+    }) are
 
 -- Rows that grow
 
@@ -331,6 +304,15 @@ granted-still : (s : State) (u : TopoView Config) → Holds s → ((c : ℕ) →
     → (c : ℕ) → granted_by u c ≡ granted_of s.handles.handles s.taste c
 granted-still s u h same c = same c ∙ ap (λ (g : ℕ → Counts). g c) h.grants
 
+-- an item of another number is found as before, once those of a number are gone
+others-found : {X : Type 0} (number : X → ℕ) (gone n : ℕ) → (n == gone) ≡ false → (xs : List X)
+    → find (λ x. number x == n) (filter (λ x. not (number x == gone)) xs) ≡ find (λ x. number x == n) xs
+others-found {X} number gone n other xs =
+    find-kept_by (λ x. number x == n) (λ x. not (number x == gone)) xs
+    (of_each (λ (x : X). not (number x == gone) ≡ false → (number x == n) ≡ false)
+    (λ x e. ne_eqb (number x) n
+    (λ same. apart n gone other (sym same ∙ eqb-true (number x) gone (not-false (number x == gone) e)))) xs)
+
 module _ (t u : Topology Config) (prov : ℕ)
     (rest : u.providers ≡ filter (λ (p : Provider). not (p.number == prov)) t.providers) (geoms : u.geoms ≡ t.geoms)
   where
@@ -339,18 +321,8 @@ module _ (t u : Topology Config) (prov : ℕ)
     provider-gone p other =
         ap (λ (gs : List (Geom Config)). disk_at (record u { geoms = gs }) p) geoms
         ∙ ap (λ (ps : List Provider). disk_at (record t { providers = ps }) p) rest
-        ∙ seen (find-kept_by (λ (x : Provider). x.number == p) (λ x. not (x.number == prov)) t.providers
-        (others t.providers))
+        ∙ seen (others-found (λ (x : Provider). x.number) prov p other t.providers)
       where
-        others : (xs : List Provider)
-            → AllByRecursion (λ (x : Provider). not (x.number == prov) ≡ false → (x.number == p) ≡ false) xs
-        others [] = tt
-        others (x ∷ xs) = (
-          (λ e. ne_eqb x.number p
-              (λ same. apart p prov other (sym same ∙ eqb-true x.number prov (not-false (x.number == prov) e)))),
-          others xs,
-        )
-
         seen : find (λ (x : Provider). x.number == p) (filter (λ (x : Provider). not (x.number == prov)) t.providers)
             ≡ find (λ (x : Provider). x.number == p) t.providers
             → disk_at (record t { providers = filter (λ (x : Provider). not (x.number == prov)) t.providers }) p
@@ -409,14 +381,11 @@ kept_after_consumer s u q taste cons h gone granted settled =
     }) h.active)
     (record {
       geoms = λ disk. ap (λ (w : TopoView Config). geom_of_disk w.topology disk) gone;
-      targets = each xs;
+      targets =
+          of_each (λ (x : Trip). disk_at u.topology x.target ≡ disk_at s.topo.topology x.target)
+          (λ x. ap (λ (w : TopoView Config). disk_at w.topology x.target) gone) xs;
     })
     (h.providers ∙ sym (ap (λ (w : TopoView Config). length w.topology.providers) gone))
-  where
-    each : (ys : List Trip)
-        → AllByRecursion (λ (x : Trip). disk_at u.topology x.target ≡ disk_at s.topo.topology x.target) ys
-    each [] = tt
-    each (y ∷ ys) = (ap (λ (w : TopoView Config). disk_at w.topology y.target) gone, each ys)
 
 -- A geom that goes
 
@@ -519,17 +488,7 @@ module _ (t u : Topology Config) (geom : ℕ)
       same : (m : ℕ) → (m == geom) ≡ false
           → find (λ (x : Geom Config). x.number == m) (filter (λ (x : Geom Config). not (x.number == geom)) t.geoms)
           ≡ find (λ (x : Geom Config). x.number == m) t.geoms
-      same m other =
-          find-kept_by (λ (x : Geom Config). x.number == m) (λ x. not (x.number == geom)) t.geoms (each t.geoms)
-        where
-          each : (xs : List (Geom Config))
-              → AllByRecursion (λ (x : Geom Config). not (x.number == geom) ≡ false → (x.number == m) ≡ false) xs
-          each [] = tt
-          each (x ∷ xs) = (
-            (λ e. ne_eqb x.number m
-                (λ is. apart m geom other (sym is ∙ eqb-true x.number geom (not-false (x.number == geom) e)))),
-            each xs,
-          )
+      same m other = others-found (λ (x : Geom Config). x.number) geom m other t.geoms
 
       on : (o : Option Provider) → provider_at t p ≡ o → disk_at without_it p ≡ disk_at t p
       on None e =
@@ -555,7 +514,9 @@ kept_after_geom log s new geom g h firm found bare gone granted settled disks is
     let consumers : u.consumers ≡ t.consumers = ap (λ (w : TopoView Config). w.topology.consumers) gone in
     let r : Around (λ (x : Geom Config). x.number) geom g t.geoms =
     around (λ (x : Geom Config). x.number) t.next_geom geom g t.geoms firm.1.graph.numbers.geoms found in
-    let targets : TargetsStay t u xs = each t u rest providers bare xs in
+    let targets : TargetsStay t u xs =
+    of_each (λ (x : Trip). disk_at u x.target ≡ disk_at t x.target)
+    (λ x. geom-gone t u geom rest providers bare x.target) xs in
     subst Holds (sym is)
     (record {
       counted = settled.counted;
@@ -575,12 +536,6 @@ kept_after_geom log s new geom g h firm found bare gone granted settled disks is
       room = settled.room;
     })
   where
-    each : (t u : Topology Config) → u.geoms ≡ filter (λ (x : Geom Config). not (x.number == geom)) t.geoms
-        → u.providers ≡ t.providers → providers_of t geom ≡ [] → (ys : List Trip) → TargetsStay t u ys
-    each t u rest providers none [] = tt
-    each t u rest providers none (y ∷ ys) =
-        (geom-gone t u geom rest providers none y.target, each t u rest providers none ys)
-
     seen : (t u : Topology Config) → u.geoms ≡ filter (λ (x : Geom Config). not (x.number == geom)) t.geoms
         → Around (λ (x : Geom Config). x.number) geom g t.geoms → AllPairs DifferInDisk t.geoms
         → (d : ℕ) → is_geom_of_disk d g ≡ false → geom_of_disk u d ≡ geom_of_disk t d

@@ -1,25 +1,484 @@
--- What is kept beside the bios of the table stays so when one is split, and when one goes up.
-use Rattle.std.proofs.Common.{◌≡◌, ℕ, ◌+◌, ◌-◌, ◌≤◌, ◌∷◌, ◌++◌, ◌==◌, [], length, cond, Bool, true, Option, Some, IfSome, sym, refl, ap, ◌∙◌, subst, arith}
-use Rattle.std.specs.Prelude.{List}
+-- What is kept beside the bios of the table stays so when one comes, changes its phase, is split and goes up.
+use Rattle.std.proofs.Common.{◌≡◌, ℕ, ◌+◌, ◌-◌, ◌≤◌, List, [], ◌∷◌, ◌++◌, length, find, cond, Bool, true, false, Option, Some, None, sym, refl, ap, ◌∙◌, arith, option_map, ◌≢◌, ◌<◌, ◌==◌, filter, not, subst, IfSome}
+use Rattle.std.specs.List.{AllByRecursion}
+use Rattle.std.specs.Option.{option_map_or, option_or}
 use Rattle.std.proofs.lemmas.List.{length-append, length-map}
-use Rattle.std.proofs.lemmas.List.Sums.{count_by-le-length}
-use Rattle.geo_model.proofs.BioLemmas.{phase_down}
+use Rattle.std.proofs.lemmas.List.Folds.{find-append}
+use Rattle.std.proofs.lemmas.List.Sums.{sum_by-append, sum_by-cons, length-filter, count_by-le-length}
 use Rattle.geo_model.specs.declared.span.Piece.{Piece}
 use Rattle.geo_model.specs.declared.step.Phase.{Phase}
 use Rattle.geo_model.specs.declared.step.Phase.TheVariants as phases
-use Rattle.geo_model.specs.World.{BioOf, change_number, is_down, is_up, bio_among}
+use Rattle.geo_model.specs.World.{BioOf, change_number, is_down, is_sent, is_busy, is_up, bio_among, children_among, is_child_of, is_waiting, is_done}
 use Rattle.geo_bio.specs.declared.bio.Held.{Held}
-use Rattle.geo_bio.specs.declared.bio.Risen.{Risen}
-use Rattle.geo_bio.specs.BioTable.{BioTableView, AreInOrder, HasParent, bio_from, has_phase, with_phase}
 use Rattle.geo_bio.specs.Split.{split_into}
-use Rattle.geo_bio.specs.Up.{after_up, told_of_up}
 use Rattle.geo_state.specs.declared.cursor.Cursor.{Cursor}
-use Rattle.geo_state.specs.Traffic.{count_in}
-use Rattle.geo_state.specs.Cursors.{IsCounted, IsCursor, IsKept, family_size, gone_by, others, up_after, with_last}
-use Rattle.geo_state.proofs.OrderLemmas.{bio_in, fewer_than_next, number_below, stands_at, table_rises}
-use Rattle.geo_state.proofs.CursorLemmas.{reached_above, reached_there}
-use Rattle.geo_state.proofs.CountLemmas.{down_come, from_down_waiting, split_down, split_first, split_length, up_is}
-use Rattle.geo_state.proofs.RiseLemmas.{goes_up}
+use Rattle.geo_state.specs.Traffic.{first_in, count_in}
+use Rattle.geo_state.specs.Cursors.{others, IsCursor, with_one, with_last, IsCounted, up_after, family_size, gone_by, IsKept}
+use Rattle.geo_state.proofs.OrderLemmas.{Rising, stands_at, StandsAt, change_is, bio_in, fewer_than_next, number_below, table_rises, phase_up, phase_done}
+use Rattle.geo_state.proofs.CursorLemmas.{stays, left, entered, count_stays, count_comes, count_goes, length_moved, others_cursor, count_others, length_others, reached_above, reached_there}
+use Rattle.std.proofs.lemmas.Bool.{and_parts}
+use Rattle.std.proofs.lemmas.List.Filters.{length-filter_both}
+use Rattle.geo_model.proofs.BioLemmas.{phase_waiting, phase_down}
+use Rattle.geo_model.specs.declared.step.Owner.{Owner}
+use Rattle.geo_model.specs.declared.step.Owner.TheVariants as owners
+use Rattle.geo_model.specs.Bios.{up_with}
+use Rattle.geo_bio.specs.declared.bio.Risen.TheVariants as risen
+use Rattle.geo_bio.specs.BioTable.{HasParent, with_phase, BioTableView, AreInOrder, bio_from, has_phase}
+use Rattle.geo_bio.specs.Up.{gathered, are_in, completed, after_up, told_of_up}
+use Rattle.geo_laws_graph.proofs.Lists.{all-changed}
+use Rattle.geo_laws_graph.proofs.Numbered.{at-unchanged}
+use Rattle.geo_laws_graph.proofs.Spared.{find-spared, filter-spared}
+use Rattle.geo_state.proofs.ShownLemmas.{count-map}
+use Rattle.geo_bio.specs.declared.bio.Risen.{Risen}
+use Rattle.geo_base.proofs.AllLists.{all_appended, of_each}
+use Rattle.geo_state.proofs.Lists.{all-front, all-back, count-same}
+
+-- A bio comes, or comes to another phase
+
+-- a Busy one is in no other phase
+pub record IsBusy (p : Phase) : Type 0 where
+  pub down : is_down p ≡ false
+  pub sent : is_sent p ≡ false
+  pub up : is_up p ≡ false
+
+pub busy_is : (p : Phase) → is_busy p ≡ true → IsBusy p
+busy_is phases.Down e = absurd cc
+busy_is phases.Sent e = absurd cc
+busy_is (phases.Busy seat) e = record { down = refl; sent = refl; up = refl }
+busy_is phases.Waiting e = absurd cc
+busy_is phases.Up e = absurd cc
+busy_is phases.Done e = absurd cc
+
+-- A bio comes to another phase
+
+module _ (bios : List (BioOf Held)) (n : ℕ) (x : BioOf Held) (rising : Rising bios)
+    (found : bio_among bios n ≡ Some x) (down sent up : Cursor) (busy live : ℕ)
+    (is : IsCounted bios down sent up busy live) where
+  -- its number
+  number : x.number ≡ n
+  number = (stands_at bios n x rising found).number
+
+  module _ (g : BioOf Held → BioOf Held) (same : (g x).number ≡ x.number) where
+    -- as many bios as before
+    all_stay : live ≡ length (change_number n g bios)
+    all_stay = is.all ∙ sym (length_moved is_busy bios n x rising found g (same ∙ number))
+
+    -- a count that the change leaves
+    busy_stay : is_busy (g x).phase ≡ is_busy x.phase → busy ≡ count_in is_busy (change_number n g bios)
+    busy_stay e = is.taken ∙ sym (count_stays is_busy bios n x rising found g (same ∙ number) e)
+
+    -- from Down to Up
+    pub from_down_up : (d : Cursor) → x.phase ≡ phases.Down → (g x).phase ≡ phases.Up
+        → IsCursor is_down (others n bios) d
+        → IsCounted (change_number n g bios) d sent (with_one up n) busy live
+    from_down_up d was now c = record {
+      starts = left is_down bios n x rising found g (same ∙ number) d (ap is_down now) c;
+      takes = stays is_sent bios n x rising found g (same ∙ number) sent (ap is_sent was) (ap is_sent now) is.takes;
+      ups = entered is_up bios n x rising found g (same ∙ number) up (ap is_up was) (ap is_up now) is.ups;
+      taken = busy_stay (ap is_busy now ∙ sym (ap is_busy was));
+      all = all_stay;
+    }
+
+    -- from Down to Sent
+    pub from_down_sent : (d : Cursor) → x.phase ≡ phases.Down → (g x).phase ≡ phases.Sent
+        → IsCursor is_down (others n bios) d
+        → IsCounted (change_number n g bios) d (with_one sent n) up busy live
+    from_down_sent d was now c = record {
+      starts = left is_down bios n x rising found g (same ∙ number) d (ap is_down now) c;
+      takes = entered is_sent bios n x rising found g (same ∙ number) sent (ap is_sent was) (ap is_sent now) is.takes;
+      ups = stays is_up bios n x rising found g (same ∙ number) up (ap is_up was) (ap is_up now) is.ups;
+      taken = busy_stay (ap is_busy now ∙ sym (ap is_busy was));
+      all = all_stay;
+    }
+
+    -- from Down to Waiting
+    pub from_down_waiting : (d : Cursor) → x.phase ≡ phases.Down → (g x).phase ≡ phases.Waiting
+        → IsCursor is_down (others n bios) d
+        → IsCounted (change_number n g bios) d sent up busy live
+    from_down_waiting d was now c = record {
+      starts = left is_down bios n x rising found g (same ∙ number) d (ap is_down now) c;
+      takes = stays is_sent bios n x rising found g (same ∙ number) sent (ap is_sent was) (ap is_sent now) is.takes;
+      ups = stays is_up bios n x rising found g (same ∙ number) up (ap is_up was) (ap is_up now) is.ups;
+      taken = busy_stay (ap is_busy now ∙ sym (ap is_busy was));
+      all = all_stay;
+    }
+
+    -- from Sent to Busy
+    pub from_sent_busy : (s : Cursor) (seat : ℕ) → x.phase ≡ phases.Sent → (g x).phase ≡ phases.Busy seat
+        → IsCursor is_sent (others n bios) s
+        → IsCounted (change_number n g bios) down s up (busy + 1) live
+    from_sent_busy s seat was now c = record {
+      starts = stays is_down bios n x rising found g (same ∙ number) down (ap is_down was) (ap is_down now) is.starts;
+      takes = left is_sent bios n x rising found g (same ∙ number) s (ap is_sent now) c;
+      ups = stays is_up bios n x rising found g (same ∙ number) up (ap is_up was) (ap is_up now) is.ups;
+      taken = ap (λ k. k + 1) is.taken
+          ∙ sym (count_comes is_busy bios n x rising found g (same ∙ number) (ap is_busy was) (ap is_busy now));
+      all = all_stay;
+    }
+
+    -- from Busy to Up
+    pub from_busy_up : is_busy x.phase ≡ true → (g x).phase ≡ phases.Up
+        → IsCounted (change_number n g bios) down sent (with_one up n) (busy - 1) live
+    from_busy_up was now =
+        let other = busy_is x.phase was in
+        let less = count_goes is_busy bios n x rising found g (same ∙ number) was (ap is_busy now) in
+        record {
+          starts =
+              stays is_down bios n x rising found g (same ∙ number) down other.down (ap is_down now) is.starts;
+          takes = stays is_sent bios n x rising found g (same ∙ number) sent other.sent (ap is_sent now) is.takes;
+          ups = entered is_up bios n x rising found g (same ∙ number) up other.up (ap is_up now) is.ups;
+          taken = omega (arith, is.taken, less);
+          all = all_stay;
+        }
+
+    -- there is a Busy one
+    pub some_busy : is_busy x.phase ≡ true → (g x).phase ≡ phases.Up → 1 ≤ busy
+    some_busy was now =
+        let less = count_goes is_busy bios n x rising found g (same ∙ number) was (ap is_busy now) in
+        omega (arith, is.taken, less)
+
+    -- from Up to Done
+    pub from_up_done : (u : Cursor) → x.phase ≡ phases.Up → (g x).phase ≡ phases.Done
+        → IsCursor is_up (others n bios) u
+        → IsCounted (change_number n g bios) down sent u busy live
+    from_up_done u was now c = record {
+      starts = stays is_down bios n x rising found g (same ∙ number) down (ap is_down was) (ap is_down now) is.starts;
+      takes = stays is_sent bios n x rising found g (same ∙ number) sent (ap is_sent was) (ap is_sent now) is.takes;
+      ups = left is_up bios n x rising found g (same ∙ number) u (ap is_up now) c;
+      taken = busy_stay (ap is_busy now ∙ sym (ap is_busy was));
+      all = all_stay;
+    }
+
+    -- from Waiting to Up
+    pub from_waiting_up : x.phase ≡ phases.Waiting → (g x).phase ≡ phases.Up
+        → IsCounted (change_number n g bios) down sent (with_one up n) busy live
+    from_waiting_up was now = record {
+      starts = stays is_down bios n x rising found g (same ∙ number) down (ap is_down was) (ap is_down now) is.starts;
+      takes = stays is_sent bios n x rising found g (same ∙ number) sent (ap is_sent was) (ap is_sent now) is.takes;
+      ups = entered is_up bios n x rising found g (same ∙ number) up (ap is_up was) (ap is_up now) is.ups;
+      taken = busy_stay (ap is_busy now ∙ sym (ap is_busy was));
+      all = all_stay;
+    }
+
+-- Bios come
+
+module _ (test : Phase → Bool) (bios more : List (BioOf Held)) where
+  -- counts are added
+  count_both : count_in test (bios ++ more) ≡ count_in test bios + count_in test more
+  count_both = sum_by-append (λ (y : BioOf Held). cond (test y.phase) 1 0) bios more
+
+  -- bios that pass come behind the others
+  pub appended : (c : Cursor) (first k : ℕ) → IsCursor test bios c → count_in test more ≡ k
+      → first_in test more ≡ Some first
+      → IsCursor test (bios ++ more) (with_last c first k)
+  appended c first k is count head = record {
+    count = (λ i. is.count i + sym count i) ∙ sym count_both;
+    first = ap (λ o. Some (option_map_or (λ m. m) o first)) is.first ∙ at (find (λ (y : BioOf Held). test y.phase) bios)
+        ∙ ap (option_map (λ (y : BioOf Held). y.number))
+        (sym (find-append (λ (y : BioOf Held). test y.phase) bios more));
+  } where
+    at : (o : Option (BioOf Held))
+        → Some (option_map_or (λ m. m) (option_map (λ (y : BioOf Held). y.number) o) first)
+        ≡ option_map (λ (y : BioOf Held). y.number) (option_or o (find (λ (y : BioOf Held). test y.phase) more))
+    at (Some z) = refl
+    at None = sym head
+
+  -- bios that don't pass come
+  pub appended_others : (c : Cursor) → IsCursor test bios c → count_in test more ≡ 0 → first_in test more ≡ None
+      → IsCursor test (bios ++ more) c
+  appended_others c is none head = record {
+    count = is.count ∙ sym (count_both ∙ ap (λ k. count_in test bios + k) none ∙ omega arith);
+    first = is.first ∙ at (find (λ (y : BioOf Held). test y.phase) bios)
+        ∙ ap (option_map (λ (y : BioOf Held). y.number))
+        (sym (find-append (λ (y : BioOf Held). test y.phase) bios more));
+  } where
+    at : (o : Option (BioOf Held))
+        → option_map (λ (y : BioOf Held). y.number) o
+        ≡ option_map (λ (y : BioOf Held). y.number) (option_or o (find (λ (y : BioOf Held). test y.phase) more))
+    at (Some z) = refl
+    at None = sym head
+
+-- where all are Down, a test passes all or none
+module _ (test : Phase → Bool) where
+  pub down_counted : (more : List (BioOf Held)) → AllByRecursion (λ y. y.phase ≡ phases.Down) more
+      → test phases.Down ≡ true → count_in test more ≡ length more
+  down_counted [] all e = refl
+  down_counted (y ∷ ys) all e =
+      let rest = down_counted ys all.1 e in
+      let head = sum_by-cons (λ (z : BioOf Held). cond (test z.phase) 1 0) y ys in
+      let one : cond {A = ℕ} (test y.phase) 1 0 ≡ 1 = rw (all.0, e) refl in
+      omega (arith, rest, head, one)
+
+  pub down_found : (y : BioOf Held) (ys : List (BioOf Held)) → y.phase ≡ phases.Down → test phases.Down ≡ true
+      → first_in test (y ∷ ys) ≡ Some y.number
+  down_found y ys is e = let hit : test y.phase ≡ true = ap test is ∙ e in rw hit refl
+
+  pub none_counted_down : (more : List (BioOf Held)) → AllByRecursion (λ y. y.phase ≡ phases.Down) more
+      → test phases.Down ≡ false → count_in test more ≡ 0
+  none_counted_down [] all e = refl
+  none_counted_down (y ∷ ys) all e =
+      let rest = none_counted_down ys all.1 e in
+      let head = sum_by-cons (λ (z : BioOf Held). cond (test z.phase) 1 0) y ys in
+      let one : cond {A = ℕ} (test y.phase) 1 0 ≡ 0 = rw (all.0, e) refl in
+      omega (arith, rest, head, one)
+
+  pub none_found_down : (more : List (BioOf Held)) → AllByRecursion (λ y. y.phase ≡ phases.Down) more
+      → test phases.Down ≡ false → find (λ (y : BioOf Held). test y.phase) more ≡ None
+  none_found_down [] all e = refl
+  none_found_down (y ∷ ys) all e =
+      let miss : test y.phase ≡ false = ap test all.0 ∙ e in
+      rw miss (none_found_down ys all.1 e)
+
+-- the children of a split are Down
+pub split_down : (first : ℕ) (x : BioOf Held) (k : ℕ) (pieces : List Piece) (targets : List (ℕ × ℕ))
+    → AllByRecursion (λ y. y.phase ≡ phases.Down) (split_into first x k pieces targets)
+split_down first x k [] targets = tt
+split_down first x k (piece ∷ pieces) [] = tt
+split_down first x k (piece ∷ pieces) (target ∷ targets) = (refl, split_down first x (k + 1) pieces targets)
+
+-- there is one for each piece
+pub split_length : (first : ℕ) (x : BioOf Held) (k : ℕ) (pieces : List Piece) (targets : List (ℕ × ℕ))
+    → length targets ≡ length pieces → length (split_into first x k pieces targets) ≡ length pieces
+split_length first x k [] targets same = refl
+split_length first x k (piece ∷ pieces) [] same = absurd (omega (arith, same))
+split_length first x k (piece ∷ pieces) (target ∷ targets) same =
+    let rest = split_length first x (k + 1) pieces targets (omega (arith, same)) in
+    omega (arith, rest)
+
+-- the first of them has the next number
+pub split_first : (first : ℕ) (x : BioOf Held) (pieces : List Piece) (targets : List (ℕ × ℕ))
+    → length targets ≡ length pieces → 1 ≤ length pieces
+    → first_in is_down (split_into first x 0 pieces targets) ≡ Some first
+split_first first x [] targets same some = absurd (omega (arith, some))
+split_first first x (piece ∷ pieces) [] same some = absurd (omega (arith, same))
+split_first first x (piece ∷ pieces) (target ∷ targets) same some =
+    let number : first + 0 ≡ first = omega arith in
+    ap Some number
+
+-- bios that are Down come
+pub down_come : (bios more : List (BioOf Held)) (down sent up : Cursor) (busy live first k : ℕ)
+    → IsCounted bios down sent up busy live → AllByRecursion (λ y. y.phase ≡ phases.Down) more → length more ≡ k
+    → first_in is_down more ≡ Some first
+    → IsCounted (bios ++ more) (with_last down first k) sent up busy (live + k)
+down_come bios more down sent up busy live first k is all count head = record {
+  starts = appended is_down bios more down first k is.starts (down_counted is_down more all refl ∙ count) head;
+  takes = appended_others is_sent bios more sent is.takes (none_counted_down is_sent more all refl)
+      (ap (option_map (λ (y : BioOf Held). y.number)) (none_found_down is_sent more all refl));
+  ups = appended_others is_up bios more up is.ups (none_counted_down is_up more all refl)
+      (ap (option_map (λ (y : BioOf Held). y.number)) (none_found_down is_up more all refl));
+  taken = is.taken ∙ sym (count_both is_busy bios more
+      ∙ ap (λ j. count_in is_busy bios + j) (none_counted_down is_busy more all refl) ∙ omega arith);
+  all = (λ i. is.all i + sym count i) ∙ sym (length-append bios more);
+}
+
+-- A bio goes up
+
+-- Order and counts after a change of one
+
+module _ (n : ℕ) (g : BioOf Held → BioOf Held) (same : (y : BioOf Held) → (g y).number ≡ y.number) where
+  -- each keeps its number
+  number_stays : (y : BioOf Held) (b : Bool) → (cond b (g y) y).number ≡ y.number
+  number_stays y true = same y
+  number_stays y false = refl
+
+  -- so the numbers still rise
+  pub rising_moved : (bios : List (BioOf Held)) → Rising bios → Rising (change_number n g bios)
+  rising_moved [] rising = tt
+  rising_moved (x ∷ xs) rising = (
+    subst (λ m. AllByRecursion (λ (y : BioOf Held). m < y.number) (change_number n g xs))
+        (sym (number_stays x (x.number == n)))
+        (all-changed (λ (y : BioOf Held). y.number == n) g (λ (y : BioOf Held). x.number < y.number)
+        (λ y e less. subst (λ m. x.number < m) (sym (same y)) less) xs rising.0),
+    rising_moved xs rising.1,
+  )
+
+-- a bio has as many children after a change that leaves the owners
+children_stay : (p n : ℕ) (g : BioOf Held → BioOf Held) → ((y : BioOf Held) → (g y).owner ≡ y.owner)
+    → (bios : List (BioOf Held))
+    → length (children_among (change_number n g bios) p) ≡ length (children_among bios p)
+children_stay p n g same bios =
+    length-filter (λ (y : BioOf Held). is_child_of y.owner p) (change_number n g bios)
+    ∙ count-map (λ (y : BioOf Held). cond (y.number == n) (g y) y) (λ (y : BioOf Held). is_child_of y.owner p) bios
+    ∙ count-same (λ (y : BioOf Held). is_child_of y.owner p)
+    (λ y. is_child_of (cond (y.number == n) (g y) y).owner p) bios
+    (of_each (λ (y : BioOf Held). is_child_of (cond (y.number == n) (g y) y).owner p ≡ is_child_of y.owner p)
+    (λ y. ap (λ o. is_child_of o p) (owner_stays y (y.number == n))) bios)
+    ∙ sym (length-filter (λ (y : BioOf Held). is_child_of y.owner p) bios)
+  where
+    owner_stays : (y : BioOf Held) (b : Bool) → (cond b (g y) y).owner ≡ y.owner
+    owner_stays y true = same y
+    owner_stays y false = refl
+
+-- Children go
+
+-- the children of a bio are done
+abbrev pub ChildIsDone : ℕ → BioOf Held → Type 0
+ChildIsDone p z = is_child_of z.owner p ≡ true → is_done z.phase ≡ true
+
+-- where all are in, each is done
+pub each_done : (p : ℕ) (zs : List (BioOf Held)) → are_in zs p ≡ true → AllByRecursion (ChildIsDone p) zs
+each_done p [] all = tt
+each_done p (z ∷ zs) all = at (is_child_of z.owner p) refl (each_done p zs) where
+  at : (b : Bool) → is_child_of z.owner p ≡ b → (are_in zs p ≡ true → AllByRecursion (ChildIsDone p) zs)
+      → AllByRecursion (ChildIsDone p) (z ∷ zs)
+  at true e rest =
+      let parts = and_parts (is_done z.phase) (are_in zs p) (rw e at all) in
+      (λ child. parts.0, rest parts.1)
+  at false e rest =
+      let later : are_in zs p ≡ true = rw e at all in
+      (λ child. absurd (let never : false ≡ true = sym e ∙ child in cc), rest later)
+
+-- a cursor of a phase in which no child is, once the children are gone
+module _ (p : ℕ) (bios : List (BioOf Held)) (all : AllByRecursion (ChildIsDone p) bios) where
+  -- the bios without the children
+  abbrev pub childless : List (BioOf Held)
+  childless = filter (λ z. not (is_child_of z.owner p)) bios
+
+  module _ (test : Phase → Bool) (fails : test phases.Done ≡ false) where
+    spared : (zs : List (BioOf Held)) → AllByRecursion (ChildIsDone p) zs
+        → AllByRecursion (λ (z : BioOf Held). is_child_of z.owner p ≡ true → test z.phase ≡ false) zs
+    spared [] each = tt
+    spared (z ∷ zs) each =
+        (λ child. ap test (phase_done z.phase (each.0 child)) ∙ fails, spared zs each.1)
+
+    pub count_spared : count_in test childless ≡ count_in test bios
+    count_spared =
+        sym (length-filter (λ (z : BioOf Held). test z.phase) childless)
+        ∙ ap length (filter-spared (λ (z : BioOf Held). is_child_of z.owner p) (λ (z : BioOf Held). test z.phase) bios
+        (spared bios all))
+        ∙ length-filter (λ (z : BioOf Held). test z.phase) bios
+
+    pub cursor_spared : (c : Cursor) → IsCursor test bios c → IsCursor test childless c
+    cursor_spared c is = record {
+      count = is.count ∙ sym count_spared;
+      first = is.first ∙ ap (option_map (λ (z : BioOf Held). z.number))
+          (sym (find-spared (λ (z : BioOf Held). is_child_of z.owner p) (λ (z : BioOf Held). test z.phase) bios
+          (spared bios all)));
+    }
+
+  -- there are so many less
+  pub length_spared : length childless + length (children_among bios p) ≡ length bios
+  length_spared = length-filter_both (λ (z : BioOf Held). not (is_child_of z.owner p))
+      (λ z. is_child_of z.owner p) (λ z. twice (is_child_of z.owner p)) bios
+    where
+      twice : (b : Bool) → b ≡ not (not b)
+      twice true = refl
+      twice false = refl
+
+-- A bio goes up
+
+module _ (bios : List (BioOf Held)) (x : BioOf Held) (rising : Rising bios) (found : bio_among bios x.number ≡ Some x)
+    (was : x.phase ≡ phases.Up) (down sent up : Cursor) (busy live : ℕ)
+    (is : IsCounted bios down sent up busy live) (u : Cursor) (c : IsCursor is_up (others x.number bios) u) where
+  -- a root is gone
+  root_gone : IsCounted (others x.number bios) down sent u busy (live - 1)
+  root_gone = record {
+    starts = others_cursor is_down bios x.number x rising found down (ap is_down was) is.starts;
+    takes = others_cursor is_sent bios x.number x rising found sent (ap is_sent was) is.takes;
+    ups = c;
+    taken = is.taken ∙ count_others is_busy bios x.number x rising found
+        ∙ (let miss : is_busy x.phase ≡ false = ap is_busy was in rw miss (omega arith));
+    all = (let less = length_others is_busy bios x.number x rising found in omega (arith, less, is.all));
+  }
+
+  -- there is one
+  some_live : 1 ≤ live
+  some_live = let less = length_others is_busy bios x.number x rising found in omega (arith, less, is.all)
+
+  -- the bios with the one done
+  abbrev gathering : List (BioOf Held)
+  gathering = change_number x.number (with_phase phases.Done) bios
+
+  still_counted : IsCounted gathering down sent u busy live
+  still_counted =
+      from_up_done bios x.number x rising found down sent up busy live is (with_phase phases.Done) refl u was refl c
+
+  -- the parent
+  module _ (p : ℕ) (y : BioOf Held) (there : bio_among bios p ≡ Some y) (waits : is_waiting y.phase ≡ true) where
+    apart : p ≢ x.number
+    apart same =
+        let both : Some y ≡ Some x = sym there ∙ ap (bio_among bios) same ∙ found in
+        let one : y ≡ x = cc in
+        let never : phases.Waiting ≡ phases.Up = sym (phase_waiting y.phase waits) ∙ ap (λ z. z.phase) one ∙ was in
+        cc
+
+    still_there : bio_among gathering p ≡ Some y
+    still_there =
+        at-unchanged (λ (z : BioOf Held). z.number) (with_phase phases.Done) (λ z. refl) x.number p apart bios ∙ there
+
+    still_rising : Rising gathering
+    still_rising = rising_moved x.number (with_phase phases.Done) (λ z. refl) bios rising
+
+    module _ (h : Held) where
+      -- the bios with the parent Up
+      abbrev ended : List (BioOf Held)
+      ended = change_number p (up_with h) gathering
+
+      ended_counted : IsCounted ended down sent (with_one u p) busy live
+      ended_counted =
+          from_waiting_up gathering p y still_rising still_there down sent u busy live still_counted (up_with h) refl
+          (phase_waiting y.phase waits) refl
+
+      -- its children are still done
+      children_done : are_in gathering p ≡ true → AllByRecursion (ChildIsDone p) ended
+      children_done all =
+          let s : StandsAt gathering p y = stands_at gathering p y still_rising still_there in
+          let each = subst (AllByRecursion (ChildIsDone p)) s.is (each_done p gathering all) in
+          let from_it = all-back (ChildIsDone p) s.front (y ∷ s.back) each in
+          let here : ChildIsDone p (up_with h y) =
+          λ child. absurd (let never : phases.Waiting ≡ phases.Done = sym (phase_waiting y.phase waits)
+          ∙ phase_done y.phase (from_it.0 child) in cc) in
+          subst (AllByRecursion (ChildIsDone p)) (sym (change_is p gathering y s (up_with h)))
+          (all_appended (ChildIsDone p) s.front (up_with h y ∷ s.back)
+          (all-front (ChildIsDone p) s.front (y ∷ s.back) each) (here, from_it.1))
+
+      -- as many are gone as the parent had children
+      length_gone : (all : are_in gathering p ≡ true)
+          → length (childless p ended (children_done all)) + length (children_among bios p) ≡ live
+      length_gone all =
+          let less = length_spared p ended (children_done all) in
+          let one = children_stay p p (up_with h) (λ z. refl) gathering in
+          let other = children_stay p x.number (with_phase phases.Done) (λ z. refl) bios in
+          let whole = ended_counted.all in
+          omega (arith, less, one, other, whole)
+
+      complete_counted : (all : are_in gathering p ≡ true)
+          → IsCounted (childless p ended (children_done all)) down sent (with_one u p) busy
+          (live - length (children_among bios p))
+      complete_counted all = record {
+        starts = cursor_spared p ended (children_done all) is_down refl down ended_counted.starts;
+        takes = cursor_spared p ended (children_done all) is_sent refl sent ended_counted.takes;
+        ups = cursor_spared p ended (children_done all) is_up refl (with_one u p) ended_counted.ups;
+        taken = ended_counted.taken ∙ sym (count_spared p ended (children_done all) is_busy refl);
+        all = (let gone = length_gone all in omega (arith, gone));
+      }
+
+    module _ (log : ℕ → Option (List ℕ)) where
+      -- the child counts in its parent, or completes it
+      child_goes : (b : Bool) → are_in gathering p ≡ b
+          → IsCounted (cond b (completed log gathering p) gathering) down sent (up_after u (risen.InParent p b)) busy
+          (live - gone_by (length (children_among bios p)) (risen.InParent p b))
+          × (gone_by (length (children_among bios p)) (risen.InParent p b) ≤ live)
+      child_goes true e =
+          let h = gathered log gathering y in
+          let gone = length_gone h e in
+          (rw still_there (complete_counted h e), omega (arith, gone))
+      child_goes false e =
+          let same : live ≡ live - 0 = omega arith in
+          (subst (IsCounted gathering down sent u busy) same still_counted, omega arith)
+
+  -- each owner
+  pub goes_up : (log : ℕ → Option (List ℕ)) (owner : Owner) → HasParent bios owner
+      → IsCounted (after_up log bios x owner) down sent (up_after u (told_of_up log bios x owner)) busy
+      (live - gone_by (family_size bios owner) (told_of_up log bios x owner))
+      × (gone_by (family_size bios owner) (told_of_up log bios x owner) ≤ live)
+  goes_up log (owners.Line handle line) parent = (root_gone, some_live)
+  goes_up log owners.Taste parent = (root_gone, some_live)
+  goes_up log (owners.Child p k) parent =
+      let y = bio_in is_waiting bios p parent in
+      child_goes p y.0 y.1 y.2 log (are_in gathering p) refl
+
+-- The table's calls: a split, and one that goes up
 
 -- a bio in a phase, by what contracts see of the table
 pub bio_seen : (test : Phase → Bool) (t : BioTableView) {v : BioTableView} → t ≡ v → (n : ℕ)
@@ -141,7 +600,7 @@ module _ (t : BioTableView) {v : BioTableView} (view : t ≡ v) (order : AreInOr
       let rising = table_rises t order in
       let number : bio.0.number ≡ n = (stands_at t.bios n bio.0 rising bio.1).number in
       let found : bio_among t.bios bio.0.number ≡ Some bio.0 = ap (bio_among t.bios) number ∙ bio.1 in
-      goes_up t.bios bio.0 rising found (up_is bio.0.phase bio.2) down sent u busy live is e
+      goes_up t.bios bio.0 rising found (phase_up bio.0.phase bio.2) down sent u busy live is e
       (subst (λ m. IsCursor is_up (others m t.bios) e) (sym number) cursor) log bio.0.owner
       (subst (λ o. IfSome o (λ (y : BioOf Held). HasParent t.bios y.owner)) bio.1 parent)
 

@@ -28,10 +28,11 @@ use Rattle.geo_state.specs.World.{world}
 use Rattle.geo_state.specs.Holds.{Holds, IsSeat}
 use Rattle.geo_state.specs.Views.{StatesShow}
 use Rattle.geo_state.proofs.Lists.{counts, count-skip, count-step}
-use Rattle.geo_state.proofs.Outs.{eqb_sym}
-use Rattle.geo_state.proofs.ReadyLemmas.{noted-same}
+use Rattle.geo_state.proofs.TripLemmas.{eqb_sym}
+use Rattle.geo_state.proofs.Fields.{noted-same}
 use Rattle.geo_state.proofs.FirmLemmas.{under-way_in, none-out}
 use Rattle.geo_state.proofs.Rises.{active-at}
+use Rattle.geo_base.proofs.AllLists.{of_each}
 
 -- whether any passes, by how many pass
 any-counted : {X : Type 0} (p : X → Bool) (xs : List X) → list_any p xs ≡ not (count_by p xs == 0)
@@ -185,7 +186,9 @@ states_show log s actors h firm =
       reaps =
           (handles_are_of_world w).first s.handles.ready
           (h.ready
-          ∙ sym (noted-same (can_be_reaped xs) (is_to_reap w) s.handles.handles (each s.handles.handles)));
+          ∙ sym (noted-same (can_be_reaped xs) (is_to_reap w) s.handles.handles
+          (of_each (λ (k : Handle). is_to_reap (world actors log s) k ≡ can_be_reaped (trips s.traffic.bios) k)
+          (λ k. ap (λ b. k.dead && b) (idle k.consumer)) s.handles.handles)));
       read =
           h.read
           ∙ sym
@@ -209,16 +212,11 @@ states_show log s actors h firm =
         s.traffic.bios
         ∙ any-counted (is_out c) (trips s.traffic.bios)
 
-    each : (hs : List Handle)
-        → AllByRecursion (λ (k : Handle). is_to_reap (world actors log s) k ≡ can_be_reaped (trips s.traffic.bios) k) hs
-    each [] = tt
-    each (k ∷ ks) = (ap (λ b. k.dead && b) (one k.consumer), each ks)
-      where
-        one : (o : Option ℕ)
-            → option_map_or (λ c. not (is_active (world actors log s) c)) o false
-            ≡ option_map_or (λ c. out_through (trips s.traffic.bios) c == 0) o false
-        one None = refl
-        one (Some c) = ap not (active c) ∙ not-not (out_through (trips s.traffic.bios) c == 0)
+    idle : (o : Option ℕ)
+        → option_map_or (λ c. not (is_active (world actors log s) c)) o false
+        ≡ option_map_or (λ c. out_through (trips s.traffic.bios) c == 0) o false
+    idle None = refl
+    idle (Some c) = ap not (active c) ∙ not-not (out_through (trips s.traffic.bios) c == 0)
 
     seat_of : (disk : ℕ) (seat : DiskSeat) → slice_get s.disks.items disk ≡ Some seat
         → IsSeat s.topo.topology (trips s.traffic.bios) disk seat.geom seat.busy

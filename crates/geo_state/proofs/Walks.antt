@@ -20,8 +20,8 @@ use Rattle.geo_state.specs.Trips.{Trip, trip_of, trips, handle_of_owner, is_own,
 use Rattle.geo_state.specs.Oldest.{passes, first_passing}
 use Rattle.geo_state.specs.Holds.{Holds}
 use Rattle.geo_state.proofs.Lists.{find-none}
-use Rattle.geo_state.proofs.Outs.{eqb_sym}
-use Rattle.geo_state.proofs.Owned.{none-counted}
+use Rattle.geo_state.proofs.TripLemmas.{eqb_sym, none-counted}
+use Rattle.geo_base.proofs.AllLists.{of_each}
 
 -- The walk from a number on
 
@@ -141,21 +141,17 @@ module _ (s : State) (h : Holds s) (actor : ℕ) (o : OwnBios) (found : slice_ge
 -- from number 0 on it is the first of all
 pub oldest-of-all : (handles : List Handle) (actor : ℕ) (bios : List (BioOf Held))
     → first_passing (λ (x : BioOf Held). is_own handles actor (trip_of x)) bios 0 ≡ own_first handles (trips bios) actor
-oldest-of-all handles actor bios = first-trips handles actor 0 bios (each (trips bios)) where
-  each : (xs : List Trip) → AllByRecursion (λ (x : Trip). is_own handles actor x ≡ true → 0 ≤ x.number) xs
-  each [] = tt
-  each (x ∷ xs) = (λ own. omega (arith), each xs)
+oldest-of-all handles actor bios =
+    first-trips handles actor 0 bios
+    (of_each (λ (x : Trip). is_own handles actor x ≡ true → 0 ≤ x.number) (λ x own. omega arith) (trips bios))
 
 -- The handle of an owner
 
 pub owner_line : (handles : List Handle) (hd line : ℕ)
     → handle_of_owner handles (owners.Line hd line) ≡ handle_at handles hd
 owner_line handles hd line =
-    find_agree (λ (h : Handle). hd == h.number) (λ (h : Handle). h.number == hd) handles (each handles)
-  where
-    each : (hs : List Handle) → AllByRecursion (λ (h : Handle). (hd == h.number) ≡ (h.number == hd)) hs
-    each [] = tt
-    each (h ∷ hs) = (eqb_sym hd h.number, each hs)
+    find_agree (λ (h : Handle). hd == h.number) (λ (h : Handle). h.number == hd) handles
+    (of_each (λ (h : Handle). (hd == h.number) ≡ (h.number == hd)) (λ h. eqb_sym hd h.number) handles)
 
 pub owner_taste : (handles : List Handle) → handle_of_owner handles owners.Taste ≡ None
 owner_taste [] = refl

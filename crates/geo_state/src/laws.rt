@@ -31,17 +31,20 @@ pub fn fields_follow()
 {}
 
 /// All is kept after handles were opened, closed and reaped, and after an open was refused.
+#[tactic(auto, using(crate::proofs::KeptLemmas::kept_with_handles))]
 pub fn kept_with_handles()
     ensures { KeptWithHandles }
 {}
 
 /// All is kept after geoms, providers and consumers came or went, by commands, tastes and washes.
+#[tactic(auto, using(crate::proofs::SiteLemmas::kept_with_sites))]
 pub fn kept_with_sites()
     ensures { KeptWithSites }
 {}
 
 /// How many places of the queue are owed: at most two for each provider, and after a release as many less as providers
 /// are noted.
+#[tactic(auto, using(crate::proofs::OwedLemmas::places_are_owed))]
 pub fn places_are_owed()
     ensures { PlacesAreOwed }
 {}
@@ -52,6 +55,7 @@ pub fn states_show()
 {}
 
 /// What is granted follows where a consumer came, where its grant changed, and where a taste's read is out or not.
+#[tactic(auto, using(crate::proofs::GrantLaws::grants_follow))]
 pub fn grants_follow()
     ensures { GrantsFollow }
 {}

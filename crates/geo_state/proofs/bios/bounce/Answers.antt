@@ -3,7 +3,7 @@ use Rattle.geo_model.specs.World.{is_down}
 use Rattle.geo_model.specs.Bios.{up_with}
 use Rattle.geo_bio.specs.declared.bio.Held.TheVariants as held
 use Rattle.geo_bio.specs.BioTable.{BioTableView}
-use Rattle.geo_state.proofs.Turns.{holds-turned, bounce-unseen}
+use Rattle.geo_state.proofs.Fields.{holds-turned, bounce-unseen}
 use Rattle.geo_state.proofs.bios.bounce.Goals as goal
 
 -- a bio that goes from Down to Up was at no disk, is at none, and is out through its consumer still

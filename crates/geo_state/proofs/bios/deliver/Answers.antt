@@ -1,4 +1,4 @@
-use Rattle.geo_state.proofs.Turns.{holds-answered, only-taken}
+use Rattle.geo_state.proofs.Fields.{holds-answered, only-taken}
 use Rattle.geo_state.proofs.bios.deliver.Goals as goal
 
 pub returns-clause-only : goal.returns-clause-only

@@ -2,7 +2,7 @@ use Rattle.std.proofs.Common.{refl, ap}
 use Rattle.geo_model.specs.declared.step.Phase.TheVariants as phases
 use Rattle.geo_model.specs.World.{is_down}
 use Rattle.geo_bio.specs.BioTable.{BioTableView, with_phase}
-use Rattle.geo_state.proofs.Turns.{holds-turned, send-unseen}
+use Rattle.geo_state.proofs.Fields.{holds-turned, send-unseen}
 use Rattle.geo_state.proofs.bios.send.Goals as goal
 
 -- a bio that goes from Down to Sent was at no disk, is at none, and is out through its consumer still

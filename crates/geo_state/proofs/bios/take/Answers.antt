@@ -1,4 +1,4 @@
-use Rattle.geo_state.proofs.Turns.{holds-taken, only-taken}
+use Rattle.geo_state.proofs.Fields.{holds-taken, only-taken}
 use Rattle.geo_state.proofs.bios.take.Goals as goal
 
 pub returns-clause-only : goal.returns-clause-only

@@ -2,7 +2,7 @@ use Rattle.std.proofs.Common.{ap, ◌∙◌}
 use Rattle.geo_handles.specs.Handles.{HandlesView}
 use Rattle.geo_state.specs.declared.state.State.{State}
 use Rattle.geo_state.specs.Ready.{refreshed}
-use Rattle.geo_state.proofs.Kills.{holds-killed}
+use Rattle.geo_state.proofs.Rises.{holds-killed}
 use Rattle.geo_state.proofs.handles.kill.Goals as goal
 
 -- no other handle has the consumer, so only whether this one can be reaped has to be noted anew

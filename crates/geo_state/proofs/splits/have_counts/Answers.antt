@@ -1,6 +1,6 @@
 use Rattle.std.proofs.Common.{ℕ, ◌<◌, ◌^◌, arith, IfSome}
 use Rattle.geo_slots.specs.Slots.{value_at}
-use Rattle.geo_state.proofs.SplitLoop.{all_step, all_end}
+use Rattle.geo_state.proofs.Moves.{all_step, all_end}
 use Rattle.geo_state.proofs.splits.have_counts.Goals as goal
 
 pub loop-target-init : goal.loop-target-init

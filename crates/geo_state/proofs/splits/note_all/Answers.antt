@@ -1,5 +1,5 @@
 use Rattle.std.proofs.Common.{arith, refl}
-use Rattle.geo_state.proofs.SplitLoop.{noted_step, noted_lives, noted_few, noted_end}
+use Rattle.geo_state.proofs.Moves.{noted_step, noted_lives, noted_few, noted_end}
 use Rattle.geo_state.proofs.splits.note_all.Goals as goal
 
 pub loop-target-init : goal.loop-target-init

@@ -1,6 +1,6 @@
 -- The requests noted so far.
 use Rattle.std.proofs.Common.{drop}
-use Rattle.geo_state.proofs.SplitLoop.{NotedSoFar}
+use Rattle.geo_state.proofs.Moves.{NotedSoFar}
 use Rattle.geo_state.proofs.splits.note_all.Given as goal
 
 abbrev pub invariant-loop-target : goal.invariant-loop-target

@@ -2,8 +2,7 @@ use Rattle.std.proofs.Common.{ℕ, sym, subst}
 use Rattle.std.specs.List.{AllByRecursion}
 use Rattle.geo_state.specs.declared.state.State.{State}
 use Rattle.geo_state.specs.Bios.{IsNoHandles}
-use Rattle.geo_state.proofs.Children.{split-only, split-kept}
-use Rattle.geo_state.proofs.SplitLoop.{through-live, through-few}
+use Rattle.geo_state.proofs.Moves.{split-only, split-kept, through-live, through-few}
 use Rattle.geo_state.proofs.splits.split.Goals as goal
 
 -- each target stands, and its count and the number of pieces are below 2^62, so no count passes 2^63

@@ -1,5 +1,5 @@
 use Rattle.geo_bio.specs.Rows.{as_bio}
-use Rattle.geo_state.proofs.Backs.{back-lives, back-out, back-own, holds-back}
+use Rattle.geo_state.proofs.Rises.{back-lives, back-out, back-own, holds-back}
 use Rattle.geo_state.proofs.ups.up.Goals as goal
 
 -- for each condition: a bio that is Up is out through its consumer still, and is counted there and of its owner

@@ -7,7 +7,7 @@ use Rattle.geo_bio.specs.BioTable.{BioTableView, has_phase}
 use Rattle.geo_state.specs.Cursors.{with_one}
 use Rattle.geo_state.proofs.OrderLemmas.{table_rises, fewer_than_next, bio_in}
 use Rattle.geo_state.proofs.CursorLemmas.{room_for_one}
-use Rattle.geo_state.proofs.CountLemmas.{from_down_up}
+use Rattle.geo_state.proofs.TrafficLemmas.{from_down_up}
 use Rattle.geo_state.proofs.traffic.Traffic.bounce.Goals as goal
 
 -- this bio isn't Up yet, so those Up with it are no more than all, and these fewer than the numbers

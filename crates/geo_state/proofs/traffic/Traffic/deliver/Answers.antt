@@ -4,8 +4,7 @@ use Rattle.geo_bio.specs.BioTable.{BioTableView, delivered}
 use Rattle.geo_state.specs.Cursors.{with_one}
 use Rattle.geo_state.proofs.OrderLemmas.{table_rises, fewer_than_next}
 use Rattle.geo_state.proofs.CursorLemmas.{room_for_one}
-use Rattle.geo_state.proofs.CountLemmas.{busy_is, from_busy_up, some_busy}
-use Rattle.geo_state.proofs.TrafficLemmas.{bio_seen}
+use Rattle.geo_state.proofs.TrafficLemmas.{busy_is, from_busy_up, some_busy, bio_seen}
 use Rattle.geo_state.proofs.traffic.Traffic.deliver.Goals as goal
 
 -- the bio is Busy, so it was counted

@@ -6,7 +6,7 @@ use Rattle.geo_bio.specs.BioTable.{BioTableView, has_phase, with_phase}
 use Rattle.geo_state.specs.Cursors.{with_one}
 use Rattle.geo_state.proofs.OrderLemmas.{table_rises, fewer_than_next, bio_in}
 use Rattle.geo_state.proofs.CursorLemmas.{room_for_one}
-use Rattle.geo_state.proofs.CountLemmas.{from_down_sent}
+use Rattle.geo_state.proofs.TrafficLemmas.{from_down_sent}
 use Rattle.geo_state.proofs.traffic.Traffic.send.Goals as goal
 
 -- this bio isn't Sent yet, so those Sent with it are no more than all, and these fewer than the numbers

@@ -4,8 +4,7 @@ use Rattle.geo_model.specs.World.{BioOf, is_down}
 use Rattle.geo_bio.specs.declared.bio.Held.{Held}
 use Rattle.geo_state.specs.Cursors.{with_last}
 use Rattle.std.proofs.lemmas.List.Sums.{count_by-le-length}
-use Rattle.geo_state.proofs.CountLemmas.{down_come}
-use Rattle.geo_state.proofs.TrafficLemmas.{fewer_with_one, kept_same}
+use Rattle.geo_state.proofs.TrafficLemmas.{down_come, fewer_with_one, kept_same}
 use Rattle.geo_state.proofs.traffic.Traffic.submit.Goals as goal
 
 -- those Down were no more than all bios, which are fewer than the numbers also with the new one

@@ -5,7 +5,7 @@ use Rattle.geo_model.specs.declared.step.Phase.TheVariants as phases
 use Rattle.geo_bio.specs.BioTable.{BioTableView, has_phase, with_phase}
 use Rattle.geo_state.proofs.OrderLemmas.{table_rises, fewer_than_next, bio_in}
 use Rattle.geo_state.proofs.CursorLemmas.{room_for_one}
-use Rattle.geo_state.proofs.CountLemmas.{from_sent_busy}
+use Rattle.geo_state.proofs.TrafficLemmas.{from_sent_busy}
 use Rattle.geo_state.proofs.traffic.Traffic.take.Goals as goal
 
 -- this bio isn't Busy yet, so those Busy with it are no more than all, and these fewer than the numbers
