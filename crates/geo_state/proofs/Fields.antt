@@ -1,4 +1,4 @@
--- What is kept beside the parts, field by field: what doesn't see a change, handles that are ready, requests that go on.
+-- What is kept beside the parts, field by field: what doesn't see a change, which handles are ready, and moves.
 use Rattle.std.specs.Prelude.{◌≡◌, ℕ, ◌+◌, ◌≤◌, ◌==◌, Bool, true, false, List, [], ◌∷◌, ◌++◌, map, filter, find, count_by, Option, Some, None, IsTrue, if◌then◌else◌, ◌≢◌, ◌&&◌, IfSome, slice_get, IsSomeAnd, slice_set}
 use Rattle.std.specs.List.{AllByRecursion}
 use Rattle.std.specs.Option.{option_map, option_map_or}

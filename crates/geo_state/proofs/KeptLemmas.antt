@@ -19,7 +19,7 @@ use Rattle.geo_handles.proofs.HandleLawLemmas.{notes_follow}
 use Rattle.geo_laws_graph.proofs.Lists.{found_fresh, numbers-push, numbers-kept, numbers-changed}
 use Rattle.geo_state.specs.Trips.{Trip, can_be_reaped, is_own, trips, out_through}
 use Rattle.geo_state.specs.Holds.{AreOwn, Holds, OutAreCounted, ReapableAreNoted, owed_events}
-use Rattle.geo_state.proofs.Lists.{Around, around, around-all, around-count, count-append, count-step, counts, find-before, find-kept_by, find-past, find-none, found-changed}
+use Rattle.geo_state.proofs.Lists.{Around, around, around-all, count-append, counts, find-before, find-kept_by, find-past, find-none, found-changed, around-with}
 use Rattle.geo_state.proofs.TripLemmas.{none-counted}
 use Rattle.geo_state.proofs.GrantLaws.{grant-at, granted-after}
 use Rattle.std.proofs.lemmas.List.{map-append, length-map}
@@ -127,15 +127,12 @@ only hs next n c h numbers found has one =
     let r : Around (λ (k : Handle). k.number) n h hs = around (λ (k : Handle). k.number) next n h hs numbers found in
     let p : Handle → Bool = λ k. names_number k.consumer c in
     let named : p h ≡ true = ap (λ o. names_number o c) has ∙ eq-eqb c c refl in
-    let whole : count_by p hs ≡ count_by p (r.front ++ h ∷ r.back) = ap (count_by p) r.is in
-    let with_it : count_by p (r.front ++ h ∷ r.back) ≡ count_by p (r.front ++ r.back) + count_by p (h ∷ []) =
-    around-count (λ (k : Handle). k.number) n h hs r p h (count_by p (h ∷ [])) refl in
-    let step : count_by p (h ∷ []) ≡ counts p h + count_by p [] = count-step p h [] in
+    let with_it = around-with (λ (k : Handle). k.number) n h hs r p in
     let it : counts p h ≡ 1 = ap (λ b. if b then 1 else 0) named in
     let split : count_by p (r.front ++ r.back) ≡ count_by p r.front + count_by p r.back =
     count-append p r.front r.back in
-    let front : count_by p r.front ≡ 0 = omega (arith, one, whole, with_it, step, it, split) in
-    let rest : count_by p r.back ≡ 0 = omega (arith, one, whole, with_it, step, it, split) in
+    let front : count_by p r.front ≡ 0 = omega (arith, one, with_it, it, split) in
+    let rest : count_by p r.back ≡ 0 = omega (arith, one, with_it, it, split) in
     record {
       has = has;
       mine = around-all (λ (k : Handle). k.number) n h hs r (λ k. k ≡ h) refl;
@@ -330,27 +327,29 @@ sites-count t u same =
 
 -- All of it
 
--- with another mesh that has the same sites, another queue and other handles
-pub holds-with : (s : State) (u : TopoView Config) (q : Queued) (v : HandlesView) → Holds s → IsSettled u q
+-- with another mesh that has the same sites, another queue, and handles that are told by an equation
+pub holds-with : (s : State) (u : TopoView Config) (q : Queued) {v w : HandlesView} → w ≡ v → Holds s → IsSettled u q
     → SameSites s.topo.topology u.topology → AreNumbers (map (λ (h : Handle). h.number) v.handles) v.next
     → ((c : ℕ) → granted_by u c ≡ granted_of v.handles s.taste c)
     → OutAreCounted u (trips s.traffic.bios) → ReapableAreNoted v (trips s.traffic.bios)
-    → AreOwn s.own.items v.handles (trips s.traffic.bios) → Holds (record s { topo = u; queue = q; handles = v })
-holds-with s u q v h settled sites numbers grants active ready own = record {
-  counted = settled.counted;
-  quiet = settled.quiet;
-  numbers = numbers;
-  grants = λ i c. grants c i;
-  active = active;
-  ready = ready;
-  own = own;
-  read = h.read;
-  seats =
-      seats-stay s.disks.items s.topo.topology u.topology (trips s.traffic.bios)
-      (sites-stay s.topo.topology u.topology (trips s.traffic.bios) sites) h.seats;
-  providers = h.providers ∙ sym (sites-count s.topo.topology u.topology sites);
-  room = settled.room;
-}
+    → AreOwn s.own.items v.handles (trips s.traffic.bios) → Holds (record s { topo = u; queue = q; handles = w })
+holds-with s u q same h settled sites numbers grants active ready own =
+    subst (λ (x : HandlesView). Holds (record s { topo = u; queue = q; handles = x })) (sym same)
+    (record {
+      counted = settled.counted;
+      quiet = settled.quiet;
+      numbers = numbers;
+      grants = λ i c. grants c i;
+      active = active;
+      ready = ready;
+      own = own;
+      read = h.read;
+      seats =
+          seats-stay s.disks.items s.topo.topology u.topology (trips s.traffic.bios)
+          (sites-stay s.topo.topology u.topology (trips s.traffic.bios) sites) h.seats;
+      providers = h.providers ∙ sym (sites-count s.topo.topology u.topology sites);
+      room = settled.room;
+    })
 
 -- effects leave the requests out
 pub effects-out : (t u : TopoView Config) (xs : List Trip) → Effects t u → OutAreCounted t xs → OutAreCounted u xs
@@ -442,22 +441,18 @@ kept_after_open log s t u q v prov actor name grant h firm came settled opened =
     let none_of : handle_at hs s.handles.next ≡ None =
     found_fresh (λ (j : Handle). j.number) s.handles.next s.handles.next hs h.numbers (omega arith) in
     let way = under-way log s firm in
-    let handles : v.handles ≡ hs ++ k ∷ [] = ap (λ (w : HandlesView). w.handles) opened in
-    let next : v.next ≡ s.handles.next + 1 = ap (λ (w : HandlesView). w.next) opened in
-    let ready : v.ready ≡ s.handles.ready ++ (s.handles.next, false) ∷ [] = ap (λ (w : HandlesView). w.ready) opened in
     let topology : t.topology ≡ (with_consumer_at s.topo 1 prov).topology =
     ap (λ (w : TopoView Config). w.topology) came.comes in
-    holds-with s u q v h settled
+    holds-with s u q opened h settled
     (sites-trans s.topo.topology t.topology u.topology
     (subst (SameSites s.topo.topology) (sym topology) (record { geoms = refl; providers = refl }))
     (sites-of t.topology u.topology came.followed.parts))
-    (rw (handles, next) (numbers-push (λ (j : Handle). j.number) s.handles.next hs k refl h.numbers))
+    (numbers-push (λ (j : Handle). j.number) s.handles.next hs k refl h.numbers)
     (λ d. came.followed.granted d
     ∙ ap (λ (w : TopoView Config). granted_by w d) came.comes
     ∙ comer_granted s.topo prov fresh (dev-holds log s firm) grant d
     ∙ grant-same (granted_by s.topo) (granted_of hs s.taste) n grant d (λ other. granted-is s h d)
-    ∙ sym (came-granted hs k s.taste n refl none_has d)
-    ∙ ap (λ (js : List Handle). granted_of js s.taste d) (sym handles))
+    ∙ sym (came-granted hs k s.taste n refl none_has d))
     (effects-out t u xs came.followed
     ((fields_follow s.topo t xs).comes n
     (record {
@@ -468,13 +463,9 @@ kept_after_open log s t u q v prov actor name grant h firm came settled opened =
       active = ap (λ (w : TopoView Config). w.active) came.comes;
     })
     (none-out s.topo.topology hs xs n fresh way) h.active))
-    (ready
-    ∙ ap (λ rows. rows ++ (s.handles.next, false) ∷ []) h.ready
-    ∙ (notes_follow (can_be_reaped xs) hs).opens k refl
-    ∙ ap (noted_handles (can_be_reaped xs)) (sym handles))
-    (rw handles
+    (ap (λ rows. rows ++ (s.handles.next, false) ∷ []) h.ready ∙ (notes_follow (can_be_reaped xs) hs).opens k refl)
     (owns-alike_at s.own.items hs (hs ++ k ∷ []) xs
-    (came-own hs k xs (none-of s.topo.topology hs xs s.handles.next none_of way)) h.own))
+    (came-own hs k xs (none-of s.topo.topology hs xs s.handles.next none_of way)) h.own)
   where
     nobody : (s : State) (n : ℕ) → consumer_at s.topo.topology n ≡ None → (j : Handle)
         → ((c : ℕ) → j.consumer ≡ Some c → IsSome (consumer_at s.topo.topology c)) → (b : Bool)
@@ -494,10 +485,7 @@ kept_after_refusal s u q v h used events room same =
     ap (λ (w : TopoView Config). w.topology.consumers) used in
     let owed : owed_events u ≡ owed_events s.topo = ap (λ (w : TopoView Config). owed_events w) used in
     let was = h.room in
-    let handles : v.handles ≡ s.handles.handles = ap (λ (w : HandlesView). w.handles) same in
-    let next : v.next ≡ s.handles.next = ap (λ (w : HandlesView). w.next) same in
-    let ready : v.ready ≡ s.handles.ready = ap (λ (w : HandlesView). w.ready) same in
-    holds-with s u q v h
+    holds-with s u q same h
     (record {
       counted = (refused_consumers_go {C = Config}).counted s.topo u used h.counted;
       quiet = (refused_consumers_go {C = Config}).quiet s.topo u used h.quiet;
@@ -507,13 +495,10 @@ kept_after_refusal s u q v h used events room same =
       geoms = ap (λ (w : TopoView Config). map disk_row w.topology.geoms) used;
       providers = ap (λ (w : TopoView Config). map owner_row w.topology.providers) used;
     })
-    (rw (handles, next) h.numbers)
-    (λ d. ap (λ (w : TopoView Config). granted_by w d) used ∙ granted-is s h d
-    ∙ ap (λ (js : List Handle). granted_of js s.taste d) (sym handles))
+    h.numbers (λ d. ap (λ (w : TopoView Config). granted_by w d) used ∙ granted-is s h d)
     (ap (λ (w : TopoView Config). w.active) used ∙ h.active
     ∙ ap (map (λ (c : Consumer). let row : ℕ × ℕ = (c.number, out_through xs c.number) in row)) (sym consumers))
-    (ready ∙ h.ready ∙ ap (noted_handles (can_be_reaped xs)) (sym handles))
-    (rw handles h.own)
+    h.ready h.own
 
 -- Closed and reaped
 
@@ -577,52 +562,34 @@ kept_after_close log s t f u q v k c h firm found has idle gone settled same =
     let hs : List Handle = s.handles.handles in
     let is : IsHeld s c = held log s firm n c k found has in
     let it : IsOnly hs n c k = only hs s.handles.next n c k h.numbers found has is.once in
-    let handles : v.handles ≡ closed hs n = ap (λ (w : HandlesView). w.handles) same in
-    let next : v.next ≡ s.handles.next = ap (λ (w : HandlesView). w.next) same in
-    let ready : v.ready ≡ without s.handles.ready n = ap (λ (w : HandlesView). w.ready) same in
-    holds-with s u q v h settled (goer_sites s t f u c h is gone)
-    (rw (handles, next)
-    (numbers-kept (λ (j : Handle). j.number) (λ j. not (j.number == n)) s.handles.next hs h.numbers))
+    holds-with s u q same h settled (goer_sites s t f u c h is gone)
+    (numbers-kept (λ (j : Handle). j.number) (λ j. not (j.number == n)) s.handles.next hs h.numbers)
     (λ d. goer_granted s t f u c h is gone d
-    ∙ sym (closed-granted hs n c k it s.taste is.untasted d)
-    ∙ ap (λ (js : List Handle). granted_of js s.taste d) (sym handles))
+    ∙ sym (closed-granted hs n c k it s.taste is.untasted d))
     (goer_out s t f u c h is gone)
-    (ready
-    ∙ ap (λ rows. without rows n) h.ready
-    ∙ (notes_follow (can_be_reaped xs) hs).closes n
-    ∙ ap (noted_handles (can_be_reaped xs)) (sym handles))
-    (rw handles
+    (ap (λ rows. without rows n) h.ready ∙ (notes_follow (can_be_reaped xs) hs).closes n)
     (owns-alike_at s.own.items hs (closed hs n) xs
     (gone-own hs n xs
     (idle-of s.topo.topology hs xs n k found (idle-only s c k has (out-none s c h is idle)) (under-way log s firm)))
-    h.own))
+    h.own)
 
 pub kept_after_forget : KeptAfterForget
 kept_after_forget log s v k h firm found none same =
     let n : ℕ = k.number in
     let xs : List Trip = trips s.traffic.bios in
     let hs : List Handle = s.handles.handles in
-    let handles : v.handles ≡ closed hs n = ap (λ (w : HandlesView). w.handles) same in
-    let next : v.next ≡ s.handles.next = ap (λ (w : HandlesView). w.next) same in
-    let ready : v.ready ≡ without s.handles.ready n = ap (λ (w : HandlesView). w.ready) same in
-    holds-with s s.topo s.queue v h (record { counted = h.counted; quiet = h.quiet; room = h.room })
+    holds-with s s.topo s.queue same h (record { counted = h.counted; quiet = h.quiet; room = h.room })
     (sites-self s.topo.topology)
-    (rw (handles, next)
-    (numbers-kept (λ (j : Handle). j.number) (λ j. not (j.number == n)) s.handles.next hs h.numbers))
+    (numbers-kept (λ (j : Handle). j.number) (λ j. not (j.number == n)) s.handles.next hs h.numbers)
     (λ d. granted-is s h d
-    ∙ sym (forgotten-granted hs n s.taste s.handles.next k h.numbers found none d)
-    ∙ ap (λ (js : List Handle). granted_of js s.taste d) (sym handles))
+    ∙ sym (forgotten-granted hs n s.taste s.handles.next k h.numbers found none d))
     h.active
-    (ready
-    ∙ ap (λ rows. without rows n) h.ready
-    ∙ (notes_follow (can_be_reaped xs) hs).closes n
-    ∙ ap (noted_handles (can_be_reaped xs)) (sym handles))
-    (rw handles
+    (ap (λ rows. without rows n) h.ready ∙ (notes_follow (can_be_reaped xs) hs).closes n)
     (owns-alike_at s.own.items hs (closed hs n) xs
     (gone-own hs n xs
     (idle-of s.topo.topology hs xs n k found
     (λ d is. let never : None ≡ Some d = sym none ∙ is in absurd cc) (under-way log s firm)))
-    h.own))
+    h.own)
 
 pub kept_after_reap : KeptAfterReap
 kept_after_reap log s t f u q v k c h firm found has idle gone settled same =
@@ -631,25 +598,16 @@ kept_after_reap log s t f u q v k c h firm found has idle gone settled same =
     let hs : List Handle = s.handles.handles in
     let is : IsHeld s c = held log s firm n c k found has in
     let it : IsOnly hs n c k = only hs s.handles.next n c k h.numbers found has is.once in
-    let handles : v.handles ≡ released hs c = ap (λ (w : HandlesView). w.handles) same in
-    let next : v.next ≡ s.handles.next = ap (λ (w : HandlesView). w.next) same in
-    let ready : v.ready ≡ with_value s.handles.ready n false = ap (λ (w : HandlesView). w.ready) same in
-    holds-with s u q v h settled (goer_sites s t f u c h is gone)
-    (rw (handles, next)
+    holds-with s u q same h settled (goer_sites s t f u c h is gone)
     (numbers-changed (λ (j : Handle). j.number) (λ j. names_number j.consumer c) (λ j. record j { consumer = None })
-    (λ j e. refl) s.handles.next hs h.numbers))
+    (λ j e. refl) s.handles.next hs h.numbers)
     (λ d. goer_granted s t f u c h is gone d
-    ∙ sym (released-granted hs n c k it s.taste is.untasted d)
-    ∙ ap (λ (js : List Handle). granted_of js s.taste d) (sym handles))
+    ∙ sym (released-granted hs n c k it s.taste is.untasted d))
     (goer_out s t f u c h is gone)
-    (ready
-    ∙ ap (λ rows. with_value rows n false) h.ready
-    ∙ released-ready hs n c k it xs
-    ∙ ap (noted_handles (can_be_reaped xs)) (sym handles))
-    (rw handles
+    (ap (λ rows. with_value rows n false) h.ready ∙ released-ready hs n c k it xs)
     (owns-alike_at s.own.items hs (released hs c) xs
     (λ actor. of_each (λ (x : Trip). is_own (released hs c) actor x ≡ is_own hs actor x) (released-own hs c actor) xs)
-    h.own))
+    h.own)
 
 pub kept_with_handles : KeptWithHandles
 kept_with_handles = record {

@@ -214,3 +214,7 @@ module _ {X : Type 0} (number : X → ℕ) where
         let rest : count_by p (r.front ++ r.back) ≡ count_by p r.front + count_by p r.back =
         count-append p r.front r.back in
         omega (arith, more, rest, one))
+
+    -- how many pass: without it, and it
+    pub around-with : (p : X → Bool) → count_by p xs ≡ count_by p (r.front ++ r.back) + counts p x
+    around-with p = ap (count_by p) r.is ∙ around-count p x (counts p x) (omega arith)

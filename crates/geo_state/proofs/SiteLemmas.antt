@@ -13,7 +13,7 @@ use Rattle.geo_base.proofs.FindLists.{none_passes, found-before, find_agree}
 use Rattle.geo_model.specs.declared.step.Entry.{Entry}
 use Rattle.geo_model.specs.Words.{names_number}
 use Rattle.geo_model.specs.Topology.{Topology, Geom, Provider, Consumer, attached_to, consumer_at, geom_at, provider_at, providers_of}
-use Rattle.geo_model.specs.World.{Config, Handle, Taste, granted_of}
+use Rattle.geo_model.specs.World.{Config, Handle, granted_of}
 use Rattle.geo_model.specs.Place.{disk_of}
 use Rattle.geo_model.specs.Bios.{disk_at}
 use Rattle.geo_model.specs.GeomCommands.{is_geom_of_disk}
@@ -24,7 +24,7 @@ use Rattle.geo_mesh.specs.Topo.{TopoView}
 use Rattle.geo_access.specs.Access.{granted_by}
 use Rattle.geo_state.specs.declared.state.State.{State}
 use Rattle.geo_state.specs.declared.state.DiskSeat.{DiskSeat}
-use Rattle.geo_state.specs.Parts.{IsUnderWay, AreUnderWay, DisksStay, disk_row, owner_row, geom_of_disk}
+use Rattle.geo_state.specs.Parts.{IsUnderWay, AreUnderWay, disk_row, owner_row, geom_of_disk}
 use Rattle.geo_state.specs.Seats.{change_seat, with_disk_geom}
 use Rattle.geo_state.specs.Trips.{Trip, trips, out_through, is_at_disk, busy_at}
 use Rattle.geo_state.specs.World.{StandsFirm}
@@ -222,82 +222,40 @@ offerers log s firm =
     recursion_from_All (λ (p : Provider). IsSome (geom_at s.topo.topology p.geom)) s.topo.topology.providers
     firm.1.graph.parts.providers
 
-pub kept_after_comers : KeptAfterComers
-kept_after_comers log s u q taste new h firm came fresh none granted settled =
-    let xs : List Trip = trips s.traffic.bios in
-    record {
-      counted = settled.counted;
-      quiet = settled.quiet;
-      numbers = h.numbers;
-      grants = λ i c. granted c i;
-      active =
-          grown-out s u new.consumers xs came.consumers came.active (fresh-none log s new.consumers h firm fresh)
-          h.active;
-      ready = h.ready;
-      own = h.own;
-      read = h.read;
-      seats =
-          seats-stay s.disks.items s.topo.topology u.topology xs
-          (record {
-            geoms = grown-geoms s.topo.topology u.topology new.geoms came.geoms none;
-            targets =
-                grown-targets s.topo.topology u.topology new.geoms new.providers came.geoms came.providers
-                (offerers log s firm) s.handles.handles xs (under-way log s firm);
-          }) h.seats;
-      providers =
-          ap (λ n. n + length new.providers) h.providers
-          ∙ sym (grown-count s.topo.topology u.topology new.providers came.providers);
-      room = settled.room;
-    }
+-- what the new state is, told by its own parts
+abbrev changed_in : State → State → State
+changed_in s z = record s {
+  topo = z.topo;
+  queue = z.queue;
+  taste = z.taste;
+  providers = z.providers;
+  disks = z.disks;
+}
 
-pub kept_after_insert : KeptAfterInsert
-kept_after_insert log s new disk geom prov h firm came none granted settled disks is =
-    let xs : List Trip = trips s.traffic.bios in
-    let t : Topology Config = s.topo.topology in
-    let u : Topology Config = new.topo.topology in
-    let row : ℕ × ℕ = (prov, geom) in
-    let traffic : new.traffic.bios ≡ s.traffic.bios = ap (λ (z : State). z.traffic.bios) is in
+told-again : (s new : State) {v : State} → new ≡ v → v ≡ changed_in s v → new ≡ changed_in s new
+told-again s new is so = subst (λ (z : State). z ≡ changed_in s z) (sym is) so
+
+-- all is kept with another mesh and queue, and what is kept of the taste, the seats and the number of providers
+with-mesh : (s new : State) → new ≡ changed_in s new → Holds s → IsSettled new.topo new.queue
+    → ((c : ℕ) → granted_by new.topo c ≡ granted_of s.handles.handles new.taste c)
+    → OutAreCounted new.topo (trips s.traffic.bios)
+    → AreSeats new.disks.items new.topo.topology (trips s.traffic.bios)
+    → new.providers ≡ length new.topo.topology.providers → Holds new
+with-mesh s new is h settled granted out seats count =
     subst Holds (sym is)
     (record {
       counted = settled.counted;
       quiet = settled.quiet;
       numbers = h.numbers;
-      grants = (λ i c. granted c i) ∙ h.grants;
-      active = grown-out s new.topo [] xs came.consumers came.active tt h.active;
+      grants = λ i c. granted c i;
+      active = out;
       ready = h.ready;
       own = h.own;
       read = h.read;
-      seats =
-          subst (λ seats. AreSeats seats u xs) (sym disks)
-          (seats-geom s.disks.items t u xs disk (Some geom) (come-geoms t u disk geom came.geoms none)
-          (grown-targets t u ((geom, Some disk) ∷ []) (row ∷ []) came.geoms came.providers (offerers log s firm)
-          s.handles.handles xs (under-way log s firm)) h.seats);
-      providers =
-          ap (λ n. n + 1) h.providers ∙ sym (grown-count t u (row ∷ []) came.providers);
+      seats = seats;
+      providers = count;
       room = settled.room;
     })
-
--- What goes
-
--- with another mesh in which each disk has its geom, and each request goes to its disk
-with-mesh : (s : State) (u : TopoView Config) (q : Queued) (taste : Option Taste) (providers : ℕ) → Holds s
-    → IsSettled u q → ((c : ℕ) → granted_by u c ≡ granted_of s.handles.handles taste c)
-    → OutAreCounted u (trips s.traffic.bios) → DisksStay s.topo.topology u.topology (trips s.traffic.bios)
-    → providers ≡ length u.topology.providers
-    → Holds (record s { topo = u; queue = q; taste = taste; providers = providers })
-with-mesh s u q taste providers h settled granted out stay count = record {
-  counted = settled.counted;
-  quiet = settled.quiet;
-  numbers = h.numbers;
-  grants = λ i c. granted c i;
-  active = out;
-  ready = h.ready;
-  own = h.own;
-  read = h.read;
-  seats = seats-stay s.disks.items s.topo.topology u.topology (trips s.traffic.bios) stay h.seats;
-  providers = count;
-  room = settled.room;
-}
 
 -- what was granted, of a handle or of the taste
 granted-still : (s : State) (u : TopoView Config) → Holds s → ((c : ℕ) → granted_by u c ≡ granted_by s.topo c)
@@ -312,6 +270,40 @@ others-found {X} number gone n other xs =
     (of_each (λ (x : X). not (number x == gone) ≡ false → (number x == n) ≡ false)
     (λ x e. ne_eqb (number x) n
     (λ same. apart n gone other (sym same ∙ eqb-true (number x) gone (not-false (number x == gone) e)))) xs)
+
+pub kept_after_comers : KeptAfterComers
+kept_after_comers log s u q taste new h firm came fresh none granted settled =
+    let xs : List Trip = trips s.traffic.bios in
+    with-mesh s (record s { topo = u; queue = q; taste = taste; providers = s.providers + length new.providers }) refl h
+    settled granted
+    (grown-out s u new.consumers xs came.consumers came.active (fresh-none log s new.consumers h firm fresh) h.active)
+    (seats-stay s.disks.items s.topo.topology u.topology xs
+    (record {
+      geoms = grown-geoms s.topo.topology u.topology new.geoms came.geoms none;
+      targets =
+          grown-targets s.topo.topology u.topology new.geoms new.providers came.geoms came.providers
+          (offerers log s firm) s.handles.handles xs (under-way log s firm);
+    }) h.seats)
+    (ap (λ n. n + length new.providers) h.providers
+    ∙ sym (grown-count s.topo.topology u.topology new.providers came.providers))
+
+pub kept_after_insert : KeptAfterInsert
+kept_after_insert log s new disk geom prov h firm came none granted settled disks is =
+    let xs : List Trip = trips s.traffic.bios in
+    let t : Topology Config = s.topo.topology in
+    let u : Topology Config = new.topo.topology in
+    let row : ℕ × ℕ = (prov, geom) in
+    with-mesh s new (told-again s new is refl) h settled
+    (λ c. granted-still s new.topo h granted c ∙ ap (λ (z : State). granted_of s.handles.handles z.taste c) (sym is))
+    (grown-out s new.topo [] xs came.consumers came.active tt h.active)
+    (subst (λ seats. AreSeats seats u xs) (sym disks)
+    (seats-geom s.disks.items t u xs disk (Some geom) (come-geoms t u disk geom came.geoms none)
+    (grown-targets t u ((geom, Some disk) ∷ []) (row ∷ []) came.geoms came.providers (offerers log s firm)
+    s.handles.handles xs (under-way log s firm)) h.seats))
+    (ap (λ (z : State). z.providers) is ∙ ap (λ n. n + 1) h.providers
+    ∙ sym (grown-count t u (row ∷ []) came.providers))
+
+-- What goes
 
 module _ (t u : Topology Config) (prov : ℕ)
     (rest : u.providers ≡ filter (λ (p : Provider). not (p.number == prov)) t.providers) (geoms : u.geoms ≡ t.geoms)
@@ -358,9 +350,11 @@ kept_after_provider log s u q prov h firm none gone granted settled =
     let rest : v.providers ≡ filter (λ (p : Provider). not (p.number == prov)) t.providers =
     ap (λ (w : TopoView Config). w.topology.providers) gone in
     let consumers : v.consumers ≡ t.consumers = ap (λ (w : TopoView Config). w.topology.consumers) gone in
-    with-mesh s u q s.taste (length v.providers) h settled (granted-still s u h granted)
+    with-mesh s (record s { topo = u; queue = q; providers = length v.providers }) refl h settled
+    (granted-still s u h granted)
     (ap (λ (w : TopoView Config). w.active) gone ∙ h.active
     ∙ ap (map (λ (c : Consumer). let row : ℕ × ℕ = (c.number, out_through xs c.number) in row)) (sym consumers))
+    (seats-stay s.disks.items t v xs
     (record {
       geoms = λ disk. ap (λ (gs : List (Geom Config)). option_map (λ (g : Geom Config). g.number)
           (find (is_geom_of_disk disk) gs)) geoms;
@@ -368,23 +362,24 @@ kept_after_provider log s u q prov h firm none gone granted settled =
           all_weaker (λ (x : Trip). (x.target == prov) ≡ false) (λ x. disk_at v x.target ≡ disk_at t x.target)
           (λ x other. provider-gone t v prov rest geoms x.target other) xs
           (unused t s.handles.handles prov xs (under-way log s firm) none);
-    }) refl
+    }) h.seats) refl
 
 pub kept_after_consumer : KeptAfterConsumer
 kept_after_consumer s u q taste cons h gone granted settled =
     let xs : List Trip = trips s.traffic.bios in
-    with-mesh s u q taste s.providers h settled granted
+    with-mesh s (record s { topo = u; queue = q; taste = taste }) refl h settled granted
     ((fields_follow s.topo u xs).goes cons
     (record {
       consumers = ap (λ (w : TopoView Config). w.topology.consumers) gone;
       active = ap (λ (w : TopoView Config). w.active) gone;
     }) h.active)
+    (seats-stay s.disks.items s.topo.topology u.topology xs
     (record {
       geoms = λ disk. ap (λ (w : TopoView Config). geom_of_disk w.topology disk) gone;
       targets =
           of_each (λ (x : Trip). disk_at u.topology x.target ≡ disk_at s.topo.topology x.target)
           (λ x. ap (λ (w : TopoView Config). disk_at w.topology x.target) gone) xs;
-    })
+    }) h.seats)
     (h.providers ∙ sym (ap (λ (w : TopoView Config). length w.topology.providers) gone))
 
 -- A geom that goes
@@ -517,24 +512,14 @@ kept_after_geom log s new geom g h firm found bare gone granted settled disks is
     let targets : TargetsStay t u xs =
     of_each (λ (x : Trip). disk_at u x.target ≡ disk_at t x.target)
     (λ x. geom-gone t u geom rest providers bare x.target) xs in
-    subst Holds (sym is)
-    (record {
-      counted = settled.counted;
-      quiet = settled.quiet;
-      numbers = h.numbers;
-      grants = (λ i c. granted c i) ∙ h.grants;
-      active =
-          ap (λ (w : TopoView Config). w.active) gone ∙ h.active
-          ∙ ap (map (λ (c : Consumer). let row : ℕ × ℕ = (c.number, out_through xs c.number) in row)) (sym consumers);
-      ready = h.ready;
-      own = h.own;
-      read = h.read;
-      seats =
-          subst (λ seats. AreSeats seats u xs) (sym disks)
-          (seats t u rest r firm.1.graph.numbers.one_geom_of_disk targets (disk_of g.config) refl h.seats);
-      providers = h.providers ∙ sym (ap (λ (ps : List Provider). length ps) providers);
-      room = settled.room;
-    })
+    with-mesh s new (told-again s new is refl) h
+    (subst (λ (q : Queued). IsSettled new.topo q) (ap (λ (z : State). z.queue) (sym is)) settled)
+    (λ c. granted-still s new.topo h granted c ∙ ap (λ (z : State). granted_of s.handles.handles z.taste c) (sym is))
+    (ap (λ (w : TopoView Config). w.active) gone ∙ h.active
+    ∙ ap (map (λ (c : Consumer). let row : ℕ × ℕ = (c.number, out_through xs c.number) in row)) (sym consumers))
+    (subst (λ seats. AreSeats seats u xs) (sym disks)
+    (seats t u rest r firm.1.graph.numbers.one_geom_of_disk targets (disk_of g.config) refl h.seats))
+    (ap (λ (z : State). z.providers) is ∙ h.providers ∙ sym (ap (λ (ps : List Provider). length ps) providers))
   where
     seen : (t u : Topology Config) → u.geoms ≡ filter (λ (x : Geom Config). not (x.number == geom)) t.geoms
         → Around (λ (x : Geom Config). x.number) geom g t.geoms → AllPairs DifferInDisk t.geoms

@@ -9,7 +9,7 @@ use Rattle.std.specs.Option.{option_map_or, option_map}
 use Rattle.std.proofs.Math.Bool.{and-false}
 use Rattle.std.proofs.lemmas.Bool.{eqb-true, cases_eq, ne_eqb, not-false}
 use Rattle.geo_mesh.specs.Rows.{change_at}
-use Rattle.geo_state.proofs.Lists.{Around, around-changed, around-gone, around-count, count-append, counts, around-all, count-step, count-skip, count-kept, count-none, find-none, find-past, find-before, find-kept_by, all-front, all-back}
+use Rattle.geo_state.proofs.Lists.{Around, around-changed, around-gone, around-count, count-append, counts, around-all, count-step, count-skip, count-kept, count-none, find-none, find-past, find-before, find-kept_by, all-front, all-back, around-with}
 use Rattle.geo_base.proofs.Options.{none-mapped}
 use Rattle.geo_base.proofs.FindLists.{none_passes}
 use Rattle.geo_base.proofs.AllLists.{all_appended, all_kept, all_weaker}
@@ -112,9 +112,7 @@ module _ (b : ℕ) (x : Trip) (xs : List Trip) (r : Around (λ (z : Trip). z.num
   where
     -- how many there were
     with_it : (d : ℕ) → out_through xs d ≡ out_through (r.front ++ r.back) d + counts (is_out d) x
-    with_it d =
-        ap (λ zs. out_through zs d) r.is
-        ∙ around-count (λ (z : Trip). z.number) b x xs r (is_out d) x (counts (is_out d) x) (omega arith)
+    with_it d = around-with (λ (z : Trip). z.number) b x xs r (is_out d)
 
     less_by : (d : ℕ) (ys : List Trip) → out_through ys d ≡ out_through (r.front ++ r.back) d
         → out_through ys d ≡ (if d == x.source then out_through xs d - 1 else out_through xs d)
@@ -260,14 +258,10 @@ module _ (handles : List Handle) (actor : ℕ) where
   own-gone b x xs count low r own is = record {
     count_is =
         let gone = ap (count_by (is_own handles actor)) (around-gone (λ (z : Trip). z.number) b x xs r) in
-        let whole : count_by (is_own handles actor) xs ≡ count_by (is_own handles actor) (r.front ++ x ∷ r.back) =
-        ap (count_by (is_own handles actor)) r.is in
-        let with_it = around-count (λ (z : Trip). z.number) b x xs r (is_own handles actor) x
-        (count_by (is_own handles actor) (x ∷ [])) refl in
-        let step = count-step (is_own handles actor) x [] in
+        let with_it = around-with (λ (z : Trip). z.number) b x xs r (is_own handles actor) in
         let one : counts (is_own handles actor) x ≡ 1 = ap (λ b. if b then 1 else 0) own in
         let was = is.count_is in
-        omega (arith, gone, whole, with_it, step, one, was);
+        omega (arith, gone, with_it, one, was);
     low_is =
         all_kept (λ x. is_own handles actor x ≡ true → low ≤ x.number) (λ z. not (z.number == b)) xs is.low_is;
   }
@@ -276,14 +270,10 @@ module _ (handles : List Handle) (actor : ℕ) where
   pub own-some : (b : ℕ) (x : Trip) (xs : List Trip) (count low : ℕ) → Around (λ (z : Trip). z.number) b x xs
       → is_own handles actor x ≡ true → IsOwnCount handles xs actor count low → 1 ≤ count
   own-some b x xs count low r own is =
-      let whole : count_by (is_own handles actor) xs ≡ count_by (is_own handles actor) (r.front ++ x ∷ r.back) =
-      ap (count_by (is_own handles actor)) r.is in
-      let with_it = around-count (λ (z : Trip). z.number) b x xs r (is_own handles actor) x
-      (count_by (is_own handles actor) (x ∷ [])) refl in
-      let step = count-step (is_own handles actor) x [] in
+      let with_it = around-with (λ (z : Trip). z.number) b x xs r (is_own handles actor) in
       let one : counts (is_own handles actor) x ≡ 1 = ap (λ b. if b then 1 else 0) own in
       let was = is.count_is in
-      omega (arith, whole, with_it, step, one, was)
+      omega (arith, with_it, one, was)
 
   -- some that aren't own are gone
   pub own-kept : (keep : Trip → Bool) (xs : List Trip) (count low : ℕ)
@@ -338,11 +328,9 @@ read-gone b x xs r reads one =
     (none-counted (λ z. is_taste_root z.owner) (filter (λ z. not (z.number == b)) xs)
     (let p : Trip → Bool = λ z. is_taste_root z.owner in
     let gone = ap (count_by p) (around-gone (λ (z : Trip). z.number) b x xs r) in
-    let whole : count_by p xs ≡ count_by p (r.front ++ x ∷ r.back) = ap (count_by p) r.is in
-    let with_it = around-count (λ (z : Trip). z.number) b x xs r p x (count_by p (x ∷ [])) refl in
-    let step = count-step p x [] in
+    let with_it = around-with (λ (z : Trip). z.number) b x xs r p in
     let it : counts p x ≡ 1 = ap (λ b. if b then 1 else 0) reads in
-    omega (arith, gone, whole, with_it, step, it, one))))
+    omega (arith, gone, with_it, it, one))))
 
 -- Requests at the disks
 
