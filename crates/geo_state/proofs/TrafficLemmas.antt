@@ -1,5 +1,5 @@
 -- What is kept beside the bios of the table stays so when one comes, changes its phase, is split and goes up.
-use Rattle.std.proofs.Common.{◌≡◌, ℕ, ◌+◌, ◌-◌, ◌≤◌, List, [], ◌∷◌, ◌++◌, length, find, cond, Bool, true, false, Option, Some, None, sym, refl, ap, ◌∙◌, arith, option_map, ◌≢◌, ◌<◌, ◌==◌, filter, not, subst, IfSome}
+use Rattle.std.proofs.Common.{◌≡◌, ℕ, ◌+◌, ◌-◌, ◌≤◌, List, [], ◌∷◌, ◌++◌, length, find, cond, Bool, true, false, Option, Some, None, sym, refl, ap, ◌∙◌, arith, option_map, ◌≢◌, ◌<◌, ◌==◌, filter, not, subst, IfSome, ◌^◌}
 use Rattle.std.specs.List.{AllByRecursion}
 use Rattle.std.specs.Option.{option_map_or, option_or}
 use Rattle.std.proofs.lemmas.List.{length-append, length-map}
@@ -15,7 +15,7 @@ use Rattle.geo_state.specs.declared.cursor.Cursor.{Cursor}
 use Rattle.geo_state.specs.Traffic.{first_in, count_in}
 use Rattle.geo_state.specs.Cursors.{others, IsCursor, with_one, with_last, IsCounted, up_after, family_size, gone_by, IsKept}
 use Rattle.geo_state.proofs.OrderLemmas.{Rising, stands_at, StandsAt, change_is, bio_in, fewer_than_next, number_below, table_rises, phase_up, phase_done}
-use Rattle.geo_state.proofs.CursorLemmas.{stays, left, entered, count_stays, count_comes, count_goes, length_moved, others_cursor, count_others, length_others, reached_above, reached_there}
+use Rattle.geo_state.proofs.CursorLemmas.{stays, left, entered, count_stays, count_comes, count_goes, length_moved, others_cursor, count_others, length_others, reached_above, reached_there, room_for_one}
 use Rattle.std.proofs.lemmas.Bool.{and_parts}
 use Rattle.std.proofs.lemmas.List.Filters.{length-filter_both}
 use Rattle.geo_model.proofs.BioLemmas.{phase_waiting, phase_down}
@@ -485,6 +485,24 @@ pub bio_seen : (test : Phase → Bool) (t : BioTableView) {v : BioTableView} →
     → has_phase test v.bios n ≡ true → (x : BioOf Held) × (bio_among t.bios n ≡ Some x) × (test x.phase ≡ true)
 bio_seen test t view n is =
     bio_in test t.bios n (subst (λ (w : BioTableView). has_phase test w.bios n ≡ true) (sym view) is)
+
+-- with one more bio in a phase in which this one isn't, there are still fewer than numbers
+pub room_in_phase : (test : Phase → Bool) (t : BioTableView) → AreInOrder t → (n : ℕ) (x : BioOf Held)
+    → bio_among t.bios n ≡ Some x → test x.phase ≡ false → count_in test t.bios + 2 ≤ t.next
+room_in_phase test t order n x found miss =
+    let room = room_for_one test t.bios n x (table_rises t order) found miss in
+    let few = fewer_than_next t order in
+    omega (arith, room, few)
+
+-- all is kept once bios have changed, where what is counted is right for them
+pub kept_turned : (t u : BioTableView) {bios : List (BioOf Held)} → u ≡ record t { bios = bios } → AreInOrder u
+    → t.next < 2 ^ 64 → {down sent up : Cursor} {busy live : ℕ} → IsCounted bios down sent up busy live
+    → IsKept u down sent up busy live
+kept_turned t u is order bound counted = record {
+  in_order = order;
+  bound = rw (ap (λ (v : BioTableView). v.next) is) bound;
+  counted = rw (ap (λ (v : BioTableView). v.bios) is) counted;
+}
 
 -- where the bios and the next number stay, all is kept
 module _ (t u : BioTableView) (bios : u.bios ≡ t.bios) (next : u.next ≡ t.next) where

@@ -1,10 +1,9 @@
 use Rattle.std.proofs.Common.{◌∙◌, ap, refl, arith}
 use Rattle.geo_model.specs.World.{is_busy, is_up}
-use Rattle.geo_bio.specs.BioTable.{BioTableView, delivered}
+use Rattle.geo_bio.specs.BioTable.{delivered}
 use Rattle.geo_state.specs.Cursors.{with_one}
-use Rattle.geo_state.proofs.OrderLemmas.{table_rises, fewer_than_next}
-use Rattle.geo_state.proofs.CursorLemmas.{room_for_one}
-use Rattle.geo_state.proofs.TrafficLemmas.{busy_is, from_busy_up, some_busy, bio_seen}
+use Rattle.geo_state.proofs.OrderLemmas.{table_rises}
+use Rattle.geo_state.proofs.TrafficLemmas.{busy_is, from_busy_up, some_busy, bio_seen, kept_turned, room_in_phase}
 use Rattle.geo_state.proofs.traffic.Traffic.deliver.Goals as goal
 
 -- the bio is Busy, so it was counted
@@ -15,15 +14,13 @@ overflow_sub-self c =
     some_busy now.bios.bios c.args.bio x.0 (table_rises now.bios c.self.invariant.in_order) x.1 now.down now.sent now.up
     now.busy now.live c.self.invariant.counted (delivered c.args.place c.args.errno) refl x.2 refl
 
--- this bio isn't Up yet, so those Up with it are no more than all, and these fewer than the numbers
+-- this bio isn't Up yet, so those Up with it are fewer than the numbers
 pub with_one-self-inside-requires : goal.with_one-self-inside-requires
 with_one-self-inside-requires c =
     let old = c.self.inside.bios in
     let x = bio_seen is_busy old c.self.view_is c.args.bio c.requires in
-    let order = c.self.invariant.in_order in
-    let room = room_for_one is_up old.bios c.args.bio x.0 (table_rises old order) x.1 (busy_is x.0.phase x.2).up in
-    let few = fewer_than_next old order in
-    omega (arith, room, few, c.self.invariant.bound, c.self.invariant.counted.ups.count)
+    let room = room_in_phase is_up old c.self.invariant.in_order c.args.bio x.0 x.1 (busy_is x.0.phase x.2).up in
+    omega (arith, room, c.self.invariant.bound, c.self.invariant.counted.ups.count)
 
 -- from Busy to Up: one less Busy and one more Up, and the other counts stay
 pub invariant_of-self : goal.invariant_of-self
@@ -33,10 +30,5 @@ invariant_of-self c =
     let counted = from_busy_up now.bios.bios c.args.bio x.0 (table_rises now.bios c.self.invariant.in_order) x.1
     now.down now.sent now.up now.busy now.live c.self.invariant.counted (delivered c.args.place c.args.errno) refl x.2
     refl in
-    let bios = ap (λ (t : BioTableView). t.bios) c.deliver.ensures.delivered in
     let up = c.with_one-self-inside.ensures ∙ ap (with_one now.up) c.number.ensures in
-    record {
-      in_order = c.deliver.ensures.in_order;
-      bound = omega (arith, c.self.invariant.bound, ap (λ (t : BioTableView). t.next) c.deliver.ensures.delivered);
-      counted = rw (bios, up) counted;
-    }
+    kept_turned now.bios _ c.deliver.ensures.delivered c.deliver.ensures.in_order c.self.invariant.bound (rw up counted)
