@@ -22,7 +22,7 @@ use Rattle.geo_state.specs.Holds.{AreOwn, Holds, OutAreCounted, ReapableAreNoted
 use Rattle.geo_state.proofs.Lists.{Around, around, around-all, count-append, counts, find-before, find-kept_by, find-past, find-none, found-changed, around-with}
 use Rattle.geo_state.proofs.TripLemmas.{none-counted}
 use Rattle.geo_state.proofs.GrantLaws.{grant-at, granted-after}
-use Rattle.std.proofs.lemmas.List.{map-append, length-map}
+use Rattle.std.proofs.lemmas.List.{map-append}
 use Rattle.geo_base.specs.declared.request.Counts.{Counts}
 use Rattle.geo_model.specs.Topology.{Topology, Consumer, consumer_at}
 use Rattle.geo_model.specs.Bios.{disk_at}
@@ -35,7 +35,7 @@ use Rattle.geo_access.proofs.Gone.{refused_consumers_go}
 use Rattle.geo_state.specs.declared.state.State.{State}
 use Rattle.geo_state.specs.Parts.{SameParts, DisksStay, disk_row, owner_row}
 use Rattle.geo_state.specs.Changes.{Effects, IsSettled, HasGoer, with_consumer_at, coming, KeptAfterOpen, KeptAfterRefusal, KeptAfterClose, KeptAfterForget, KeptAfterReap, KeptWithHandles}
-use Rattle.geo_state.proofs.Frames.{parts-geom, parts-disk}
+use Rattle.geo_state.proofs.Frames.{parts-geom, parts-disk, parts-count}
 use Rattle.geo_state.proofs.Fields.{apart, owns-alike_at}
 use Rattle.geo_state.proofs.Rises.{active-at}
 use Rattle.geo_state.proofs.LawLemmas.{fields_follow, rows_out, row_out, seats-stay}
@@ -320,10 +320,7 @@ sites-stay t u xs same = record {
 }
 
 pub sites-count : (t u : Topology Config) → SameSites t u → length u.providers ≡ length t.providers
-sites-count t u same =
-    sym (length-map u.providers owner_row)
-    ∙ ap (λ rows. length rows) same.providers
-    ∙ length-map t.providers owner_row
+sites-count t u same = parts-count t (record u { consumers = t.consumers }) (parts_but t u same)
 
 -- All of it
 

@@ -14,11 +14,12 @@ use Rattle.geo_model.specs.Events.{QueuedTopology}
 use Rattle.geo_slots.specs.Slots.{without}
 use Rattle.geo_mesh.specs.Topo.{TopoView}
 use Rattle.geo_state.specs.declared.state.DiskSeat.{DiskSeat}
-use Rattle.geo_state.specs.Trips.{Trip, trips, out_through, is_at_disk}
+use Rattle.geo_state.specs.Trips.{Trip, trips, out_through, is_at_disk, busy_at}
 use Rattle.geo_state.specs.Parts.{SameParts, DisksStay}
 use Rattle.geo_state.specs.Holds.{AreSeats, IsSeat}
 use Rattle.geo_state.specs.Laws.{EffectsKeepParts, HoldsAfterEffects, FieldsFollow}
 use Rattle.geo_state.proofs.Frames.{parts-geom, parts-disk, parts-count, parts-risen, parts-fallen, parts-spoil_at, parts-offer_again, parts-wither, parts-unless, parts-spoil, parts-orphan, parts-resize}
+use Rattle.std.specs.List.{AllByRecursion}
 
 pub effects_keep_parts : (granted : ℕ → Counts) (q : QueuedTopology Config) → EffectsKeepParts granted q
 effects_keep_parts granted q = record {
@@ -44,6 +45,19 @@ pub rows_out : (xs : List Trip) (cs : List Consumer)
 rows_out xs [] = refl
 rows_out xs (c ∷ cs) = ap (λ rows. row_out xs c.number ∷ rows) (rows_out xs cs)
 
+-- each request on its way goes to the disk to which it went
+abbrev pub TargetsStay : Topology Config → Topology Config → List Trip → Type 0
+TargetsStay t u xs = AllByRecursion (λ (x : Trip). disk_at u x.target ≡ disk_at t x.target) xs
+
+pub busy-stays : (t u : Topology Config) (xs : List Trip) → TargetsStay t u xs → (disk : ℕ)
+    → busy_at u xs disk ≡ busy_at t xs disk
+busy-stays t u xs stay disk =
+    ap (option_map (λ (x : Trip). x.number))
+    (find_agree (is_at_disk u disk) (is_at_disk t disk) xs
+    (all_weaker (λ (x : Trip). disk_at u x.target ≡ disk_at t x.target)
+    (λ x. is_at_disk u disk x ≡ is_at_disk t disk x)
+    (λ x e. ap (λ o. x.busy && option_map_or (λ d. d == disk) o false) e) xs stay))
+
 -- the seats stay where the disks do
 pub seats-stay : (seats : List DiskSeat) (t u : Topology Config) (xs : List Trip) → DisksStay t u xs
     → AreSeats seats t xs → AreSeats seats u xs
@@ -52,13 +66,7 @@ seats-stay seats t u xs stay are disk =
     (λ (seat : DiskSeat). IsSeat u xs disk seat.geom seat.busy)
     (λ seat is. record {
       geom_is = is.geom_is ∙ sym (stay.geoms disk);
-      busy_is =
-          is.busy_is
-          ∙ sym (ap (option_map (λ (x : Trip). x.number))
-          (find_agree (is_at_disk u disk) (is_at_disk t disk) xs
-          (all_weaker (λ (x : Trip). disk_at u x.target ≡ disk_at t x.target)
-          (λ x. is_at_disk u disk x ≡ is_at_disk t disk x)
-          (λ x e. ap (λ o. x.busy && option_map_or (λ d. d == disk) o false) e) xs stay.targets)));
+      busy_is = is.busy_is ∙ sym (busy-stays t u xs stay.targets disk);
     }) (slice_get seats disk) (are disk)
 
 -- where the parts are the same the disks stay

@@ -483,13 +483,10 @@ module _ (s : State) (b : ℕ) (x : BioOf Held) (log : ℕ → Option (List ℕ)
         own = new.own;
         read = new.read;
       }) where
-    -- the requests are those of the table
-    from_table : new.traffic ≡ v
-    from_table = ap (λ (z : State). z.traffic) left
-
-    -- and only what is out, what is ready and what is its owner's changes beside them
-    all : new ≡ record s {
-      traffic = new.traffic;
+    -- the state with these requests: beside them only what is out, what is ready and what is its owner's changes
+    abbrev with_table : BioTableView → State
+    with_table w = record s {
+      traffic = w;
       topo = with_active s.topo x.source (λ n. n - 1);
       handles = record s.handles {
         ready = refreshed s.handles (with_active s.topo x.source (λ n. n - 1)) x.source;
@@ -497,17 +494,13 @@ module _ (s : State) (b : ℕ) (x : BioOf Held) (log : ℕ → Option (List ℕ)
       own = new.own;
       read = new.read;
     }
-    all =
-        left
-        ∙ ap (λ (w : BioTableView). let z : State = record s {
-          traffic = w;
-          topo = with_active s.topo x.source (λ n. n - 1);
-          handles = record s.handles {
-            ready = refreshed s.handles (with_active s.topo x.source (λ n. n - 1)) x.source;
-          };
-          own = new.own;
-          read = new.read;
-        } in z) (sym from_table)
+
+    -- the requests are those of the table
+    from_table : new.traffic ≡ v
+    from_table = ap (λ (z : State). z.traffic) left
+
+    all : new ≡ with_table new.traffic
+    all = left ∙ ap with_table (sym from_table)
 
     -- what became of it
     bios : new.traffic.bios ≡ after_up log s.traffic.bios x x.owner

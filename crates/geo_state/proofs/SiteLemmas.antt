@@ -1,5 +1,5 @@
 -- All is kept after geoms, providers and consumers came or went.
-use Rattle.std.specs.Prelude.{◌≡◌, ℕ, ◌+◌, ◌==◌, Bool, true, false, not, ◌&&◌, List, [], ◌∷◌, ◌++◌, length, map, filter, find, Option, Some, None, IsSome, IsSomeAnd, AllPairs, if◌then◌else◌}
+use Rattle.std.specs.Prelude.{◌≡◌, ℕ, ◌+◌, ◌==◌, Bool, true, false, not, List, [], ◌∷◌, ◌++◌, length, map, filter, find, Option, Some, None, IsSome, IsSomeAnd, AllPairs, if◌then◌else◌}
 use Rattle.std.specs.List.{AllByRecursion}
 use Rattle.std.specs.Option.{option_map, option_map_or, option_and_then, option_flatten}
 use Rattle.std.proofs.Common.{refl, sym, ◌∙◌, ap, subst, eq-eqb}
@@ -9,7 +9,7 @@ use Rattle.std.proofs.lemmas.List.Elements.{recursion_from_All}
 use Rattle.geo_base.specs.declared.request.Counts.{Counts}
 use Rattle.geo_base.proofs.AllLists.{pairs_head, pairs_tail, all_appended, all_weaker, of_each}
 use Rattle.geo_base.proofs.Options.{none-mapped, map_there}
-use Rattle.geo_base.proofs.FindLists.{none_passes, found-before, find_agree}
+use Rattle.geo_base.proofs.FindLists.{none_passes, found-before}
 use Rattle.geo_model.specs.declared.step.Entry.{Entry}
 use Rattle.geo_model.specs.Words.{names_number}
 use Rattle.geo_model.specs.Topology.{Topology, Geom, Provider, Consumer, attached_to, consumer_at, geom_at, provider_at, providers_of}
@@ -26,7 +26,7 @@ use Rattle.geo_state.specs.declared.state.State.{State}
 use Rattle.geo_state.specs.declared.state.DiskSeat.{DiskSeat}
 use Rattle.geo_state.specs.Parts.{IsUnderWay, AreUnderWay, disk_row, owner_row, geom_of_disk}
 use Rattle.geo_state.specs.Seats.{change_seat, with_disk_geom}
-use Rattle.geo_state.specs.Trips.{Trip, trips, out_through, is_at_disk, busy_at}
+use Rattle.geo_state.specs.Trips.{Trip, trips, out_through}
 use Rattle.geo_state.specs.World.{StandsFirm}
 use Rattle.geo_state.specs.Holds.{Holds, OutAreCounted, AreSeats, IsSeat}
 use Rattle.geo_state.specs.Changes.{IsSettled}
@@ -35,24 +35,11 @@ use Rattle.geo_state.proofs.Lists.{Around, around, around-all, find-before, find
 use Rattle.geo_state.proofs.Fields.{apart, each-slot}
 use Rattle.geo_state.proofs.Frames.{first_of, first_read, under, under_read, disk_under, disk_read}
 use Rattle.geo_state.proofs.Rises.{active-at}
-use Rattle.geo_state.proofs.LawLemmas.{fields_follow, rows_out, row_out, seats-stay}
+use Rattle.geo_state.proofs.LawLemmas.{fields_follow, rows_out, row_out, seats-stay, TargetsStay, busy-stays}
 use Rattle.geo_state.proofs.FirmLemmas.{under-way, none-out}
 use Rattle.geo_state.proofs.HolderFacts.{found-fact, kept-fact}
 
 -- Seats, where one disk has another geom
-
--- each request on its way goes to the disk to which it went
-abbrev pub TargetsStay : Topology Config → Topology Config → List Trip → Type 0
-TargetsStay t u xs = AllByRecursion (λ (x : Trip). disk_at u x.target ≡ disk_at t x.target) xs
-
-pub busy-stays : (t u : Topology Config) (xs : List Trip) → TargetsStay t u xs → (disk : ℕ)
-    → busy_at u xs disk ≡ busy_at t xs disk
-busy-stays t u xs stay disk =
-    ap (option_map (λ (x : Trip). x.number))
-    (find_agree (is_at_disk u disk) (is_at_disk t disk) xs
-    (all_weaker (λ (x : Trip). disk_at u x.target ≡ disk_at t x.target)
-    (λ x. is_at_disk u disk x ≡ is_at_disk t disk x)
-    (λ x e. ap (λ o. x.busy && option_map_or (λ d. d == disk) o false) e) xs stay))
 
 pub seats-geom : (seats : List DiskSeat) (t u : Topology Config) (xs : List Trip) (disk : ℕ) (geom : Option ℕ)
     → ((d : ℕ) → geom_of_disk u d ≡ (if d == disk then geom else geom_of_disk t d)) → TargetsStay t u xs

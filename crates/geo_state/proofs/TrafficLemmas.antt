@@ -30,8 +30,8 @@ use Rattle.geo_laws_graph.proofs.Numbered.{at-unchanged}
 use Rattle.geo_laws_graph.proofs.Spared.{find-spared, filter-spared}
 use Rattle.geo_state.proofs.ShownLemmas.{count-map}
 use Rattle.geo_bio.specs.declared.bio.Risen.{Risen}
-use Rattle.geo_base.proofs.AllLists.{all_appended, of_each}
-use Rattle.geo_state.proofs.Lists.{all-front, all-back, count-same}
+use Rattle.geo_base.proofs.AllLists.{all_appended, of_each, all_weaker}
+use Rattle.geo_state.proofs.Lists.{all-front, all-back, count-same, count-none, find-before}
 
 -- A bio comes, or comes to another phase
 
@@ -184,19 +184,14 @@ module _ (test : Phase → Bool) (bios more : List (BioOf Held)) where
     at None = sym head
 
   -- bios that don't pass come
-  pub appended_others : (c : Cursor) → IsCursor test bios c → count_in test more ≡ 0 → first_in test more ≡ None
-      → IsCursor test (bios ++ more) c
-  appended_others c is none head = record {
-    count = is.count ∙ sym (count_both ∙ ap (λ k. count_in test bios + k) none ∙ omega arith);
-    first = is.first ∙ at (find (λ (y : BioOf Held). test y.phase) bios)
-        ∙ ap (option_map (λ (y : BioOf Held). y.number))
-        (sym (find-append (λ (y : BioOf Held). test y.phase) bios more));
-  } where
-    at : (o : Option (BioOf Held))
-        → option_map (λ (y : BioOf Held). y.number) o
-        ≡ option_map (λ (y : BioOf Held). y.number) (option_or o (find (λ (y : BioOf Held). test y.phase) more))
-    at (Some z) = refl
-    at None = sym head
+  pub appended_others : (c : Cursor) → IsCursor test bios c
+      → AllByRecursion (λ (y : BioOf Held). test y.phase ≡ false) more → IsCursor test (bios ++ more) c
+  appended_others c is fail = record {
+    count = is.count ∙ sym (count_both
+        ∙ ap (λ k. count_in test bios + k) (count-none (λ (y : BioOf Held). test y.phase) more fail) ∙ omega arith);
+    first = is.first ∙ ap (option_map (λ (y : BioOf Held). y.number))
+        (sym (find-before (λ (y : BioOf Held). test y.phase) bios more fail));
+  }
 
 -- where all are Down, a test passes all or none
 module _ (test : Phase → Bool) where
@@ -213,21 +208,11 @@ module _ (test : Phase → Bool) where
       → first_in test (y ∷ ys) ≡ Some y.number
   down_found y ys is e = let hit : test y.phase ≡ true = ap test is ∙ e in rw hit refl
 
-  pub none_counted_down : (more : List (BioOf Held)) → AllByRecursion (λ y. y.phase ≡ phases.Down) more
-      → test phases.Down ≡ false → count_in test more ≡ 0
-  none_counted_down [] all e = refl
-  none_counted_down (y ∷ ys) all e =
-      let rest = none_counted_down ys all.1 e in
-      let head = sum_by-cons (λ (z : BioOf Held). cond (test z.phase) 1 0) y ys in
-      let one : cond {A = ℕ} (test y.phase) 1 0 ≡ 0 = rw (all.0, e) refl in
-      omega (arith, rest, head, one)
-
-  pub none_found_down : (more : List (BioOf Held)) → AllByRecursion (λ y. y.phase ≡ phases.Down) more
-      → test phases.Down ≡ false → find (λ (y : BioOf Held). test y.phase) more ≡ None
-  none_found_down [] all e = refl
-  none_found_down (y ∷ ys) all e =
-      let miss : test y.phase ≡ false = ap test all.0 ∙ e in
-      rw miss (none_found_down ys all.1 e)
+  pub down_fail : (more : List (BioOf Held)) → AllByRecursion (λ y. y.phase ≡ phases.Down) more
+      → test phases.Down ≡ false → AllByRecursion (λ (y : BioOf Held). test y.phase ≡ false) more
+  down_fail more all e =
+      all_weaker (λ (y : BioOf Held). y.phase ≡ phases.Down) (λ y. test y.phase ≡ false) (λ y is. ap test is ∙ e) more
+      all
 
 -- the children of a split are Down
 pub split_down : (first : ℕ) (x : BioOf Held) (k : ℕ) (pieces : List Piece) (targets : List (ℕ × ℕ))
@@ -262,12 +247,11 @@ pub down_come : (bios more : List (BioOf Held)) (down sent up : Cursor) (busy li
     → IsCounted (bios ++ more) (with_last down first k) sent up busy (live + k)
 down_come bios more down sent up busy live first k is all count head = record {
   starts = appended is_down bios more down first k is.starts (down_counted is_down more all refl ∙ count) head;
-  takes = appended_others is_sent bios more sent is.takes (none_counted_down is_sent more all refl)
-      (ap (option_map (λ (y : BioOf Held). y.number)) (none_found_down is_sent more all refl));
-  ups = appended_others is_up bios more up is.ups (none_counted_down is_up more all refl)
-      (ap (option_map (λ (y : BioOf Held). y.number)) (none_found_down is_up more all refl));
+  takes = appended_others is_sent bios more sent is.takes (down_fail is_sent more all refl);
+  ups = appended_others is_up bios more up is.ups (down_fail is_up more all refl);
   taken = is.taken ∙ sym (count_both is_busy bios more
-      ∙ ap (λ j. count_in is_busy bios + j) (none_counted_down is_busy more all refl) ∙ omega arith);
+      ∙ ap (λ j. count_in is_busy bios + j)
+      (count-none (λ (y : BioOf Held). is_busy y.phase) more (down_fail is_busy more all refl)) ∙ omega arith);
   all = (λ i. is.all i + sym count i) ∙ sym (length-append bios more);
 }
 
