@@ -237,19 +237,15 @@ verify_ends call plan (ReportedButFault name) a k fine =
 verify_ends call plan BadWords a k fine = absurd (k.ends.cause VerifyMode a)
 verify_ends call plan (NoScript line c) a k fine = inr (inl refl)
 verify_ends call plan ReadFault a k fine = absurd (fine k.ends.cause.2)
-verify_ends call plan (ShelfFault name) a k fine = absurd k.ends.cause.0.mesh
-verify_ends call plan (NoDisk name) a k fine = absurd k.ends.cause.0.mesh
-verify_ends call plan (BadSize name) a k fine = absurd k.ends.cause.0.mesh
 verify_ends call plan OutOfMemory a k fine = inr (inr (inl refl))
 verify_ends call plan LogFull a k fine =
     absurd (no_mesh call plan LogFull k
     (some_log call.log (LogRanFull VerifyMode plan (opening plan call.facts)) k.ends.cause))
 verify_ends call plan TooLong a k fine = inr (inr (inr (inl refl)))
 verify_ends call plan (Answered found.Yes) a k fine = inl refl
-verify_ends call plan (Answered (found.NotEnabled line)) a k fine = inr (inr (inr (inr refl)))
-verify_ends call plan (Answered found.NotAtRest) a k fine = inr (inr (inr (inr refl)))
-verify_ends call plan (Answered found.OtherReport) a k fine = inr (inr (inr (inr refl)))
 verify_ends call plan (NoTrace line) a k fine = inr (inl refl)
+verify_ends call plan (Answered _) a k fine = inr (inr (inr (inr refl)))
+verify_ends call plan _ a k fine = absurd k.ends.cause.0.mesh
 
 good_status : (call : Call) (ending : Ending) → call.status ≡ status_of ending → IsGood ending
     → (call.status ≡ 0) ⊎ (call.status ≡ 6) ⊎ (call.status ≡ 7)

@@ -160,37 +160,18 @@ foreign_counts a m b ds xs ys kept c name takes foreign =
 no_failed : (mode : Mode) (plan : Plan) (opened : World) (log : Option (List Entry)) (kept : List (List ℕ))
     (ending : Ending)
     → LentCause mode plan opened log kept ending → failed_takes ending ≡ 0
-no_failed mode plan opened log kept Reported h = refl
-no_failed mode plan opened log kept (ReportedButFault name) h = refl
-no_failed mode plan opened log kept BadWords h = refl
-no_failed mode plan opened log kept (NoScript line cause) h = refl
-no_failed mode plan opened log kept ReadFault h = refl
 no_failed mode plan opened log kept (ShelfFault name) h = absurd h
-no_failed mode plan opened log kept (NoDisk name) h = refl
-no_failed mode plan opened log kept (BadSize name) h = refl
-no_failed mode plan opened log kept OutOfMemory h = refl
-no_failed mode plan opened log kept LogFull h = refl
-no_failed mode plan opened log kept TooLong h = refl
-no_failed mode plan opened log kept (Answered found) h = refl
-no_failed mode plan opened log kept (NoTrace line) h = refl
+no_failed mode plan opened log kept _ h = refl
 
 -- nor was one missed
 none_missed : (mode : Mode) (plan : Plan) (opened : World) (log : Option (List Entry)) (kept : List (List ℕ))
     (ending : Ending)
     → LentCause mode plan opened log kept ending → IsMissedAt ending []
-none_missed mode plan opened log kept Reported h = refl
-none_missed mode plan opened log kept (ReportedButFault name) h = refl
-none_missed mode plan opened log kept BadWords h = refl
-none_missed mode plan opened log kept (NoScript line cause) h = refl
-none_missed mode plan opened log kept ReadFault h = refl
 none_missed mode plan opened log kept (ShelfFault name) h = absurd h
 none_missed mode plan opened log kept (NoDisk name) h = absurd h
 none_missed mode plan opened log kept (BadSize name) h = absurd h
 none_missed mode plan opened log kept OutOfMemory h = omega arith
-none_missed mode plan opened log kept LogFull h = refl
-none_missed mode plan opened log kept TooLong h = refl
-none_missed mode plan opened log kept (Answered found) h = refl
-none_missed mode plan opened log kept (NoTrace line) h = refl
+none_missed mode plan opened log kept _ h = refl
 
 some_log : (mode : Mode) (plan : Plan) (opened : World) (log : Option (List Entry))
     → IsSomeAnd log (LogRanFull mode plan opened) → IsSome log
@@ -202,17 +183,9 @@ has_log : (mode : Mode) (plan : Plan) (opened : World) (log : Option (List Entry
     → LentCause mode plan opened log kept ending → HasLog ending log
 has_log mode plan opened log kept Reported h = h.0
 has_log mode plan opened log kept (ReportedButFault name) h = h.0
-has_log mode plan opened log kept BadWords h = absurd h
-has_log mode plan opened log kept (NoScript line cause) h = absurd h
-has_log mode plan opened log kept ReadFault h = absurd h
-has_log mode plan opened log kept (ShelfFault name) h = absurd h
-has_log mode plan opened log kept (NoDisk name) h = absurd h
-has_log mode plan opened log kept (BadSize name) h = absurd h
 has_log mode plan opened log kept OutOfMemory h = tt
 has_log mode plan opened log kept LogFull h = some_log mode plan opened log h
-has_log mode plan opened log kept TooLong h = absurd h
-has_log mode plan opened log kept (Answered found) h = absurd h
-has_log mode plan opened log kept (NoTrace line) h = absurd h
+has_log mode plan opened log kept _ h = absurd h
 
 plan_cause : (mode : Mode) (plan : Plan) (opened : World) (log : Option (List Entry)) (a m b : ShelfView)
     (xs ys : List DriveView) (kept : List (List ℕ)) (ending : Ending) → Course a m b plan.disks xs ys kept
@@ -235,17 +208,9 @@ plan_cause mode plan opened log a m b xs ys kept (ReportedButFault name) c h = (
     rose (n ∷ names) e all =
         let same : n ≡ name = (let got : Some n ≡ Some name = e in cc) in
         subst (λ (k : List ℕ). Rose (a.give_faults k) (b.give_faults k)) same all.0
-plan_cause mode plan opened log a m b xs ys kept BadWords c h = absurd h
-plan_cause mode plan opened log a m b xs ys kept (NoScript line cause) c h = absurd h
-plan_cause mode plan opened log a m b xs ys kept ReadFault c h = absurd h
-plan_cause mode plan opened log a m b xs ys kept (ShelfFault name) c h = absurd h
-plan_cause mode plan opened log a m b xs ys kept (NoDisk name) c h = absurd h
-plan_cause mode plan opened log a m b xs ys kept (BadSize name) c h = absurd h
 plan_cause mode plan opened log a m b xs ys kept OutOfMemory c h = tt
 plan_cause mode plan opened log a m b xs ys kept LogFull c h = h
-plan_cause mode plan opened log a m b xs ys kept TooLong c h = absurd h
-plan_cause mode plan opened log a m b xs ys kept (Answered found) c h = absurd h
-plan_cause mode plan opened log a m b xs ys kept (NoTrace line) c h = absurd h
+plan_cause mode plan opened log a m b xs ys kept _ c h = absurd h
 
 -- each disk, where there is a log
 disks_by : (plan : Plan) (log : Option (List Entry)) (a m b : ShelfView) (xs ys : List DriveView)
@@ -393,13 +358,7 @@ take_stopped a b d stop disk_kinds.Shelf h = record {
     by (stops.NoDisk name) c = rose_none 0 a.faults b.faults refl h.later
     by (stops.BadSize name) c = rose_none 0 a.faults b.faults refl h.later
     by stops.NoMemory c = rose_none 0 a.faults b.faults refl h.later
-    by stops.BadWords c = absurd c
-    by (stops.NoScript line cause) c = absurd c
-    by stops.ReadFault c = absurd c
-    by stops.LogFull c = absurd c
-    by stops.TooLong c = absurd c
-    by (stops.Answered answer) c = absurd c
-    by (stops.NoTrace line) c = absurd c
+    by _ c = absurd c
 
 -- the take that failed is the one that is blamed
 stopped_takes : (a m n b : ShelfView) (d : DiskDecl) (stop : Stop) (kind : DiskKind)
@@ -439,13 +398,7 @@ stopped_takes a m n b d stop disk_kinds.Shelf h before after = by stop h.cause h
     by (stops.NoDisk name) c takes = λ z. counted false z takes
     by (stops.BadSize name) c takes = λ z. counted false z takes
     by stops.NoMemory c takes = (None, λ z. counted false z takes)
-    by stops.BadWords c takes = absurd c
-    by (stops.NoScript line cause) c takes = absurd c
-    by stops.ReadFault c takes = absurd c
-    by stops.LogFull c takes = absurd c
-    by stops.TooLong c takes = absurd c
-    by (stops.Answered answer) c takes = absurd c
-    by (stops.NoTrace line) c takes = absurd c
+    by _ c takes = absurd c
 
 -- a take that didn't fail is no fault, unless memory ran out
 stopped_no_fault : (m n : ShelfView) (d : DiskDecl) (stop : Stop) (kind : DiskKind) → OpensNoDrive m d stop n kind
@@ -459,13 +412,7 @@ stopped_no_fault m n d stop disk_kinds.Shelf h other none = by stop h.cause othe
     by (stops.NoDisk name) c other none = c.2
     by (stops.BadSize name) c other none = c.2
     by stops.NoMemory c other none = absurd (other refl)
-    by stops.BadWords c other none = absurd c
-    by (stops.NoScript line cause) c other none = absurd c
-    by stops.ReadFault c other none = absurd c
-    by stops.LogFull c other none = absurd c
-    by stops.TooLong c other none = absurd c
-    by (stops.Answered answer) c other none = absurd c
-    by (stops.NoTrace line) c other none = absurd c
+    by _ c other none = absurd c
 
 -- the drives that were had, by the shelf after the failed take
 had_along : (a m n : ShelfView) (ds : List DiskDecl) (xs : List DriveView)
@@ -586,30 +533,18 @@ stopped_cause mode plan facts a m n b front d back stop disk_kinds.Shelf k e the
         (subst (λ (z : List ℕ). IfSome m.told
         (λ images. IsSomeAnd (images z) (λ bytes. IsDiskSize d.sector (length bytes) → ⊥))) c.0 c.1))
     by stops.NoMemory c takes = tt
-    by stops.BadWords c takes = absurd c
-    by (stops.NoScript line cause) c takes = absurd c
-    by stops.ReadFault c takes = absurd c
-    by stops.LogFull c takes = absurd c
-    by stops.TooLong c takes = absurd c
-    by (stops.Answered answer) c takes = absurd c
-    by (stops.NoTrace line) c takes = absurd c
+    by _ c takes = absurd c
 
 no_log : (mode : Mode) (plan : Plan) (opened : World) (a b : ShelfView) (ending : Ending)
     → PlanCause mode plan opened None a b ending
     → HasLog ending None
 no_log mode plan opened a b Reported c = c.0
 no_log mode plan opened a b (ReportedButFault name) c = c.0
-no_log mode plan opened a b BadWords c = absurd c
-no_log mode plan opened a b (NoScript line cause) c = absurd c
-no_log mode plan opened a b ReadFault c = absurd c
+no_log mode plan opened a b OutOfMemory c = tt
 no_log mode plan opened a b (ShelfFault name) c = refl
 no_log mode plan opened a b (NoDisk name) c = refl
 no_log mode plan opened a b (BadSize name) c = refl
-no_log mode plan opened a b OutOfMemory c = tt
-no_log mode plan opened a b LogFull c = absurd c
-no_log mode plan opened a b TooLong c = absurd c
-no_log mode plan opened a b (Answered found) c = absurd c
-no_log mode plan opened a b (NoTrace line) c = absurd c
+no_log mode plan opened a b _ c = absurd c
 
 -- a plan of which nothing was done
 nothing_done : (mode : Mode) (plan : Plan) (facts : List (ℕ × ℕ)) (a : ShelfView)

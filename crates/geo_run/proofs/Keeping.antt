@@ -55,15 +55,10 @@ mode_asked (word ∷ start ∷ count ∷ rest) = GenMode (digits_value 10 start)
 -- the words of a mode ask for it
 asked_back : (mode : Mode) → IsMode mode → mode_asked (words_for mode) ≡ mode
 unfolding mode_asked mode_of_word
-asked_back StepMode range = refl
-asked_back RunMode range = refl
 asked_back (GenMode s c) range =
     ap (λ n. GenMode n (digits_value 10 (decimal c))) (digits_value-decimal own s (omega (arith, range.0)))
     ∙ ap (λ n. GenMode s n) (digits_value-decimal own c (omega (arith, range.1)))
-asked_back SweepMode range = refl
-asked_back WatchMode range = refl
-asked_back TraceMode range = refl
-asked_back VerifyMode range = refl
+asked_back _ range = refl
 
 -- words are accepted for one mode at most
 pub modes_same : (words : List (List ℕ)) (m n : Mode) → Accepts words m → Accepts words n → m ≡ n
@@ -198,18 +193,7 @@ early call mode plan ending read gave cause none shelf has not_whole none_missed
   where
     stay_at : (e : Ending) → ImagesStay call.before.shelf call.after.shelf → ImagesStayAt call e
     stay_at OutOfMemory h = λ alone. h
-    stay_at Reported h = h
-    stay_at (ReportedButFault name) h = h
-    stay_at BadWords h = h
-    stay_at (NoScript line c) h = h
-    stay_at ReadFault h = h
-    stay_at (ShelfFault name) h = h
-    stay_at (NoDisk name) h = h
-    stay_at (BadSize name) h = h
-    stay_at LogFull h = h
-    stay_at TooLong h = h
-    stay_at (Answered found) h = h
-    stay_at (NoTrace line) h = h
+    stay_at _ h = h
 
 -- Where a plan was run
 
@@ -217,69 +201,36 @@ early call mode plan ending read gave cause none shelf has not_whole none_missed
 plan_cause : (call : Call) (mode : Mode) (plan : Plan) (ending : Ending) → IsParsed call mode plan
     → PlanCause mode plan (opening plan call.facts) call.log call.before.shelf call.after.shelf ending
     → CauseOf call mode plan ending
-plan_cause call mode plan Reported p h = h
-plan_cause call mode plan (ReportedButFault name) p h = h
-plan_cause call mode plan BadWords p h = absurd h
-plan_cause call mode plan (NoScript line c) p h = absurd h
-plan_cause call mode plan ReadFault p h = absurd h
 plan_cause call mode plan (ShelfFault name) p h = (p, h.0, h.1)
 plan_cause call mode plan (NoDisk name) p h = (p, h)
 plan_cause call mode plan (BadSize name) p h = (p, h)
 plan_cause call mode plan OutOfMemory p h = tt
+plan_cause call mode plan Reported p h = h
+plan_cause call mode plan (ReportedButFault name) p h = h
 plan_cause call mode plan LogFull p h = h
-plan_cause call mode plan TooLong p h = absurd h
-plan_cause call mode plan (Answered found) p h = absurd h
-plan_cause call mode plan (NoTrace line) p h = absurd h
+plan_cause call mode plan _ p h = absurd h
 
 -- a run of a plan doesn't end before disks are taken
 not_before : (mode : Mode) (plan : Plan) (opened : World) (log : Option (List Entry)) (a b : ShelfView)
     (ending : Ending)
     → PlanCause mode plan opened log a b ending → IsBeforeDisks ending → ⊥
-not_before mode plan opened log a b Reported h before = before
-not_before mode plan opened log a b (ReportedButFault name) h before = before
 not_before mode plan opened log a b BadWords h before = h
 not_before mode plan opened log a b (NoScript line c) h before = h
 not_before mode plan opened log a b ReadFault h before = h
-not_before mode plan opened log a b (ShelfFault name) h before = before
-not_before mode plan opened log a b (NoDisk name) h before = before
-not_before mode plan opened log a b (BadSize name) h before = before
-not_before mode plan opened log a b OutOfMemory h before = before
-not_before mode plan opened log a b LogFull h before = before
 not_before mode plan opened log a b TooLong h before = h
 not_before mode plan opened log a b (Answered found) h before = h
 not_before mode plan opened log a b (NoTrace line) h before = h
+not_before mode plan opened log a b _ h before = before
 
 bad_is_before : (ending : Ending) → IsBadWords ending → IsBeforeDisks ending
-bad_is_before Reported h = h
-bad_is_before (ReportedButFault name) h = h
 bad_is_before BadWords h = tt
-bad_is_before (NoScript line c) h = tt
-bad_is_before ReadFault h = tt
-bad_is_before (ShelfFault name) h = h
-bad_is_before (NoDisk name) h = h
-bad_is_before (BadSize name) h = h
-bad_is_before OutOfMemory h = h
-bad_is_before LogFull h = h
-bad_is_before TooLong h = tt
-bad_is_before (Answered found) h = tt
-bad_is_before (NoTrace line) h = tt
+bad_is_before _ h = absurd h
 
 images_at : (call : Call) (ending : Ending) (log : Option (List Entry))
     → IfNone log (ImagesStay call.before.shelf call.after.shelf) → IfNone log (ImagesStayAt call ending)
 images_at call ending (Some l) h = tt
 images_at call OutOfMemory None h = λ alone. h
-images_at call Reported None h = h
-images_at call (ReportedButFault name) None h = h
-images_at call BadWords None h = h
-images_at call (NoScript line c) None h = h
-images_at call ReadFault None h = h
-images_at call (ShelfFault name) None h = h
-images_at call (NoDisk name) None h = h
-images_at call (BadSize name) None h = h
-images_at call LogFull None h = h
-images_at call TooLong None h = h
-images_at call (Answered found) None h = h
-images_at call (NoTrace line) None h = h
+images_at call _ None h = h
 
 -- the parts of what a mesh did
 history_of : (mode : Mode) (plan : Plan) (facts : List (ℕ × ℕ)) (ending : Ending) (log : Option (List Entry))
@@ -435,13 +386,9 @@ stops_early words finish source source_after shelf shelf_after mode stop accepts
 
 -- a mode that opens a mesh, and takes no disk, makes its script
 no_disk_taken : (mode : Mode) → OpensMesh mode → TakesNoDisk mode → IsGen mode
-no_disk_taken StepMode opens none = none
-no_disk_taken RunMode opens none = none
 no_disk_taken (GenMode s c) opens none = tt
-no_disk_taken SweepMode opens none = none
-no_disk_taken WatchMode opens none = none
-no_disk_taken TraceMode opens none = none
 no_disk_taken VerifyMode opens none = absurd opens
+no_disk_taken _ opens none = none
 
 -- the script of a number is the same whatever was read, and so is what is reported of it
 pub text_aside : (start count : ℕ) (a b : List ℕ) (plan : Plan) (facts : List (ℕ × ℕ)) (log : Option (List Entry))

@@ -49,13 +49,10 @@ follows_at mode plan w a b log whole = by mode
     }
 
     by : (m : Mode) → FollowsMode m plan w a log → FollowsMode m plan w b log
-    by StepMode h = h
     by RunMode h = with_threads (order_of RunMode) h
-    by (GenMode s c) h = h
-    by SweepMode h = h
     by WatchMode h = with_threads (order_of WatchMode) h
     by TraceMode h = with_threads (order_of TraceMode) h
-    by VerifyMode h = h
+    by _ h = h
 
 -- a run that is due to report is at rest
 whole_after : (mode : Mode) (read : List ℕ) (m : MeshView) (answer : Result (Unit {0}) DrainRefusal)

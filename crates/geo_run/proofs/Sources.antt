@@ -36,32 +36,18 @@ read_whole call mode text e whole =
 
 -- where the source gives the script, it is read
 was_read_whole : (call : Call) (mode : Mode) → IsReadWhole call mode → WasReadWhole call mode
-was_read_whole call StepMode w = w
-was_read_whole call RunMode w = w
 was_read_whole call (GenMode s c) w = tt
-was_read_whole call SweepMode w = w
-was_read_whole call WatchMode w = w
-was_read_whole call TraceMode w = w
-was_read_whole call VerifyMode w = w
+was_read_whole call _ w = w
 
 reads_script : (call : Call) (mode : Mode) → (IsGen mode → ⊥) → Accepts call.words mode → ReadsScript call mode
-reads_script call StepMode not_gen accepts = accepts
-reads_script call RunMode not_gen accepts = accepts
 reads_script call (GenMode s c) not_gen accepts = absurd (not_gen tt)
-reads_script call SweepMode not_gen accepts = accepts
-reads_script call WatchMode not_gen accepts = accepts
-reads_script call TraceMode not_gen accepts = accepts
-reads_script call VerifyMode not_gen accepts = accepts
+reads_script call _ not_gen accepts = accepts
 
 -- where it gives a script that is run, the text is that script
 script_read : (mode : Mode) (text : List ℕ) → OpensMesh mode → (IsGen mode → ⊥) → script_of mode text ≡ text
-script_read StepMode text opens not_gen = refl
-script_read RunMode text opens not_gen = refl
 script_read (GenMode s c) text opens not_gen = absurd (not_gen tt)
-script_read SweepMode text opens not_gen = refl
-script_read WatchMode text opens not_gen = refl
-script_read TraceMode text opens not_gen = refl
 script_read VerifyMode text opens not_gen = absurd opens
+script_read _ text opens not_gen = refl
 
 -- A source that wasn't read to its end
 
@@ -92,14 +78,7 @@ module _ (words : List (List ℕ)) (mode : Mode) (finish : Finish) (source sourc
   unread_stops stops.NoMemory cause early =
       no_memory words finish source source_after shelf shelf_after mode accepts early gave
       (λ gen. absurd (not_gen gen)) cause
-  unread_stops stops.BadWords cause early = absurd cause
-  unread_stops (stops.NoScript line c) cause early = absurd cause
-  unread_stops (stops.ShelfFault name) cause early = absurd cause
-  unread_stops (stops.NoDisk name) cause early = absurd cause
-  unread_stops (stops.BadSize name) cause early = absurd cause
-  unread_stops stops.LogFull cause early = absurd cause
-  unread_stops (stops.Answered answer) cause early = absurd cause
-  unread_stops (stops.NoTrace line) cause early = absurd cause
+  unread_stops _ cause early = absurd cause
 
 unread_finishes : (words : List (List ℕ)) (mode : Mode) (finish : Finish) (source source_after : SourceView)
     (shelf shelf_after : ShelfView) → Accepts words mode → (IsGen mode → ⊥)
@@ -250,13 +229,7 @@ found_finishes words finish source source_after shelf shelf_after accepts ends =
     by stops.NoMemory found early =
         no_memory words finish source source_after shelf shelf_after VerifyMode accepts early gave
         (λ gen. absurd gen) ends.whole.told
-    by stops.BadWords found early = absurd found
-    by stops.ReadFault found early = absurd found
-    by (stops.ShelfFault name) found early = absurd found
-    by (stops.NoDisk name) found early = absurd found
-    by (stops.BadSize name) found early = absurd found
-    by stops.LogFull found early = absurd found
-    by stops.TooLong found early = absurd found
+    by _ found early = absurd found
 
 -- the words ask for `verify`
 pub verified_finishes : (words : List (List ℕ)) (asked : Work) (finish : Finish) (source source_after : SourceView)

@@ -99,16 +99,6 @@ gives_no_fault a b (d ∷ ds) (x ∷ xs) kept h none = by d.kind h.4 (λ e. give
 -- where no take failed none is told
 pub none_blamed : (ending : Ending) (a b : ShelfView) → failed_takes ending ≡ 0
     → ((name : List ℕ) → b.take_faults name ≡ a.take_faults name) → TakesAreToldAt ending a b
-none_blamed Reported a b e h = h
-none_blamed (ReportedButFault name) a b e h = h
-none_blamed BadWords a b e h = h
-none_blamed (NoScript line c) a b e h = h
-none_blamed ReadFault a b e h = h
 none_blamed (ShelfFault name) a b e h = absurd (let bad : 1 ≡ 0 = e in omega (arith, bad))
-none_blamed (NoDisk name) a b e h = h
-none_blamed (BadSize name) a b e h = h
 none_blamed OutOfMemory a b e h = (None, h)
-none_blamed LogFull a b e h = h
-none_blamed TooLong a b e h = h
-none_blamed (Answered found) a b e h = h
-none_blamed (NoTrace line) a b e h = h
+none_blamed _ a b e h = h

@@ -29,18 +29,7 @@ orders_at mode plan opened ending (Some l) h =
 
 stay_at : (call : Call) (ending : Ending) → ImagesStayAt call ending → ImagesStayAt call OutOfMemory
 stay_at call OutOfMemory h = h
-stay_at call Reported h = λ alone. h
-stay_at call (ReportedButFault name) h = λ alone. h
-stay_at call BadWords h = λ alone. h
-stay_at call (NoScript line c) h = λ alone. h
-stay_at call ReadFault h = λ alone. h
-stay_at call (ShelfFault name) h = λ alone. h
-stay_at call (NoDisk name) h = λ alone. h
-stay_at call (BadSize name) h = λ alone. h
-stay_at call LogFull h = λ alone. h
-stay_at call TooLong h = λ alone. h
-stay_at call (Answered found) h = λ alone. h
-stay_at call (NoTrace line) h = λ alone. h
+stay_at call _ h = λ alone. h
 
 stays_at : (call : Call) (ending : Ending) (log : Option (List Entry)) → IfNone log (ImagesStayAt call ending)
     → IfNone log (ImagesStayAt call OutOfMemory)
@@ -50,18 +39,8 @@ stays_at call ending (Some l) h = h
 -- a take that failed stays the one that failed
 takes_at : (ending : Ending) (a b : ShelfView) → TakesAreToldAt ending a b → TakesAreToldAt OutOfMemory a b
 takes_at OutOfMemory a b h = h
-takes_at Reported a b h = (None, h)
-takes_at (ReportedButFault name) a b h = (None, h)
-takes_at BadWords a b h = (None, h)
-takes_at (NoScript line c) a b h = (None, h)
-takes_at ReadFault a b h = (None, h)
 takes_at (ShelfFault name) a b h = (Some name, h)
-takes_at (NoDisk name) a b h = (None, h)
-takes_at (BadSize name) a b h = (None, h)
-takes_at LogFull a b h = (None, h)
-takes_at TooLong a b h = (None, h)
-takes_at (Answered found) a b h = (None, h)
-takes_at (NoTrace line) a b h = (None, h)
+takes_at _ a b h = (None, h)
 
 -- what a call keeps it keeps where memory runs out at its end
 out_of_memory : (call : Call) (mode : Mode) (plan : Plan) (ending : Ending)
@@ -138,18 +117,7 @@ unasked_at : (call : Call) (ending : Ending) (log : Option (List Entry))
     → IfNone log (NoneAsked call.before.shelf call.after.shelf) → IfNone log (NoneAskedAt call ending)
 unasked_at call ending (Some l) h = tt
 unasked_at call OutOfMemory None h = λ alone. h
-unasked_at call Reported None h = h
-unasked_at call (ReportedButFault name) None h = h
-unasked_at call BadWords None h = h
-unasked_at call (NoScript line c) None h = h
-unasked_at call ReadFault None h = h
-unasked_at call (ShelfFault name) None h = h
-unasked_at call (NoDisk name) None h = h
-unasked_at call (BadSize name) None h = h
-unasked_at call LogFull None h = h
-unasked_at call TooLong None h = h
-unasked_at call (Answered found) None h = h
-unasked_at call (NoTrace line) None h = h
+unasked_at call _ None h = h
 
 -- both
 keeps_all : (call : Call) (mode : Mode) (plan : Plan) (ending : Ending) → KeepsInside call mode plan ending

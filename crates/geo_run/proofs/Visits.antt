@@ -137,13 +137,7 @@ missed_told a b d stop disk_kinds.Shelf h = by stop h.cause
     by (stops.NoDisk name) c = ap (λ (n : List ℕ). n ∷ []) (sym c.0)
     by (stops.BadSize name) c = ap (λ (n : List ℕ). n ∷ []) (sym c.0)
     by stops.NoMemory c = omega arith
-    by stops.BadWords c = absurd c
-    by (stops.NoScript line cause) c = absurd c
-    by stops.ReadFault c = absurd c
-    by stops.LogFull c = absurd c
-    by stops.TooLong c = absurd c
-    by (stops.Answered answer) c = absurd c
-    by (stops.NoTrace line) c = absurd c
+    by _ c = absurd c
 
 -- a disk couldn't be had, and those before it were given back
 pub stopped_in_order : (plan : Plan) (stop : Stop) (a m n b : ShelfView) (front : List DiskDecl) (d : DiskDecl)
@@ -175,19 +169,11 @@ stopped_in_order plan stop a m n b front d back xs ys kept e opens stopped gives
 
 -- where no name is told, none was missed
 none_missed : (ending : Ending) → missed_by ending ≡ [] → IsMissedAt ending []
-none_missed Reported e = refl
-none_missed (ReportedButFault name) e = refl
-none_missed BadWords e = refl
-none_missed (NoScript line c) e = refl
-none_missed ReadFault e = refl
 none_missed (ShelfFault name) e = sym e
 none_missed (NoDisk name) e = sym e
 none_missed (BadSize name) e = sym e
 none_missed OutOfMemory e = omega arith
-none_missed LogFull e = refl
-none_missed TooLong e = refl
-none_missed (Answered answer) e = refl
-none_missed (NoTrace line) e = refl
+none_missed _ e = refl
 
 -- the shelf wasn't called
 pub none_in_order : (plan : Plan) (ending : Ending) (log : Option (List Entry)) (a : ShelfView)
@@ -204,20 +190,9 @@ none_in_order plan ending log a none_told none = record {
 
 -- where no disk is told to be missed, no take failed
 pub none_failed : (ending : Ending) → missed_by ending ≡ [] → failed_takes ending ≡ 0
-none_failed Reported e = refl
-none_failed (ReportedButFault name) e = refl
-none_failed BadWords e = refl
-none_failed (NoScript line c) e = refl
-none_failed ReadFault e = refl
 none_failed (ShelfFault name) e =
     absurd (let bad : length (name ∷ []) ≡ 0 = ap (λ (ns : List (List ℕ)). length ns) e in omega (arith, bad))
-none_failed (NoDisk name) e = refl
-none_failed (BadSize name) e = refl
-none_failed OutOfMemory e = refl
-none_failed LogFull e = refl
-none_failed TooLong e = refl
-none_failed (Answered answer) e = refl
-none_failed (NoTrace line) e = refl
+none_failed _ e = refl
 
 -- so few names were missed as are told
 few : (missed told : List (List ℕ)) → missed ≡ told → length told ≤ 1 → length missed ≤ 1
@@ -227,18 +202,10 @@ few missed told e short = let same : length missed ≡ length told = ap (λ (ns 
 -- whatever was missed, where memory runs out besides
 missed_at : (ending : Ending) (missed : List (List ℕ)) → IsMissedAt ending missed → IsMissedAt OutOfMemory missed
 missed_at OutOfMemory missed h = h
-missed_at Reported missed h = few missed [] h (omega arith)
-missed_at (ReportedButFault name) missed h = few missed [] h (omega arith)
-missed_at BadWords missed h = few missed [] h (omega arith)
-missed_at (NoScript line c) missed h = few missed [] h (omega arith)
-missed_at ReadFault missed h = few missed [] h (omega arith)
 missed_at (ShelfFault name) missed h = few missed (name ∷ []) h (omega arith)
 missed_at (NoDisk name) missed h = few missed (name ∷ []) h (omega arith)
 missed_at (BadSize name) missed h = few missed (name ∷ []) h (omega arith)
-missed_at LogFull missed h = few missed [] h (omega arith)
-missed_at TooLong missed h = few missed [] h (omega arith)
-missed_at (Answered answer) missed h = few missed [] h (omega arith)
-missed_at (NoTrace line) missed h = few missed [] h (omega arith)
+missed_at _ missed h = few missed [] h (omega arith)
 
 pub order_at_last : (plan : Plan) (ending : Ending) (log : Option (List Entry)) (a b : ShelfView)
     → CallsInOrder plan ending log a b → CallsInOrder plan OutOfMemory log a b

@@ -60,16 +60,7 @@ stop_ends reported stop status before after w = by w.actual w.is w.writes
   where
     due_same : (s : Stop) → due_text [] (ending_of s) ≡ due_text reported (ending_of s)
     due_same stops.BadWords = refl
-    due_same (stops.NoScript line cause) = refl
-    due_same stops.ReadFault = refl
-    due_same (stops.ShelfFault name) = refl
-    due_same (stops.NoDisk name) = refl
-    due_same (stops.BadSize name) = refl
-    due_same stops.NoMemory = refl
-    due_same stops.LogFull = refl
-    due_same stops.TooLong = refl
-    due_same (stops.Answered answer) = refl
-    due_same (stops.NoTrace line) = refl
+    due_same _ = refl
 
     by : (actual : Ending) → (actual ≡ ending_of stop) ⊎ ((actual ≡ OutOfMemory) × IsTextMade (ending_of stop))
         → Writes status (status_of actual) (due_text [] actual) before after
