@@ -42,13 +42,12 @@ pub record Course (before between after : ShelfView) (ds : List DiskDecl) (xs ys
 none_lent : (before between : ShelfView) (ds : List DiskDecl) (xs : List DriveView) → EachHad before between ds xs
     → NoneAmong before.lent ds
 none_lent before between [] [] h = tt
-none_lent before between [] (x ∷ xs) h = absurd h
-none_lent before between (d ∷ ds) [] h = absurd h
 none_lent before between (d ∷ ds) (x ∷ xs) h = (one d.kind h.0, none_lent before between ds xs h.1)
   where
     one : (kind : DiskKind) → IsHad before between d x kind → IsShelf kind → AreOther d.name before.lent
     one disk_kinds.Ram had s = absurd (let bad : false ≡ true = s in cc)
     one disk_kinds.Shelf had s = other-from d.name before.lent had.not_lent
+none_lent before between _ _ h = absurd h
 
 pub course_fate : (a m b : ShelfView) (ds : List DiskDecl) (xs ys : List DriveView) (kept : List (List ℕ))
     → Course a m b ds xs ys kept → EachFate m b ds ys kept

@@ -80,24 +80,22 @@ rose_none f x y e le = omega arith
 no_takes : (a b : ShelfView) (ds : List DiskDecl) (xs : List DriveView)
     → AllByRecursion (λ (d : DiskDecl). IsShelf d.kind → ⊥) ds → OpensDrives a ds xs b → b ≡ a
 no_takes a b [] [] none h = h
-no_takes a b [] (x ∷ xs) none h = absurd h
-no_takes a b (d ∷ ds) [] none h = absurd h
 no_takes a b (d ∷ ds) (x ∷ xs) none h = no_takes h.0 b ds xs none.1 h.2 ∙ one d.kind none.0 h.1
   where
     one : (kind : DiskKind) → (IsShelf kind → ⊥) → OpensDrive a d x h.0 kind → h.0 ≡ a
     one disk_kinds.Ram never g = g.1
     one disk_kinds.Shelf never g = absurd (never refl)
+no_takes a b _ _ none h = absurd h
 
 no_gives : (a b : ShelfView) (ds : List DiskDecl) (xs : List DriveView) (kept : List (List ℕ))
     → AllByRecursion (λ (d : DiskDecl). IsShelf d.kind → ⊥) ds → GivesAll a ds xs kept b → b ≡ a
 no_gives a b [] [] kept none h = h.1
-no_gives a b [] (x ∷ xs) kept none h = absurd h
-no_gives a b (d ∷ ds) [] kept none h = absurd h
 no_gives a b (d ∷ ds) (x ∷ xs) kept none h = no_gives h.0 b ds xs h.2 none.1 h.5 ∙ one d.kind none.0 h.4
   where
     one : (kind : DiskKind) → (IsShelf kind → ⊥) → GivesDrive a d.name x h.1 h.0 kind → h.0 ≡ a
     one disk_kinds.Ram never g = g.1
     one disk_kinds.Shelf never g = absurd (never refl)
+no_gives a b _ _ kept none h = absurd h
 
 -- What is lent and what is foreign
 
@@ -418,8 +416,6 @@ stopped_no_fault m n d stop disk_kinds.Shelf h other none = by stop h.cause othe
 had_along : (a m n : ShelfView) (ds : List DiskDecl) (xs : List DriveView)
     → ((name : List ℕ) → OfName m.told n.told name IsSame) → EachHad a m ds xs → EachHad a n ds xs
 had_along a m n [] [] told h = tt
-had_along a m n [] (x ∷ xs) told h = absurd h
-had_along a m n (d ∷ ds) [] told h = absurd h
 had_along a m n (d ∷ ds) (x ∷ xs) told h = (one d.kind h.0, had_along a m n ds xs told h.1)
   where
     one : (kind : DiskKind) → IsHad a m d x kind → IsHad a n d x kind
@@ -433,6 +429,7 @@ had_along a m n (d ∷ ds) (x ∷ xs) told h = (one d.kind h.0, had_along a m n 
       counted = had.counted;
       image = chain a.told m.told n.told d.name (λ u v w p q. (p.0, q ∙ p.1)) had.image (told d.name);
     }
+had_along a m n _ _ told h = absurd h
 
 front_of : (P : DiskDecl → Type 0) (front back : List DiskDecl) → AllByRecursion P (front ++ back)
     → AllByRecursion P front

@@ -120,14 +120,13 @@ each_before : (a m b : ShelfView) (n : List ℕ) (x : DriveView) (first rest kep
     (ds : List DiskDecl) (xs : List DriveView) → GivesDrive a n x first m kind → kept ≡ first ++ rest
     → AreOther n (names_of ds) → EachFate m b ds xs rest → EachFate a b ds xs kept
 each_before a m b n x first rest kept kind [] [] h e others each = tt
-each_before a m b n x first rest kept kind [] (y ∷ ys) h e others each = absurd each
-each_before a m b n x first rest kept kind (d ∷ ds) [] h e others each = absurd each
 each_before a m b n x first rest kept kind (d ∷ ds) (y ∷ ys) h e others each =
     let other : n ≢ d.name = λ s. others.0 (sym s) in (
       fate_before a m b d.name y first rest kept d.kind e (one_other a m n x first d.name kind h other)
           (one_stays a m n x first d.name kind h other) each.0,
       each_before a m b n x first rest kept kind ds ys h e others.1 each.1,
     )
+each_before a m b n x first rest kept kind _ _ h e others each = absurd each
 
 -- a count that was counted on rose
 pub counted_rose : (before now after : ℕ) → now ≡ counted_on before → after ≡ now → Rose before after
@@ -169,14 +168,13 @@ fate_first a m b name x first rest kept disk_kinds.Shelf h e others stays =
 pub each_fate : (a b : ShelfView) (ds : List DiskDecl) (xs : List DriveView) (kept : List (List ℕ))
     → AreApart (names_of ds) → GivesAll a ds xs kept b → EachFate a b ds xs kept
 each_fate a b [] [] kept apart h = tt
-each_fate a b [] (x ∷ xs) kept apart h = absurd h
-each_fate a b (d ∷ ds) [] kept apart h = absurd h
 each_fate a b (d ∷ ds) (x ∷ xs) kept apart h = (
   fate_first a h.0 b d.name x h.1 h.2 kept d.kind h.4 h.3
       (kept_other h.0 b ds xs h.2 d.name h.5 (foreign_from d.name ds apart.0))
       (gives_stay h.0 b ds xs h.2 d.name h.5 (foreign_from d.name ds apart.0)),
   each_before a h.0 b d.name x h.1 h.2 kept d.kind ds xs h.4 h.3 apart.0 (each_fate h.0 b ds xs h.2 apart.1 h.5),
 )
+each_fate a b _ _ kept apart h = absurd h
 
 -- Gives that failed
 
@@ -197,8 +195,6 @@ pub kept_rose : (a b : ShelfView) (ds : List DiskDecl) (xs : List DriveView) (ke
     → AllByRecursion (λ name. Rose (a.give_faults name) (b.give_faults name)) kept
 kept_rose a b [] [] kept apart h =
     subst (λ ks. AllByRecursion (λ name. Rose (a.give_faults name) (b.give_faults name)) ks) (sym h.0) tt
-kept_rose a b [] (x ∷ xs) kept apart h = absurd h
-kept_rose a b (d ∷ ds) [] kept apart h = absurd h
 kept_rose a b (d ∷ ds) (x ∷ xs) kept apart h = by d.kind h.4 (kept_rose h.0 b ds xs h.2 apart.1 h.5)
   where
     others : AreOther d.name h.2
@@ -226,6 +222,7 @@ kept_rose a b (d ∷ ds) (x ∷ xs) kept apart h = by d.kind h.4 (kept_rose h.0 
             rest disk_kinds.Shelf (inr held) more,
           )
     ]
+kept_rose a b _ _ kept apart h = absurd h
 
 -- What is lent at the end
 
@@ -255,8 +252,6 @@ pub gives_lend : (base : List (List ℕ)) (a b : ShelfView) (ds : List DiskDecl)
     → GivesAll a ds xs kept b → b.lent ≡ base ++ kept
 gives_lend base a b [] [] kept lent none apart h =
     ap (λ (v : ShelfView). v.lent) h.1 ∙ lent ∙ ap (λ ks. base ++ ks) (sym h.0)
-gives_lend base a b [] (x ∷ xs) kept lent none apart h = absurd h
-gives_lend base a b (d ∷ ds) [] kept lent none apart h = absurd h
 gives_lend base a b (d ∷ ds) (x ∷ xs) kept lent none apart h =
     by d.kind lent none.0 h.4 (λ l. gives_lend base h.0 b ds xs h.2 l none.1 apart.1 h.5)
     (λ l. gives_lend (base ++ d.name ∷ []) h.0 b ds xs h.2 l (none_with base d.name ds none.1 apart.0) apart.1 h.5)
@@ -281,6 +276,7 @@ gives_lend base a b (d ∷ ds) (x ∷ xs) kept lent none apart h =
       | inr held ↦ more (held.1.lent ∙ l ∙ sym (append_assoc base (n ∷ []) sn))
           ∙ append_assoc base (n ∷ []) h.2 ∙ ap (λ ks. base ++ ks) (sym (h.3 ∙ ap (λ ks. ks ++ h.2) held.0))
     ]
+gives_lend base a b _ _ kept lent none apart h = absurd h
 
 -- the names that are lent and were before are none of what is kept back
 not_kept : (base names : List (List ℕ)) → AllByRecursion (λ name. Contains base name) names
@@ -332,8 +328,6 @@ pub kept_none : (base : List (List ℕ)) (a b : ShelfView) (ds : List DiskDecl) 
     (kept : List (List ℕ)) → NoneAmong base ds → GivesAll a ds xs kept b
     → AllByRecursion (λ name. AreOther name base) kept
 kept_none base a b [] [] kept none h = subst (λ ks. AllByRecursion (λ name. AreOther name base) ks) (sym h.0) tt
-kept_none base a b [] (x ∷ xs) kept none h = absurd h
-kept_none base a b (d ∷ ds) [] kept none h = absurd h
 kept_none base a b (d ∷ ds) (x ∷ xs) kept none h = by d.kind none.0 h.4 (kept_none base h.0 b ds xs h.2 none.1 h.5)
   where
     fewer : kept ≡ h.2 → AllByRecursion (λ name. AreOther name base) h.2
@@ -348,6 +342,7 @@ kept_none base a b (d ∷ ds) (x ∷ xs) kept none h = by d.kind none.0 h.4 (kep
       | inr held ↦ subst (λ ks. AllByRecursion (λ name. AreOther name base) ks)
           (sym (h.3 ∙ ap (λ ks. ks ++ h.2) held.0)) (other refl, rest)
     ]
+kept_none base a b _ _ kept none h = absurd h
 
 -- Faults
 
@@ -357,8 +352,6 @@ pub gives_fault : (a b : ShelfView) (ds : List DiskDecl) (xs : List DriveView) (
 gives_fault a b [] [] kept h =
     let none : length kept ≡ 0 = ap (λ (ks : List (List ℕ)). length ks) h.0 in
     let same : b.faults ≡ a.faults = ap (λ (v : ShelfView). v.faults) h.1 in omega (arith, none, same)
-gives_fault a b [] (x ∷ xs) kept h = absurd h
-gives_fault a b (d ∷ ds) [] kept h = absurd h
 gives_fault a b (d ∷ ds) (x ∷ xs) kept h = by d.kind h.4 (gives_fault h.0 b ds xs h.2 h.5)
   where
     by : (kind : DiskKind) → GivesDrive a d.name x h.1 h.0 kind → RoseBy (length h.2) h.0.faults b.faults
@@ -379,6 +372,7 @@ gives_fault a b (d ∷ ds) (x ∷ xs) kept h = by d.kind h.4 (gives_fault h.0 b 
           let rose : min (a.faults + 1) (2 ^ 64 - 1) ≤ h.0.faults = held.1.rose in
           let r : min (h.0.faults + length h.2) (2 ^ 64 - 1) ≤ b.faults = rest in omega (arith, more, rose, r)
     ]
+gives_fault a b _ _ kept h = absurd h
 
 -- Kept names of the plan
 
@@ -396,8 +390,6 @@ of_more d ds (n ∷ names) all =
 pub kept_of_plan : (a b : ShelfView) (ds : List DiskDecl) (xs : List DriveView) (kept : List (List ℕ))
     → GivesAll a ds xs kept b → AllByRecursion (λ name. is_of ds name ≡ true) kept
 kept_of_plan a b [] [] kept h = subst (λ ks. AllByRecursion (λ name. is_of [] name ≡ true) ks) (sym h.0) tt
-kept_of_plan a b [] (x ∷ xs) kept h = absurd h
-kept_of_plan a b (d ∷ ds) [] kept h = absurd h
 kept_of_plan a b (d ∷ ds) (x ∷ xs) kept h =
     by d.kind refl h.4 (of_more d ds h.2 (kept_of_plan h.0 b ds xs h.2 h.5))
   where
@@ -418,6 +410,7 @@ kept_of_plan a b (d ∷ ds) (x ∷ xs) kept h =
       | inr held ↦ subst (λ ks. AllByRecursion (λ name. is_of (d ∷ ds) name ≡ true) ks)
           (sym (h.3 ∙ ap (λ ks. ks ++ h.2) held.0)) (own e, rest)
     ]
+kept_of_plan a b _ _ kept h = absurd h
 
 -- the first disk that is kept
 abbrev pub first_of : List DiskDecl → List (List ℕ) → Option DiskDecl
@@ -430,8 +423,6 @@ pub first_kept : (a b : ShelfView) (ds : List DiskDecl) (xs : List DriveView) (k
 first_kept a b [] [] kept name apart h e =
     absurd (let bad : slice_get [] 0 ≡ Some name = subst (λ (ks : List (List ℕ)). slice_get ks 0 ≡ Some name) h.0 e in
     cc)
-first_kept a b [] (x ∷ xs) kept name apart h e = absurd h
-first_kept a b (d ∷ ds) [] kept name apart h e = absurd h
 first_kept a b (d ∷ ds) (x ∷ xs) kept name apart h e =
     by d.kind refl h.4 (λ got. first_kept h.0 b ds xs h.2 name apart.1 h.5 got)
   where
@@ -470,3 +461,4 @@ first_kept a b (d ∷ ds) (x ∷ xs) kept name apart h e =
           ∙ ap (λ t. t || list_any (bytes_eq d.name) h.2) (same_itself d.name))
           (let got : Some d.name ≡ Some name = ap (λ (ks : List (List ℕ)). slice_get ks 0) (sym one_more) ∙ e in cc)
     ]
+first_kept a b _ _ kept name apart h e = absurd h

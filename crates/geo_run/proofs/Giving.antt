@@ -27,8 +27,6 @@ gives_more a b c [] n [] x kept k h g = (
   subst (λ (v : ShelfView). GivesDrive v n x k c (drive_kind x)) h.1 g,
   (refl, refl),
 )
-gives_more a b c [] n (y ∷ ys) x kept k h g = absurd h
-gives_more a b c (m ∷ ms) n [] x kept k h g = absurd h
 gives_more a b c (m ∷ ms) n (y ∷ ys) x kept k h g = (
   h.0,
   h.1,
@@ -37,6 +35,7 @@ gives_more a b c (m ∷ ms) n (y ∷ ys) x kept k h g = (
   h.4,
   gives_more h.0 b c ms n ys x h.2 k h.5 g,
 )
+gives_more a b c _ n _ x kept k h g = absurd h
 
 -- What is out stays out
 
@@ -77,13 +76,12 @@ all_still_out : (a b : ShelfView) (n : List ℕ) (x : DriveView) (k : List (List
     (ms : List (List ℕ)) (ys : List DriveView)
     → GivesDrive a n x k b kind → AreOther n ms → AreOut a ms ys → AreOut b ms ys
 all_still_out a b n x k kind [] [] h others out = tt
-all_still_out a b n x k kind [] (y ∷ ys) h others out = absurd out
-all_still_out a b n x k kind (m ∷ ms) [] h others out = absurd out
 all_still_out a b n x k kind (m ∷ ms) (y ∷ ys) h others out = (
   λ s. still_out a b n m x y k kind h others.0 (out.0 s),
   out.1,
   all_still_out a b n x k kind ms ys h others.1 out.2,
 )
+all_still_out a b n x k kind _ _ h others out = absurd out
 
 -- the others are still out after one was given back
 pub out_next : (a b : ShelfView) (n : List ℕ) (x : DriveView) (k : List (List ℕ))
@@ -110,8 +108,6 @@ GivesAll a _ _ kept b = ⊥
 pub gives_all : (a b : ShelfView) (ds : List DiskDecl) (xs : List DriveView) (kept : List (List ℕ))
     → SameKinds ds xs → GivesBack a (names_of ds) xs kept b → GivesAll a ds xs kept b
 gives_all a b [] [] kept kinds h = h
-gives_all a b [] (x ∷ xs) kept kinds h = absurd h
-gives_all a b (d ∷ ds) [] kept kinds h = absurd h
 gives_all a b (d ∷ ds) (x ∷ xs) kept kinds h = (
   h.0,
   h.1,
@@ -120,6 +116,7 @@ gives_all a b (d ∷ ds) (x ∷ xs) kept kinds h = (
   subst (λ (k : DiskKind). GivesDrive a d.name x h.1 h.0 k) kinds.0 h.4,
   gives_all h.0 b ds xs h.2 kinds.1 h.5,
 )
+gives_all a b _ _ kept kinds h = absurd h
 
 -- What stays
 
@@ -152,11 +149,10 @@ give_stays a b n x k name disk_kinds.Shelf h other =
 pub gives_stay : (a b : ShelfView) (ds : List DiskDecl) (xs : List DriveView) (kept : List (List ℕ)) (name : List ℕ)
     → GivesAll a ds xs kept b → IsForeign name ds → NameStays a b name
 gives_stay a b [] [] kept name h other = stays_along a b name h.1
-gives_stay a b [] (x ∷ xs) kept name h other = absurd h
-gives_stay a b (d ∷ ds) [] kept name h other = absurd h
 gives_stay a b (d ∷ ds) (x ∷ xs) kept name h other =
     stays_twice a h.0 b name (give_stays a h.0 d.name x h.1 name d.kind h.4 other.0)
     (gives_stay h.0 b ds xs h.2 name h.5 other.1)
+gives_stay a b _ _ kept name h other = absurd h
 
 -- What is kept
 
@@ -174,9 +170,8 @@ first_other a b n x k name disk_kinds.Shelf h other =
 pub kept_other : (a b : ShelfView) (ds : List DiskDecl) (xs : List DriveView) (kept : List (List ℕ)) (name : List ℕ)
     → GivesAll a ds xs kept b → IsForeign name ds → AreOther name kept
 kept_other a b [] [] kept name h others = subst (λ ks. AreOther name ks) (sym h.0) tt
-kept_other a b [] (x ∷ xs) kept name h others = absurd h
-kept_other a b (d ∷ ds) [] kept name h others = absurd h
 kept_other a b (d ∷ ds) (x ∷ xs) kept name h others =
     subst (λ ks. AreOther name ks) (sym h.3)
     (other-append name h.1 h.2 (first_other a h.0 d.name x h.1 name d.kind h.4 others.0)
     (kept_other h.0 b ds xs h.2 name h.5 others.1))
+kept_other a b _ _ kept name h others = absurd h

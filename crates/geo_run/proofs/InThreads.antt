@@ -37,12 +37,11 @@ parts_served m added xs zs ys h taken first second disk =
     by : (x z y : Option DriveView) → IsServedAt m.log disk x z → IsServedAt added disk z y
         → IsServedAt (m.log ++ added) disk x y
     by None None None a b = tt
-    by None None (Some y) a b = absurd b
     by None (Some z) y a b = absurd a
     by (Some x) None y a b = absurd a
-    by (Some x) (Some z) None a b = absurd b
     by (Some x) (Some z) (Some y) a b =
         parts_serve m.plan m.facts h.plan h.facts (m.log ++ added) h.lawful.0 m.log added disk x z y refl taken a b
+    by _ _ _ a b = absurd b
 
 -- no step was made after the threads
 none_after : (m : MeshView) → FollowsOrder fixed_order (opened m) m.log []

@@ -232,26 +232,11 @@ images_at call ending (Some l) h = tt
 images_at call OutOfMemory None h = λ alone. h
 images_at call _ None h = h
 
--- the parts of what a mesh did
-history_of : (mode : Mode) (plan : Plan) (facts : List (ℕ × ℕ)) (ending : Ending) (log : Option (List Entry))
-    → IfSome log (MeshRan mode plan facts ending) → IfSome log (KeepsHistory (opening plan facts))
-history_of mode plan facts ending None h = tt
-history_of mode plan facts ending (Some l) h = h.history
-
-fits_of : (mode : Mode) (plan : Plan) (facts : List (ℕ × ℕ)) (ending : Ending) (log : Option (List Entry))
-    → IfSome log (MeshRan mode plan facts ending) → IfSome log (Fits (opening plan facts))
-fits_of mode plan facts ending None h = tt
-fits_of mode plan facts ending (Some l) h = h.fits
-
-end_of : (mode : Mode) (plan : Plan) (facts : List (ℕ × ℕ)) (ending : Ending) (log : Option (List Entry))
-    → IfSome log (MeshRan mode plan facts ending) → IsWhole ending → IfSome log (RanToItsEnd (opening plan facts))
-end_of mode plan facts ending None h whole = tt
-end_of mode plan facts ending (Some l) h whole = h.to_its_end whole
-
-order_by : (mode : Mode) (plan : Plan) (facts : List (ℕ × ℕ)) (ending : Ending) (log : Option (List Entry))
-    → IfSome log (MeshRan mode plan facts ending) → IfSome log (FollowsMode mode plan (opening plan facts) ending)
-order_by mode plan facts ending None h = tt
-order_by mode plan facts ending (Some l) h = h.follows
+-- a part of what a mesh did
+part_of : (log : Option (List Entry)) (F G : List Entry → Type 0) → ((l : List Entry) → F l → G l) → IfSome log F
+    → IfSome log G
+part_of None F G f h = tt
+part_of (Some l) F G f h = f l h
 
 -- a call whose plan was run
 planned : (call : Call) (mode : Mode) (plan : Plan) (ending : Ending) → ReadAs call mode plan
@@ -268,10 +253,10 @@ planned call mode plan ending read gave parsed ran source told none = record {
   has_log = ran.has_log;
   is_opened = λ some. let o = ran.opens some in
       record { parsed = parsed; there = o.there; facts_fit = o.facts_fit; told_sizes = o.told_sizes };
-  history = history_of mode plan call.facts ending call.log ran.mesh;
-  to_its_end = λ whole. end_of mode plan call.facts ending call.log ran.mesh whole;
-  order = order_by mode plan call.facts ending call.log ran.mesh;
-  fits = fits_of mode plan call.facts ending call.log ran.mesh;
+  history = mesh_part (KeepsHistory (opening plan call.facts)) (λ l m. m.history);
+  to_its_end = λ whole. mesh_part (RanToItsEnd (opening plan call.facts)) (λ l m. m.to_its_end whole);
+  order = mesh_part (FollowsMode mode plan (opening plan call.facts) ending) (λ l m. m.follows);
+  fits = mesh_part (Fits (opening plan call.facts)) (λ l m. m.fits);
   disks = ran.disks;
   lent = ran.lent;
   reads = λ other. told;
@@ -286,103 +271,26 @@ planned call mode plan ending read gave parsed ran source told none = record {
   outside = record {
     source = λ which. elim which [
       | inl gen ↦ source gen
-      | inr bad ↦ absurd
-          (not_before mode plan (opening plan call.facts) call.log call.before.shelf call.after.shelf ending ran.cause
-          (bad_is_before ending bad))
+      | inr bad ↦ absurd (never_before (bad_is_before ending bad))
     ];
-    shelf = λ which. elim which [
-      | inl gen ↦ ran.untouched (none gen)
-      | inr before ↦ absurd
-          (not_before mode plan (opening plan call.facts) call.log call.before.shelf call.after.shelf ending ran.cause
-          before)
-    ];
+    shelf = λ which. elim which [ inl gen ↦ ran.untouched (none gen) | inr before ↦ absurd (never_before before) ];
   };
 }
+  where
+    mesh_part : (G : List Entry → Type 0) → ((l : List Entry) → MeshRan mode plan call.facts ending l → G l)
+        → IfSome call.log G
+    mesh_part G f = part_of call.log (MeshRan mode plan call.facts ending) G f ran.mesh
+
+    never_before : IsBeforeDisks ending → ⊥
+    never_before before =
+        not_before mode plan (opening plan call.facts) call.log call.before.shelf call.after.shelf ending ran.cause
+        before
 
 -- How a run finished
-
--- the call of a run that finished so, whatever is then written
-abbrev pub finished : List (List ℕ) → Finish → SourceView → SourceView → ShelfView → ShelfView → ℕ → SinkView → SinkView
-    → Call
-finished words finish source source_after shelf shelf_after status sink sink_after =
-    call_of words (record { status = status; log = finish.log; facts = finish.facts }) (outside_of source sink shelf)
-    (outside_of source_after sink_after shelf_after)
-
--- whether the source was read whole doesn't depend on what is written
-read_again : (words : List (List ℕ)) (finish : Finish) (source source_after : SourceView)
-    (shelf shelf_after : ShelfView) (m n : ℕ) (sink other sink_after other_after : SinkView) (mode : Mode)
-    → WasReadWhole (finished words finish source source_after shelf shelf_after m sink sink_after) mode
-    → WasReadWhole (finished words finish source source_after shelf shelf_after n other other_after) mode
-read_again words finish source source_after shelf shelf_after m n sink other sink_after other_after mode w = by mode w
-  where
-    same : (z : Mode) → IsReadWhole (finished words finish source source_after shelf shelf_after m sink sink_after) z
-        → IsReadWhole (finished words finish source source_after shelf shelf_after n other other_after) z
-    same z w = record { few = w.few; ended = w.ended; none_left = w.none_left }
-
-    by : (z : Mode) → WasReadWhole (finished words finish source source_after shelf shelf_after m sink sink_after) z
-        → WasReadWhole (finished words finish source source_after shelf shelf_after n other other_after) z
-    by StepMode w = same StepMode w
-    by RunMode w = same RunMode w
-    by (GenMode s c) w = tt
-    by SweepMode w = same SweepMode w
-    by WatchMode w = same WatchMode w
-    by TraceMode w = same TraceMode w
-    by VerifyMode w = same VerifyMode w
 
 -- the log of a finish that has none
 no_entries : (finish : Finish) → finish.log ≡ None → entries_in finish.log ≡ None
 no_entries finish e = ap (λ l. entries_in l) e
-
--- a run that stopped before a disk was taken
-pub stops_early : (words : List (List ℕ)) (finish : Finish) (source source_after : SourceView)
-    (shelf shelf_after : ShelfView)
-    (mode : Mode) (stop : Stop) → Accepts words mode → EndsEarly finish stop shelf shelf_after
-    → Gave source (added_to source.given source_after.given) source_after
-    → ((status : ℕ) (sink sink_after : SinkView) (plan : Plan)
-    → CauseOf (finished words finish source source_after shelf shelf_after status sink sink_after) mode plan
-    (ending_of stop))
-    → HasLog (ending_of stop) None → (IsWhole (ending_of stop) → ⊥) → missed_by (ending_of stop) ≡ []
-    → (IsGen mode ⊎ IsBadWords (ending_of stop) → source_after ≡ source)
-    → (ending_of stop ≢ ReadFault → source_after.faults ≡ source.faults)
-    → Finishes words finish source source_after shelf shelf_after
-stops_early words finish source source_after shelf shelf_after mode stop accepts ends gave cause has not_whole
-    none_missed
-    same told = record {
-      mode = mode;
-      plan = (read_as (finished words finish source source_after shelf shelf_after 0 none_yet none_yet) mode accepts).0;
-      due = subst (λ (due : Due). IsDue due
-          (reported mode (added_to source.given source_after.given) plan finish.facts.items (entries_in finish.log)))
-          (sym ends.due) tt;
-      keeps = λ status sink sink_after.
-          let e : ending_by finish.due ≡ ending_of stop = ap ending_by ends.due in
-          let call = finished words finish source source_after shelf shelf_after status sink sink_after in
-          let reading : ReadAs call mode plan = again status sink sink_after
-          (read_as (finished words finish source source_after shelf shelf_after 0 none_yet none_yet) mode accepts).1 in
-          subst (λ (ending : Ending). KeepsInside call mode plan ending) (sym e)
-          (early call mode plan (ending_of stop) reading gave (cause status sink sink_after plan)
-          (no_entries finish ends.log) ends.shelf has not_whole none_missed same told);
-    }
-  where
-    none_yet : SinkView
-    none_yet = record { taken = []; held = None; faults = 0 }
-
-    plan : Plan
-    plan = (read_as (finished words finish source source_after shelf shelf_after 0 none_yet none_yet) mode accepts).0
-
-    -- what was read doesn't depend on what is written
-    again : (status : ℕ) (sink sink_after : SinkView)
-        → ReadAs (finished words finish source source_after shelf shelf_after 0 none_yet none_yet) mode plan
-        → ReadAs (finished words finish source source_after shelf shelf_after status sink sink_after) mode plan
-    again status sink sink_after r = record {
-      mode_is = r.mode_is;
-      plan_is = λ w. r.plan_is
-          (read_again words finish source source_after shelf shelf_after status 0 sink none_yet sink_after none_yet mode
-          w);
-      no_plan = r.no_plan;
-      not_read = λ unread. r.not_read (λ w. unread
-          (read_again words finish source source_after shelf shelf_after 0 status none_yet sink none_yet sink_after mode
-          w));
-    }
 
 -- a mode that opens a mesh, and takes no disk, makes its script
 no_disk_taken : (mode : Mode) → OpensMesh mode → TakesNoDisk mode → IsGen mode
@@ -396,72 +304,109 @@ pub text_aside : (start count : ℕ) (a b : List ℕ) (plan : Plan) (facts : Lis
 text_aside start count a b plan facts None = refl
 text_aside start count a b plan facts (Some l) = refl
 
--- a run whose plan was run
-runs_text : (words : List (List ℕ)) (finish : Finish) (source source_after : SourceView) (shelf shelf_after : ShelfView)
-    (mode : Mode) (plan : Plan) → OpensMesh mode → Accepts words mode
-    → script (script_of mode (added_to source.given source_after.given)) ≡ Ok plan
-    → Gave source (added_to source.given source_after.given) source_after
-    → RunsPlan mode plan finish.facts.items (entries_in finish.log) (ending_by finish.due) shelf shelf_after
-    → IsDue finish.due
-    (reported mode (added_to source.given source_after.given) plan finish.facts.items (entries_in finish.log))
-    → ((status : ℕ) (sink sink_after : SinkView)
-    → WasReadWhole (finished words finish source source_after shelf shelf_after status sink sink_after) mode)
-    → (IsGen mode → source_after ≡ source) → source_after.faults ≡ source.faults
-    → (IsGen mode → HasNoShelfDisk plan)
-    → Finishes words finish source source_after shelf shelf_after
-runs_text words finish source source_after shelf shelf_after mode plan opens accepts is gave ran due whole same told
-    none = record {
-      mode = mode;
-      plan = plan;
-      due = due;
-      keeps = λ status sink sink_after.
-          let call = finished words finish source source_after shelf shelf_after status sink sink_after in
-          planned call mode plan (ending_by finish.due)
-          (read_as_whole call mode (Ok plan) accepts (whole status sink sink_after) is)
-          gave
-          (record { accepted = accepts; mesh = opens; read = whole status sink sink_after; script = is })
-          ran same told (λ no_disk. none (no_disk_taken mode opens no_disk));
-    }
+module _ (words : List (List ℕ)) (finish : Finish) (source source_after : SourceView)
+    (shelf shelf_after : ShelfView) where
+  -- the call of a run that finished so, whatever is then written
+  abbrev pub finished : ℕ → SinkView → SinkView → Call
+  finished status sink sink_after =
+      call_of words (record { status = status; log = finish.log; facts = finish.facts }) (outside_of source sink shelf)
+      (outside_of source_after sink_after shelf_after)
 
--- the end of a text by its reading
-pub of_text : (words : List (List ℕ)) (finish : Finish) (source source_after : SourceView)
-    (shelf shelf_after : ShelfView) (mode : Mode) (r : Result Plan Fault) → OpensMesh mode → Accepts words mode
-    → script (script_of mode (added_to source.given source_after.given)) ≡ r
-    → Gave source (added_to source.given source_after.given) source_after
-    → FinishesPlan (added_to source.given source_after.given) r mode finish shelf shelf_after
-    → ((status : ℕ) (sink sink_after : SinkView)
-    → WasReadWhole (finished words finish source source_after shelf shelf_after status sink sink_after) mode)
-    → (IsGen mode → source_after ≡ source) → source_after.faults ≡ source.faults
-    → (IsGen mode → (plan : Plan) → r ≡ Ok plan → HasNoShelfDisk plan)
-    → (IsGen mode → (fault : Fault) → r ≡ Err fault → ⊥)
-    → (IsGen mode ⊎ ((status : ℕ) (sink sink_after : SinkView)
-    → ReadsScript (finished words finish source source_after shelf shelf_after status sink sink_after) mode))
-    → Finishes words finish source source_after shelf shelf_after
-of_text words finish source source_after shelf shelf_after mode (Ok plan) opens accepts is gave ends whole same told
-    none no_fault reads =
-    runs_text words finish source source_after shelf shelf_after mode plan opens accepts is gave ends.0 ends.1 whole
-    same told (λ gen. none gen plan refl)
-of_text words finish source source_after shelf shelf_after mode (Err fault) opens accepts is gave ends whole same told
-    none no_fault (inl gen) =
-    absurd (no_fault gen fault refl)
-of_text words finish source source_after shelf shelf_after mode (Err fault) opens accepts is gave ends whole same told
-    none no_fault (inr reads) =
-    stops_early words finish source source_after shelf shelf_after mode (stops.NoScript fault.line fault.cause)
-    accepts ends gave
-    (λ status sink sink_after plan. (reads status sink sink_after, whole status sink sink_after, is))
-    refl (λ w. w) refl (λ which. elim which [ inl gen ↦ same gen | inr bad ↦ absurd bad ]) (λ other. told)
+  -- what the source gave
+  abbrev text_given : List ℕ
+  text_given = added_to source.given source_after.given
 
--- memory ran out before the mesh opened
-pub no_memory : (words : List (List ℕ)) (finish : Finish) (source source_after : SourceView)
-    (shelf shelf_after : ShelfView)
-    (mode : Mode) → Accepts words mode → EndsEarly finish stops.NoMemory shelf shelf_after
-    → Gave source (added_to source.given source_after.given) source_after
-    → (IsGen mode → source_after ≡ source) → source_after.faults ≡ source.faults
-    → Finishes words finish source source_after shelf shelf_after
-no_memory words finish source source_after shelf shelf_after mode accepts ends gave same told =
-    stops_early words finish source source_after shelf shelf_after mode stops.NoMemory accepts ends gave
-    (λ status sink sink_after plan. tt) tt (λ w. w) refl
-    (λ which. elim which [ inl gen ↦ same gen | inr bad ↦ absurd bad ]) (λ other. told)
+  -- whether the source was read whole doesn't depend on what is written
+  read_again : (m n : ℕ) (sink other sink_after other_after : SinkView) (mode : Mode)
+      → WasReadWhole (finished m sink sink_after) mode → WasReadWhole (finished n other other_after) mode
+  read_again m n sink other sink_after other_after (GenMode s c) w = tt
+  read_again m n sink other sink_after other_after _ w =
+      record { few = w.few; ended = w.ended; none_left = w.none_left }
+
+  -- a run that stopped before a disk was taken
+  pub stops_early : (mode : Mode) (stop : Stop) → Accepts words mode → EndsEarly finish stop shelf shelf_after
+      → Gave source text_given source_after
+      → ((status : ℕ) (sink sink_after : SinkView) (plan : Plan)
+      → CauseOf (finished status sink sink_after) mode plan (ending_of stop))
+      → HasLog (ending_of stop) None → (IsWhole (ending_of stop) → ⊥) → missed_by (ending_of stop) ≡ []
+      → (IsGen mode ⊎ IsBadWords (ending_of stop) → source_after ≡ source)
+      → (ending_of stop ≢ ReadFault → source_after.faults ≡ source.faults)
+      → Finishes words finish source source_after shelf shelf_after
+  stops_early mode stop accepts ends gave cause has not_whole none_missed same told = record {
+    mode = mode;
+    plan = reading.0;
+    due = subst (λ (due : Due). IsDue due
+        (reported mode text_given reading.0 finish.facts.items (entries_in finish.log))) (sym ends.due) tt;
+    keeps = λ status sink sink_after.
+        subst (λ (ending : Ending). KeepsInside (finished status sink sink_after) mode reading.0 ending)
+        (sym (ap ending_by ends.due))
+        (early (finished status sink sink_after) mode reading.0 (ending_of stop) (again status sink sink_after) gave
+        (cause status sink sink_after reading.0) (no_entries finish ends.log) ends.shelf has not_whole none_missed same
+        told);
+  }
+    where
+      none_yet : SinkView
+      none_yet = record { taken = []; held = None; faults = 0 }
+
+      reading : (plan : Plan) × ReadAs (finished 0 none_yet none_yet) mode plan
+      reading = read_as (finished 0 none_yet none_yet) mode accepts
+
+      -- what was read doesn't depend on what is written
+      again : (status : ℕ) (sink sink_after : SinkView) → ReadAs (finished status sink sink_after) mode reading.0
+      again status sink sink_after = record {
+        mode_is = reading.1.mode_is;
+        plan_is = λ w. reading.1.plan_is (read_again status 0 sink none_yet sink_after none_yet mode w);
+        no_plan = reading.1.no_plan;
+        not_read = λ unread. reading.1.not_read (λ w. unread
+            (read_again 0 status none_yet sink none_yet sink_after mode w));
+      }
+
+  -- a run whose plan was run
+  runs_text : (mode : Mode) (plan : Plan) → OpensMesh mode → Accepts words mode
+      → script (script_of mode text_given) ≡ Ok plan → Gave source text_given source_after
+      → FinishesPlan text_given (Ok plan) mode finish shelf shelf_after
+      → ((status : ℕ) (sink sink_after : SinkView) → WasReadWhole (finished status sink sink_after) mode)
+      → (IsGen mode → source_after ≡ source) → source_after.faults ≡ source.faults
+      → (IsGen mode → HasNoShelfDisk plan) → Finishes words finish source source_after shelf shelf_after
+  runs_text mode plan opens accepts is gave ends whole same told none = record {
+    mode = mode;
+    plan = plan;
+    due = ends.1;
+    keeps = λ status sink sink_after.
+        planned (finished status sink sink_after) mode plan (ending_by finish.due)
+        (read_as_whole (finished status sink sink_after) mode (Ok plan) accepts (whole status sink sink_after) is) gave
+        (record { accepted = accepts; mesh = opens; read = whole status sink sink_after; script = is }) ends.0 same
+        told (λ no_disk. none (no_disk_taken mode opens no_disk));
+  }
+
+  -- the end of a text by its reading
+  pub of_text : (mode : Mode) (r : Result Plan Fault) → OpensMesh mode → Accepts words mode
+      → script (script_of mode text_given) ≡ r → Gave source text_given source_after
+      → FinishesPlan text_given r mode finish shelf shelf_after
+      → ((status : ℕ) (sink sink_after : SinkView) → WasReadWhole (finished status sink sink_after) mode)
+      → (IsGen mode → source_after ≡ source) → source_after.faults ≡ source.faults
+      → (IsGen mode → (plan : Plan) → r ≡ Ok plan → HasNoShelfDisk plan)
+      → (IsGen mode → (fault : Fault) → r ≡ Err fault → ⊥)
+      → (IsGen mode ⊎ ((status : ℕ) (sink sink_after : SinkView)
+      → ReadsScript (finished status sink sink_after) mode))
+      → Finishes words finish source source_after shelf shelf_after
+  of_text mode (Ok plan) opens accepts is gave ends whole same told none no_fault reads =
+      runs_text mode plan opens accepts is gave ends whole same told (λ gen. none gen plan refl)
+  of_text mode (Err fault) opens accepts is gave ends whole same told none no_fault (inl gen) =
+      absurd (no_fault gen fault refl)
+  of_text mode (Err fault) opens accepts is gave ends whole same told none no_fault (inr reads) =
+      stops_early mode (stops.NoScript fault.line fault.cause) accepts ends gave
+      (λ status sink sink_after plan. (reads status sink sink_after, whole status sink sink_after, is)) refl (λ w. w)
+      refl (λ which. elim which [ inl gen ↦ same gen | inr bad ↦ absurd bad ]) (λ other. told)
+
+  -- memory ran out before the mesh opened
+  pub no_memory : (mode : Mode) → Accepts words mode → EndsEarly finish stops.NoMemory shelf shelf_after
+      → Gave source text_given source_after
+      → (IsGen mode → source_after ≡ source) → source_after.faults ≡ source.faults
+      → Finishes words finish source source_after shelf shelf_after
+  no_memory mode accepts ends gave same told =
+      stops_early mode stops.NoMemory accepts ends gave (λ status sink sink_after plan. tt) tt (λ w. w) refl
+      (λ which. elim which [ inl gen ↦ same gen | inr bad ↦ absurd bad ]) (λ other. told)
 
 -- the text that a source gave is what came behind what it had given
 pub text_is : (source source_after : SourceView) (text : List ℕ) → Gave source text source_after

@@ -133,10 +133,8 @@ served_later log n x y s =
 pub out_served : (s : ShelfView) (log : List Entry) (n : ℕ) (names : List (List ℕ)) (xs ys : List DriveView)
     → AreOut s names xs → ServeAll log n xs ys → AreOut s names ys
 out_served s log n [] [] [] out served = tt
-out_served s log n [] [] (y ∷ ys) out served = absurd served
 out_served s log n [] (x ∷ xs) ys out served = absurd out
 out_served s log n (m ∷ ms) [] ys out served = absurd out
-out_served s log n (m ∷ ms) (x ∷ xs) [] out served = absurd served
 out_served s log n (m ∷ ms) (x ∷ xs) (y ∷ ys) out served = (
   λ kind. let was = out.0 (sym (ap kind_by served.0.kind) ∙ kind) in record {
     lent = was.lent;
@@ -146,6 +144,7 @@ out_served s log n (m ∷ ms) (x ∷ xs) (y ∷ ys) out served = (
   out.1,
   out_served s log (n + 1) ms xs ys out.2 served.1,
 )
+out_served s log n _ _ _ out served = absurd served
 
 -- The items of loops
 

@@ -26,8 +26,6 @@ pub all_out : (a b : ShelfView) (ds : List DiskDecl) (xs : List DriveView) → S
     → ((name : List ℕ) → Contains (shelf_names ds) name → Contains b.lent name) → EachHad a b ds xs
     → AreOut b (names_of ds) xs
 all_out a b [] [] counts apart lent h = tt
-all_out a b [] (x ∷ xs) counts apart lent h = absurd h
-all_out a b (d ∷ ds) [] counts apart lent h = absurd h
 all_out a b (d ∷ ds) (x ∷ xs) counts apart lent h = (
   λ s. one d.kind lent h.0 s,
   apart.0,
@@ -47,6 +45,7 @@ all_out a b (d ∷ ds) (x ∷ xs) counts apart lent h = (
       lent = l d.name (contains_first d.name (shelf_names ds));
       counted = let e : b.faults_of d.name ≡ x.faults = counts.disks d.name ∙ sym had.brought in omega (arith, e);
     }
+all_out a b _ _ counts apart lent h = absurd h
 
 -- by what was done
 pub taken_out : (ds : List DiskDecl) (names : List (List ℕ)) (xs : List DriveView) (a m : ShelfView)
@@ -62,8 +61,6 @@ taken_out ds names xs a m apart named opens =
 stays_out : (m n : ShelfView) (names : List (List ℕ)) (xs : List DriveView) → n.lent ≡ m.lent
     → ((name : List ℕ) → n.faults_of name ≡ m.faults_of name) → AreOut m names xs → AreOut n names xs
 stays_out m n [] [] lent disks out = tt
-stays_out m n [] (x ∷ xs) lent disks out = absurd out
-stays_out m n (name ∷ names) [] lent disks out = absurd out
 stays_out m n (name ∷ names) (x ∷ xs) lent disks out = (
   λ k. record {
     lent = subst (λ (ns : List (List ℕ)). Contains ns name) (sym lent) (out.0 k).lent;
@@ -73,6 +70,7 @@ stays_out m n (name ∷ names) (x ∷ xs) lent disks out = (
   out.1,
   stays_out m n names xs lent disks out.2,
 )
+stays_out m n _ _ lent disks out = absurd out
 
 -- where a take stopped, those that were taken before are out
 pub stopped_out : (a b : ShelfView) (ds : List DiskDecl) (names : List (List ℕ)) (xs : List DriveView) (stop : Stop)

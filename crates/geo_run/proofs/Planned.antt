@@ -51,19 +51,17 @@ kind_had a b d x disk_kinds.Shelf h = h.kind
 
 pub kinds_had : (a b : ShelfView) (ds : List DiskDecl) (xs : List DriveView) → EachHad a b ds xs → SameKinds ds xs
 kinds_had a b [] [] h = tt
-kinds_had a b [] (x ∷ xs) h = absurd h
-kinds_had a b (d ∷ ds) [] h = absurd h
 kinds_had a b (d ∷ ds) (x ∷ xs) h = (kind_had a b d x d.kind h.0, kinds_had a b ds xs h.1)
+kinds_had a b _ _ h = absurd h
 
 pub kinds_served : (log : List Entry) (n : ℕ) (ds : List DiskDecl) (xs ys : List DriveView)
     → SameKinds ds xs → ServeAll log n xs ys → SameKinds ds ys
 kinds_served log n [] [] [] k s = tt
-kinds_served log n [] [] (y ∷ ys) k s = absurd s
 kinds_served log n [] (x ∷ xs) ys k s = absurd k
 kinds_served log n (d ∷ ds) [] ys k s = absurd k
-kinds_served log n (d ∷ ds) (x ∷ xs) [] k s = absurd s
 kinds_served log n (d ∷ ds) (x ∷ xs) (y ∷ ys) k s =
     (ap kind_by s.0.kind ∙ k.0, kinds_served log (n + 1) ds xs ys k.1 s.1)
+kinds_served log n _ _ _ k s = absurd s
 
 fact_had : (a b : ShelfView) (d : DiskDecl) (x : DriveView) (kind : DiskKind) → d.kind ≡ kind → IsDiskDecl d
     → IsHad a b d x kind → IsFact d (size_of x)
@@ -91,10 +89,9 @@ fact_had a b d x disk_kinds.Shelf k decl h = record {
 pub facts_had : (a b : ShelfView) (ds : List DiskDecl) (xs : List DriveView) → AllByRecursion IsDiskDecl ds
     → EachHad a b ds xs → AllZip IsFact ds (map size_of xs)
 facts_had a b [] [] decls h = tt
-facts_had a b [] (x ∷ xs) decls h = absurd h
-facts_had a b (d ∷ ds) [] decls h = absurd h
 facts_had a b (d ∷ ds) (x ∷ xs) decls h =
     (fact_had a b d x d.kind refl decls.0 h.0, facts_had a b ds xs decls.1 h.1)
+facts_had a b _ _ decls h = absurd h
 
 -- What was there
 
@@ -119,9 +116,8 @@ there_had a b d x disk_kinds.Shelf h s =
 pub all_there : (a b : ShelfView) (ds : List DiskDecl) (xs : List DriveView) → EachHad a b ds xs
     → AllByRecursion (IsThere a) ds
 all_there a b [] [] h = tt
-all_there a b [] (x ∷ xs) h = absurd h
-all_there a b (d ∷ ds) [] h = absurd h
 all_there a b (d ∷ ds) (x ∷ xs) h = (λ s. there_had a b d x d.kind h.0 s, all_there a b ds xs h.1)
+all_there a b _ _ h = absurd h
 
 -- the bytes of an image by the size of its drive
 pub image_bytes : (d : DiskDecl) (x : DriveView) (bytes : List ℕ) → IsSectorSize d.sector → x.sector ≡ d.sector
@@ -155,10 +151,9 @@ size_had a b d x disk_kinds.Shelf is h s = size_told d x a.told b.told is h.size
 pub sizes_told : (a b : ShelfView) (ds : List DiskDecl) (xs : List DriveView) → AllByRecursion IsDiskDecl ds
     → EachHad a b ds xs → AllByRecursion (HasToldSize a) (zip ds (map size_of xs))
 sizes_told a b [] [] decls h = tt
-sizes_told a b [] (x ∷ xs) decls h = absurd h
-sizes_told a b (d ∷ ds) [] decls h = absurd h
 sizes_told a b (d ∷ ds) (x ∷ xs) decls h =
     (λ s. size_had a b d x d.kind decls.0.sector h.0 s, sizes_told a b ds xs decls.1 h.1)
+sizes_told a b _ _ decls h = absurd h
 
 -- What each disk holds
 

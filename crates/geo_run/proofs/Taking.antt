@@ -21,9 +21,8 @@ use Rattle.geo_run.proofs.Told.{OfName, IsSame, of_name, chain, same, same_twice
 pub opens_both : (a b c : ShelfView) (ds es : List DiskDecl) (xs ys : List DriveView)
     → OpensDrives a ds xs b → OpensDrives b es ys c → OpensDrives a (ds ++ es) (xs ++ ys) c
 opens_both a b c [] es [] ys h k = subst (λ (v : ShelfView). OpensDrives v es ys c) h k
-opens_both a b c [] es (x ∷ xs) ys h k = absurd h
-opens_both a b c (d ∷ ds) es [] ys h k = absurd h
 opens_both a b c (d ∷ ds) es (x ∷ xs) ys h k = (h.0, h.1, opens_both h.0 b c ds es xs ys h.2 k)
+opens_both a b c _ es _ ys h k = absurd h
 
 -- one disk more
 pub opens_more : (a b c : ShelfView) (ds : List DiskDecl) (d : DiskDecl) (xs : List DriveView) (x : DriveView)
@@ -86,10 +85,9 @@ take_stays a b d x name disk_kinds.Shelf h other = record {
 pub takes_stay : (a b : ShelfView) (ds : List DiskDecl) (xs : List DriveView) (name : List ℕ)
     → OpensDrives a ds xs b → IsForeign name ds → NameStays a b name
 takes_stay a b [] [] name h other = stays_along a b name h
-takes_stay a b [] (x ∷ xs) name h other = absurd h
-takes_stay a b (d ∷ ds) [] name h other = absurd h
 takes_stay a b (d ∷ ds) (x ∷ xs) name h other =
     stays_twice a h.0 b name (take_stays a h.0 d x name d.kind h.1 other.0) (takes_stay h.0 b ds xs name h.2 other.1)
+takes_stay a b _ _ name h other = absurd h
 
 -- What is lent
 
@@ -112,10 +110,9 @@ take_lends a b d x rest disk_kinds.Shelf h =
 pub takes_lend : (a b : ShelfView) (ds : List DiskDecl) (xs : List DriveView)
     → OpensDrives a ds xs b → b.lent ≡ a.lent ++ shelf_names ds
 takes_lend a b [] [] h = ap (λ (v : ShelfView). v.lent) h ∙ sym (append-nil a.lent)
-takes_lend a b [] (x ∷ xs) h = absurd h
-takes_lend a b (d ∷ ds) [] h = absurd h
 takes_lend a b (d ∷ ds) (x ∷ xs) h =
     takes_lend h.0 b ds xs h.2 ∙ take_lends a h.0 d x (shelf_names ds) d.kind h.1
+takes_lend a b _ _ h = absurd h
 
 -- what was lent stays so
 take_keeps_lent : (a b : ShelfView) (d : DiskDecl) (x : DriveView) (name : List ℕ) (kind : DiskKind)
@@ -144,8 +141,6 @@ take_counts a b d x disk_kinds.Shelf h = h.counts
 pub takes_count : (a b : ShelfView) (ds : List DiskDecl) (xs : List DriveView)
     → OpensDrives a ds xs b → SameCounts a b
 takes_count a b [] [] h = same_counts a b h
-takes_count a b [] (x ∷ xs) h = absurd h
-takes_count a b (d ∷ ds) [] h = absurd h
 takes_count a b (d ∷ ds) (x ∷ xs) h =
     let one = take_counts a h.0 d x d.kind h.1 in
     let more = takes_count h.0 b ds xs h.2 in
@@ -156,6 +151,7 @@ takes_count a b (d ∷ ds) (x ∷ xs) h =
       asked = λ name. more.asked name ∙ one.asked name;
       sectors = λ name. more.sectors name ∙ one.sectors name;
     }
+takes_count a b _ _ h = absurd h
 
 take_no_fault : (a b : ShelfView) (d : DiskDecl) (x : DriveView) (kind : DiskKind)
     → OpensDrive a d x b kind → b.faults ≡ a.faults
@@ -166,9 +162,8 @@ take_no_fault a b d x disk_kinds.Shelf h = h.no_fault
 pub takes_no_fault : (a b : ShelfView) (ds : List DiskDecl) (xs : List DriveView)
     → OpensDrives a ds xs b → b.faults ≡ a.faults
 takes_no_fault a b [] [] h = ap (λ (v : ShelfView). v.faults) h
-takes_no_fault a b [] (x ∷ xs) h = absurd h
-takes_no_fault a b (d ∷ ds) [] h = absurd h
 takes_no_fault a b (d ∷ ds) (x ∷ xs) h = takes_no_fault h.0 b ds xs h.2 ∙ take_no_fault a h.0 d x d.kind h.1
+takes_no_fault a b _ _ h = absurd h
 
 -- What each drive is
 
@@ -223,10 +218,9 @@ had_before a b c d x e y disk_kinds.Shelf h other had =
 each_before : (a b c : ShelfView) (d : DiskDecl) (x : DriveView) (ds : List DiskDecl) (xs : List DriveView)
     → OpensDrive a d x b d.kind → AreOther d.name (names_of ds) → EachHad b c ds xs → EachHad a c ds xs
 each_before a b c d x [] [] h others each = tt
-each_before a b c d x [] (y ∷ ys) h others each = absurd each
-each_before a b c d x (e ∷ es) [] h others each = absurd each
 each_before a b c d x (e ∷ es) (y ∷ ys) h others each =
     (had_before a b c d x e y e.kind h (λ s. others.0 (sym s)) each.0, each_before a b c d x es ys h others.1 each.1)
+each_before a b c d x _ _ h others each = absurd each
 
 -- where names are others, no disk has the name
 pub foreign_from : (name : List ℕ) (ds : List DiskDecl) → AreOther name (names_of ds) → IsForeign name ds
@@ -253,9 +247,8 @@ had_first a b c d x disk_kinds.Shelf h kept = record {
 pub each_had : (a b : ShelfView) (ds : List DiskDecl) (xs : List DriveView)
     → AreApart (names_of ds) → OpensDrives a ds xs b → EachHad a b ds xs
 each_had a b [] [] apart h = tt
-each_had a b [] (x ∷ xs) apart h = absurd h
-each_had a b (d ∷ ds) [] apart h = absurd h
 each_had a b (d ∷ ds) (x ∷ xs) apart h = (
   had_first a h.0 b d x d.kind h.1 (takes_stay h.0 b ds xs d.name h.2 (foreign_from d.name ds apart.0)),
   each_before a h.0 b d x ds xs h.1 apart.0 (each_had h.0 b ds xs apart.1 h.2),
 )
+each_had a b _ _ apart h = absurd h

@@ -21,8 +21,6 @@ pub gives_told : (a b : ShelfView) (ds : List DiskDecl) (xs : List DriveView) (k
 gives_told a b [] [] kept name apart h =
     ap (λ (v : ShelfView). v.give_faults name) h.1
     ∙ ap (λ (ks : List (List ℕ)). counted_if (list_any (bytes_eq name) ks) (a.give_faults name)) (sym h.0)
-gives_told a b [] (x ∷ xs) kept name apart h = absurd h
-gives_told a b (d ∷ ds) [] kept name apart h = absurd h
 gives_told a b (d ∷ ds) (x ∷ xs) kept name apart h =
     by d.kind h.4 (gives_told h.0 b ds xs h.2 name apart.1 h.5)
   where
@@ -62,26 +60,24 @@ gives_told a b (d ∷ ds) (x ∷ xs) kept name apart h =
       | inr held ↦ failed (h.3 ∙ ap (λ ks. ks ++ h.2) held.0) (same_or_other d.name name) held.1.gives.own
           held.1.gives.others more
     ]
+gives_told a b _ _ kept name apart h = absurd h
 
 -- a give is no take
 pub gives_take_none : (a b : ShelfView) (ds : List DiskDecl) (xs : List DriveView) (kept : List (List ℕ))
     (name : List ℕ)
     → GivesAll a ds xs kept b → b.take_faults name ≡ a.take_faults name
 gives_take_none a b [] [] kept name h = ap (λ (v : ShelfView). v.take_faults name) h.1
-gives_take_none a b [] (x ∷ xs) kept name h = absurd h
-gives_take_none a b (d ∷ ds) [] kept name h = absurd h
 gives_take_none a b (d ∷ ds) (x ∷ xs) kept name h = gives_take_none h.0 b ds xs h.2 name h.5 ∙ one d.kind h.4
   where
     one : (kind : DiskKind) → GivesDrive a d.name x h.1 h.0 kind → h.0.take_faults name ≡ a.take_faults name
     one disk_kinds.Ram g = ap (λ (v : ShelfView). v.take_faults name) g.1
     one disk_kinds.Shelf g = elim g [ inl given ↦ given.1.takes name | inr held ↦ held.1.takes name ]
+gives_take_none a b _ _ kept name h = absurd h
 
 -- where nothing is kept no give was a fault
 pub gives_no_fault : (a b : ShelfView) (ds : List DiskDecl) (xs : List DriveView) (kept : List (List ℕ))
     → GivesAll a ds xs kept b → kept ≡ [] → b.faults ≡ a.faults
 gives_no_fault a b [] [] kept h none = ap (λ (v : ShelfView). v.faults) h.1
-gives_no_fault a b [] (x ∷ xs) kept h none = absurd h
-gives_no_fault a b (d ∷ ds) [] kept h none = absurd h
 gives_no_fault a b (d ∷ ds) (x ∷ xs) kept h none = by d.kind h.4 (λ e. gives_no_fault h.0 b ds xs h.2 h.5 e)
   where
     nothing_first : (n : List ℕ) (ks : List (List ℕ)) → n ∷ ks ≡ [] → ⊥
@@ -95,6 +91,7 @@ gives_no_fault a b (d ∷ ds) (x ∷ xs) kept h none = by d.kind h.4 (λ e. give
       | inl given ↦ more (sym (h.3 ∙ ap (λ ks. ks ++ h.2) given.0) ∙ none) ∙ given.1.no_fault
       | inr held ↦ absurd (nothing_first d.name h.2 (sym (h.3 ∙ ap (λ ks. ks ++ h.2) held.0) ∙ none))
     ]
+gives_no_fault a b _ _ kept h none = absurd h
 
 -- where no take failed none is told
 pub none_blamed : (ending : Ending) (a b : ShelfView) → failed_takes ending ≡ 0

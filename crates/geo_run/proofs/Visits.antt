@@ -65,10 +65,9 @@ take_called a b d x rest disk_kinds.Shelf h =
 takes_called : (a b : ShelfView) (ds : List DiskDecl) (xs : List DriveView) → OpensDrives a ds xs b
     → b.calls ≡ a.calls ++ takes_of (shelf_names ds)
 takes_called a b [] [] h = ap (λ (v : ShelfView). v.calls) h ∙ sym (append-nil a.calls)
-takes_called a b [] (x ∷ xs) h = absurd h
-takes_called a b (d ∷ ds) [] h = absurd h
 takes_called a b (d ∷ ds) (x ∷ xs) h =
     takes_called h.0 b ds xs h.2 ∙ take_called a h.0 d x (shelf_names ds) d.kind h.1
+takes_called a b _ _ h = absurd h
 
 -- so is one by which no disk was had
 stop_called : (a b : ShelfView) (d : DiskDecl) (stop : Stop) (kind : DiskKind) → OpensNoDrive a d stop b kind
@@ -94,10 +93,9 @@ give_called a b n x k rest disk_kinds.Shelf h =
 gives_called : (a b : ShelfView) (ds : List DiskDecl) (xs : List DriveView) (kept : List (List ℕ))
     → GivesAll a ds xs kept b → b.calls ≡ a.calls ++ gives_of (shelf_names ds)
 gives_called a b [] [] kept h = ap (λ (v : ShelfView). v.calls) h.1 ∙ sym (append-nil a.calls)
-gives_called a b [] (x ∷ xs) kept h = absurd h
-gives_called a b (d ∷ ds) [] kept h = absurd h
 gives_called a b (d ∷ ds) (x ∷ xs) kept h =
     gives_called h.0 b ds xs h.2 h.5 ∙ give_called a h.0 d.name x h.1 (shelf_names ds) d.kind h.4
+gives_called a b _ _ kept h = absurd h
 
 -- takes, and then gives
 both_called : (start taken after : List ShelfCall) (tried had : List (List ℕ)) → taken ≡ start ++ takes_of tried
