@@ -17,7 +17,7 @@ use Rattle.geo_model.specs.Opening.{opening}
 use Rattle.geo_model.specs.Plans.{IsPlan, IsDiskDecl, FactsFit}
 use Rattle.geo_headline.specs.Modes.{Mode}
 use Rattle.geo_headline.specs.Outside.{ShelfView, HasFactSectors, IsShelf, is_shelf, kept_back, IsThere, IsMissing, IsBadSize, HasToldSize, ImagesStay, ImagesStand, DisksAreKept, PlannedDisk, planned_disk, IsDiskKept, CountsStay, is_of_plan, IsForeign as IsForeignName}
-use Rattle.geo_headline.specs.Endings.{Ending, Reported, ReportedButFault, BadWords, NoScript, ReadFault, ShelfFault, NoDisk, BadSize, OutOfMemory, LogFull, TooLong, Answered, NoTrace, HasLog, LogRanFull, StopsAt, failed_takes}
+use Rattle.geo_headline.specs.Endings.{Ending, Reported, ReportedButFault, ShelfFault, NoDisk, BadSize, OutOfMemory, LogFull, HasLog, LogRanFull, StopsAt, failed_takes}
 use Rattle.geo_headline.specs.Headline.{GivesAreTold, HaveFactSectors, IsMissedAt, LentAfter, NoneAsked, TakesAreToldAt}
 use Rattle.geo_run.specs.Drives.{DriveView, size_of}
 use Rattle.geo_run.specs.declared.stop.Stop.{Stop}
@@ -554,7 +554,7 @@ nothing_done mode plan facts a = record {
   disks = tt;
   lent = lent_still OutOfMemory a refl;
   calls = told_still OutOfMemory a refl;
-  in_order = none_in_order plan OutOfMemory None a refl refl;
+  in_order = none_in_order plan OutOfMemory a refl;
   others = others_still plan a;
   unasked = λ name. record { faults = refl; asked = refl };
   sizes = λ some. absurd (let bad : false ≡ true = some in cc);

@@ -18,8 +18,8 @@ use Rattle.geo_run.specs.Drives.{DriveView}
 use Rattle.geo_run.specs.Lending.{AreApart, AreOther, GivesDrive, names_of}
 use Rattle.geo_run.proofs.Tests.{contains_first, contains-among, same_itself, other-append, other-among, without_none, without_first, without_both}
 use Rattle.geo_run.proofs.Told.{OfName, IsSame, of_name, chain}
-use Rattle.geo_run.proofs.Taking.{NameStays, stays_along, foreign_from, with_shelf, shelf_names}
-use Rattle.geo_run.proofs.Giving.{GivesAll, gives_stay, kept_other}
+use Rattle.geo_run.proofs.Taking.{NameStays, foreign_from, with_shelf, shelf_names}
+use Rattle.geo_run.proofs.Giving.{GivesAll, first_other, give_stays, gives_stay, kept_other}
 
 -- Each disk
 
@@ -81,49 +81,14 @@ fate_before a m b name x first rest kept disk_kinds.Shelf e others stays fate =
       })
     ]
 
--- what one give keeps is no other name
-one_other : (a b : ShelfView) (n : List ℕ) (x : DriveView) (k : List (List ℕ)) (name : List ℕ) (kind : DiskKind)
-    → GivesDrive a n x k b kind → n ≢ name → AreOther name k
-one_other a b n x k name disk_kinds.Ram h other = subst (λ ks. AreOther name ks) (sym h.0) tt
-one_other a b n x k name disk_kinds.Shelf h other =
-    elim h [
-      | inl given ↦ subst (λ ks. AreOther name ks) (sym given.0) tt
-      | inr kept ↦ subst (λ ks. AreOther name ks) (sym kept.0) (other, tt)
-    ]
-
--- one give leaves another name as it was
-one_stays : (a b : ShelfView) (n : List ℕ) (x : DriveView) (k : List (List ℕ)) (name : List ℕ) (kind : DiskKind)
-    → GivesDrive a n x k b kind → n ≢ name → NameStays a b name
-one_stays a b n x k name disk_kinds.Ram h other = stays_along a b name h.1
-one_stays a b n x k name disk_kinds.Shelf h other =
-    elim h [
-      | inl given ↦ record {
-        told = of_name a.told b.told name (IsGivenTo n x.held) (λ o v p. p.others name (λ e. other (sym e)))
-            given.1.told;
-        disks = given.1.disks.others name (λ e. other (sym e));
-        takes = given.1.takes name;
-        gives = given.1.gives name;
-        asked = given.1.asked.others name (λ e. other (sym e));
-        sectors = given.1.sectors.others name (λ e. other (sym e));
-      }
-      | inr kept ↦ record {
-        told = of_name a.told b.told name IsAsBefore (λ o v p. p name) kept.1.told;
-        disks = kept.1.disks name;
-        takes = kept.1.takes name;
-        gives = kept.1.gives.others name (λ e. other (sym e));
-        asked = kept.1.asked name;
-        sectors = kept.1.sectors name;
-      }
-    ]
-
 each_before : (a m b : ShelfView) (n : List ℕ) (x : DriveView) (first rest kept : List (List ℕ)) (kind : DiskKind)
     (ds : List DiskDecl) (xs : List DriveView) → GivesDrive a n x first m kind → kept ≡ first ++ rest
     → AreOther n (names_of ds) → EachFate m b ds xs rest → EachFate a b ds xs kept
 each_before a m b n x first rest kept kind [] [] h e others each = tt
 each_before a m b n x first rest kept kind (d ∷ ds) (y ∷ ys) h e others each =
     let other : n ≢ d.name = λ s. others.0 (sym s) in (
-      fate_before a m b d.name y first rest kept d.kind e (one_other a m n x first d.name kind h other)
-          (one_stays a m n x first d.name kind h other) each.0,
+      fate_before a m b d.name y first rest kept d.kind e (first_other a m n x first d.name kind h (λ shelf. other))
+          (give_stays a m n x first d.name kind h (λ shelf. other)) each.0,
       each_before a m b n x first rest kept kind ds ys h e others.1 each.1,
     )
 each_before a m b n x first rest kept kind _ _ h e others each = absurd each
@@ -184,7 +149,7 @@ rose_before : (a m b : ShelfView) (n : List ℕ) (x : DriveView) (k : List (List
     → AllByRecursion (λ name. Rose (a.give_faults name) (b.give_faults name)) names
 rose_before a m b n x k kind [] h others all = tt
 rose_before a m b n x k kind (name ∷ names) h others all =
-    let stays = one_stays a m n x k name kind h (λ e. others.0 (sym e)) in (
+    let stays = give_stays a m n x k name kind h (λ shelf e. others.0 (sym e)) in (
       subst (λ (c : ℕ). Rose c (b.give_faults name)) stays.gives all.0,
       rose_before a m b n x k kind names h others.1 all.1,
     )

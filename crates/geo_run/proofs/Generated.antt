@@ -161,17 +161,9 @@ first_plan = plan_in first_read
 first_is : is_ok first_read ≡ true
 first_is = refl
 
--- it has four disks
-first_disks : length first_plan.disks ≡ 4
-first_disks = refl
-
 -- its actors are the four
 first_actors : first_plan.actors ≡ four_actors
 first_actors = refl
-
--- it has six commands
-first_commands : length first_plan.commands ≡ 6
-first_commands = refl
 
 -- so the lines that come first are read
 first_ok : first_read ≡ Ok first_plan

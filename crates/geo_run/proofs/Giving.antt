@@ -121,7 +121,7 @@ gives_all a b _ _ kept kinds h = absurd h
 -- What stays
 
 -- a give changes nothing of another name
-give_stays : (a b : ShelfView) (n : List ℕ) (x : DriveView) (k : List (List ℕ)) (name : List ℕ) (kind : DiskKind)
+pub give_stays : (a b : ShelfView) (n : List ℕ) (x : DriveView) (k : List (List ℕ)) (name : List ℕ) (kind : DiskKind)
     → GivesDrive a n x k b kind → (IsShelf kind → n ≢ name) → NameStays a b name
 give_stays a b n x k name disk_kinds.Ram h other = stays_along a b name h.1
 give_stays a b n x k name disk_kinds.Shelf h other =
@@ -157,7 +157,7 @@ gives_stay a b _ _ kept name h other = absurd h
 -- What is kept
 
 -- what one give keeps is no other name
-first_other : (a b : ShelfView) (n : List ℕ) (x : DriveView) (k : List (List ℕ)) (name : List ℕ) (kind : DiskKind)
+pub first_other : (a b : ShelfView) (n : List ℕ) (x : DriveView) (k : List (List ℕ)) (name : List ℕ) (kind : DiskKind)
     → GivesDrive a n x k b kind → (IsShelf kind → n ≢ name) → AreOther name k
 first_other a b n x k name disk_kinds.Ram h other = subst (λ ks. AreOther name ks) (sym h.0) tt
 first_other a b n x k name disk_kinds.Shelf h other =

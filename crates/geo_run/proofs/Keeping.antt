@@ -1,5 +1,5 @@
 -- What a call keeps, from how its run finished.
-use Rattle.std.proofs.Common.{◌≡◌, ◌≢◌, ◌⊎◌, ℕ, ◌≤◌, nat_le, Bool, true, false, List, [], ◌∷◌, ◌++◌, length, drop, Option, Some, None, Result, Ok, Err, refl, sym, ◌∙◌, ap, subst, inl, inr, arith, bytes_eq, codes, decimal, if◌then◌else◌, IfSome, IfNone, IsSome, IsSomeAnd, IsTrue}
+use Rattle.std.proofs.Common.{◌≡◌, ◌≢◌, ◌⊎◌, ℕ, ◌≤◌, nat_le, Bool, true, false, List, [], ◌∷◌, ◌++◌, length, drop, Option, Some, None, Result, Ok, Err, refl, sym, ◌∙◌, ap, subst, inl, inr, arith, bytes_eq, codes, decimal, if◌then◌else◌, IfSome, IfNone, IsSomeAnd, IsTrue}
 use Rattle.std.proofs.Math.Seq.{drop-append_seam, drop-length}
 use Rattle.std.specs.Str.Parse.{digits_value}
 use Rattle.std.proofs.lemmas.Fmt.{digits_value-decimal}
@@ -14,9 +14,9 @@ use Rattle.geo_model.specs.Generator.{generated}
 use Rattle.geo_headline.specs.Modes.{Mode, StepMode, RunMode, GenMode, SweepMode, WatchMode, TraceMode, VerifyMode, IsMode, Accepts, OpensMesh, TakesNoDisk, source_limit, words_for}
 use Rattle.geo_model.specs.Log.{Fits}
 use Rattle.geo_model.specs.History.{KeepsHistory, RanToItsEnd}
-use Rattle.geo_headline.specs.Outside.{ShelfView, SinkView, SourceView, ImagesStay, ImagesStand, OthersStay, DisksAreKept}
+use Rattle.geo_headline.specs.Outside.{ShelfView, SinkView, SourceView, ImagesStay}
 use Rattle.geo_headline.specs.Endings.{Ending, Reported, ReportedButFault, BadWords, NoScript, ReadFault, ShelfFault, NoDisk, BadSize, OutOfMemory, LogFull, TooLong, Answered, NoTrace, Call, CauseOf, HasLog, IsBeforeDisks, IsParsed, IsReadWhole, IsWhole, ReadsScript, WasReadWhole, missed_by, reported, script_of}
-use Rattle.geo_headline.specs.Headline.{CallsAreTold, CallsInOrder, FollowsMode, ImagesStayAt, IsBadWords, IsGen, LentAfter, NoneAsked, ReadAs}
+use Rattle.geo_headline.specs.Headline.{FollowsMode, ImagesStayAt, IsBadWords, IsGen, ReadAs}
 use Rattle.geo_run.specs.declared.due.Due.{Due}
 use Rattle.geo_run.specs.declared.due.Due.TheVariants as dues
 use Rattle.geo_run.specs.declared.finish.Finish.{Finish}
@@ -143,6 +143,13 @@ read_as call mode accepts =
 
 -- Where no log came
 
+-- the images stay, whatever the ending
+images_at : (call : Call) (ending : Ending) (log : Option (List Entry))
+    → IfNone log (ImagesStay call.before.shelf call.after.shelf) → IfNone log (ImagesStayAt call ending)
+images_at call ending (Some l) h = tt
+images_at call OutOfMemory None h = λ alone. h
+images_at call _ None h = h
+
 -- a call that ended before a disk was taken
 early : (call : Call) (mode : Mode) (plan : Plan) (ending : Ending) → ReadAs call mode plan
     → Gave call.before.source call.text call.after.source → CauseOf call mode plan ending
@@ -150,50 +157,41 @@ early : (call : Call) (mode : Mode) (plan : Plan) (ending : Ending) → ReadAs c
     → missed_by ending ≡ [] → (IsGen mode ⊎ IsBadWords ending → call.after.source ≡ call.before.source)
     → (ending ≢ ReadFault → call.after.source.faults ≡ call.before.source.faults)
     → KeepsInside call mode plan ending
-early call mode plan ending read gave cause none shelf has not_whole none_missed source reads = record {
-  read_as = read;
-  gave = gave;
-  cause = cause;
-  has_log = subst (λ (l : Option (List Entry)). HasLog ending l) (sym none) has;
-  is_opened = λ some. absurd (let bad : false ≡ true = subst (λ (l : Option (List Entry)). IsSome l) none some in cc);
-  history = subst (λ (l : Option (List Entry)). IfSome l (KeepsHistory (opening plan call.facts))) (sym none) tt;
-  to_its_end = λ whole. absurd (not_whole whole);
-  order = subst (λ (l : Option (List Entry)). IfSome l (FollowsMode mode plan (opening plan call.facts) ending))
-      (sym none) tt;
-  fits = subst (λ (l : Option (List Entry)). IfSome l (Fits (opening plan call.facts))) (sym none) tt;
-  disks = subst (λ (l : Option (List Entry)). IfSome l (DisksAreKept plan call.before.shelf call.after.shelf))
-      (sym none) tt;
-  lent = subst (λ (v : ShelfView). LentAfter ending call.before.shelf v) (sym shelf)
-      (lent_still ending call.before.shelf (none_failed ending none_missed));
-  reads = reads;
-  calls = subst (λ (v : ShelfView). CallsAreTold ending call.before.shelf v) (sym shelf)
-      (told_still ending call.before.shelf (none_failed ending none_missed));
-  in_order = subst (λ (v : ShelfView). CallsInOrder plan ending call.log call.before.shelf v) (sym shelf)
-      (none_in_order plan ending call.log call.before.shelf none_missed none);
-  others = subst (λ (v : ShelfView). OthersStay plan call.before.shelf v) (sym shelf)
-      (others_still plan call.before.shelf);
-  unasked = subst (λ (l : Option (List Entry)). IfNone l (NoneAsked call.before.shelf call.after.shelf)) (sym none)
-      (λ name. record {
-        faults = ap (λ (v : ShelfView). v.faults_of name) shelf;
-        asked = ap (λ (v : ShelfView). v.asked_of name) shelf;
-      });
-  sizes = λ some. absurd (let bad : false ≡ true = subst (λ (l : Option (List Entry)). IsSome l) none some in cc);
-  kept_stay = λ name back. record {
-    faults = ap (λ (v : ShelfView). v.faults_of name) shelf;
-    asked = ap (λ (v : ShelfView). v.asked_of name) shelf;
-    sectors = ap (λ (v : ShelfView). v.sectors_of name) shelf;
-  };
-  images = subst (λ (l : Option (List Entry)). IfNone l (ImagesStayAt call ending)) (sym none)
-      (stay_at ending
-      (subst (λ (v : ShelfView). ImagesStay call.before.shelf v) (sym shelf) (images_stay_same call.before.shelf)));
-  images_stand = subst (λ (v : ShelfView). ImagesStand call.before.shelf v) (sym shelf)
-      (images_stand_same call.before.shelf);
-  outside = record { source = source; shelf = λ which. shelf };
-}
+early call mode plan ending read gave cause none shelf has not_whole none_missed source reads =
+    subst (λ (c : Call). KeepsInside c mode plan ending) is keeps
   where
-    stay_at : (e : Ending) → ImagesStay call.before.shelf call.after.shelf → ImagesStayAt call e
-    stay_at OutOfMemory h = λ alone. h
-    stay_at _ h = h
+    -- the same call without a log, over a shelf that is as before
+    still : Call
+    still = record call { log = None; after = record call.after { shelf = call.before.shelf } }
+
+    is : still ≡ call
+    is = ap (λ (l : Option (List Entry)). record still { log = l }) (sym none)
+        ∙ ap (λ (v : ShelfView). record call { after = record call.after { shelf = v } }) (sym shelf)
+
+    keeps : KeepsInside still mode plan ending
+    keeps = record {
+      read_as = subst (λ (c : Call). ReadAs c mode plan) (sym is) read;
+      gave = gave;
+      cause = subst (λ (c : Call). CauseOf c mode plan ending) (sym is) cause;
+      has_log = has;
+      is_opened = λ some. absurd (let bad : false ≡ true = some in cc);
+      history = tt;
+      to_its_end = λ whole. absurd (not_whole whole);
+      order = tt;
+      fits = tt;
+      disks = tt;
+      lent = lent_still ending call.before.shelf (none_failed ending none_missed);
+      reads = reads;
+      calls = told_still ending call.before.shelf (none_failed ending none_missed);
+      in_order = none_in_order plan ending call.before.shelf none_missed;
+      others = others_still plan call.before.shelf;
+      unasked = λ name. record { faults = refl; asked = refl };
+      sizes = λ some. absurd (let bad : false ≡ true = some in cc);
+      kept_stay = λ name back. record { faults = refl; asked = refl; sectors = refl };
+      images = images_at still ending None (images_stay_same call.before.shelf);
+      images_stand = images_stand_same call.before.shelf;
+      outside = record { source = source; shelf = λ which. refl };
+    }
 
 -- Where a plan was run
 
@@ -225,12 +223,6 @@ not_before mode plan opened log a b _ h before = before
 bad_is_before : (ending : Ending) → IsBadWords ending → IsBeforeDisks ending
 bad_is_before BadWords h = tt
 bad_is_before _ h = absurd h
-
-images_at : (call : Call) (ending : Ending) (log : Option (List Entry))
-    → IfNone log (ImagesStay call.before.shelf call.after.shelf) → IfNone log (ImagesStayAt call ending)
-images_at call ending (Some l) h = tt
-images_at call OutOfMemory None h = λ alone. h
-images_at call _ None h = h
 
 -- a part of what a mesh did
 part_of : (log : Option (List Entry)) (F G : List Entry → Type 0) → ((l : List Entry) → F l → G l) → IfSome log F

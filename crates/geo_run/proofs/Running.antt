@@ -5,7 +5,7 @@ use Rattle.geo_model.specs.declared.step.Entry.{Entry}
 use Rattle.geo_model.specs.World.{World, Plan}
 use Rattle.geo_model.specs.FixedOrder.{StepOrder}
 use Rattle.geo_model.specs.History.{RanToItsEnd}
-use Rattle.geo_headline.specs.Modes.{Mode, StepMode, RunMode, GenMode, SweepMode, WatchMode, TraceMode, VerifyMode}
+use Rattle.geo_headline.specs.Modes.{Mode, RunMode, WatchMode, TraceMode}
 use Rattle.geo_headline.specs.Outside.{ShelfView}
 use Rattle.geo_headline.specs.Endings.{Ending, IsWhole, LogRanFull, order_of, reported}
 use Rattle.geo_headline.specs.Headline.{FollowsMode, FollowsRun}

@@ -3,7 +3,7 @@ use Rattle.std.proofs.Common.{◌≡◌, ◌⊎◌, ℕ, List, Result, Ok, Err, 
 use Rattle.geo_model.specs.declared.command.Cause.{Cause}
 use Rattle.geo_model.specs.World.{Plan}
 use Rattle.geo_model.specs.Script.{Fault, IsFault, script}
-use Rattle.geo_headline.specs.Modes.{Mode, StepMode, RunMode, GenMode, SweepMode, WatchMode, TraceMode, VerifyMode, Accepts, OpensMesh, source_limit}
+use Rattle.geo_headline.specs.Modes.{Mode, GenMode, VerifyMode, Accepts, OpensMesh, source_limit}
 use Rattle.geo_headline.specs.Outside.{ShelfView, SinkView, SourceView}
 use Rattle.geo_headline.specs.Traces.{InScript, InTrace, ReadTrace, Reading, TraceFault, read_after, read_trace, script_part, told_line}
 use Rattle.geo_headline.specs.Verifying.{found_of, found_read, verified}
@@ -52,97 +52,80 @@ script_read _ text opens not_gen = refl
 -- A source that wasn't read to its end
 
 module _ (words : List (List ℕ)) (mode : Mode) (finish : Finish) (source source_after : SourceView)
-    (shelf shelf_after : ShelfView) (accepts : Accepts words mode) (not_gen : IsGen mode → ⊥)
-    (gave : Gave source (added_to source.given source_after.given) source_after) where
+    (shelf shelf_after : ShelfView) (accepts : Accepts words mode) (not_gen : IsGen mode → ⊥) where
+  -- what the source gave
+  abbrev text_given : List ℕ
+  text_given = added_to source.given source_after.given
+
+  -- the call, whatever is then written
+  abbrev call_then : ℕ → SinkView → SinkView → Call
+  call_then status sink sink_after =
+      finished words finish source source_after shelf shelf_after status sink sink_after
+
   no_gen : {A : Type 0} → IsGen mode ⊎ ⊥ → A
   no_gen (inl gen) = absurd (not_gen gen)
   no_gen (inr bad) = absurd bad
 
-  asked : (status : ℕ) (sink sink_after : SinkView)
-      → ReadsScript (finished words finish source source_after shelf shelf_after status sink sink_after) mode
-  asked status sink sink_after =
-      reads_script (finished words finish source source_after shelf shelf_after status sink sink_after) mode not_gen
-      accepts
+  asked : (status : ℕ) (sink sink_after : SinkView) → ReadsScript (call_then status sink sink_after) mode
+  asked status sink sink_after = reads_script (call_then status sink sink_after) mode not_gen accepts
 
-  pub unread_stops : (stop : Stop)
-      → UnreadCause (source_limit mode) (added_to source.given source_after.given) source source_after stop
+  unread_stops : Gave source text_given source_after → (stop : Stop)
+      → UnreadCause (source_limit mode) text_given source source_after stop
       → EndsEarly finish stop shelf shelf_after → Finishes words finish source source_after shelf shelf_after
-  unread_stops stops.ReadFault cause early =
+  unread_stops gave stops.ReadFault cause early =
       stops_early words finish source source_after shelf shelf_after mode stops.ReadFault accepts early gave
       (λ status sink sink_after plan. (asked status sink sink_after, cause.0, cause.1)) refl (λ w. w) refl no_gen
       (λ other. absurd (other refl))
-  unread_stops stops.TooLong cause early =
+  unread_stops gave stops.TooLong cause early =
       stops_early words finish source source_after shelf shelf_after mode stops.TooLong accepts early gave
       (λ status sink sink_after plan. (asked status sink sink_after, cause.0)) refl (λ w. w) refl no_gen
       (λ other. cause.1)
-  unread_stops stops.NoMemory cause early =
+  unread_stops gave stops.NoMemory cause early =
       no_memory words finish source source_after shelf shelf_after mode accepts early gave
       (λ gen. absurd (not_gen gen)) cause
-  unread_stops _ cause early = absurd cause
+  unread_stops gave _ cause early = absurd cause
 
-unread_finishes : (words : List (List ℕ)) (mode : Mode) (finish : Finish) (source source_after : SourceView)
-    (shelf shelf_after : ShelfView) → Accepts words mode → (IsGen mode → ⊥)
-    → EndsUnread mode source source_after finish shelf shelf_after
-    → Finishes words finish source source_after shelf shelf_after
-unread_finishes words mode finish source source_after shelf shelf_after accepts not_gen ends =
-    unread_stops words mode finish source source_after shelf shelf_after accepts not_gen
-    (gave_added source source_after ends.part.text ends.part.gave) ends.stop
-    (subst (λ (t : List ℕ). UnreadCause (source_limit mode) t source source_after ends.stop)
-    (text_is source source_after ends.part.text ends.part.gave) ends.part.cause)
-    ends.early
+  unread_finishes : EndsUnread mode source source_after finish shelf shelf_after
+      → Finishes words finish source source_after shelf shelf_after
+  unread_finishes ends =
+      unread_stops (gave_added source source_after ends.part.text ends.part.gave) ends.stop
+      (subst (λ (t : List ℕ). UnreadCause (source_limit mode) t source source_after ends.stop)
+      (text_is source source_after ends.part.text ends.part.gave) ends.part.cause)
+      ends.early
 
--- A source whose script was run
+  -- a source whose script was run
+  read_finishes : OpensMesh mode → EndsRead mode source source_after finish shelf shelf_after
+      → Finishes words finish source source_after shelf shelf_after
+  read_finishes opens ends =
+      by (subst (λ (t : List ℕ). FinishesText t mode finish shelf shelf_after) same ends.of_text)
+    where
+      same : ends.text ≡ text_given
+      same = text_is source source_after ends.text ends.whole.gave
 
-read_finishes : (words : List (List ℕ)) (mode : Mode) (finish : Finish) (source source_after : SourceView)
-    (shelf shelf_after : ShelfView) → OpensMesh mode → (IsGen mode → ⊥)
-    → Accepts words mode → EndsRead mode source source_after finish shelf shelf_after
-    → Finishes words finish source source_after shelf shelf_after
-read_finishes words mode finish source source_after shelf shelf_after opens not_gen accepts ends = by moved
-  where
-    text : List ℕ
-    text = added_to source.given source_after.given
+      gave : Gave source text_given source_after
+      gave = gave_added source source_after ends.text ends.whole.gave
 
-    same : ends.text ≡ text
-    same = text_is source source_after ends.text ends.whole.gave
+      whole : (status : ℕ) (sink sink_after : SinkView) → WasReadWhole (call_then status sink sink_after) mode
+      whole status sink sink_after =
+          was_read_whole (call_then status sink sink_after) mode
+          (read_whole (call_then status sink sink_after) mode ends.text same ends.whole)
 
-    gave : Gave source text source_after
-    gave = gave_added source source_after ends.text ends.whole.gave
+      by : FinishesText text_given mode finish shelf shelf_after
+          → Finishes words finish source source_after shelf shelf_after
+      by (inl out) =
+          no_memory words finish source source_after shelf shelf_after mode accepts out gave
+          (λ gen. absurd (not_gen gen)) ends.whole.told
+      by (inr done) =
+          of_text words finish source source_after shelf shelf_after mode (script text_given) opens accepts
+          (ap script (script_read mode text_given opens not_gen)) gave done whole
+          (λ gen. absurd (not_gen gen)) ends.whole.told (λ gen. absurd (not_gen gen)) (λ gen. absurd (not_gen gen))
+          (inr asked)
 
-    moved : FinishesText text mode finish shelf shelf_after
-    moved = subst (λ (t : List ℕ). FinishesText t mode finish shelf shelf_after) same ends.of_text
-
-    whole : (status : ℕ) (sink sink_after : SinkView)
-        → WasReadWhole (finished words finish source source_after shelf shelf_after status sink sink_after) mode
-    whole status sink sink_after =
-        let call : Call = finished words finish source source_after shelf shelf_after status sink sink_after in
-        was_read_whole call mode (read_whole call mode ends.text same ends.whole)
-
-    asked : (status : ℕ) (sink sink_after : SinkView)
-        → ReadsScript (finished words finish source source_after shelf shelf_after status sink sink_after) mode
-    asked status sink sink_after =
-        reads_script (finished words finish source source_after shelf shelf_after status sink sink_after) mode
-        not_gen accepts
-
-    by : FinishesText text mode finish shelf shelf_after
-        → Finishes words finish source source_after shelf shelf_after
-    by (inl out) =
-        no_memory words finish source source_after shelf shelf_after mode accepts out gave
-        (λ gen. absurd (not_gen gen)) ends.whole.told
-    by (inr done) =
-        of_text words finish source source_after shelf shelf_after mode (script text) opens accepts
-        (ap script (script_read mode text opens not_gen)) gave done whole
-        (λ gen. absurd (not_gen gen)) ends.whole.told (λ gen. absurd (not_gen gen)) (λ gen. absurd (not_gen gen))
-        (inr asked)
-
--- a mode whose script the source gives
-pub source_finishes : (words : List (List ℕ)) (mode : Mode) (finish : Finish) (source source_after : SourceView)
-    (shelf shelf_after : ShelfView) → OpensMesh mode → (IsGen mode → ⊥) → Accepts words mode
-    → FinishesSource mode source source_after finish shelf shelf_after
-    → Finishes words finish source source_after shelf shelf_after
-source_finishes words mode finish source source_after shelf shelf_after opens not_gen accepts (inl read) =
-    read_finishes words mode finish source source_after shelf shelf_after opens not_gen accepts read
-source_finishes words mode finish source source_after shelf shelf_after opens not_gen accepts (inr unread) =
-    unread_finishes words mode finish source source_after shelf shelf_after accepts not_gen unread
+  -- a mode whose script the source gives
+  pub source_finishes : OpensMesh mode → FinishesSource mode source source_after finish shelf shelf_after
+      → Finishes words finish source source_after shelf shelf_after
+  source_finishes opens (inl read) = read_finishes opens read
+  source_finishes opens (inr unread) = unread_finishes unread
 
 -- the same of words that ask for a work
 pub work_finishes : (words : List (List ℕ)) (work asked : Work) (finish : Finish) (source source_after : SourceView)
@@ -150,8 +133,8 @@ pub work_finishes : (words : List (List ℕ)) (work asked : Work) (finish : Fini
     → Accepts words (mode_of asked) → FinishesSource (mode_of work) source source_after finish shelf shelf_after
     → Finishes words finish source source_after shelf shelf_after
 work_finishes words work asked finish source source_after shelf shelf_after opens not_gen is accepts ends =
-    source_finishes words (mode_of work) finish source source_after shelf shelf_after opens not_gen
-    (subst (λ (w : Work). Accepts words (mode_of w)) is accepts) ends
+    source_finishes words (mode_of work) finish source source_after shelf shelf_after
+    (subst (λ (w : Work). Accepts words (mode_of w)) is accepts) not_gen opens ends
 
 -- A source whose trace was verified
 

@@ -7,7 +7,7 @@ use Rattle.geo_model.specs.World.{World, Plan}
 use Rattle.geo_model.specs.Opening.{opening}
 use Rattle.geo_headline.specs.Modes.{Mode}
 use Rattle.geo_headline.specs.Outside.{ShelfView, SinkView, SourceView, kept_back}
-use Rattle.geo_headline.specs.Endings.{Ending, Reported, ReportedButFault, BadWords, NoScript, ReadFault, ShelfFault, NoDisk, BadSize, OutOfMemory, LogFull, TooLong, Answered, NoTrace, Call, due_text, failed_takes, reported, status_of}
+use Rattle.geo_headline.specs.Endings.{Ending, ShelfFault, OutOfMemory, Call, due_text, failed_takes, reported, status_of}
 use Rattle.geo_headline.specs.Headline.{FollowsMode, ImagesStayAt, IsComplete, KeepsAll, NoneAsked, NoneAskedAt, Prints, TakesAreToldAt}
 use Rattle.geo_run.specs.declared.finish.Finish.{Finish}
 use Rattle.geo_run.specs.declared.top.Ended.{Ended}

@@ -1,5 +1,5 @@
 -- In which order the shelf is called.
-use Rattle.std.proofs.Common.{◌≡◌, ℕ, ◌≤◌, true, false, List, [], ◌∷◌, ◌++◌, length, map, filter, Option, None, IsSome, refl, sym, inl, inr, ◌∙◌, ap, subst, arith, append_assoc, if◌then◌else◌}
+use Rattle.std.proofs.Common.{◌≡◌, ℕ, ◌≤◌, true, false, List, [], ◌∷◌, ◌++◌, length, map, filter, Option, None, refl, sym, inl, inr, ◌∙◌, ap, subst, arith, append_assoc, if◌then◌else◌}
 use Rattle.std.proofs.lemmas.List.{append-nil, map-append}
 use Rattle.geo_disk.specs.declared.shelf.ShelfCall.{ShelfCall}
 use Rattle.geo_disk.specs.declared.shelf.ShelfCall.TheVariants as shelf_calls
@@ -9,7 +9,7 @@ use Rattle.geo_model.specs.declared.command.DiskKind.TheVariants as disk_kinds
 use Rattle.geo_model.specs.declared.step.Entry.{Entry}
 use Rattle.geo_model.specs.World.{Plan}
 use Rattle.geo_headline.specs.Outside.{ShelfView, is_shelf, names_of_shelf, takes_of, gives_of}
-use Rattle.geo_headline.specs.Endings.{Ending, Reported, ReportedButFault, BadWords, NoScript, ReadFault, ShelfFault, NoDisk, BadSize, OutOfMemory, LogFull, TooLong, Answered, NoTrace, failed_takes, missed_by}
+use Rattle.geo_headline.specs.Endings.{Ending, ShelfFault, NoDisk, BadSize, OutOfMemory, failed_takes, missed_by}
 use Rattle.geo_headline.specs.Headline.{CallsInOrder, IsMissedAt}
 use Rattle.geo_run.specs.Drives.{DriveView}
 use Rattle.geo_run.specs.Lending.{GivesDrive, OpensDrive, OpensDrives, OpensNoDrive, TakeCause}
@@ -174,15 +174,15 @@ none_missed OutOfMemory e = omega arith
 none_missed _ e = refl
 
 -- the shelf wasn't called
-pub none_in_order : (plan : Plan) (ending : Ending) (log : Option (List Entry)) (a : ShelfView)
-    → missed_by ending ≡ [] → log ≡ None → CallsInOrder plan ending log a a
-none_in_order plan ending log a none_told none = record {
+pub none_in_order : (plan : Plan) (ending : Ending) (a : ShelfView) → missed_by ending ≡ []
+    → CallsInOrder plan ending None a a
+none_in_order plan ending a none_told = record {
   had = [];
   missed = [];
   left = names_of_shelf plan.disks;
   names = refl;
   missed_is = none_missed ending none_told;
-  all = λ some. absurd (let bad : false ≡ true = subst (λ (l : Option (List Entry)). IsSome l) none some in cc);
+  all = λ some. absurd (let bad : false ≡ true = some in cc);
   calls = sym (append-nil a.calls) ∙ sym (append-nil (a.calls ++ []));
 }
 

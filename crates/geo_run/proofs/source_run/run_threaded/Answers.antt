@@ -6,5 +6,5 @@ use Rattle.geo_run.proofs.source_run.run_threaded.Goals as goal
 
 pub returns : goal.returns
 returns g c =
-    source_finishes _ (mode_threaded c.args.work) _ _ _ _ _ (opens_mesh c.args.work) (makes_no_script c.args.work)
-    c.requires.asked c.run_source_in_threads.ensures
+    source_finishes _ (mode_threaded c.args.work) _ _ _ _ _ c.requires.asked (makes_no_script c.args.work)
+    (opens_mesh c.args.work) c.run_source_in_threads.ensures
