@@ -7,11 +7,17 @@ use Rattle.geo_model.specs.declared.step.Outcome.{Outcome}
 use Rattle.geo_model.specs.World.{World}
 use Rattle.geo_model.specs.Step.{Answer}
 use Rattle.geo_state.specs.declared.state.State.{State}
+use Rattle.geo_state.specs.Holds.{Holds}
 use Rattle.geo_state.specs.World.{world, StandsFirm}
 
 -- where the log has some entries, the state stands for a sound, steady and fitting world
 abbrev pub IsFirm : State → Type 0
 IsFirm s = (log : List Entry) × StandsFirm log s
+
+-- the state keeps what it has to keep, and stands for a sound, steady and fitting world
+pub record Stands (s : State) : Type 0 where
+  pub kept : Holds s
+  pub firm : IsFirm s
 
 -- what was found against a step, by its answer
 abbrev pub against : Answer → Option Found
