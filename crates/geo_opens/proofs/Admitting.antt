@@ -25,7 +25,7 @@ use Rattle.geo_state.specs.declared.state.State.{State}
 use Rattle.geo_state.specs.Trips.{trips, out_through}
 use Rattle.geo_state.specs.Holds.{Holds}
 use Rattle.geo_state.specs.World.{world}
-use Rattle.geo_state.specs.Steps.{IsFirm, SameWorld}
+use Rattle.geo_state.specs.Steps.{Stands, SameWorld}
 use Rattle.geo_state.specs.Changes.{KeptWithHandles}
 use Rattle.geo_opens.specs.Holders.{grants_with, holding_mesh, HasCome}
 use Rattle.geo_opens.specs.Handles.{IsOpenRefusal, IsRoomed, HasRoom, refused_world, refusal_in}
@@ -62,7 +62,7 @@ mesh-roomed s u q room same = record {
 
 -- An open that nothing refuses
 
-module _ (s : State) (kept : Holds s) (firm : IsFirm s) where
+module _ (s : State) (stands : Stands s) where
   module _ (actor : ℕ) (name : List ℕ) (p : ℕ) (grant : Counts) (room : HasRoom s) (u : TopoView Config) (q : Queued)
       (v : HandlesView)
       (come : HasCome s.topo s.queue p grant u q) (cons : ℕ) (number : cons ≡ s.topo.topology.next_consumer)
@@ -75,12 +75,14 @@ module _ (s : State) (kept : Holds s) (firm : IsFirm s) where
         → world actors log (record s { topo = u; queue = q; handles = v })
         ≡ after_open (world actors log s) (with_handle (world actors log s) actor name p grant)
     admit-made actors log =
-        opened-world s kept (nobodys-next s kept firm.0 firm.1) actor name p grant actors log u q v come
+        opened-world s stands.kept (nobodys-next s stands.kept stands.firm.0 stands.firm.1) actor name p grant actors
+        log u q v come
         opened
 
     pub admit-kept : KeptWithHandles → Holds (record s { topo = u; queue = q; handles = v })
     admit-kept laws =
-        laws.opened firm.0 s (holding_mesh s.topo p grant u.room) u q v p actor name grant kept firm.1
+        laws.opened stands.firm.0 s (holding_mesh s.topo p grant u.room) u q v p actor name grant stands.kept
+        stands.firm.1
         (comer-of s.topo s.queue p grant u q come) (come-settled s.topo s.queue p grant u q come room.events) opened
 
 -- What is decided, with other room

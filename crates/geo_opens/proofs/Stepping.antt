@@ -29,7 +29,7 @@ use Rattle.geo_life.specs.Life.{is_out, without_falls}
 use Rattle.geo_state.specs.declared.state.State.{State}
 use Rattle.geo_state.specs.Holds.{Holds}
 use Rattle.geo_state.specs.World.{world}
-use Rattle.geo_state.specs.Steps.{IsFirm}
+use Rattle.geo_state.specs.Steps.{IsFirm, Stands}
 use Rattle.geo_state.specs.Changes.{KeptWithHandles}
 use Rattle.geo_opens.specs.Holders.{HasGone}
 use Rattle.geo_opens.specs.Handles.{IsIdle, counts_computed}
@@ -37,7 +37,13 @@ use Rattle.geo_opens.proofs.Actives.{IsNext, out-told, idle-stored, next-to-reap
 use Rattle.geo_opens.proofs.Going.{placed-all, held, held-holder, held-lives, closed-world, forgotten-world, reaped-world}
 use Rattle.geo_opens.proofs.Settling.{goer-of, gone-settled}
 
-module _ (s : State) (kept : Holds s) (firm : IsFirm s) where
+module _ (s : State) (stands : Stands s) where
+  abbrev kept : Holds s
+  kept = stands.kept
+
+  abbrev firm : IsFirm s
+  firm = stands.firm
+
   -- the graph and the handles
   abbrev t : Topology Config
   t = s.topo.topology

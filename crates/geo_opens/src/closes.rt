@@ -11,7 +11,7 @@ ghost use Rattle.geo_handles.specs.Handles.{named_handle, handle_at};
 ghost use Rattle.geo_access.specs.Access.{consumers_below, place_of};
 ghost use Rattle.geo_state.specs.World.{world};
 ghost use Rattle.geo_state.specs.Holds.{Holds};
-ghost use Rattle.geo_state.specs.Steps.{IsFirm, Does};
+ghost use Rattle.geo_state.specs.Steps.{Stands, Does};
 ghost use Rattle.geo_opens.specs.Handles.{IsIdle, counts_computed};
 
 use crate::handle::{consumer_of, is_out};
@@ -33,8 +33,7 @@ pub fn close<L: Ledger>(
     name: &Name,
     steps: &mut Steps<L>,
 ) -> Outcome
-    requires kept { Holds state.old }
-    requires firm { IsFirm state.old }
+    requires stands { Stands state.old }
     ensures made { (log : List Entry) → Does (λ w. close_handle w line (handle_of w actor name.now)) log
         state.old state.new result }
     ensures kept { Holds state.new }
@@ -60,8 +59,7 @@ fn forget<L: Ledger>(
     consumer: Option<ConsId>,
     steps: &mut Steps<L>,
 )
-    requires kept { Holds state.old }
-    requires firm { IsFirm state.old }
+    requires stands { Stands state.old }
     requires there { IsSomeAnd (handle_at state.old.handles.handles id) (λ h. h.consumer ≡ consumer) }
     requires free { option_map_or (is_out state.old.topo) consumer false ≡ false }
     ensures made { IfSome (handle_at state.old.handles.handles id) (λ h.
@@ -79,8 +77,7 @@ fn forget<L: Ledger>(
 
 // A handle is forgotten, and its consumer goes.
 fn forget_held<L: Ledger>(state: &mut State, id: HandleId, cons: ConsId, steps: &mut Steps<L>)
-    requires kept { Holds state.old }
-    requires firm { IsFirm state.old }
+    requires stands { Stands state.old }
     requires idle { IsIdle state.old id cons }
     ensures made { IfSome (handle_at state.old.handles.handles id) (λ h.
         (actors : List (List LineCommand)) (log : List Entry) → world actors log state.new
@@ -96,8 +93,7 @@ fn forget_held<L: Ledger>(state: &mut State, id: HandleId, cons: ConsId, steps: 
 
 // A handle is forgotten that was reaped, so that it has no consumer.
 fn forget_reaped(state: &mut State, id: HandleId)
-    requires kept { Holds state.old }
-    requires firm { IsFirm state.old }
+    requires stands { Stands state.old }
     requires reaped { IsSomeAnd (handle_at state.old.handles.handles id) (λ h. h.consumer ≡ None) }
     ensures made { IfSome (handle_at state.old.handles.handles id) (λ h.
         (actors : List (List LineCommand)) (log : List Entry) → world actors log state.new

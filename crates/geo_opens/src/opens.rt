@@ -12,7 +12,7 @@ ghost use Rattle.geo_handles.specs.Handles.{named_handle};
 ghost use Rattle.geo_access.specs.Access.{consumers_below};
 ghost use Rattle.geo_state.specs.World.{world};
 ghost use Rattle.geo_state.specs.Holds.{Holds};
-ghost use Rattle.geo_state.specs.Steps.{IsFirm, Does, SameWorld};
+ghost use Rattle.geo_state.specs.Steps.{Stands, Does, SameWorld};
 ghost use Rattle.geo_opens.specs.Holders.{grants_with};
 ghost use Rattle.geo_opens.specs.Handles.{IsOpenRefusal, HasRoom, IsRoomed, refused_world};
 
@@ -69,8 +69,7 @@ pub fn open<L: Ledger>(
     refusal: Option<Errno>,
     steps: &mut Steps<L>,
 ) -> Result<Outcome, NoMemory>
-    requires kept { Holds state.old }
-    requires firm { IsFirm state.old }
+    requires stands { Stands state.old }
     requires some { is_zero grant ≡ false }
     requires decided { IsOpenRefusal state.old actor name.now prov.now grant refusal }
     ensures made { IfOk result (λ o. (log : List Entry)
@@ -113,8 +112,7 @@ fn admit<L: Ledger>(
     grant: Counts,
     steps: &mut Steps<L>,
 ) -> Result<(), NoMemory>
-    requires kept { Holds state.old }
-    requires firm { IsFirm state.old }
+    requires stands { Stands state.old }
     requires some { is_zero grant ≡ false }
     requires decided { IsOpenRefusal state.old actor name.now prov.now grant None }
     ensures made { OnOk result ((actors : List (List LineCommand)) (log : List Entry)
@@ -157,8 +155,7 @@ fn open_at<L: Ledger>(
     grant: Counts,
     steps: &mut Steps<L>,
 ) -> Result<(), NoMemory>
-    requires kept { Holds state.old }
-    requires firm { IsFirm state.old }
+    requires stands { Stands state.old }
     requires room { HasRoom state.old }
     requires some { is_zero grant ≡ false }
     requires free { named_handle state.old.handles.handles actor name.now ≡ None }

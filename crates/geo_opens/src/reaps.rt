@@ -9,7 +9,7 @@ ghost use Rattle.geo_handles.specs.Handles.{first_ready, handle_at};
 ghost use Rattle.geo_access.specs.Access.{consumers_below, place_of};
 ghost use Rattle.geo_state.specs.World.{world};
 ghost use Rattle.geo_state.specs.Holds.{Holds};
-ghost use Rattle.geo_state.specs.Steps.{IsFirm, IsAgainst, Makes};
+ghost use Rattle.geo_state.specs.Steps.{Stands, IsAgainst, Makes};
 ghost use Rattle.geo_opens.specs.Handles.{IsIdle, counts_computed};
 
 use crate::handle::consumer_of;
@@ -35,8 +35,7 @@ pub fn reap_found(state: &State) -> Option<Found>
 /// gives back what it was granted and goes, and the handle has none from then on; each provider whose write count
 /// comes to zero by that is offered for taste again. It takes no memory.
 pub fn reap<L: Ledger>(state: &mut State, steps: &mut Steps<L>)
-    requires kept { Holds state.old }
-    requires firm { IsFirm state.old }
+    requires stands { Stands state.old }
     requires due { IsAgainst reap_next state.old None }
     ensures made { (log : List Entry) → Makes reap_next log state.old state.new outcomes.Ran }
     ensures kept { Holds state.new }
@@ -63,8 +62,7 @@ fn next_dead(state: &State) -> HandleId
 
 // Its consumer, through which nothing is out.
 fn consumer_of_dead(state: &State, id: HandleId) -> ConsId
-    requires kept { Holds state.now }
-    requires firm { IsFirm state.now }
+    requires stands { Stands state.now }
     requires next { first_ready state.now.handles.ready ≡ Some id }
     ensures { IsIdle state.now id result }
 {
@@ -76,8 +74,7 @@ fn consumer_of_dead(state: &State, id: HandleId) -> ConsId
 
 // The consumer of a handle goes, and the handle has none from then on.
 fn let_go<L: Ledger>(state: &mut State, id: HandleId, cons: ConsId, steps: &mut Steps<L>)
-    requires kept { Holds state.old }
-    requires firm { IsFirm state.old }
+    requires stands { Stands state.old }
     requires idle { IsIdle state.old id cons }
     ensures made { IfSome (handle_at state.old.handles.handles id) (λ h.
         (actors : List (List LineCommand)) (log : List Entry) → world actors log state.new

@@ -11,11 +11,13 @@ unreachable-requires g c =
     c.args.name.now c.args.prov.now c.args.grant c.requires.decided (sym c.find.ensures.found ∙ c.in_default.is)
 
 -- for each condition: room that is made changes nothing of the world, where nothing refuses the open
-pub open_at-requires-clause-firm : goal.open_at-requires-clause-firm
-open_at-requires-clause-firm g c = (
-  c.requires.firm.0,
-  roomed-firm c.args.state.now c.make_room.new.state c.make_room.ensures.rest c.requires.firm.0 c.requires.firm.1,
-)
+pub open_at-requires-clause-stands : goal.open_at-requires-clause-stands
+open_at-requires-clause-stands g c =
+    let firm = c.requires.stands.firm in
+    record {
+      kept = c.make_room.ensures.kept;
+      firm = (firm.0, roomed-firm c.args.state.now c.make_room.new.state c.make_room.ensures.rest firm.0 firm.1);
+    }
 
 pub open_at-requires-clause-free : goal.open_at-requires-clause-free
 open_at-requires-clause-free g c =

@@ -1,5 +1,4 @@
 use Rattle.std.proofs.Common.{sym, ◌∙◌}
-use Rattle.std.specs.Prelude.{is_some}
 use Rattle.geo_opens.proofs.Opening.{found-there, counts-refuse, refusal-told, none-told}
 use Rattle.geo_opens.proofs.Admitting.{free-of}
 use Rattle.geo_opens.proofs.opens.open_refusal.Goals as goal

@@ -6,10 +6,10 @@ use Rattle.geo_opens.proofs.reaps.consumer_of_dead.Goals as goal
 pub unreachable-requires : goal.unreachable-requires
 unreachable-requires c =
     let never = sym c.in_default.is ∙ c.consumer_of.ensures
-    ∙ next-names c.args.state.now c.requires.kept c.requires.firm c.args.id c.requires.next in
+    ∙ next-names c.args.state.now c.requires.stands c.args.id c.requires.next in
     absurd (cc)
 
 pub returns : goal.returns
 returns c =
-    next-idle c.args.state.now c.requires.kept c.requires.firm c.args.id c.requires.next c.in-Some.cons
+    next-idle c.args.state.now c.requires.stands c.args.id c.requires.next c.in-Some.cons
     (sym c.in-Some.is ∙ c.consumer_of.ensures)
