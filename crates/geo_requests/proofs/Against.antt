@@ -30,9 +30,9 @@ use Rattle.geo_state.proofs.StepLemmas.{world_shows_bios}
 use Rattle.geo_state.specs.declared.state.State.{State}
 use Rattle.geo_state.specs.declared.state.DiskSeat.{DiskSeat}
 use Rattle.geo_state.specs.Trips.{Trip, trip_of, trips, is_at_disk}
-use Rattle.geo_state.specs.Holds.{Holds, IsSeat}
+use Rattle.geo_state.specs.Holds.{IsSeat}
 use Rattle.geo_state.specs.World.{world, disk_of_seat}
-use Rattle.geo_state.specs.Steps.{IsFirm, against}
+use Rattle.geo_state.specs.Steps.{IsFirm, Stands, against}
 use Rattle.geo_requests.specs.Founds.{phase_found, seat_found, way_found, sent_found, take_against, busy_found, deliver_against}
 
 -- what is against an answer is what was found
@@ -172,13 +172,14 @@ module _ (actors : List (List LineCommand)) (log : List Entry) (s : State) where
       (sym (find-map (is_at_disk s.topo.topology disk) (trip_of {R = Held}) s.traffic.bios))
       ∙ ap (option_map (λ b. found.DiskBusy b)) (sym is.busy_is)
 
-  module _ (holds : Holds s) (firm : IsFirm s) (disk : ℕ) (x : BioOf Held) where
+  module _ (stands : Stands s) (disk : ℕ) (x : BioOf Held) where
     -- the disk of a bio has a seat
     seat_by : (o : Option DiskSeat) → slice_get s.disks.items disk ≡ o → IsSome o
         → option_map (λ (y : Bio). found.DiskBusy y.number) (busy_bio w disk) ≡ seat_found s.disks.items disk
     seat_by None e some = absurd (let bad : ⊥ = cc in bad)
     seat_by (Some seat) e some =
-        let is : IsSeat s.topo.topology (trips s.traffic.bios) disk seat.geom seat.busy = rw e at (holds.seats disk) in
+        let is : IsSeat s.topo.topology (trips s.traffic.bios) disk seat.geom seat.busy = rw e at
+        (stands.kept.seats disk) in
         seat_same disk seat is ∙ ap (λ (o : Option DiskSeat).
         option_map (λ b. found.DiskBusy b) (option_and_then (λ (z : DiskSeat). z.busy) o)) (sym e)
 
@@ -187,7 +188,7 @@ module _ (actors : List (List LineCommand)) (log : List Entry) (s : State) where
     way_by d true e at =
         let same : d ≡ disk = eqb-true d disk e in
         let here : disk_at s.topo.topology x.target ≡ Some disk = at ∙ ap (λ n. Some n) same in
-        rw e (seat_by (slice_get s.disks.items disk) refl (has_seat s firm x.target disk here))
+        rw e (seat_by (slice_get s.disks.items disk) refl (has_seat s stands.firm x.target disk here))
     way_by d false e at = rw e refl
 
     way_at_disk : (o : Option ℕ) → disk_at s.topo.topology x.target ≡ o
@@ -203,17 +204,17 @@ module _ (actors : List (List LineCommand)) (log : List Entry) (s : State) where
     pub take_is : take_found w disk (shown_bio l x) ≡ sent_found s.topo.topology s.disks.items disk x
     take_is = sent_by (is_sent x.phase) refl
 
-  take_bio_by : Holds s → IsFirm s → (seat disk : ℕ) (o : Option (BioOf Held))
+  take_bio_by : Stands s → (seat disk : ℕ) (o : Option (BioOf Held))
       → against (take_of w seat disk (option_map (shown_bio l) o))
       ≡ take_against s.topo.topology s.disks.items disk o
-  take_bio_by holds firm seat disk None = refl
-  take_bio_by holds firm seat disk (Some x) =
+  take_bio_by stands seat disk None = refl
+  take_bio_by stands seat disk (Some x) =
       against_unless (take_found w disk (shown_bio l x)) (take_bio w seat disk (shown_bio l x))
-      ∙ take_is holds firm disk x
+      ∙ take_is stands disk x
 
-  pub takes_against : Holds s → IsFirm s → (seat disk b : ℕ)
+  pub takes_against : Stands s → (seat disk b : ℕ)
       → against (take_of w seat disk (bio_at w b))
       ≡ take_against s.topo.topology s.disks.items disk (bio_among s.traffic.bios b)
-  takes_against holds firm seat disk b =
+  takes_against stands seat disk b =
       ap (λ o. against (take_of w seat disk o)) (there b)
-      ∙ take_bio_by holds firm seat disk (bio_among s.traffic.bios b)
+      ∙ take_bio_by stands seat disk (bio_among s.traffic.bios b)

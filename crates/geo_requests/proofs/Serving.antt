@@ -39,7 +39,7 @@ use Rattle.geo_state.specs.Bios.{OnlyBios, GoesTo, IsFree, IsAloneAt}
 use Rattle.geo_state.specs.Trips.{Trip, trips, is_at_disk}
 use Rattle.geo_state.specs.Holds.{Holds, IsSeat}
 use Rattle.geo_state.specs.World.{world, HasBytes}
-use Rattle.geo_state.specs.Steps.{IsFirm, against, IsAgainst, Makes}
+use Rattle.geo_state.specs.Steps.{IsFirm, Stands, against, IsAgainst, Makes}
 use Rattle.geo_requests.proofs.Against.{against_unless, has_seat, there, seat_same}
 use Rattle.geo_requests.proofs.Started.{here}
 
@@ -286,10 +286,11 @@ module _ (s new : State) (b seat : ℕ) (x : BioOf Held) (is : bio_among s.traff
 
 -- What the calls below ask
 
-module _ (s : State) (firm : IsFirm s) (holds : Holds s) (b seat disk : ℕ)
+module _ (s : State) (stands : Stands s) (b seat disk : ℕ)
     (none : IsAgainst (λ v. take_of v seat disk (bio_at v b)) s None) where
-  abbrev pub taken_bio : FoundBio s b (λ x. CanTake (world firm.1.0 firm.0 s) disk (shown_bio (delivered_at firm.0) x))
-  taken_bio = takes s firm b seat disk none
+  abbrev pub taken_bio : FoundBio s b
+      (λ x. CanTake (world stands.firm.1.0 stands.firm.0 s) disk (shown_bio (delivered_at stands.firm.0) x))
+  taken_bio = takes s stands.firm b seat disk none
 
   pub take_sent : IsTrue (has_phase is_sent s.traffic.bios b)
   take_sent = let is = taken_bio.found in rw is taken_bio.fact.sent
@@ -298,7 +299,7 @@ module _ (s : State) (firm : IsFirm s) (holds : Holds s) (b seat disk : ℕ)
   take_goes = let is = taken_bio.found in rw is taken_bio.fact.disk_is
 
   pub take_free : IsFree s disk
-  take_free = is_free s firm b holds disk taken_bio.bio.target taken_bio.fact.disk_is taken_bio.fact.free
+  take_free = is_free s stands.firm b stands.kept disk taken_bio.bio.target taken_bio.fact.disk_is taken_bio.fact.free
 
 -- a Deliver of a bio at its disk
 pub record DeliversAt (s : State) (b disk : ℕ) (got : DeviceResult) : Type 0 where
@@ -351,16 +352,16 @@ seat_within : (xs : List DiskSeat) (disk : ℕ) (o : Option DiskSeat) → slice_
 seat_within xs disk None e some = absurd (let bad : ⊥ = cc in bad)
 seat_within xs disk (Some seat) e some = slice_get_within xs disk seat e
 
-pub deliver_requires : (s : State) (firm : IsFirm s) (b disk : ℕ) (got : DeviceResult) → Holds s
-    → DeliversAt s b disk got → IsDelivering s b disk
-deliver_requires s firm b disk got holds at =
+pub deliver_requires : (s : State) → Stands s → (b disk : ℕ) (got : DeviceResult) → DeliversAt s b disk got
+    → IsDelivering s b disk
+deliver_requires s stands b disk got at =
     let is = at.found in
     record {
       busy = rw is at.busy;
       goes = rw is at.goes;
       seat = seat_within s.disks.items disk (slice_get s.disks.items disk) refl
-          (has_seat s firm at.bio.target disk at.goes);
-      alone = is_alone s firm b holds disk at.bio is at.busy at.goes;
+          (has_seat s stands.firm at.bio.target disk at.goes);
+      alone = is_alone s stands.firm b stands.kept disk at.bio is at.busy at.goes;
     }
 
 -- the bios after a Deliver

@@ -4,8 +4,7 @@ ghost use Rattle.geo_model.specs.World.{bio_at, is_down, is_up, bio_among};
 ghost use Rattle.geo_model.specs.Bios.{disk_at};
 ghost use Rattle.geo_model.specs.Step.{start_of, take_of, deliver_of, up_of};
 ghost use Rattle.geo_bio.specs.Rows.{as_bio};
-ghost use Rattle.geo_state.specs.Holds.{Holds};
-ghost use Rattle.geo_state.specs.Steps.{IsFirm, IsAgainst};
+ghost use Rattle.geo_state.specs.Steps.{Stands, IsAgainst};
 ghost use Rattle.geo_requests.specs.Founds.{phase_found, seat_found, way_found, take_against, sent_found, busy_found, deliver_against};
 
 use crate::disk::{disk_at, fits, sector_at};
@@ -25,8 +24,7 @@ pub fn start_found(state: &State, bio: BioId) -> Option<Found>
 
 /// What is against a Take of a bio for a disk, if anything is.
 pub fn take_found(state: &State, disk: u32, bio: BioId) -> Option<Found>
-    requires kept { Holds state.now }
-    requires firm { IsFirm state.now }
+    requires stands { Stands state.now }
     ensures { (seat : ℕ) → IsAgainst (λ w. take_of w seat disk (bio_at w bio)) state.now result }
 {
     disk_found(&state.topo, &state.traffic, &state.disks, disk, bio)

@@ -8,7 +8,7 @@ ghost use Rattle.geo_bio.specs.BioTable.{has_phase};
 ghost use Rattle.geo_taste.specs.Taster.{IsSettled};
 ghost use Rattle.geo_state.specs.Holds.{Holds};
 ghost use Rattle.geo_state.specs.World.{HasBytes};
-ghost use Rattle.geo_state.specs.Steps.{IsFirm, Makes, SameWorld};
+ghost use Rattle.geo_state.specs.Steps.{Stands, Makes, SameWorld};
 ghost use Rattle.geo_requests.specs.Returned.{IsReading, given_back, is_taste_read, root_result, steps_back, steps_up};
 
 use geo_access::Steps;
@@ -27,8 +27,7 @@ pub fn hand_back<L: Ledger>(
     bio: BioId,
     steps: &mut Steps<L>,
 ) -> Result<Outcome, NoMemory>
-    requires kept { Holds state.old }
-    requires firm { IsFirm state.old }
+    requires stands { Stands state.old }
     requires up { IsTrue (has_phase is_up state.old.traffic.bios bio) }
     requires taste { is_taste_read state.old.traffic.bios bio ≡ true }
     ensures made { IfOk result (λ o.

@@ -7,7 +7,7 @@ ghost use Rattle.geo_model.specs.World.{bio_at};
 ghost use Rattle.geo_model.specs.Step.{take_of, deliver_of};
 ghost use Rattle.geo_state.specs.Holds.{Holds};
 ghost use Rattle.geo_state.specs.World.{HasBytes, world};
-ghost use Rattle.geo_state.specs.Steps.{IsFirm, IsAgainst, Makes, SameWorld};
+ghost use Rattle.geo_state.specs.Steps.{Stands, IsAgainst, Makes, SameWorld};
 ghost use Rattle.geo_state.specs.Shown.{errno_of};
 
 use crate::disk::{disk_of, request_of};
@@ -26,8 +26,7 @@ pub fn take(
     disk: u32,
     bio: BioId,
 ) -> Result<Outcome, NoMemory>
-    requires kept { Holds state.old }
-    requires firm { IsFirm state.old }
+    requires stands { Stands state.old }
     requires enabled { IsAgainst (λ w. take_of w seat disk (bio_at w bio)) state.old None }
     ensures made { (log : List Entry) → IfOk result (λ o.
         Makes (λ w. take_of w seat disk (bio_at w bio)) log state.old state.new o) }
@@ -43,8 +42,7 @@ pub fn take(
 /// A seat delivers what the disk answered, against which nothing is: the bio goes up. A READ's bytes are those of the
 /// log's next entry, which has to be this Deliver. It takes no memory.
 pub fn deliver(state: &mut State, log: &Log, seat: u32, bio: BioId, got: &DeviceResult)
-    requires kept { Holds state.old }
-    requires firm { IsFirm state.old }
+    requires stands { Stands state.old }
     requires enabled { IsAgainst (λ w. deliver_of w seat got.now (bio_at w bio)) state.old None }
     requires logged { HasBytes log.now.items state.old }
     ensures made { (e : Entry) → e.step ≡ steps.Deliver bio got.now → (actors : List (List LineCommand))

@@ -9,7 +9,7 @@ ghost use Rattle.geo_bio.specs.BioTable.{has_phase};
 ghost use Rattle.geo_state.specs.Bios.{IsNoHandles};
 ghost use Rattle.geo_state.specs.Holds.{Holds};
 ghost use Rattle.geo_state.specs.World.{HasBytes};
-ghost use Rattle.geo_state.specs.Steps.{IsFirm, Makes, SameWorld};
+ghost use Rattle.geo_state.specs.Steps.{Stands, Makes, SameWorld};
 ghost use Rattle.geo_mesh.specs.Topo.{with_topology};
 ghost use Rattle.geo_model.specs.Topology.{note_started};
 ghost use Rattle.geo_requests.specs.Started.{HasStarted};
@@ -25,8 +25,7 @@ use std::alloc::Global;
 /// A bio that is Down goes its way: back with an error, to its disk, or in pieces to those below. What can't be
 /// counted, and numbers that are used up, are told as want of memory. Where memory is wanting all stays.
 pub fn start(alloc: Global, state: &mut State, bio: BioId) -> Result<Outcome, NoMemory>
-    requires kept { Holds state.old }
-    requires firm { IsFirm state.old }
+    requires stands { Stands state.old }
     requires down { IsTrue (has_phase is_down state.old.traffic.bios bio) }
     ensures made { (log : List Entry) → IfOk result (λ o.
         Makes (λ w. start_of w (bio_at w bio)) log state.old state.new o) }
@@ -43,8 +42,7 @@ pub fn start(alloc: Global, state: &mut State, bio: BioId) -> Result<Outcome, No
 
 // A bio goes a way: back with an error, also as one that a NOP geom counts and fails, to its disk, or in pieces.
 fn go(alloc: Global, state: &mut State, bio: BioId, way: Way) -> Result<Outcome, NoMemory>
-    requires kept { Holds state.old }
-    requires firm { IsFirm state.old }
+    requires stands { Stands state.old }
     requires down { IsTrue (has_phase is_down state.old.traffic.bios bio) }
     requires way { IfSome (bio_among state.old.traffic.bios bio) (λ x.
         IsModelWay state.old.topo.topology way (way_of state.old.topo.topology x)) }

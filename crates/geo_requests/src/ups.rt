@@ -7,7 +7,7 @@ ghost use Rattle.geo_model.specs.Step.{up_of};
 ghost use Rattle.geo_bio.specs.BioTable.{has_phase};
 ghost use Rattle.geo_state.specs.Holds.{Holds};
 ghost use Rattle.geo_state.specs.World.{HasBytes};
-ghost use Rattle.geo_state.specs.Steps.{IsFirm, Makes, SameWorld};
+ghost use Rattle.geo_state.specs.Steps.{Stands, Makes, SameWorld};
 ghost use Rattle.geo_requests.specs.Returned.{is_taste_read, steps_up};
 ghost use Rattle.geo_requests.specs.Risen.{outcome_of_rise, owner_line};
 
@@ -30,8 +30,7 @@ pub fn up<L: Ledger>(
     bio: BioId,
     steps: &mut Steps<L>,
 ) -> Result<Outcome, NoMemory>
-    requires kept { Holds state.old }
-    requires firm { IsFirm state.old }
+    requires stands { Stands state.old }
     requires up { IsTrue (has_phase is_up state.old.traffic.bios bio) }
     ensures made { IfOk result (λ o.
         Makes (λ w. up_of w (bio_at w bio)) log.now.items state.old state.new o) }

@@ -4,5 +4,5 @@ use Rattle.geo_requests.proofs.found.take_found.Goals as goal
 
 pub returns : goal.returns
 returns c seat actors log =
-    takes_against actors log c.args.state.now c.requires.kept c.requires.firm seat c.args.disk c.args.bio
+    takes_against actors log c.args.state.now c.requires.stands seat c.args.disk c.args.bio
     ∙ sym c.disk_found.ensures

@@ -11,7 +11,7 @@ pub up-requires-clause-came : goal.up-requires-clause-came
 up-requires-clause-came g c =
     let s = c.args.state.now in
     let r = read_up s c.args.bio c.requires.up c.requires.taste in
-    came_back s c.requires.firm c.args.bio r.bio r.found r.root
+    came_back s c.requires.stands.firm c.args.bio r.bio r.found r.root
 
 -- the bios and their next number are as before, and nothing else is part of the world
 pub returns-in_err-risen-clause-same : goal.returns-in_err-risen-clause-same
@@ -25,13 +25,15 @@ pub give_back-requires-clause-settled : goal.give_back-requires-clause-settled
 give_back-requires-clause-settled g c =
     let s = c.args.state.now in
     let r = read_up s c.args.bio c.requires.up c.requires.taste in
-    settled_mid s c.requires.firm c.args.bio r.bio r.found r.root c.up.new.state c.up.ensures.only c.up.ensures.kept
+    settled_mid s c.requires.stands.firm c.args.bio r.bio r.found r.root c.up.new.state c.up.ensures.only
+    c.up.ensures.kept
 
 pub give_back-requires-clause-reading : goal.give_back-requires-clause-reading
 give_back-requires-clause-reading g c =
     let s = c.args.state.now in
     let r = read_up s c.args.bio c.requires.up c.requires.taste in
-    reading_mid s c.requires.firm c.args.bio r.bio r.found r.root c.up.new.state c.up.ensures.only c.up.ensures.kept
+    reading_mid s c.requires.stands.firm c.args.bio r.bio r.found r.root c.up.new.state c.up.ensures.only
+    c.up.ensures.kept
 
 -- the read is gone and what it held is the taste's, which gives back its one read, as in the model
 pub returns-clause-made : goal.returns-clause-made
@@ -48,12 +50,13 @@ pub returns-clause-kept : goal.returns-clause-kept
 returns-clause-kept g c =
     let s = c.args.state.now in
     let r = read_up s c.args.bio c.requires.up c.requires.taste in
-    let a = read_of s c.requires.firm c.args.bio r.bio r.found r.root in
+    let firm = c.requires.stands.firm in
+    let a = read_of s firm c.args.bio r.bio r.found r.root in
     holds_back c.up.new.state c.give_back.new.state c.up.ensures.kept a.taste
-    (same_taste s c.requires.firm c.args.bio r.bio r.found r.root c.up.new.state c.up.ensures.only c.up.ensures.kept)
+    (same_taste s firm c.args.bio r.bio r.found r.root c.up.new.state c.up.ensures.only c.up.ensures.kept)
     a.out
-    (nobodys_mid s c.requires.firm c.args.bio r.bio r.found r.root c.up.new.state c.up.ensures.only c.up.ensures.kept)
-    (kind_mid s c.requires.firm c.args.bio r.bio r.found r.root c.up.new.state c.up.ensures.only c.up.ensures.kept)
+    (nobodys_mid s firm c.args.bio r.bio r.found r.root c.up.new.state c.up.ensures.only c.up.ensures.kept)
+    (kind_mid s firm c.args.bio r.bio r.found r.root c.up.new.state c.up.ensures.only c.up.ensures.kept)
     c.root_result.result c.give_back.ensures.topo c.give_back.ensures.taste c.give_back.ensures.rest
     c.give_back.ensures.settled
 
@@ -71,7 +74,7 @@ pub returns-clause-bound : goal.returns-clause-bound
 returns-clause-bound g c =
     let s = c.args.state.now in
     let r = read_up s c.args.bio c.requires.up c.requires.taste in
-    let below = steps_mid s c.requires.firm c.args.bio r.bio r.found r.root c.up.new.state c.up.ensures.only
+    let below = steps_mid s c.requires.stands.firm c.args.bio r.bio r.found r.root c.up.new.state c.up.ensures.only
     c.up.ensures.kept in
     let all = read_steps s c.args.bio r in
     let most = c.give_back.ensures.bound in

@@ -58,7 +58,7 @@ returns-in-Sends-clause-started c =
 -- for both cuts: the model's has a piece at least, a target for each, and goes through no handle's consumer
 pub split_by-requires : goal.split_by-requires
 split_by-requires c =
-    let well = split_well c.args.state.now c.requires.firm c.args.bio c.requires.down c.in-Splits.cut
+    let well = split_well c.args.state.now c.requires.stands.firm c.args.bio c.requires.down c.in-Splits.cut
     (rw c.in-Splits.is at c.requires.way) in
     assumption (c.requires, well)
 
@@ -73,7 +73,8 @@ pass_by-requires c =
     (rw c.in-Passes.is at c.requires.way) in
     let count = passes_counted c.args.state.now c.args.bio c.in-Passes.cut c.in-Passes.geom
     (rw c.in-Passes.is at c.requires.way) c.requires.down in
-    let well = pass_well c.args.state.now c.requires.firm c.args.bio c.requires.down c.in-Passes.cut c.in-Passes.geom
+    let well = pass_well c.args.state.now c.requires.stands.firm c.args.bio c.requires.down c.in-Passes.cut
+    c.in-Passes.geom
     goes in
     assumption (c.requires, count, well)
 

@@ -12,7 +12,7 @@ use Rattle.geo_requests.proofs.starts.start.Goals as goal
 -- a bio that is there can go down
 pub way_of-requires : goal.way_of-requires
 way_of-requires c =
-    can_go_down c.args.state.now c.requires.firm c.args.bio (as_bio c.args.bio c.in-Some.found.now)
+    can_go_down c.args.state.now c.requires.stands.firm c.args.bio (as_bio c.args.bio c.in-Some.found.now)
     (sym c.in-Some.ensures.found)
 
 -- what was found is the bio of the number, of which its way tells nothing

@@ -14,7 +14,7 @@ pub up-requires-clause-came : goal.up-requires-clause-came
 up-requires-clause-came g c =
     let s = c.args.state.now in
     let other = no_read s.traffic.bios c.args.bio (sym c.is_taste_read.ensures ∙ c.if-is_taste_read.false) in
-    came s c.args.bio c.requires.up other c.requires.firm
+    came s c.args.bio c.requires.up other c.requires.stands.firm
 
 -- the bios and their next number are as before, and nothing else is part of the world
 pub returns-in_err-risen-clause-same : goal.returns-in_err-risen-clause-same
