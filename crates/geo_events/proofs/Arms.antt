@@ -25,7 +25,7 @@ use Rattle.geo_taste.specs.Taster.{IsSettled as IsTasteSettled}
 use Rattle.geo_state.specs.declared.state.State.{State}
 use Rattle.geo_state.specs.Bios.{IsNoHandles}
 use Rattle.geo_state.specs.Holds.{Holds}
-use Rattle.geo_state.specs.Steps.{IsFirm, IsAgainst, Makes}
+use Rattle.geo_state.specs.Steps.{Stands, IsAgainst, Makes}
 use Rattle.geo_state.specs.World.{world}
 use Rattle.geo_events.specs.Judging.{HasSector, HasSubmitted}
 use Rattle.geo_events.proofs.Stepping.{IsNextTaste, IsInside}
@@ -47,16 +47,15 @@ pub record Leaves (old new : State) : Type 0 where
   pub made : (log : List Entry) → Makes judge_next log old new outcomes.Ran
 
 -- nothing is against a Judge, and the taste was taken out of the state
-module _ {s : State} {a : Taste} {o : Option Taste} (kept : Holds s) (firm : IsFirm s)
+module _ {s : State} {a : Taste} {o : Option Taste} (stands : Stands s)
     (due : IsAgainst judge_next s None) (taken : o ≡ s.taste) (some : o ≡ Some a)
     (sound : IsSoundGraph s.topo.topology) (room : 3 * length s.topo.topology.providers + 128 ≤ s.queue.spare) where
   -- so the state was ready for a step
   pub ready-of : Ready s a
   ready-of = record {
-    kept = kept;
-    firm = firm;
+    stands = stands;
     is = sym taken ∙ some;
-    idle = taste-idle s kept due a (sym taken ∙ some);
+    idle = taste-idle s stands.kept due a (sym taken ∙ some);
     sound = sound;
     room = room;
   }
@@ -124,10 +123,10 @@ module _ {s : State} {a : Taste} {u : TopoView Config} {q : Queued} {z : Taste} 
           subst (λ n. IsSome (consumer_at u.topology n)) (sym after.consumer)
           (subst (λ (v : TopoView Config). IsSome (consumer_at v.topology a.consumer)) (sym mesh)
           (subst (λ x. IsSome x)
-          (sym (taster-at s step.ready.kept step.ready.firm a step.ready.is step.ready.sound)) refl));
+          (sym (taster-at s step.ready.stands a step.ready.is step.ready.sound)) refl));
       nobodys =
           ap (holding_handle s.handles.handles) after.consumer
-          ∙ nobodys s step.ready.kept step.ready.firm a step.ready.is step.ready.sound;
+          ∙ nobodys s step.ready.stands a step.ready.is step.ready.sound;
     }
 
     -- nothing is out through it
@@ -135,7 +134,7 @@ module _ {s : State} {a : Taste} {u : TopoView Config} {q : Queued} {z : Taste} 
     read-idle =
         ap (value_at u.active) after.consumer
         ∙ ap (λ (v : TopoView Config). value_at v.active a.consumer) mesh
-        ∙ none-out s step.ready.kept step.ready.firm a step.ready.is step.ready.sound step.ready.idle
+        ∙ none-out s step.ready.stands a step.ready.is step.ready.sound step.ready.idle
 
     -- the sector is one of the provider
     pub read-inside : (o : Option Taste) → HasSector (record s { topo = u; queue = q; taste = o }) z sector
@@ -206,7 +205,7 @@ module _ {s : State} {a : Taste} {u : TopoView Config} {q : Queued} {z : Taste} 
     ended-out =
         ap (value_at u.active) over.consumer
         ∙ ap (λ (v : TopoView Config). value_at v.active a.consumer) step.judged.mesh.mesh
-        ∙ none-out s step.ready.kept step.ready.firm a step.ready.is step.ready.sound step.ready.idle
+        ∙ none-out s step.ready.stands a step.ready.is step.ready.sound step.ready.idle
 
     module _ {v : TopoView Config} {o : Option Taste} (gone : v ≡ without_consumer u z.consumer)
         (settled : IsTasteSettled v) (none : o ≡ None) where

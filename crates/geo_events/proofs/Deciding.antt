@@ -29,7 +29,7 @@ use Rattle.geo_state.specs.Trips.{Trip, trip_of, trips, out_through, taste_read}
 use Rattle.geo_state.specs.Trips.{is_out as goes_through}
 use Rattle.geo_state.specs.Holds.{Holds}
 use Rattle.geo_state.specs.World.{world}
-use Rattle.geo_state.specs.Steps.{IsFirm, against, IsAgainst, Makes}
+use Rattle.geo_state.specs.Steps.{Stands, against, IsAgainst, Makes}
 use Rattle.geo_state.proofs.ViewLemmas.{states_show}
 use Rattle.geo_events.specs.Steps.{IsHead, HasDone, event_against, taste_against}
 use Rattle.geo_events.specs.Washing.{HasWashed}
@@ -176,7 +176,7 @@ abbrev pub wash_against : Option WashWork → Option Found
 wash_against None = Some found.NothingToWash
 wash_against (Some work) = None
 
-module _ (s : State) (kept : Holds s) (firm : IsFirm s) where
+module _ (s : State) (stands : Stands s) where
   abbrev t : Topology Config
   t = s.topo.topology
 
@@ -186,8 +186,8 @@ module _ (s : State) (kept : Holds s) (firm : IsFirm s) where
     where
       told : (c : ℕ) → is_out s.topo c ≡ is_active (world actors log s) c
       told c =
-          (states_show firm.0 s firm.1.0 kept firm.1.1).active c
-          ∙ active-is firm.0 s.traffic.bios c
+          (states_show stands.firm.0 s stands.firm.1.0 stands.kept stands.firm.1.1).active c
+          ∙ active-is stands.firm.0 s.traffic.bios c
           ∙ sym (active-is log s.traffic.bios c)
 
   module _ (o : Option WashWork)
@@ -196,8 +196,8 @@ module _ (s : State) (kept : Holds s) (firm : IsFirm s) where
     pub work-is : (actors : List (List LineCommand)) (log : List Entry) → o ≡ wash_work (world actors log s)
     unfolding wash_work
     work-is actors log =
-        tells (granted_by s.topo) (counts_are_stored s.topo (granted_by s.topo) kept.counted (λ c. refl))
-        ∙ ap (λ (g : ℕ → Counts). wash_where g (is_out s.topo) t) kept.grants
+        tells (granted_by s.topo) (counts_are_stored s.topo (granted_by s.topo) stands.kept.counted (λ c. refl))
+        ∙ ap (λ (g : ℕ → Counts). wash_where g (is_out s.topo) t) stands.kept.grants
         ∙ ap (λ (a : ℕ → Bool). wash_where (granted_in (world actors log s)) a t) (out-is actors log)
 
     -- what is against a Wash

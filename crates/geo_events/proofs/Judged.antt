@@ -47,7 +47,7 @@ use Rattle.geo_state.specs.Changes.{IsSettled}
 use Rattle.geo_state.specs.Holds.{Holds, owed_events}
 use Rattle.geo_state.specs.Parts.{disk_row, owner_row}
 use Rattle.geo_state.specs.Sites.{Comers, AreFresh}
-use Rattle.geo_state.specs.Steps.{IsFirm, Makes}
+use Rattle.geo_state.specs.Steps.{Stands, Makes}
 use Rattle.geo_state.specs.Trips.{trips, out_through}
 use Rattle.geo_state.specs.World.{world}
 use Rattle.geo_state.proofs.GrantLaws.{grants_follow, tastes_grant_nothing, tastes_grant_reads}
@@ -112,8 +112,7 @@ some-grows t u q (Some m) grown are = few-roomed t m.mesh u are.mesh grown
 
 -- the state is firm, has this taste, of which no read is out, and has room for the events of a step
 pub record Ready (s : State) (a : Taste) : Type 0 where
-  pub kept : Holds s
-  pub firm : IsFirm s
+  pub stands : Stands s
   pub is : s.taste ≡ Some a
   pub idle : is_read_out a.asked ≡ false
   pub sound : IsSoundGraph s.topo.topology
@@ -130,12 +129,13 @@ module _ (s : State) (a : Taste) (ready : Ready s a) where
   -- what a class accepts may be made
   pub may-judge : MayJudge (both s.topo s.queue) a
   may-judge =
-      firm_meshes_judge (world ready.firm.1.0 ready.firm.0 s) (both s.topo s.queue) a ready.firm.1.1 ready.is refl
+      firm_meshes_judge (world ready.stands.firm.1.0 ready.stands.firm.0 s) (both s.topo s.queue) a
+      ready.stands.firm.1.1 ready.is refl
 
   -- grants of the handles alone, as long as no read is out
   idle-grants : (c : ℕ) → granted_by s.topo c ≡ granted_of s.handles.handles None c
   idle-grants c =
-      ap (λ (g : ℕ → Counts). g c) ready.kept.grants
+      ap (λ (g : ℕ → Counts). g c) ready.stands.kept.grants
       ∙ ap (λ o. granted_of s.handles.handles o c) ready.is
       ∙ tastes_grant_nothing s.handles.handles a ready.idle c
 
@@ -148,7 +148,7 @@ module _ (s : State) (a : Taste) (ready : Ready s a) where
       next-taste =
           subst (λ (x : Judging). IsNextTaste t a x.taste x.judged) (judged.step may-judge)
           (steps_on (granted_by s.topo) (queued (both s.topo s.queue)) a ready.idle
-          (readable-of s ready.kept ready.firm a ready.is))
+          (readable-of s ready.stands a ready.is))
 
       -- it is the world's
       pub judged-makes : (new : State) (o : Outcome) (log : List Entry)
@@ -163,7 +163,7 @@ module _ (s : State) (a : Taste) (ready : Ready s a) where
           let r : Answer = if b then Err (found.ReadOut (taste_bio w)) else Ok (judge_step w a) in r)
           ready.idle
           ∙ ap (λ (g : ℕ → Counts). let x : Judging = taste_step g (queued_of w) a in
-          let r : Answer = Ok (judged_world w x x.judged) in r) (sym ready.kept.grants)
+          let r : Answer = Ok (judged_world w x x.judged) in r) (sym ready.stands.kept.grants)
           ∙ ap (λ (x : Judging). let r : Answer = Ok (judged_world w x x.judged) in r) (judged.step may-judge)
           ∙ ap (λ (r : World × Outcome). let x : Answer = Ok r in x) (same actors)
 
@@ -194,7 +194,7 @@ module _ (s : State) (a : Taste) (ready : Ready s a) where
             ap (λ (v : Topology Config). length v.providers) graph
             ∙ (let none : length t.providers ≡ length t.providers + 0 = omega arith in none) in
             subst (λ n. Holds (record s { topo = u; queue = q; taste = Some z; providers = n })) zero
-            (kept_after_comers ready.firm.0 s u q (Some z) nobody ready.kept ready.firm.1
+            (kept_after_comers ready.stands.firm.0 s u q (Some z) nobody ready.stands.kept ready.stands.firm.1
             (record {
               consumers =
                   ap (λ (v : Topology Config). map (λ (x : Consumer). x.number) v.consumers) graph
@@ -226,8 +226,8 @@ module _ (s : State) (a : Taste) (ready : Ready s a) where
             → Holds (record s { topo = u; queue = q; taste = Some z })
         read-kept mesh consumer out =
             let holder : IsHolder t a.consumer =
-            taster_holds t ready.sound a (tasting-of s ready.kept ready.firm a ready.is) in
-            let free = nobodys s ready.kept ready.firm a ready.is ready.sound in
+            taster_holds t ready.sound a (tasting-of s ready.stands a ready.is) in
+            let free = nobodys s ready.stands a ready.is ready.sound in
             same-kept (ap (λ (v : TopoView Config). v.topology) mesh) (ap (λ (v : TopoView Config). v.active) mesh)
             (λ c.
             ap (λ (v : TopoView Config). granted_by v c) mesh
@@ -245,7 +245,7 @@ module _ (s : State) (a : Taste) (ready : Ready s a) where
               → length a.chain.links < MAX_LINKS
           few-links ebr p found =
               let order : IsTasteInOrder s.topo.topology a =
-              ordered s ready.kept ready.firm a ready.is in
+              ordered s ready.stands a ready.is in
               let holds : ChainHolds (p.size / p.sector) a.asked a.reads a.chain =
               subst (λ o. IfSome o (λ x. ChainHolds (x.size / x.sector) a.asked a.reads a.chain)) found
               (order.chain ebr) in
@@ -279,7 +279,7 @@ module _ (s : State) (a : Taste) (ready : Ready s a) where
               let count = came-count in
               let rows : length (map owner_row parts-come.grows.providers) ≡ length parts-come.grows.providers =
               length-map parts-come.grows.providers owner_row in
-              let before : s.providers ≡ length t.providers = ready.kept.providers in
+              let before : s.providers ≡ length t.providers = ready.stands.kept.providers in
               let all = all-providers in
               omega (arith, count, rows, before, all)
 
@@ -293,11 +293,11 @@ module _ (s : State) (a : Taste) (ready : Ready s a) where
                   → AllByRecursion (λ (c : Consumer). value_at s.topo.active c.number ≡ None) cs
               fresh-each [] above = tt
               fresh-each (c ∷ cs) above = (
-                ap (λ rows. value_at rows c.number) ready.kept.active
+                ap (λ rows. value_at rows c.number) ready.stands.kept.active
                     ∙ ap (option_map (λ (row : ℕ × ℕ). row.1))
                     (none-stored (λ (x : Consumer). out_through (trips s.traffic.bios) x.number) c.number t.consumers
                     (found_fresh (λ (x : Consumer). x.number) t.next_consumer c.number t.consumers
-                    ready.firm.1.1.graph.numbers.consumers above.0)),
+                    ready.stands.firm.1.1.graph.numbers.consumers above.0)),
                 fresh-each cs above.1,
               )
 
@@ -311,10 +311,12 @@ module _ (s : State) (a : Taste) (ready : Ready s a) where
           made-kept out =
               subst (λ n. Holds (record s { topo = u; queue = q; taste = Some z; providers = s.providers + n }))
               (sym came-count)
-              (kept_after_comers ready.firm.0 s u q (Some z) (comers s.topo u parts-come.grows) ready.kept ready.firm.1
+              (kept_after_comers ready.stands.firm.0 s u q (Some z) (comers s.topo u parts-come.grows) ready.stands.kept
+              ready.stands.firm.1
               (has-comers s.topo u parts-come.grows) came-fresh (no-disks s.topo u parts-come.grows)
               (λ c.
-              grown-granted s.topo u parts-come.grows ready.kept.counted ready.firm.1.1.graph.parts.consumers c
+              grown-granted s.topo u parts-come.grows ready.stands.kept.counted
+              ready.stands.firm.1.1.graph.parts.consumers c
               ∙ idle-grants c
               ∙ sym (tastes_grant_nothing s.handles.handles z out c))
               (owed-kept u settled (length parts-come.grows.providers) parts-come.few all-providers))
@@ -350,7 +352,7 @@ module _ (s : State) (a : Taste) (ready : Ready s a) where
 
         pub ended-kept : Holds (record s { topo = v; queue = q; taste = None })
         ended-kept =
-            kept_after_consumer s v q None a.consumer ready.kept ended-mesh
+            kept_after_consumer s v q None a.consumer ready.stands.kept ended-mesh
             (λ c. ended-granted c ∙ idle-grants c)
             (owed-kept v settled 0 (omega arith)
             (ap (λ (x : TopoView Config). length x.topology.providers) ended-mesh

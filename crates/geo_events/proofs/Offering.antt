@@ -21,7 +21,7 @@ use Rattle.geo_state.specs.Holds.{Holds, owed_events}
 use Rattle.geo_state.specs.Parts.{SameParts, disk_row, owner_row}
 use Rattle.geo_state.specs.Sites.{Comers, HasComers}
 use Rattle.geo_state.specs.World.{world}
-use Rattle.geo_state.specs.Steps.{IsFirm, SameWorld}
+use Rattle.geo_state.specs.Steps.{Stands, SameWorld}
 use Rattle.geo_state.proofs.GrantLaws.{comers_hold_nothing, tastes_grant_nothing}
 use Rattle.geo_state.proofs.SiteLemmas.{kept_after_comers}
 use Rattle.geo_state.proofs.Frames.{parts-self}
@@ -45,7 +45,7 @@ none-stored {V} f n (c ∷ cs) none = by (c.number == n) refl (none-stored f n c
     by true e rest = let never : Some c ≡ None = (rw e at none) in absurd cc
     by false e rest = rw e (rest (rw e at none))
 
-module _ (s : State) (kept : Holds s) (firm : IsFirm s) where
+module _ (s : State) (stands : Stands s) where
   abbrev t : Topology Config
   t = s.topo.topology
 
@@ -53,12 +53,12 @@ module _ (s : State) (kept : Holds s) (firm : IsFirm s) where
   fresh : consumer_at t t.next_consumer ≡ None
   fresh =
       found_fresh (λ (c : Consumer). c.number) t.next_consumer t.next_consumer t.consumers
-      firm.1.1.graph.numbers.consumers (omega arith)
+      stands.firm.1.1.graph.numbers.consumers (omega arith)
 
   -- so nothing is stored of it
   unknown : value_at s.topo.active t.next_consumer ≡ None
   unknown =
-      ap (λ rows. value_at rows t.next_consumer) kept.active
+      ap (λ rows. value_at rows t.next_consumer) stands.kept.active
       ∙ ap (option_map (λ (row : ℕ × ℕ). row.1))
       (none-stored (λ c. out_through (trips s.traffic.bios) c.number) t.next_consumer t.consumers fresh)
 
@@ -92,8 +92,8 @@ module _ (s : State) (kept : Holds s) (firm : IsFirm s) where
           → granted_by u c ≡ granted_of s.handles.handles (Some (first_taste p t.next_consumer)) c
       granted c =
           ap (λ (v : TopoView Config). granted_by v c) came
-          ∙ comers_hold_nothing s.topo 2 p kept.counted fresh c
-          ∙ ap (λ (g : ℕ → Counts). g c) kept.grants
+          ∙ comers_hold_nothing s.topo 2 p stands.kept.counted fresh c
+          ∙ ap (λ (g : ℕ → Counts). g c) stands.kept.grants
           ∙ ap (λ o. granted_of s.handles.handles o c) none
           ∙ sym (tastes_grant_nothing s.handles.handles (first_taste p t.next_consumer) refl c)
 
@@ -105,7 +105,7 @@ module _ (s : State) (kept : Holds s) (firm : IsFirm s) where
       })
       begun-kept =
           let owed : owed_events u ≡ owed_events s.topo = ap (λ (v : TopoView Config). owed_events v) came in
-          let room : owed_events s.topo ≤ s.queue.spare = kept.room in
+          let room : owed_events s.topo ≤ s.queue.spare = stands.kept.room in
           let zero : s.providers + 0 ≡ s.providers = omega arith in
           subst (λ n. Holds (record s {
             topo = u;
@@ -113,7 +113,8 @@ module _ (s : State) (kept : Holds s) (firm : IsFirm s) where
             taste = Some (first_taste p t.next_consumer);
             providers = n;
           })) zero
-          (kept_after_comers firm.0 s u (headless s.queue) (Some (first_taste p t.next_consumer)) comers kept firm.1
+          (kept_after_comers stands.firm.0 s u (headless s.queue) (Some (first_taste p t.next_consumer)) comers
+          stands.kept stands.firm.1
           has-come (unknown, tt) tt granted
           (record {
             counted = is_settled.counted;
@@ -136,7 +137,7 @@ module _ (s : State) (kept : Holds s) (firm : IsFirm s) where
             taste = Some (first_taste p t.next_consumer);
           }) came
           ∙ sym (ap (λ (b : Bool). if b then w else begin_taste w p)
-          (sym (ap (λ (g : ℕ → Counts). is_not_tasted g t p) kept.grants) ∙ tasted))
+          (sym (ap (λ (g : ℕ → Counts). is_not_tasted g t p) stands.kept.grants) ∙ tasted))
 
       module _ (queue : Queued) (headless_is : queue ≡ headless s.queue) (taste : Taste)
           (first_is : taste ≡ first_taste p t.next_consumer) where
@@ -161,7 +162,7 @@ module _ (s : State) (kept : Holds s) (firm : IsFirm s) where
   passed-done p isnt actors log =
       let w : World = without_head (world actors log s) in
       sym (ap (λ (b : Bool). if b then w else begin_taste w p)
-      (sym (ap (λ (g : ℕ → Counts). is_not_tasted g t p) kept.grants)
+      (sym (ap (λ (g : ℕ → Counts). is_not_tasted g t p) stands.kept.grants)
       ∙ back (is_not_tasted (granted_by s.topo) t p) isnt))
     where
       back : (b : Bool) → false ≡ not b → b ≡ true
@@ -180,12 +181,12 @@ module _ (s : State) (kept : Holds s) (firm : IsFirm s) where
   module _ (u : TopoView Config) (same : IsButForRoom u s.topo) where
     pub roomed-kept : IsSettled u → Holds (record s { topo = u })
     roomed-kept is_settled =
-        holds_after_effects s u s.queue kept
+        holds_after_effects s u s.queue stands.kept
         (subst (λ (v : TopoView Config). SameParts t v.topology) (sym same) (parts-self t))
         (ap (λ (v : TopoView Config). v.active) same) (λ c. ap (λ (v : TopoView Config). granted_by v c) same)
         is_settled.counted is_settled.quiet
         (let owed : owed_events u ≡ owed_events s.topo = ap (λ (v : TopoView Config). owed_events v) same in
-        let room : owed_events s.topo ≤ s.queue.spare = kept.room in
+        let room : owed_events s.topo ≤ s.queue.spare = stands.kept.room in
         omega (arith, owed, room))
 
     -- and the world is the same

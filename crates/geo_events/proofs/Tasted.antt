@@ -39,8 +39,7 @@ use Rattle.geo_taste.specs.Taster.{held_by_taste, IsTasteOf}
 use Rattle.geo_taste.proofs.Coming.{taste_holds}
 use Rattle.geo_taste.proofs.Reading.{held_idle, taster_found}
 use Rattle.geo_state.specs.declared.state.State.{State}
-use Rattle.geo_state.specs.Holds.{Holds}
-use Rattle.geo_state.specs.Steps.{IsFirm}
+use Rattle.geo_state.specs.Steps.{Stands}
 use Rattle.geo_state.specs.Trips.{Trip, trip_of, trips}
 use Rattle.geo_state.specs.Trips.{is_out as goes_through}
 use Rattle.geo_state.specs.World.{world}
@@ -55,22 +54,22 @@ long-sector : (size : ℕ) → IsSectorSize size → 512 ≤ size
 long-sector size (inl small) = omega (arith, small)
 long-sector size (inr large) = omega (arith, large)
 
-module _ (s : State) (kept : Holds s) (firm : IsFirm s) (a : Taste) (is : s.taste ≡ Some a) where
+module _ (s : State) (stands : Stands s) (a : Taste) (is : s.taste ≡ Some a) where
   abbrev t : Topology Config
   t = s.topo.topology
 
   -- the world for which the state stands
   abbrev w : World
-  w = world firm.1.0 firm.0 s
+  w = world stands.firm.1.0 stands.firm.0 s
 
   -- it has its consumer, and is in order
   pub tasting-of : IsTasting t a
   tasting-of =
-      subst (λ (o : Option Taste). MatchOption o (consumers_of t 2 ≡ []) (IsTasting t)) is firm.1.1.handles.taste
+      subst (λ (o : Option Taste). MatchOption o (consumers_of t 2 ≡ []) (IsTasting t)) is stands.firm.1.1.handles.taste
 
   -- it is in order
   pub ordered : IsTasteInOrder w.topology a
-  ordered = subst (λ (o : Option Taste). IfSome o (IsTasteInOrder w.topology)) is firm.1.1.taste.order
+  ordered = subst (λ (o : Option Taste). IfSome o (IsTasteInOrder w.topology)) is stands.firm.1.1.taste.order
 
   -- the tasted provider is there, and its geom is low
   record HasLow : Type 0 where
@@ -108,16 +107,17 @@ module _ (s : State) (kept : Holds s) (firm : IsFirm s) (a : Taste) (is : s.tast
   asked-well =
       at-found (provider_at t a.provider) (λ p. IsAskedInOrder t p a.asked) low-of.item low-of.found
       (subst (λ (o : Option Taste). IfSome o (λ x. IfSome (provider_at t x.provider) (λ p. IsAskedInOrder t p x.asked)))
-      is firm.1.1.taste.asked)
+      is stands.firm.1.1.taste.asked)
 
   -- it has sectors
   sizes-of : IsSectorSize low-of.item.sector × IsMediaSize low-of.item.size low-of.item.sector
   sizes-of =
       let here : Contains t.providers low-of.item =
       find-Contains (λ (p : Provider). p.number == a.provider) t.providers low-of.item low-of.found in (
-        All-contains (λ (p : Provider). IsSectorSize p.sector) t.providers low-of.item firm.1.1.sizes.sectors here,
+        All-contains (λ (p : Provider). IsSectorSize p.sector) t.providers low-of.item stands.firm.1.1.sizes.sectors
+            here,
         All-contains (λ (p : Provider). IsMediaSize p.size p.sector) t.providers low-of.item
-            firm.1.1.graph.providers.sizes here,
+            stands.firm.1.1.graph.providers.sizes here,
       )
 
   -- the sector that is back has 512 bytes or more
@@ -169,9 +169,9 @@ module _ (s : State) (kept : Holds s) (firm : IsFirm s) (a : Taste) (is : s.tast
             names_some h.consumer a.consumer
             (find_passes (λ (x : Handle). names_number x.consumer a.consumer) s.handles.handles h e) in
             let at : handle_at s.handles.handles h.number ≡ Some h =
-            found_itself (λ (x : Handle). x.number) s.handles.next s.handles.handles h kept.numbers
+            found_itself (λ (x : Handle). x.number) s.handles.next s.handles.handles h stands.kept.numbers
             (find-Contains (λ (x : Handle). names_number x.consumer a.consumer) s.handles.handles h e) in
-            let of_dev : IsHeld s a.consumer = held firm.0 s firm.1 h.number a.consumer h at has in
+            let of_dev : IsHeld s a.consumer = held stands.firm.0 s stands.firm.1 h.number a.consumer h at has in
             let same : Some tasting-of.consumer ≡ Some of_dev.consumer = sym taster-at ∙ of_dev.found in
             let geom : tasting-of.consumer.geom ≡ of_dev.consumer.geom = cc in
             let bad : 2 ≡ 1 = sym of-taste ∙ geom ∙ of_dev.dev in
@@ -180,7 +180,7 @@ module _ (s : State) (kept : Holds s) (firm : IsFirm s) (a : Taste) (is : s.tast
     -- what the taste holds is granted to it, and stored
     granted-it : granted_by s.topo a.consumer ≡ held_by_taste a
     granted-it =
-        ap (λ (g : ℕ → Counts). g a.consumer) kept.grants
+        ap (λ (g : ℕ → Counts). g a.consumer) stands.kept.grants
         ∙ ap (λ o. option_map_or (λ (h : Handle). h.grant) o (taste_grant s.taste a.consumer)) nobodys
         ∙ ap (λ o. taste_grant o a.consumer) is
         ∙ ap (λ b. if b && is_read_out a.asked then one_read else no_counts) (eq-eqb a.consumer a.consumer refl)
@@ -198,7 +198,7 @@ module _ (s : State) (kept : Holds s) (firm : IsFirm s) (a : Taste) (is : s.tast
     is-taste = record {
       tasting = tasting-of;
       holds =
-          ap (λ rows. value_at rows a.consumer) kept.counted.wants
+          ap (λ rows. value_at rows a.consumer) stands.kept.counted.wants
           ∙ item_at (λ (x : Consumer). x.number) (want (granted_by s.topo) t) a.consumer t.consumers tasting-of.consumer
           taster-at
           ∙ ap (λ c. Some c) wants-it;
@@ -210,7 +210,7 @@ module _ (s : State) (kept : Holds s) (firm : IsFirm s) (a : Taste) (is : s.tast
       -- it is granted nothing
       wants-nothing : want (granted_in w) t tasting-of.consumer ≡ no_counts
       wants-nothing =
-          sym (ap (λ (g : ℕ → Counts). want g t tasting-of.consumer) kept.grants) ∙ wants-it ∙ held_idle a idle
+          sym (ap (λ (g : ℕ → Counts). want g t tasting-of.consumer) stands.kept.grants) ∙ wants-it ∙ held_idle a idle
 
       -- so no request comes from it
       no-request : (x : Bio) → IsBioInOrder (granted_in w) w.topology x → x.source ≡ a.consumer → ⊥
@@ -234,36 +234,37 @@ module _ (s : State) (kept : Holds s) (firm : IsFirm s) (a : Taste) (is : s.tast
 
       -- nor any of those that the state has
       none-through : (bios : List (BioOf Held))
-          → AllByRecursion (IsBioInOrder (granted_in w) w.topology) (shown_bios (delivered_at firm.0) bios)
+          → AllByRecursion (IsBioInOrder (granted_in w) w.topology) (shown_bios (delivered_at stands.firm.0) bios)
           → AllByRecursion (λ (x : Trip). goes_through a.consumer x ≡ false) (trips bios)
       none-through [] order = tt
       none-through (x ∷ xs) order = (by (x.source == a.consumer) refl, none-through xs order.1)
         where
           by : (b : Bool) → (x.source == a.consumer) ≡ b → goes_through a.consumer (trip_of x) ≡ false
           by true e =
-              absurd (no-request (shown_bio (delivered_at firm.0) x) order.0 (eqb-true x.source a.consumer e))
+              absurd (no-request (shown_bio (delivered_at stands.firm.0) x) order.0 (eqb-true x.source a.consumer e))
           by false e = ap (λ b. b && not (trip_of x).done) e
 
       -- nothing is out through it
       pub none-out : value_at s.topo.active a.consumer ≡ Some 0
       none-out =
-          active-at s.topo (trips s.traffic.bios) a.consumer kept.active (subst (λ o. IsSome o) (sym taster-at) refl)
+          active-at s.topo (trips s.traffic.bios) a.consumer stands.kept.active
+          (subst (λ o. IsSome o) (sym taster-at) refl)
           ∙ ap (λ n. Some n)
           (count-none (goes_through a.consumer) (trips s.traffic.bios)
           (none-through s.traffic.bios
-          (recursion_from_All (IsBioInOrder (granted_in w) w.topology) w.bios firm.1.1.bios.order)))
+          (recursion_from_All (IsBioInOrder (granted_in w) w.topology) w.bios stands.firm.1.1.bios.order)))
 
   -- none of its own is out
   pub read-none : is_read_out a.asked ≡ false → s.read ≡ None
   read-none idle =
-      kept.read
-      ∙ sym (read-is firm.0 s.traffic.bios)
+      stands.kept.read
+      ∙ sym (read-is stands.firm.0 s.traffic.bios)
       ∙ ap (λ o. option_map (λ (x : Bio). x.number) o)
       (find-none (λ (x : Bio). is_taste_root x.owner) w.bios
       (false_from_ne_true (list_any (λ (x : Bio). is_taste_root x.owner) w.bios)
       (λ some.
       let out : is_read_out a.asked ≡ true =
       subst (λ (o : Option Taste). IsTrue (option_map_or (λ x. is_read_out x.asked) o false)) is
-      (firm.1.1.bios.read_out.0 some) in
+      (stands.firm.1.1.bios.read_out.0 some) in
       let no : true ≡ false = sym out ∙ idle in
       absurd cc)))

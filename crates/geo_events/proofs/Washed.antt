@@ -25,7 +25,7 @@ use Rattle.geo_life.specs.Life.{queued, is_out, AreStored, CountsStay}
 use Rattle.geo_life.proofs.Places.{counts_are_stored}
 use Rattle.geo_life.specs.Wash.{IsBare}
 use Rattle.geo_state.specs.declared.state.State.{State}
-use Rattle.geo_state.specs.Steps.{IsFirm}
+use Rattle.geo_state.specs.Steps.{IsFirm, Stands}
 use Rattle.geo_state.specs.declared.state.DiskSeat.{DiskSeat}
 use Rattle.geo_state.specs.Holds.{Holds, owed_events}
 use Rattle.geo_state.specs.Seats.{change_seat, with_disk_geom}
@@ -127,25 +127,25 @@ module _ (s : State) (firm : IsFirm s) where
 
 -- What can go stands
 
-module _ (s : State) (kept : Holds s) (firm : IsFirm s) where
+module _ (s : State) (stands : Stands s) where
   stored : AreStored (granted_by s.topo) s.topo
-  stored = counts_are_stored s.topo (granted_by s.topo) kept.counted (λ c. refl)
+  stored = counts_are_stored s.topo (granted_by s.topo) stands.kept.counted (λ c. refl)
 
   -- a provider that can go
   pub provider-stands : (p : ℕ) → IsDue s (works.Provider p) → IsSome (provider_at s.topo.topology p)
   provider-stands p due =
       provider-lives (granted_by s.topo) (is_out s.topo) s.topo.topology p
-      (sym (due.found (granted_by s.topo) stored)) firm.1.1.graph.numbers.providers
+      (sym (due.found (granted_by s.topo) stored)) stands.firm.1.1.graph.numbers.providers
 
   -- and a geom that can go
   pub geom-stands : (g : ℕ) → IsDue s (works.Geom g) → IsSome (geom_at s.topo.topology g)
   geom-stands g due =
       geom-lives (granted_by s.topo) (is_out s.topo) s.topo.topology g
-      (sym (due.found (granted_by s.topo) stored)) firm.1.1.graph.numbers.geoms
+      (sym (due.found (granted_by s.topo) stored)) stands.firm.1.1.graph.numbers.geoms
 
 -- What is kept
 
-module _ (s : State) (kept : Holds s) (firm : IsFirm s) (u : TopoView Config) (q : Queued) where
+module _ (s : State) (stands : Stands s) (u : TopoView Config) (q : Queued) where
   -- the world, where nothing but the graph, the queue and what no world sees is other
   pub washed-world : (new : State) (work : WashWork)
       → new ≡ record s { topo = u; queue = q; providers = new.providers; disks = new.disks }
@@ -166,9 +166,9 @@ module _ (s : State) (kept : Holds s) (firm : IsFirm s) (u : TopoView Config) (q
     -- the queue has the places that are owed
     settled : owed_events u ≤ owed_events s.topo → s.queue.spare ≤ q.spare → IsSettled u q
     settled less more = record {
-      counted = counts_stay.counted kept.counted;
-      quiet = counts_stay.quiet kept.quiet;
-      room = let room : owed_events s.topo ≤ s.queue.spare = kept.room in omega (arith, less, more, room);
+      counted = counts_stay.counted stands.kept.counted;
+      quiet = counts_stay.quiet stands.kept.quiet;
+      room = let room : owed_events s.topo ≤ s.queue.spare = stands.kept.room in omega (arith, less, more, room);
     }
 
     module _ (prov : ℕ) (lives : IsSome (provider_at s.topo.topology prov))
@@ -188,8 +188,8 @@ module _ (s : State) (kept : Holds s) (firm : IsFirm s) (u : TopoView Config) (q
               ap (λ (v : TopoView Config). length v.topology.providers + 1) gone
               ∙ one-less (λ (y : Provider). y.number) prov x ps
               (around (λ (y : Provider). y.number) s.topo.topology.next_provider prov x ps
-              firm.1.1.graph.numbers.providers e)
-              ∙ sym kept.providers
+              stands.firm.1.1.graph.numbers.providers e)
+              ∙ sym stands.kept.providers
 
       module _ (same : queued u q ≡ washed (queued s.topo s.queue) (works.Provider prov)) where
         -- events that name it leave their room
@@ -220,7 +220,7 @@ module _ (s : State) (kept : Holds s) (firm : IsFirm s) (u : TopoView Config) (q
             let left : length u.topology.providers + 1 ≡ s.providers = one-provider-less in
             let count : length u.topology.providers ≡ n = omega (arith, left, is) in
             subst (λ m. Holds (record s { topo = u; queue = q; providers = m })) count
-            (kept_after_provider firm.0 s u q prov kept firm.1 free gone counts_stay.granted
+            (kept_after_provider stands.firm.0 s u q prov stands.kept stands.firm.1 free gone counts_stay.granted
             (settled owed-less more-spare))
 
     -- A consumer
@@ -233,8 +233,8 @@ module _ (s : State) (kept : Holds s) (firm : IsFirm s) (u : TopoView Config) (q
         let now : owed_events u ≡ owed_events s.topo = ap (λ (v : TopoView Config). owed_events v) gone in
         let events : length q.events ≡ length s.queue.events =
         ap (λ (r : QueuedTopology Config). length r.events) same in
-        kept_after_consumer s u q s.taste cons kept gone
-        (λ c. counts_stay.granted c ∙ ap (λ (g : ℕ → Counts). g c) kept.grants)
+        kept_after_consumer s u q s.taste cons stands.kept gone
+        (λ c. counts_stay.granted c ∙ ap (λ (g : ℕ → Counts). g c) stands.kept.grants)
         (settled (omega (arith, now)) (omega (arith, events, memory)))
 
     -- A geom
@@ -278,7 +278,7 @@ module _ (s : State) (kept : Holds s) (firm : IsFirm s) (u : TopoView Config) (q
         on : (o : Option (Geom Config)) → geom_at s.topo.topology geom ≡ o → IsSome o → Holds new
         on None e never = absurd cc
         on (Some g) e there =
-            kept_after_geom firm.0 s new geom g kept firm.1 e bare.no_provider
+            kept_after_geom stands.firm.0 s new geom g stands.kept stands.firm.1 e bare.no_provider
             (subst (λ (v : TopoView Config). IsButForRoom v (without_geom s.topo geom)) (sym topo) gone)
             (λ c. subst (λ (v : TopoView Config). granted_by v c ≡ granted_by s.topo c) (sym topo)
             (counts_stay.granted c))

@@ -7,7 +7,7 @@ ghost use Rattle.geo_model.specs.Events.{is_not_tasted};
 ghost use Rattle.geo_model.specs.Step.{event};
 ghost use Rattle.geo_access.specs.Access.{granted_by};
 ghost use Rattle.geo_state.specs.Holds.{Holds};
-ghost use Rattle.geo_state.specs.Steps.{IsFirm, IsAgainst, Makes, SameWorld};
+ghost use Rattle.geo_state.specs.Steps.{IsAgainst, Makes, SameWorld, Stands};
 ghost use Rattle.geo_state.specs.World.{HasBytes};
 ghost use Rattle.geo_events.specs.Steps.{IsHead, HasDone};
 
@@ -23,8 +23,7 @@ use geo_taste::{begin, is_tasted};
 /// dead, and the other geoms above wither; at a Resize the geoms wither that a taste made and that aren't in use, and
 /// the provider is offered for taste again. Only a taste takes memory; after `NoMemory` all is as before.
 pub fn event(state: &mut State) -> Result<(), NoMemory>
-    requires kept { Holds state.old }
-    requires firm { IsFirm state.old }
+    requires stands { Stands state.old }
     requires due { IsAgainst event state.old None }
     ensures made { (log : List Entry) → OnOk result (Makes event log state.old state.new outcomes.Ran) }
     ensures kept { Holds state.new }
@@ -49,8 +48,7 @@ fn due_head(state: &State) -> Event
 
 // The head of the queue is taken away and done.
 fn do_head(state: &mut State, head: Event) -> Result<(), NoMemory>
-    requires kept { Holds state.old }
-    requires firm { IsFirm state.old }
+    requires stands { Stands state.old }
     requires head { IsHead state.old head }
     requires none { state.old.taste ≡ None }
     ensures made { OnOk result (HasDone state.old state.new head) }
@@ -77,8 +75,7 @@ fn do_head(state: &mut State, head: Event) -> Result<(), NoMemory>
 
 // A Spoil is done.
 fn spoil_above(state: &mut State, prov: ProvId)
-    requires kept { Holds state.old }
-    requires firm { IsFirm state.old }
+    requires stands { Stands state.old }
     requires head { IsHead state.old (heads.Spoil prov) }
     ensures made { HasDone state.old state.new (heads.Spoil prov) }
     ensures kept { Holds state.new }
@@ -90,8 +87,7 @@ fn spoil_above(state: &mut State, prov: ProvId)
 
 // An Orphan is done.
 fn orphan_above(state: &mut State, prov: ProvId)
-    requires kept { Holds state.old }
-    requires firm { IsFirm state.old }
+    requires stands { Stands state.old }
     requires head { IsHead state.old (heads.Orphan prov) }
     ensures made { HasDone state.old state.new (heads.Orphan prov) }
     ensures kept { Holds state.new }
@@ -104,8 +100,7 @@ fn orphan_above(state: &mut State, prov: ProvId)
 
 // A Resize is done.
 fn outgrow_above(state: &mut State, prov: ProvId)
-    requires kept { Holds state.old }
-    requires firm { IsFirm state.old }
+    requires stands { Stands state.old }
     requires head { IsHead state.old (heads.Resize prov) }
     ensures made { HasDone state.old state.new (heads.Resize prov) }
     ensures kept { Holds state.new }
@@ -117,8 +112,7 @@ fn outgrow_above(state: &mut State, prov: ProvId)
 
 // A NewProvider is done.
 fn offer(state: &mut State, prov: ProvId) -> Result<(), NoMemory>
-    requires kept { Holds state.old }
-    requires firm { IsFirm state.old }
+    requires stands { Stands state.old }
     requires head { IsHead state.old (heads.NewProvider prov) }
     requires none { state.old.taste ≡ None }
     ensures made { OnOk result (HasDone state.old state.new (heads.NewProvider prov)) }
@@ -135,8 +129,7 @@ fn offer(state: &mut State, prov: ProvId) -> Result<(), NoMemory>
 
 // A taste of a provider that is to be tasted begins.
 fn begin_taste(state: &mut State, prov: ProvId) -> Result<(), NoMemory>
-    requires kept { Holds state.old }
-    requires firm { IsFirm state.old }
+    requires stands { Stands state.old }
     requires head { IsHead state.old (heads.NewProvider prov) }
     requires none { state.old.taste ≡ None }
     requires tasted { is_not_tasted (granted_by state.old.topo) state.old.topo.topology prov ≡ false }

@@ -3,7 +3,7 @@ ghost use Rattle.std.specs.Prelude.{◌≡◌};
 ghost use Rattle.geo_model.specs.Step.{event, judge_next, wash_next};
 ghost use Rattle.geo_model.specs.World.{is_read_out};
 ghost use Rattle.geo_state.specs.Holds.{Holds};
-ghost use Rattle.geo_state.specs.Steps.{IsFirm, IsAgainst};
+ghost use Rattle.geo_state.specs.Steps.{IsAgainst, Stands};
 ghost use Rattle.geo_events.specs.Steps.{event_against, taste_against};
 
 use geo_base::BioId;
@@ -30,8 +30,7 @@ pub fn judge_found(state: &State) -> Option<Found>
 
 /// What is against a Wash, if anything is: nothing of a withering geom can go.
 pub fn wash_found(state: &State) -> Option<Found>
-    requires kept { Holds state.now }
-    requires firm { IsFirm state.now }
+    requires stands { Stands state.now }
     ensures { IsAgainst wash_next state.now result }
 {
     match wash_where(&state.topo) {

@@ -1,7 +1,7 @@
 //! Handles that become dead where their provider is orphaned (g_orphan_provider(9)).
 ghost use Rattle.std.specs.Prelude.{◌≡◌};
 ghost use Rattle.geo_state.specs.Holds.{Holds};
-ghost use Rattle.geo_state.specs.Steps.{IsFirm};
+ghost use Rattle.geo_state.specs.Steps.{Stands};
 ghost use Rattle.geo_events.specs.Killing.{killed_at};
 
 use geo_base::ProvId;
@@ -10,8 +10,7 @@ use geo_state::{State, kill};
 
 /// The handles of the consumers of DEV at the provider become dead.
 pub fn kill_at(state: &mut State, prov: ProvId)
-    requires kept { Holds state.old }
-    requires firm { IsFirm state.old }
+    requires stands { Stands state.old }
     ensures killed { state.new ≡ record state.old {
       handles = record state.old.handles {
         handles = killed_at state.old.topo.topology prov state.old.handles.handles;

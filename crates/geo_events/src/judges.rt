@@ -4,7 +4,7 @@ ghost use Rattle.geo_model.specs.declared.step.Entry.{Entry};
 ghost use Rattle.geo_model.specs.Step.{judge_next};
 ghost use Rattle.geo_access.specs.Access.{consumers_below};
 ghost use Rattle.geo_state.specs.Holds.{Holds};
-ghost use Rattle.geo_state.specs.Steps.{IsFirm, IsAgainst, Makes, SameWorld};
+ghost use Rattle.geo_state.specs.Steps.{IsAgainst, Makes, SameWorld, Stands};
 ghost use Rattle.geo_state.specs.World.{HasBytes};
 ghost use Rattle.geo_events.specs.Judging.{IsRoomed};
 
@@ -27,8 +27,7 @@ pub fn judge<L: Ledger>(
     state: &mut State,
     steps: &mut Steps<L>,
 ) -> Result<Outcome, NoMemory>
-    requires kept { Holds state.old }
-    requires firm { IsFirm state.old }
+    requires stands { Stands state.old }
     requires due { IsAgainst judge_next state.old None }
     ensures made { (log : List Entry) → IfOk result (λ o. Makes judge_next log state.old state.new o) }
     ensures kept { Holds state.new }
@@ -59,8 +58,7 @@ fn judge_roomed<L: Ledger>(
     state: &mut State,
     steps: &mut Steps<L>,
 ) -> Result<Outcome, NoMemory>
-    requires kept { Holds state.old }
-    requires firm { IsFirm state.old }
+    requires stands { Stands state.old }
     requires due { IsAgainst judge_next state.old None }
     requires events { 3 * length state.old.topo.topology.providers + 128 ≤ state.old.queue.spare }
     requires bio { 1 ≤ state.old.traffic.spare }

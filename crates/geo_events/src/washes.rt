@@ -5,7 +5,7 @@ ghost use Rattle.geo_model.specs.declared.step.Outcome.TheVariants as outcomes;
 ghost use Rattle.geo_model.specs.declared.step.WashWork.TheVariants as works;
 ghost use Rattle.geo_model.specs.Step.{wash_next};
 ghost use Rattle.geo_state.specs.Holds.{Holds};
-ghost use Rattle.geo_state.specs.Steps.{IsFirm, IsAgainst, Makes};
+ghost use Rattle.geo_state.specs.Steps.{IsAgainst, Makes, Stands};
 ghost use Rattle.geo_state.specs.World.{HasBytes};
 ghost use Rattle.geo_events.specs.Washing.{IsDue, HasWashed};
 
@@ -19,8 +19,7 @@ use geo_state::State;
 /// provider to which nothing is attached goes, with the events that name it, else a consumer that holds no count and
 /// through which nothing is out, else the geom itself once it has neither. It takes no memory.
 pub fn wash(state: &mut State)
-    requires kept { Holds state.old }
-    requires firm { IsFirm state.old }
+    requires stands { Stands state.old }
     requires due { IsAgainst wash_next state.old None }
     ensures made { (log : List Entry) → Makes wash_next log state.old state.new outcomes.Ran }
     ensures kept { Holds state.new }
@@ -32,8 +31,7 @@ pub fn wash(state: &mut State)
 
 // What is washed next.
 fn due_work(state: &State) -> WashWork
-    requires kept { Holds state.now }
-    requires firm { IsFirm state.now }
+    requires stands { Stands state.now }
     requires due { IsAgainst wash_next state.now None }
     ensures { IsDue state.now result }
 {
@@ -45,8 +43,7 @@ fn due_work(state: &State) -> WashWork
 
 // A part goes.
 fn take_part(state: &mut State, work: WashWork)
-    requires kept { Holds state.old }
-    requires firm { IsFirm state.old }
+    requires stands { Stands state.old }
     requires due { IsDue state.old work }
     ensures made { HasWashed state.old state.new work }
     ensures kept { Holds state.new }
@@ -61,8 +58,7 @@ fn take_part(state: &mut State, work: WashWork)
 
 // A provider goes.
 fn wash_provider(state: &mut State, prov: ProvId)
-    requires kept { Holds state.old }
-    requires firm { IsFirm state.old }
+    requires stands { Stands state.old }
     requires due { IsDue state.old (works.Provider prov) }
     ensures made { HasWashed state.old state.new (works.Provider prov) }
     ensures kept { Holds state.new }
@@ -74,8 +70,7 @@ fn wash_provider(state: &mut State, prov: ProvId)
 
 // A consumer goes.
 fn wash_consumer(state: &mut State, cons: ConsId)
-    requires kept { Holds state.old }
-    requires firm { IsFirm state.old }
+    requires stands { Stands state.old }
     requires due { IsDue state.old (works.Consumer cons) }
     ensures made { HasWashed state.old state.new (works.Consumer cons) }
     ensures kept { Holds state.new }
@@ -86,8 +81,7 @@ fn wash_consumer(state: &mut State, cons: ConsId)
 
 // A geom goes; if it is one of a disk, no geom stands for the disk from now on.
 fn wash_geom(state: &mut State, geom: GeomId)
-    requires kept { Holds state.old }
-    requires firm { IsFirm state.old }
+    requires stands { Stands state.old }
     requires due { IsDue state.old (works.Geom geom) }
     ensures made { HasWashed state.old state.new (works.Geom geom) }
     ensures kept { Holds state.new }

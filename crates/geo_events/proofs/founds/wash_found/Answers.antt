@@ -8,9 +8,9 @@ use Rattle.geo_events.proofs.founds.wash_found.Goals as goal
 pub returns-in-Some : goal.returns-in-Some
 returns-in-Some c =
     subst (λ o. IsAgainst wash_next c.args.state.now (wash_against o)) c.in-Some.is
-    (wash-found c.args.state.now c.requires.kept c.requires.firm c.wash_where.result c.wash_where.ensures.found)
+    (wash-found c.args.state.now c.requires.stands c.wash_where.result c.wash_where.ensures.found)
 
 pub returns-in-None : goal.returns-in-None
 returns-in-None c =
     subst (λ o. IsAgainst wash_next c.args.state.now (wash_against o)) c.in-None.is
-    (wash-found c.args.state.now c.requires.kept c.requires.firm c.wash_where.result c.wash_where.ensures.found)
+    (wash-found c.args.state.now c.requires.stands c.wash_where.result c.wash_where.ensures.found)

@@ -8,32 +8,33 @@ use Rattle.geo_events.proofs.judges.judge_roomed.Goals as goal
 -- a Judge is due, so a taste is under way
 pub unreachable-requires : goal.unreachable-requires
 unreachable-requires g c =
-    absurd (taste-there c.args.state.now c.requires.kept c.requires.due (sym c.take.ensures.value ∙ c.in_default.is))
+    absurd (taste-there c.args.state.now c.requires.stands.kept c.requires.due
+    (sym c.take.ensures.value ∙ c.in_default.is))
 
 pub judge_step-requires-clause-tasting : goal.judge_step-requires-clause-tasting
 judge_step-requires-clause-tasting g c =
-    is-taste c.args.state.now c.requires.kept c.requires.firm c.in-Some.taste
+    is-taste c.args.state.now c.requires.stands c.in-Some.taste
     (sym c.take.ensures.value ∙ c.in-Some.is) c.coming_provider-first.ensures.sound
 
 pub judge_step-requires-clause-sector : goal.judge_step-requires-clause-sector
 judge_step-requires-clause-sector g c =
-    sector-long c.args.state.now c.requires.kept c.requires.firm c.in-Some.taste
+    sector-long c.args.state.now c.requires.stands c.in-Some.taste
     (sym c.take.ensures.value ∙ c.in-Some.is)
 
 pub judge_step-requires-clause-low : goal.judge_step-requires-clause-low
 judge_step-requires-clause-low g c =
-    rank-low c.args.state.now c.requires.kept c.requires.firm c.in-Some.taste
+    rank-low c.args.state.now c.requires.stands c.in-Some.taste
     (sym c.take.ensures.value ∙ c.in-Some.is)
 
 -- what read_next wants, since the taste came to a read
 pub read_next-requires : goal.read_next-requires
 read_next-requires g c =
-    let step = stepped c.requires.kept c.requires.firm c.requires.due c.take.ensures.value c.in-Some.is
+    let step = stepped c.requires.stands c.requires.due c.take.ensures.value c.in-Some.is
     c.coming_provider-first.ensures.sound c.requires.events c.in-Read.is c.in-Ok.ensures.judged
     c.in-Ok.ensures.settled c.in-Ok.ensures.tasting c.judge_step.ensures.spare in
     record {
       kept = read-holds step;
-      none_out = read-none c.args.state.now c.requires.kept c.requires.firm c.in-Some.taste step.ready.is
+      none_out = read-none c.args.state.now c.requires.stands c.in-Some.taste step.ready.is
           step.ready.idle;
       through = read-through step c.take.new.self;
       idle = read-idle step;
@@ -44,27 +45,27 @@ read_next-requires g c =
 -- the read was granted as in the model, and is submitted as the bio that the model makes
 pub returns-in-Read-clause-made : goal.returns-in-Read-clause-made
 returns-in-Read-clause-made g c =
-    read-made (stepped c.requires.kept c.requires.firm c.requires.due c.take.ensures.value c.in-Some.is
+    read-made (stepped c.requires.stands c.requires.due c.take.ensures.value c.in-Some.is
     c.coming_provider-first.ensures.sound c.requires.events c.in-Read.is c.in-Ok.ensures.judged
     c.in-Ok.ensures.settled c.in-Ok.ensures.tasting c.judge_step.ensures.spare)
     c.take.new.self c.read_next.new.state c.read_next.result c.read_next.ensures.outcome c.read_next.ensures.submitted
 
 pub returns-in-Next-clause-made : goal.returns-in-Next-clause-made
 returns-in-Next-clause-made g c =
-    (next (stepped c.requires.kept c.requires.firm c.requires.due c.take.ensures.value c.in-Some.is
+    (next (stepped c.requires.stands c.requires.due c.take.ensures.value c.in-Some.is
     c.coming_provider-first.ensures.sound c.requires.events c.in-Next.is c.in-Ok.ensures.judged
     c.in-Ok.ensures.settled c.in-Ok.ensures.tasting c.judge_step.ensures.spare)).made
 
 pub returns-in-Next-clause-kept : goal.returns-in-Next-clause-kept
 returns-in-Next-clause-kept g c =
-    (next (stepped c.requires.kept c.requires.firm c.requires.due c.take.ensures.value c.in-Some.is
+    (next (stepped c.requires.stands c.requires.due c.take.ensures.value c.in-Some.is
     c.coming_provider-first.ensures.sound c.requires.events c.in-Next.is c.in-Ok.ensures.judged
     c.in-Ok.ensures.settled c.in-Ok.ensures.tasting c.judge_step.ensures.spare)).kept
 
 -- the providers that came are those from the number that was the next one before the step
 pub count_made-requires : goal.count_made-requires
 count_made-requires g c =
-    let step = stepped c.requires.kept c.requires.firm c.requires.due c.take.ensures.value c.in-Some.is
+    let step = stepped c.requires.stands c.requires.due c.take.ensures.value c.in-Some.is
     c.coming_provider-first.ensures.sound c.requires.events c.in-Made.is c.in-Ok.ensures.judged
     c.in-Ok.ensures.settled c.in-Ok.ensures.tasting c.judge_step.ensures.spare in
     record {
@@ -76,7 +77,7 @@ count_made-requires g c =
 pub returns-in-Made-clause-made : goal.returns-in-Made-clause-made
 returns-in-Made-clause-made g c =
     rw c.count_made.ensures
-    (made-made (stepped c.requires.kept c.requires.firm c.requires.due c.take.ensures.value c.in-Some.is
+    (made-made (stepped c.requires.stands c.requires.due c.take.ensures.value c.in-Some.is
     c.coming_provider-first.ensures.sound c.requires.events c.in-Made.is c.in-Ok.ensures.judged
     c.in-Ok.ensures.settled c.in-Ok.ensures.tasting c.judge_step.ensures.spare)
     (c.args.state.now.providers + (c.judge_step.new.topo.topology.next_provider - c.coming_provider-first.result)))
@@ -85,14 +86,14 @@ returns-in-Made-clause-made g c =
 pub returns-in-Made-clause-kept : goal.returns-in-Made-clause-kept
 returns-in-Made-clause-kept g c =
     rw (c.count_made.ensures, c.coming_provider-first.ensures.number)
-    (made-holds (stepped c.requires.kept c.requires.firm c.requires.due c.take.ensures.value c.in-Some.is
+    (made-holds (stepped c.requires.stands c.requires.due c.take.ensures.value c.in-Some.is
     c.coming_provider-first.ensures.sound c.requires.events c.in-Made.is c.in-Ok.ensures.judged
     c.in-Ok.ensures.settled c.in-Ok.ensures.tasting c.judge_step.ensures.spare))
 
 -- what abort wants, since the taste ended
 pub abort-requires : goal.abort-requires
 abort-requires g c =
-    let step = stepped c.requires.kept c.requires.firm c.requires.due c.take.ensures.value c.in-Some.is
+    let step = stepped c.requires.stands c.requires.due c.take.ensures.value c.in-Some.is
     c.coming_provider-first.ensures.sound c.requires.events c.in-Ended.is c.in-Ok.ensures.judged
     c.in-Ok.ensures.settled c.in-Ok.ensures.tasting c.judge_step.ensures.spare in
     record {
@@ -105,7 +106,7 @@ abort-requires g c =
 -- the taste has no read out and holds nothing, so its consumer alone goes, as in the model
 pub returns-in-Ended : goal.returns-in-Ended
 returns-in-Ended g c =
-    let over = ended (stepped c.requires.kept c.requires.firm c.requires.due c.take.ensures.value c.in-Some.is
+    let over = ended (stepped c.requires.stands c.requires.due c.take.ensures.value c.in-Some.is
     c.coming_provider-first.ensures.sound c.requires.events c.in-Ended.is c.in-Ok.ensures.judged
     c.in-Ok.ensures.settled c.in-Ok.ensures.tasting c.judge_step.ensures.spare)
     c.abort.ensures.gone c.abort.ensures.settled c.take.ensures.after in
@@ -121,6 +122,6 @@ returns-in-Ended g c =
 -- after want of memory mesh, events and taste are as before, and the taste is put back
 pub returns-in-Err-clause-kept : goal.returns-in-Err-clause-kept
 returns-in-Err-clause-kept g c =
-    refused-holds (ready-of c.requires.kept c.requires.firm c.requires.due c.take.ensures.value c.in-Some.is
+    refused-holds (ready-of c.requires.stands c.requires.due c.take.ensures.value c.in-Some.is
     c.coming_provider-first.ensures.sound c.requires.events)
     c.in-Err.ensures.same c.in-Err.ensures.taste c.in-Err.ensures.settled c.judge_step.ensures.spare

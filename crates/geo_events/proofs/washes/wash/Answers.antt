@@ -4,5 +4,5 @@ use Rattle.geo_events.proofs.washes.wash.Goals as goal
 -- what goes is what the model finds to wash first
 pub returns-clause-made : goal.returns-clause-made
 returns-clause-made c =
-    wash-makes c.args.state.now c.requires.kept c.requires.firm c.due_work-work.result c.due_work-work.ensures.found
+    wash-makes c.args.state.now c.requires.stands c.due_work-work.result c.due_work-work.ensures.found
     c.take_part.new.state c.take_part.ensures.made
