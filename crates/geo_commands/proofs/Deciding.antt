@@ -23,7 +23,7 @@ use Rattle.geo_handles.specs.Handles.{named_handle}
 use Rattle.geo_life.specs.Life.{is_out}
 use Rattle.geo_state.specs.declared.state.State.{State}
 use Rattle.geo_state.specs.Holds.{Holds}
-use Rattle.geo_state.specs.Steps.{IsFirm}
+use Rattle.geo_state.specs.Steps.{Stands}
 use Rattle.geo_state.specs.World.{world}
 use Rattle.geo_opens.specs.Handles.{refusal_in, IsOpenRefusal}
 use Rattle.geo_commands.specs.declared.decisions.Decision.{Decision}
@@ -51,12 +51,12 @@ pub close_decided : (s : State) (actor : ℕ) (name : List ℕ) (actors : List (
     → (if b then Closes else Other) ≡ decision_of (world actors log s) actor (commands.Close name)
 close_decided s actor name actors log b is = ap (λ x. let d : Decision = if x then Closes else Other in d) is
 
-module _ (s : State) (kept : Holds s) (firm : IsFirm s) where
+module _ (s : State) (stands : Stands s) where
   -- whether a request is out through the consumer of a handle
   out_of : (o : Option ℕ) (actors : List (List LineCommand)) (log : List Entry)
       → option_map_or (is_out s.topo) o false ≡ option_map_or (is_active (world actors log s)) o false
   out_of None actors log = refl
-  out_of (Some c) actors log = out_is s kept firm actors log c
+  out_of (Some c) actors log = out_is s stands actors log c
 
   -- whether a close of the actor's handle of the name is answered ok
   pub closed_at : (actor : ℕ) (name : List ℕ) (o : Option Handle)

@@ -27,7 +27,7 @@ use Rattle.geo_state.specs.declared.state.DiskSeat.{DiskSeat}
 use Rattle.geo_state.specs.Holds.{Holds, IsSeat}
 use Rattle.geo_state.specs.Trips.{trips}
 use Rattle.geo_state.specs.Parts.{geom_of_disk}
-use Rattle.geo_state.specs.Steps.{IsFirm}
+use Rattle.geo_state.specs.Steps.{Stands}
 use Rattle.geo_state.specs.World.{disk_of_seat, world}
 use Rattle.geo_commands.specs.Disks.{disk_named, has_name, item_at}
 use Rattle.geo_commands.specs.Names.{stands}
@@ -263,7 +263,7 @@ module _ (t : Topology Config) (apart : AllPairs DifferInDisk t.geoms)
           which true = refl
           which false = refl
 
-module _ (s : State) (kept : Holds s) (firm : IsFirm s) (disk : ℕ) (seat : DiskSeat)
+module _ (s : State) (its : Stands s) (disk : ℕ) (seat : DiskSeat)
     (at : slice_get s.disks.items disk ≡ Some seat) where
   -- the geom of the disk that doesn't wither, by the model
   abbrev standing : Option ℕ
@@ -272,15 +272,15 @@ module _ (s : State) (kept : Holds s) (firm : IsFirm s) (disk : ℕ) (seat : Dis
   -- where the seat has no geom there is none
   pub disk-absent : seat.geom ≡ None → None ≡ standing
   disk-absent none =
-      none-stays s.topo.topology firm.1.1.graph.numbers.one_geom_of_disk firm.1.1.graph.numbers.geoms disk
-      (sym (seat-geom s kept disk seat at) ∙ none)
+      none-stays s.topo.topology its.firm.1.1.graph.numbers.one_geom_of_disk its.firm.1.1.graph.numbers.geoms disk
+      (sym (seat-geom s its.kept disk seat at) ∙ none)
 
   -- where it has one, it tells whether the geom stands
   seat-told : (n : ℕ) → seat.geom ≡ Some n
       → standing ≡ (if option_map_or stands (geom_at s.topo.topology n) false then Some n else None)
   seat-told n is =
-      geom-stays s.topo.topology firm.1.1.graph.numbers.one_geom_of_disk firm.1.1.graph.numbers.geoms disk n
-      (sym (seat-geom s kept disk seat at) ∙ is)
+      geom-stays s.topo.topology its.firm.1.1.graph.numbers.one_geom_of_disk its.firm.1.1.graph.numbers.geoms disk n
+      (sym (seat-geom s its.kept disk seat at) ∙ is)
 
   pub disk-standing : (n : ℕ) → seat.geom ≡ Some n
       → option_map_or stands (geom_at s.topo.topology n) false ≡ true → Some n ≡ standing

@@ -28,7 +28,7 @@ use Rattle.geo_state.specs.declared.state.State.{State}
 use Rattle.geo_state.specs.Changes.{IsSettled}
 use Rattle.geo_state.specs.Holds.{Holds, owed_events}
 use Rattle.geo_state.specs.Sites.{AreFresh}
-use Rattle.geo_state.specs.Steps.{IsFirm}
+use Rattle.geo_state.specs.Steps.{Stands}
 use Rattle.geo_state.specs.Trips.{trips, out_through}
 use Rattle.geo_state.specs.World.{world}
 use Rattle.geo_state.proofs.FirmLemmas.{firm-order}
@@ -115,13 +115,14 @@ module _ (s new : State) (geom : NewGeom) (below : List ℕ) (x : Offer) (grown 
         events = grown.made.events i;
       })
 
-  module _ (kept : Holds s) (firm : IsFirm s) (kind : is_granted_kind geom.kind ≡ false)
+  module _ (stands : Stands s) (kind : is_granted_kind geom.kind ≡ false)
       (stand : All (CanStandOn s.topo.topology) below) where
     -- what came
     pub grown-risen : IsRisen s.topo new.topo geom.config below
     grown-risen =
         subst (λ (v : TopoView Config). IsRisen s.topo v geom.config below) (sym grown.made.mesh)
-        (risen s.topo kept.counted kept.quiet (firm_shape s firm) geom.kind geom.name geom.config kind below
+        (risen s.topo stands.kept.counted stands.kept.quiet (firm_shape s stands.firm) geom.kind geom.name geom.config
+        kind below
         (all-there s.topo.topology below (recursion_from_All (CanStandOn s.topo.topology) below stand))
         x.name x.size x.sector new.topo.room)
 
@@ -146,14 +147,15 @@ module _ (s new : State) (geom : NewGeom) (below : List ℕ) (x : Offer) (grown 
     pub grown-kept : disk_of geom.config ≡ None → Holds new
     grown-kept none =
         subst Holds (sym grown.rest)
-        (kept_with_sites.comers firm.0 s new.topo new.queue s.taste
+        (kept_with_sites.comers stands.firm.0 s new.topo new.queue s.taste
         (record {
           consumers = numbers_for s.topo.topology.next_consumer below;
           geoms = (s.topo.topology.next_geom, disk_of geom.config) ∷ [];
           providers = (s.topo.topology.next_provider, s.topo.topology.next_geom) ∷ [];
         })
-        kept firm.1 grown-risen.came
-        (fresh-from s kept (firm-order firm.0 s firm.1) below s.topo.topology.next_consumer (omega arith))
+        stands.kept stands.firm.1 grown-risen.came
+        (fresh-from s stands.kept (firm-order stands.firm.0 s stands.firm.1) below s.topo.topology.next_consumer
+        (omega arith))
         (none, tt)
-        (λ c. grown-risen.granted c ∙ ap (λ (G : ℕ → _). G c) kept.grants)
+        (λ c. grown-risen.granted c ∙ ap (λ (G : ℕ → _). G c) stands.kept.grants)
         grown-settled)

@@ -19,7 +19,7 @@ use Rattle.geo_access.specs.Access.{IsPlaced}
 use Rattle.geo_access.specs.GoneLaws.{HasUsedNumber}
 use Rattle.geo_state.specs.declared.state.State.{State}
 use Rattle.geo_state.specs.Holds.{Holds}
-use Rattle.geo_state.specs.Steps.{IsFirm, SameWorld}
+use Rattle.geo_state.specs.Steps.{Stands, SameWorld}
 use Rattle.geo_state.specs.Trips.{trips, out_through}
 use Rattle.geo_state.specs.World.{world}
 use Rattle.geo_state.proofs.FirmLemmas.{firm-order}
@@ -32,26 +32,26 @@ use Rattle.geo_commands.specs.Appends.{IsAble, new_refusal}
 use Rattle.geo_commands.proofs.Ableness.{able-geom}
 use Rattle.geo_commands.proofs.Granting.{refusal-is}
 
-module _ (s : State) (kept : Holds s) (firm : IsFirm s) where
+module _ (s : State) (stands : Stands s) where
   abbrev t : Topology Config
   t = s.topo.topology
 
   -- nothing is kept of the next number
   pub next-unknown : value_at s.topo.active t.next_consumer ≡ None
   next-unknown =
-      ap (λ rows. value_at rows t.next_consumer) kept.active
+      ap (λ rows. value_at rows t.next_consumer) stands.kept.active
       ∙ sym (under_read (λ (c : Consumer). c.number) (λ c. out_through (trips s.traffic.bios) c.number)
       t.next_consumer t.consumers)
       ∙ ap (option_map (λ (c : Consumer). out_through (trips s.traffic.bios) c.number))
       (found_fresh (λ (c : Consumer). c.number) t.next_consumer t.next_consumer t.consumers
-      (firm-order firm.0 s firm.1).consumers (omega arith))
+      (firm-order stands.firm.0 s stands.firm.1).consumers (omega arith))
 
   -- no consumer is left unattached
   pub all-placed : IsPlaced t
   all-placed =
       All-weaker (λ (x : Consumer). IsSome (option_and_then (provider_at t) x.provider))
       (λ x. x.provider ≡ None → filter (λ (y : Provider). y.geom == x.geom) t.providers ≡ [])
-      (λ x there none. absurd (nowhere x.provider none there)) t.consumers firm.1.1.graph.attached
+      (λ x there none. absurd (nowhere x.provider none there)) t.consumers stands.firm.1.1.graph.attached
     where
       nowhere : (o : Option ℕ) → o ≡ None → IsSome (option_and_then (provider_at t) o) → ⊥
       nowhere None none lives = let no : false ≡ true = lives in absurd (cc)
@@ -60,7 +60,7 @@ module _ (s : State) (kept : Holds s) (firm : IsFirm s) where
   module _ (g : Growing) (b : Below) (able : IsAble s g b) where
     -- the geom and the provider are there
     pub able-stands : IsSome (geom_at t g.geom)
-    able-stands = some-there (geom_at t g.geom) able.named.concat.geom (able-geom s firm g b able)
+    able-stands = some-there (geom_at t g.geom) able.named.concat.geom (able-geom s stands.firm g b able)
 
     pub able-lives : IsSome (provider_at t b.prov)
     able-lives =
@@ -71,8 +71,8 @@ module _ (s : State) (kept : Holds s) (firm : IsFirm s) where
     pub able-refusal : (actors : List (List LineCommand)) (log : List Entry) → new_refusal s.topo g.geom b.prov
         ≡ component_refusal (world actors log s) able.named.concat able.named.provider
     able-refusal actors log =
-        refusal-is s.topo (firm-order firm.0 s firm.1) kept.counted g.geom b.prov
-        ∙ ap (λ (G : ℕ → Counts). join_refusal G (add_consumer t g.geom None) t.next_consumer b.prov) kept.grants
+        refusal-is s.topo (firm-order stands.firm.0 s stands.firm.1) stands.kept.counted g.geom b.prov
+        ∙ ap (λ (G : ℕ → Counts). join_refusal G (add_consumer t g.geom None) t.next_consumer b.prov) stands.kept.grants
         ∙ ap (λ (x : Growing). join_refusal (granted_in (world actors log s)) (add_consumer t x.geom None)
         t.next_consumer b.prov) able.named.growing_is
         ∙ ap (λ (x : Below). join_refusal (granted_in (world actors log s))
@@ -84,25 +84,25 @@ module _ (s : State) (kept : Holds s) (firm : IsFirm s) where
   used-world u used actors log = ap (λ (v : TopoView Config). world actors log (record s { topo = v })) used
 
   pub used-kept : (u : TopoView Config) → HasUsedNumber s.topo u → Holds (record s { topo = u })
-  used-kept u used = kept_after_refusal s u s.queue s.handles kept used refl (omega arith) refl
+  used-kept u used = kept_after_refusal s u s.queue s.handles stands.kept used refl (omega arith) refl
 
   -- and with other room all is kept
   pub room-kept : (u : TopoView Config) → IsButForRoom u s.topo → Holds (record s { topo = u })
   room-kept u same =
-      let owed = kept.room in
+      let owed = stands.kept.room in
       subst (λ (v : TopoView Config). Holds (record s { topo = v })) (sym same)
-      (holds_after_effects s (record s.topo { room = u.room }) s.queue kept (parts-self t) refl (λ c. refl)
+      (holds_after_effects s (record s.topo { room = u.room }) s.queue stands.kept (parts-self t) refl (λ c. refl)
       (record {
-        kinds = kept.counted.kinds;
-        haves = kept.counted.haves;
-        wants = kept.counted.wants;
-        exclusive = kept.counted.exclusive;
-        limit = kept.counted.limit;
-        risen = kept.counted.risen;
-        fallen = kept.counted.fallen;
-        clear = kept.counted.clear;
+        kinds = stands.kept.counted.kinds;
+        haves = stands.kept.counted.haves;
+        wants = stands.kept.counted.wants;
+        exclusive = stands.kept.counted.exclusive;
+        limit = stands.kept.counted.limit;
+        risen = stands.kept.counted.risen;
+        fallen = stands.kept.counted.fallen;
+        clear = stands.kept.counted.clear;
       })
-      (record { risen = kept.quiet.risen; fallen = kept.quiet.fallen }) kept.room)
+      (record { risen = stands.kept.quiet.risen; fallen = stands.kept.quiet.fallen }) stands.kept.room)
 
   -- by how the call ends
   module _ {E : Type 0} (u : TopoView Config) (r : Result (Option Errno) E) where

@@ -50,7 +50,7 @@ use Rattle.geo_state.specs.Changes.{IsSettled}
 use Rattle.geo_state.specs.Holds.{Holds, owed_events}
 use Rattle.geo_state.specs.Parts.{SameParts, disk_row, owner_row}
 use Rattle.geo_state.specs.Sites.{HasComers}
-use Rattle.geo_state.specs.Steps.{IsFirm}
+use Rattle.geo_state.specs.Steps.{Stands}
 use Rattle.geo_state.specs.World.{world}
 use Rattle.geo_state.proofs.FirmLemmas.{firm-order}
 use Rattle.geo_state.proofs.Frames.{parts-config, parts-count, parts-risen, parts-size, parts-trans}
@@ -76,13 +76,13 @@ pub record MayGrow (v : TopoView Config) (q : Queued) (g : Growing) (config : Co
   pub counted : IsCounted (larger_mesh v g config size)
   pub room : notes v.risen + 1 ≤ q.spare
 
-module _ (s : State) (kept : Holds s) (firm : IsFirm s) (x : GrowingConcat)
+module _ (s : State) (stands : Stands s) (x : GrowingConcat)
     (q : Provider) (is : IsStanding s.topo.topology x) (there : provider_at s.topo.topology q.number ≡ Some q)
-    (free : first_error (append_tests (world firm.1.0 firm.0 s) x q) ≡ None)
-    (none : component_refusal (world firm.1.0 firm.0 s) x q ≡ None) where
+    (free : first_error (append_tests (world stands.firm.1.0 stands.firm.0 s) x q) ≡ None)
+    (none : component_refusal (world stands.firm.1.0 stands.firm.0 s) x q ≡ None) where
   -- the world and the graph before
   abbrev w : World
-  w = world firm.1.0 firm.0 s
+  w = world stands.firm.1.0 stands.firm.0 s
 
   abbrev t : Topology Config
   t = s.topo.topology
@@ -115,14 +115,14 @@ module _ (s : State) (kept : Holds s) (firm : IsFirm s) (x : GrowingConcat)
   u = grown w x q
 
   order : IsInOrder t
-  order = firm-order firm.0 s firm.1
+  order = firm-order stands.firm.0 s stands.firm.1
 
   -- the world with the component is firm
   grown_firm : Firm (with_component w x q)
   grown_firm =
       let a = none_refused (is_invalid_append t x q) EINVAL ((is_growth_busy w x.provider.number, EBUSY) ∷ []) free in
       let b = none_refused (is_growth_busy w x.provider.number) EBUSY [] a.1 in
-      larger-firm w x q firm.1.1 is there (valid_from t x q a.0) b.0 none
+      larger-firm w x q stands.firm.1.1 is there (valid_from t x q a.0) b.0 none
 
   -- the provider of the concat is found with its new size, which is one
   grown_size : is_provider_size (x.provider.size + q.size) x.provider.sector ≡ true
@@ -176,13 +176,14 @@ module _ (s : State) (kept : Holds s) (firm : IsFirm s) (x : GrowingConcat)
     grants_are k =
         ap (λ (z : TopoView Config). granted_by z k) joined.mesh
         ∙ joined_granted (with_consumer s.topo n) next q.number k
-        ∙ ap (λ (G : ℕ → Counts). G k) (loose-grants s.topo order kept.counted n ∙ kept.grants)
+        ∙ ap (λ (G : ℕ → Counts). G k) (loose-grants s.topo order stands.kept.counted n ∙ stands.kept.grants)
 
     -- what is noted is what rises from the graph before to the one in the end
     rose : noted v.risen ≡ risen granted t granted u
     rose =
         joined.risen
-        ∙ ap (λ (G : ℕ → Counts). risen G bare G v.topology) (loose-grants s.topo order kept.counted n ∙ kept.grants)
+        ∙ ap (λ (G : ℕ → Counts). risen G bare G v.topology)
+        (loose-grants s.topo order stands.kept.counted n ∙ stands.kept.grants)
         ∙ ap (risen granted bare granted) graph_is
         ∙ ap (λ (f : ℕ → Counts). map (λ (y : Provider). y.number)
         (filter (λ (y : Provider). ((f y.number).w == 0) && not ((have granted added y.number).w == 0)) t.providers))
@@ -287,7 +288,7 @@ module _ (s : State) (kept : Holds s) (firm : IsFirm s) (x : GrowingConcat)
 
           no_falls : v.fallen ≡ map quiet_row mesh.topology.providers
           no_falls =
-              ap (λ (z : TopoView Config). z.fallen) joined.mesh ∙ kept.quiet.fallen
+              ap (λ (z : TopoView Config). z.fallen) joined.mesh ∙ stands.kept.quiet.fallen
               ∙ sym (map-changed (λ (y : Provider). y.number == x.provider.number)
               (λ y. record y { size = x.provider.size + q.size }) quiet_row (λ y e. refl) t.providers)
               ∙ ap (λ (z : Topology Config). map quiet_row z.providers) (sym mesh_graph)
@@ -314,16 +315,16 @@ module _ (s : State) (kept : Holds s) (firm : IsFirm s) (x : GrowingConcat)
           lengthened_kept room =
               let same : s.providers + 0 ≡ s.providers = omega arith in
               subst (λ k. Holds (record s { topo = new; queue = queue; providers = k })) same
-              (kept_with_sites.comers firm.0 s new queue s.taste
+              (kept_with_sites.comers stands.firm.0 s new queue s.taste
               (record { consumers = next ∷ []; geoms = []; providers = [] })
-              kept firm.1 comer_came (next-unknown s kept firm, tt) tt
+              stands.kept stands.firm.1 comer_came (next-unknown s stands, tt) tt
               (λ k.
               grew.kept.granted k ∙ larger_granted v joined.counted joined_order g config size k ∙ grants_are k)
               (settled room))
 
 -- An append that no test is against, once its consumer has joined
 
-module _ (s : State) (kept : Holds s) (firm : IsFirm s) (g : Growing) (b : Below)
+module _ (s : State) (stands : Stands s) (g : Growing) (b : Below)
     (able : IsAble s g b) (j : State) (rest : j ≡ record s { topo = j.topo })
     (none : (actors : List (List LineCommand)) (log : List Entry)
     → None ≡ component_refusal (world actors log s) able.named.concat able.named.provider)
@@ -333,7 +334,7 @@ module _ (s : State) (kept : Holds s) (firm : IsFirm s) (g : Growing) (b : Below
     (size_is : size ≡ able.named.concat.provider.size + able.named.provider.size) where
   -- the concat stands
   standing : IsStanding s.topo.topology able.named.concat
-  standing = named-stands (firm-order firm.0 s firm.1) able.named
+  standing = named-stands (firm-order stands.firm.0 s stands.firm.1) able.named
 
   -- its consumer joined the provider
   joined_so : HasJoined s.topo able.named.concat.geom.number able.named.provider.number j.topo
@@ -351,8 +352,9 @@ module _ (s : State) (kept : Holds s) (firm : IsFirm s) (g : Growing) (b : Below
   able_grows room =
       subst (λ (z : Queued). MayGrow j.topo z g config size) (sym queue_is)
       (subst (λ (k : Growing). MayGrow j.topo s.queue k config size) (sym able.named.growing_is)
-      (may_grow s kept firm able.named.concat able.named.provider standing able.named.found
-      (able.free firm.1.0 firm.0) (sym (none firm.1.0 firm.0)) j.topo joined_so config config_is size size_is room))
+      (may_grow s stands able.named.concat able.named.provider standing able.named.found
+      (able.free stands.firm.1.0 stands.firm.0) (sym (none stands.firm.1.0 stands.firm.0)) j.topo joined_so config
+      config_is size size_is room))
 
   module _ (new : TopoView Config) (queue : Queued) (grew : IsLarger j.topo j.queue g config size new queue) where
     -- it grew as it was found
@@ -373,9 +375,9 @@ module _ (s : State) (kept : Holds s) (firm : IsFirm s) (g : Growing) (b : Below
       refused = none actors log;
       made = λ line.
           ap (world actors log) end_is
-          ∙ lengthened_world s kept firm able.named.concat able.named.provider standing able.named.found
-          (able.free firm.1.0 firm.0) (sym (none firm.1.0 firm.0)) j.topo joined_so config config_is size size_is new
-          queue grew_so actors log;
+          ∙ lengthened_world s stands able.named.concat able.named.provider standing able.named.found
+          (able.free stands.firm.1.0 stands.firm.0) (sym (none stands.firm.1.0 stands.firm.0)) j.topo joined_so config
+          config_is size size_is new queue grew_so actors log;
     }
 
     -- and all is kept
@@ -383,6 +385,6 @@ module _ (s : State) (kept : Holds s) (firm : IsFirm s) (g : Growing) (b : Below
         → Holds (record j { topo = new; queue = queue })
     able_kept room =
         subst Holds (sym end_is)
-        (lengthened_kept s kept firm able.named.concat able.named.provider standing able.named.found
-        (able.free firm.1.0 firm.0) (sym (none firm.1.0 firm.0)) j.topo joined_so config config_is size size_is new
-        queue grew_so room)
+        (lengthened_kept s stands able.named.concat able.named.provider standing able.named.found
+        (able.free stands.firm.1.0 stands.firm.0) (sym (none stands.firm.1.0 stands.firm.0)) j.topo joined_so config
+        config_is size size_is new queue grew_so room)

@@ -33,7 +33,7 @@ use Rattle.geo_state.specs.Holds.{Holds}
 use Rattle.geo_state.specs.Sites.{HasComers}
 use Rattle.geo_state.specs.Parts.{geom_of_disk}
 use Rattle.geo_state.specs.Seats.{change_seat, with_disk_geom}
-use Rattle.geo_state.specs.Steps.{IsFirm}
+use Rattle.geo_state.specs.Steps.{IsFirm, Stands}
 use Rattle.geo_state.specs.World.{disk_of_seat, world}
 use Rattle.geo_state.proofs.SiteLemmas.{kept_with_sites}
 use Rattle.geo_commands.specs.Disks.{item_at}
@@ -134,16 +134,16 @@ module _ (s : State) (disk : ℕ) (seat : DiskSeat) (at : slice_get s.disks.item
         (sym at) (stood-world actors log)
 
     -- and all is kept
-    pub stood-kept : Holds s → IsFirm s → geom_of_disk s.topo.topology disk ≡ None
-        → Holds new
-    stood-kept kept firm absent =
+    pub stood-kept : Stands s → geom_of_disk s.topo.topology disk ≡ None → Holds new
+    stood-kept stands absent =
         let none : All (CanStandOn s.topo.topology) [] =
         All-from_recursion (CanStandOn s.topo.topology) [] tt in
-        let came = grown-risen s g geom [] offer grown kept firm refl none in
-        let settled = grown-settled s g geom [] offer grown kept firm refl none in
+        let came = grown-risen s g geom [] offer grown stands refl none in
+        let settled = grown-settled s g geom [] offer grown stands refl none in
         let topo : new.topo ≡ g.topo = ap (λ (z : State). z.topo) rest in
         let queue : new.queue ≡ g.queue = ap (λ (z : State). z.queue) rest in
-        kept_with_sites.inserted firm.0 s new disk s.topo.topology.next_geom s.topo.topology.next_provider kept firm.1
+        kept_with_sites.inserted stands.firm.0 s new disk s.topo.topology.next_geom s.topo.topology.next_provider
+        stands.kept stands.firm.1
         (subst (λ (v : TopoView Config). HasComers s.topo v (record {
           consumers = [];
           geoms = (s.topo.topology.next_geom, Some disk) ∷ [];

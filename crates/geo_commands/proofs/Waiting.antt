@@ -24,8 +24,7 @@ use Rattle.geo_life.specs.Life.{AreStored, is_out}
 use Rattle.geo_life.proofs.Places.{counts_are_stored}
 use Rattle.geo_state.specs.declared.state.State.{State}
 use Rattle.geo_state.specs.Trips.{trips, own_first}
-use Rattle.geo_state.specs.Holds.{Holds}
-use Rattle.geo_state.specs.Steps.{IsFirm}
+use Rattle.geo_state.specs.Steps.{Stands}
 use Rattle.geo_state.specs.World.{world}
 use Rattle.geo_state.proofs.ViewLemmas.{states_show}
 use Rattle.geo_opens.proofs.Actives.{active-is, first-to-reap}
@@ -70,7 +69,7 @@ in_parts true b c d e = refl
 in_parts false true c d e = refl
 in_parts false false c d e = refl
 
-module _ (s : State) (kept : Holds s) (firm : IsFirm s) where
+module _ (s : State) (stands : Stands s) where
   -- what a sync waits for
   pub sync_waits : (o : Option ℕ) (actor : ℕ) → o ≡ own_first s.handles.handles (trips s.traffic.bios) actor
       → (actors : List (List LineCommand)) (log : List Entry)
@@ -78,8 +77,8 @@ module _ (s : State) (kept : Holds s) (firm : IsFirm s) where
   sync_waits o actor is actors log =
       ap (option_map (λ b. found.OwnBiosOut b))
       (is
-      ∙ (states_show firm.0 s firm.1.0 kept firm.1.1).own actor
-      ∙ own_number s firm.1.0 firm.0 actor
+      ∙ (states_show stands.firm.0 s stands.firm.1.0 stands.kept stands.firm.1.1).own actor
+      ∙ own_number s stands.firm.1.0 stands.firm.0 actor
       ∙ sym (own_number s actors log actor))
       ∙ twice (own_bio (world actors log s) actor)
     where
@@ -92,8 +91,8 @@ module _ (s : State) (kept : Holds s) (firm : IsFirm s) where
   pub out_is : (actors : List (List LineCommand)) (log : List Entry) (c : ℕ)
       → is_out s.topo c ≡ is_active (world actors log s) c
   out_is actors log c =
-      (states_show firm.0 s firm.1.0 kept firm.1.1).active c
-      ∙ active-is firm.0 s.traffic.bios c
+      (states_show stands.firm.0 s stands.firm.1.0 stands.kept stands.firm.1.1).active c
+      ∙ active-is stands.firm.0 s.traffic.bios c
       ∙ sym (active-is log s.traffic.bios c)
 
   -- what can be washed is what can be washed in the world
@@ -102,8 +101,8 @@ module _ (s : State) (kept : Holds s) (firm : IsFirm s) where
       → (actors : List (List LineCommand)) (log : List Entry) → o ≡ wash_work (world actors log s)
   unfolding wash_work
   work_is o tells actors log =
-      tells (granted_by s.topo) (counts_are_stored s.topo (granted_by s.topo) kept.counted (λ c. refl))
-      ∙ ap (λ (g : ℕ → Counts). wash_where g (is_out s.topo) s.topo.topology) kept.grants
+      tells (granted_by s.topo) (counts_are_stored s.topo (granted_by s.topo) stands.kept.counted (λ c. refl))
+      ∙ ap (λ (g : ℕ → Counts). wash_where g (is_out s.topo) s.topo.topology) stands.kept.grants
       ∙ ap (λ (a : ℕ → Bool). wash_where (granted_in (world actors log s)) a s.topo.topology)
       (λ i c. out_is actors log c i)
 
@@ -111,7 +110,7 @@ module _ (s : State) (kept : Holds s) (firm : IsFirm s) where
   reaped : (b : Bool) (r : Option ℕ) → b ≡ is_some r → r ≡ first_ready s.handles.ready
       → (actors : List (List LineCommand)) (log : List Entry) → b ≡ is_some (reap_work (world actors log s))
   reaped b r is first actors log =
-      is ∙ ap is_some (first ∙ first-to-reap s kept actors log) ∙ there (reap_work (world actors log s))
+      is ∙ ap is_some (first ∙ first-to-reap s stands.kept actors log) ∙ there (reap_work (world actors log s))
     where
       there : (h : Option Handle) → is_some (option_map (λ (x : Handle). x.number) h) ≡ is_some h
       there None = refl

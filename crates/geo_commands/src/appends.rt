@@ -10,7 +10,7 @@ ghost use Rattle.geo_model.specs.Topology.{find_provider};
 ghost use Rattle.geo_model.specs.HandleCommands.{without_number};
 ghost use Rattle.geo_access.specs.Access.{consumers_below};
 ghost use Rattle.geo_state.specs.Holds.{Holds};
-ghost use Rattle.geo_state.specs.Steps.{Does, IsFirm, SameWorld};
+ghost use Rattle.geo_state.specs.Steps.{Does, IsFirm, SameWorld, Stands};
 ghost use Rattle.geo_state.specs.World.{HasBytes, world};
 ghost use Rattle.geo_commands.specs.Appends.{HasJoined, IsAble, IsAppended};
 
@@ -55,8 +55,7 @@ pub fn join_component<L: Ledger>(
     below: &Below,
     steps: &mut Steps<L>,
 ) -> Result<Option<Errno>, NoMemory>
-    requires kept { Holds state.old }
-    requires firm { IsFirm state.old }
+    requires stands { Stands state.old }
     requires able { IsAble state.old growing.now below.now }
     ensures answer { IfOk result (λ r. (able : IsAble state.old growing.now below.now)
         → (actors : List (List LineCommand)) (log : List Entry)
@@ -90,8 +89,7 @@ pub fn append<L: Ledger>(
     prov: &Name,
     steps: &mut Steps<L>,
 ) -> Result<Outcome, NoMemory>
-    requires kept { Holds state.old }
-    requires firm { IsFirm state.old }
+    requires stands { Stands state.old }
     ensures does { (log : List Entry) → IfOk result (λ o.
         Does (λ w. do_append w line (growing_concat w.topology name.now) (found_provider w prov.now)) log
         state.old state.new o) }
@@ -125,8 +123,7 @@ fn add_component<L: Ledger>(
     below: &Below,
     steps: &mut Steps<L>,
 ) -> Result<Option<Errno>, NoMemory>
-    requires kept { Holds state.old }
-    requires firm { IsFirm state.old }
+    requires stands { Stands state.old }
     requires able { IsAble state.old growing.now below.now }
     ensures does { IfOk result (λ r. (able : IsAble state.old growing.now below.now)
         → (actors : List (List LineCommand)) (log : List Entry)
@@ -149,8 +146,7 @@ fn add_with_room<L: Ledger>(
     below: &Below,
     steps: &mut Steps<L>,
 ) -> Result<Option<Errno>, NoMemory>
-    requires kept { Holds state.old }
-    requires firm { IsFirm state.old }
+    requires stands { Stands state.old }
     requires able { IsAble state.old growing.now below.now }
     requires room { 3 * length state.old.topo.topology.providers + 128 ≤ state.old.queue.spare }
     ensures does { IfOk result (λ r. (able : IsAble state.old growing.now below.now)

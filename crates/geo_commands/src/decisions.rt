@@ -10,7 +10,7 @@ ghost use Rattle.geo_model.specs.World.{handle_of};
 ghost use Rattle.geo_handles.specs.Handles.{handle_at};
 ghost use Rattle.geo_life.specs.Life.{is_out};
 ghost use Rattle.geo_state.specs.Holds.{Holds};
-ghost use Rattle.geo_state.specs.Steps.{IsFirm};
+ghost use Rattle.geo_state.specs.Steps.{Stands};
 ghost use Rattle.geo_state.specs.World.{world};
 ghost use Rattle.geo_commands.specs.Decisions.{IsDecided, deciding_steps, is_closed, owed_by, places_owed};
 
@@ -43,8 +43,7 @@ pub fn decide<L: Ledger>(
     command: &Command,
     steps: &mut Steps<L>,
 ) -> Decision
-    requires kept { Holds state.old }
-    requires firm { IsFirm state.old }
+    requires stands { Stands state.old }
     ensures decided { IsDecided state.old actor command.now result }
     ensures same { state.new ≡ state.old }
     ensures bound { steps.new ≤ steps.old + deciding_steps state.old command.now }
@@ -60,8 +59,7 @@ pub fn decide<L: Ledger>(
 
 // What is decided of a close.
 fn close_decision(state: &State, actor: u32, name: &Name) -> Decision
-    requires kept { Holds state.now }
-    requires firm { IsFirm state.now }
+    requires stands { Stands state.now }
     ensures { IsDecided state.now actor (CommandValue.Close name.now) result }
 {
     if is_closed(state, actor, name) {
@@ -73,8 +71,7 @@ fn close_decision(state: &State, actor: u32, name: &Name) -> Decision
 
 // Whether a close of the actor's handle of the name is answered ok: there is the handle, and nothing is out through it.
 fn is_closed(state: &State, actor: u32, name: &Name) -> bool
-    requires kept { Holds state.now }
-    requires firm { IsFirm state.now }
+    requires stands { Stands state.now }
     ensures { (actors : List (List LineCommand)) (log : List Entry) → result
         ≡ is_closed (world actors log state.now) (handle_of (world actors log state.now) actor name.now) }
 {

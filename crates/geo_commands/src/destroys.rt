@@ -7,7 +7,7 @@ ghost use Rattle.geo_model.specs.Events.{wither};
 ghost use Rattle.geo_model.specs.WorldEvents.{queued_of, with_queued};
 ghost use Rattle.geo_model.specs.GeomCommands.{do_destroy, do_pull, header_disk, named_geom};
 ghost use Rattle.geo_state.specs.Holds.{Holds};
-ghost use Rattle.geo_state.specs.Steps.{Does, IsFirm};
+ghost use Rattle.geo_state.specs.Steps.{Does, Stands};
 ghost use Rattle.geo_state.specs.World.{HasBytes, world};
 
 use crate::disks::{disk_named, standing_geom};
@@ -22,8 +22,7 @@ use geo_state::State;
 /// A pull of the disk of a name: ENOENT where the header has none, ENXIO where no geom stands for it that doesn't
 /// wither. Else its geom withers. It takes no memory.
 pub fn pull(state: &mut State, line: u32, name: &Name) -> Outcome
-    requires kept { Holds state.old }
-    requires firm { IsFirm state.old }
+    requires stands { Stands state.old }
     ensures does { (log : List Entry) → Does (λ w. do_pull w line (header_disk w name.now)) log
         state.old state.new result }
     ensures kept { Holds state.new }

@@ -3,7 +3,7 @@ ghost use Rattle.std.specs.Prelude.{◌≡◌, ◌<◌, ◌&&◌, not, length, f
 ghost use Rattle.geo_model.specs.Words.{first_error};
 ghost use Rattle.geo_model.specs.GeomCommands.{insert_tests, is_geom_of_disk};
 ghost use Rattle.geo_state.specs.Holds.{Holds};
-ghost use Rattle.geo_state.specs.Steps.{IsFirm};
+ghost use Rattle.geo_state.specs.Steps.{Stands};
 ghost use Rattle.geo_commands.specs.Disks.{disk_named, item_at};
 
 use crate::names::is_standing;
@@ -38,8 +38,7 @@ pub fn insert_refusal(state: &State, disk: usize) -> Option<Errno>
 
 /// The disk's geom, unless it withers.
 pub fn standing_geom(state: &State, disk: usize) -> Option<GeomId>
-    requires kept { Holds state.now }
-    requires firm { IsFirm state.now }
+    requires stands { Stands state.now }
     requires there { disk < length state.now.disks.items }
     ensures { result ≡ option_map (λ g. g.number)
         (find (λ g. is_geom_of_disk disk g && not g.withering) state.now.topo.topology.geoms) }

@@ -10,7 +10,7 @@ ghost use Rattle.geo_model.specs.Listing.{listing};
 ghost use Rattle.geo_model.specs.Plans.{IsCommand, IsGrant};
 ghost use Rattle.geo_laws_texts.specs.Naming.{HaveNames};
 ghost use Rattle.geo_state.specs.Holds.{Holds};
-ghost use Rattle.geo_state.specs.Steps.{Does, IsFirm, SameWorld};
+ghost use Rattle.geo_state.specs.Steps.{Does, SameWorld, Stands};
 ghost use Rattle.geo_state.specs.World.{HasBytes};
 ghost use Rattle.geo_commands.specs.declared.decisions.Decision.TheVariants as decisions;
 ghost use Rattle.geo_commands.specs.Decisions.{IsDecided, is_on_geoms};
@@ -39,8 +39,7 @@ pub fn do_command<L: Ledger>(
     decision: Decision,
     steps: &mut Steps<L>,
 ) -> Result<Outcome, NoMemory>
-    requires kept { Holds state.old }
-    requires firm { IsFirm state.old }
+    requires stands { Stands state.old }
     requires named { HaveNames state.old.topo.topology }
     requires is_command { IsCommand command.now }
     requires decided { IsDecided state.old actor command.now decision }
@@ -92,8 +91,7 @@ fn on_geoms<L: Ledger>(
     command: &Command,
     steps: &mut Steps<L>,
 ) -> Result<Outcome, NoMemory>
-    requires kept { Holds state.old }
-    requires firm { IsFirm state.old }
+    requires stands { Stands state.old }
     requires named { HaveNames state.old.topo.topology }
     requires is_command { IsCommand command.now }
     requires geoms { is_on_geoms command.now ≡ true }
@@ -150,8 +148,7 @@ fn open_decided<L: Ledger>(
     decision: Decision,
     steps: &mut Steps<L>,
 ) -> Result<Outcome, NoMemory>
-    requires kept { Holds state.old }
-    requires firm { IsFirm state.old }
+    requires stands { Stands state.old }
     requires grant { IsGrant grant }
     requires decided { IsDecided state.old actor (CommandValue.Open name.now prov.now grant) decision }
     ensures does { (log : List Entry) → IfOk result (λ o.
@@ -168,8 +165,7 @@ fn open_decided<L: Ledger>(
 
 // The mesh is listed.
 fn list(alloc: Global, state: &State, line: u32) -> Result<Outcome, NoMemory>
-    requires kept { Holds state.now }
-    requires firm { IsFirm state.now }
+    requires stands { Stands state.now }
     ensures { (log : List Entry) → IfOk result (λ o.
         Does (λ w. (w, outcomes.Replied line (replies.Listing (listing w)))) log state.now state.now o) }
 {

@@ -8,8 +8,7 @@ ghost use Rattle.geo_model.specs.Topology.{geom_at};
 ghost use Rattle.geo_model.specs.Words.{is_granted_kind};
 ghost use Rattle.geo_mesh.specs.Cells.{geom_seen};
 ghost use Rattle.geo_access.specs.Access.{IsCounted, granted_by};
-ghost use Rattle.geo_state.specs.Holds.{Holds};
-ghost use Rattle.geo_state.specs.Steps.{IsFirm};
+ghost use Rattle.geo_state.specs.Steps.{Stands};
 ghost use Rattle.geo_state.specs.World.{world};
 ghost use Rattle.geo_commands.specs.Lines.{IsNextGeom, geom_line, geoms_from, is_listed, mesh_lines};
 
@@ -24,8 +23,7 @@ use std::alloc::Global;
 /// The mesh as it is printed: each geom but those of DEV and TASTE in order of numbers, with its rank, its providers
 /// and its consumers. The counts are those that are stored, so one pass over the mesh is enough.
 pub fn listing(alloc: Global, state: &State) -> Result<MeshList, NoMemory>
-    requires kept { Holds state.now }
-    requires firm { IsFirm state.now }
+    requires stands { Stands state.now }
     ensures { IfOk result (λ lines. (actors : List (List LineCommand)) (log : List Entry)
         → lines ≡ listing (world actors log state.now)) }
 {

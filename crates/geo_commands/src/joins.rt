@@ -5,7 +5,7 @@ ghost use Rattle.geo_base.specs.Name.{is_short_name};
 ghost use Rattle.geo_model.specs.declared.step.Entry.{Entry};
 ghost use Rattle.geo_model.specs.GeomCommands.{do_concat, do_stripe, found_providers};
 ghost use Rattle.geo_state.specs.Holds.{Holds};
-ghost use Rattle.geo_state.specs.Steps.{Does, IsFirm, SameWorld};
+ghost use Rattle.geo_state.specs.Steps.{Does, SameWorld, Stands};
 ghost use Rattle.geo_state.specs.World.{HasBytes};
 ghost use Rattle.geo_commands.specs.Assemblies.{AreAllFound, CanAssemble, assembly_geom, do_assembly};
 ghost use Rattle.geo_commands.specs.Makes.{IsBuilt};
@@ -34,8 +34,7 @@ pub fn concat(
     name: &Name,
     provs: &[Name],
 ) -> Result<Outcome, NoMemory>
-    requires kept { Holds state.old }
-    requires firm { IsFirm state.old }
+    requires stands { Stands state.old }
     requires short { IsTrue (is_short_name name.now) }
     requires few { length provs.now ≤ MAX_COMPONENTS }
     ensures does { (log : List Entry) → IfOk result (λ o.
@@ -60,8 +59,7 @@ pub fn stripe(
     stripe: u64,
     provs: &[Name],
 ) -> Result<Outcome, NoMemory>
-    requires kept { Holds state.old }
-    requires firm { IsFirm state.old }
+    requires stands { Stands state.old }
     requires short { IsTrue (is_short_name name.now) }
     requires limited { stripe < 2 ^ 32 }
     requires few { length provs.now ≤ MAX_COMPONENTS }
@@ -87,8 +85,7 @@ fn join_over(
     provs: &[Name],
     below: &[Below],
 ) -> Result<Outcome, NoMemory>
-    requires kept { Holds state.old }
-    requires firm { IsFirm state.old }
+    requires stands { Stands state.old }
     requires short { IsTrue (is_short_name name.now) }
     requires found { AreAllFound state.old.topo.topology provs.now below.now }
     ensures does { (log : List Entry) → IfOk result (λ o.
@@ -125,8 +122,7 @@ fn assemble(
     sizes: Vec<u64>,
     offer: &Offer,
 ) -> Result<(), NoMemory>
-    requires kept { Holds state.old }
-    requires firm { IsFirm state.old }
+    requires stands { Stands state.old }
     requires can { CanAssemble state.old.topo.topology assembly below.now sizes.items offer.now }
     ensures made { OnOk result (IsBuilt state.old state.new
         (assembly_geom state.old.topo.topology assembly name.now below.now) (map (λ x. x.prov) below.now) offer.now) }

@@ -6,7 +6,7 @@ ghost use Rattle.geo_model.specs.Place.{disk_of};
 ghost use Rattle.geo_mesh.specs.Topo.{is_provider_size};
 ghost use Rattle.geo_requests.specs.Standing.{CanStandOn};
 ghost use Rattle.geo_state.specs.Holds.{Holds};
-ghost use Rattle.geo_state.specs.Steps.{IsFirm, SameWorld};
+ghost use Rattle.geo_state.specs.Steps.{SameWorld, Stands};
 ghost use Rattle.geo_commands.specs.Makes.{HasGrown, IsBuilt};
 
 use geo_base::{GeomId, NoMemory, ProvId};
@@ -50,8 +50,7 @@ pub fn make(
     below: &[ProvId],
     offer: &Offer,
 ) -> Result<(), NoMemory>
-    requires kept { Holds state.old }
-    requires firm { IsFirm state.old }
+    requires firm { Stands state.old }
     requires kind { is_granted_kind geom.kind ≡ false }
     requires no_disk { disk_of geom.config ≡ None }
     requires stands { All (CanStandOn state.old.topo.topology) below.now }

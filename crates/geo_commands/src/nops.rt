@@ -4,7 +4,7 @@ ghost use Rattle.geo_model.specs.declared.step.Entry.{Entry};
 ghost use Rattle.geo_model.specs.Names.{nop_name};
 ghost use Rattle.geo_model.specs.GeomCommands.{do_nop, found_provider};
 ghost use Rattle.geo_state.specs.Holds.{Holds};
-ghost use Rattle.geo_state.specs.Steps.{Does, IsFirm, SameWorld};
+ghost use Rattle.geo_state.specs.Steps.{Does, SameWorld, Stands};
 ghost use Rattle.geo_state.specs.World.{HasBytes};
 ghost use Rattle.geo_laws_texts.specs.Naming.{HaveNames};
 
@@ -29,8 +29,7 @@ pub fn nop(
     size: u64,
     fail: u64,
 ) -> Result<Outcome, NoMemory>
-    requires kept { Holds state.old }
-    requires firm { IsFirm state.old }
+    requires stands { Stands state.old }
     requires named { HaveNames state.old.topo.topology }
     ensures does { (log : List Entry) → IfOk result (λ o.
         Does (λ w. do_nop w line (nop_name prov.now) offset size fail (found_provider w prov.now)) log

@@ -6,7 +6,7 @@ ghost use Rattle.geo_model.specs.Topology.{is_name_taken};
 ghost use Rattle.geo_model.specs.GeomCommands.{stand};
 ghost use Rattle.geo_state.specs.Holds.{Holds};
 ghost use Rattle.geo_state.specs.Parts.{geom_of_disk};
-ghost use Rattle.geo_state.specs.Steps.{IsFirm, SameWorld};
+ghost use Rattle.geo_state.specs.Steps.{SameWorld, Stands};
 ghost use Rattle.geo_state.specs.World.{world};
 ghost use Rattle.geo_commands.specs.Disks.{item_at};
 
@@ -19,8 +19,7 @@ use geo_state::{State, set_geom};
 /// A disk stands as a DISK geom with one provider of its name, which is offered for taste. After `NoMemory` all is as
 /// before.
 pub fn stand(state: &mut State, disk: u32) -> Result<(), NoMemory>
-    requires kept { Holds state.old }
-    requires firm { IsFirm state.old }
+    requires stands { Stands state.old }
     requires there { disk < length state.old.disks.items }
     requires absent { geom_of_disk state.old.topo.topology disk ≡ None }
     requires free { IfSome (slice_get state.old.disks.items disk) (λ seat.

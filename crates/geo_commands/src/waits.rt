@@ -5,8 +5,7 @@ ghost use Rattle.geo_model.specs.declared.command.LineCommand.{LineCommand};
 ghost use Rattle.geo_model.specs.declared.step.Entry.{Entry};
 ghost use Rattle.geo_model.specs.Freeing.{reap_work, wash_work};
 ghost use Rattle.geo_model.specs.Step.{is_unsettled, waits_for};
-ghost use Rattle.geo_state.specs.Holds.{Holds};
-ghost use Rattle.geo_state.specs.Steps.{IsFirm};
+ghost use Rattle.geo_state.specs.Steps.{Stands};
 ghost use Rattle.geo_state.specs.World.{world};
 
 use geo_life::wash_where;
@@ -16,8 +15,7 @@ use geo_state::{State, own_bio};
 /// What a command waits for, if anything: a sync for the requests of the actor's own lines, a settle until no event, no
 /// taste, no request, no reap and no wash is due.
 pub fn wait_found(state: &State, actor: u32, command: &Command) -> Option<Found>
-    requires kept { Holds state.now }
-    requires firm { IsFirm state.now }
+    requires stands { Stands state.now }
     ensures { (actors : List (List LineCommand)) (log : List Entry)
         → result ≡ waits_for (world actors log state.now) actor command.now }
 {
@@ -30,8 +28,7 @@ pub fn wait_found(state: &State, actor: u32, command: &Command) -> Option<Found>
 
 // What a sync waits for: the first request of the actor's own lines.
 fn sync_found(state: &State, actor: u32) -> Option<Found>
-    requires kept { Holds state.now }
-    requires firm { IsFirm state.now }
+    requires stands { Stands state.now }
     ensures { (actors : List (List LineCommand)) (log : List Entry)
         → result ≡ waits_for (world actors log state.now) actor commands.Sync }
 {
@@ -43,8 +40,7 @@ fn sync_found(state: &State, actor: u32) -> Option<Found>
 
 // What a settle waits for.
 fn settle_found(state: &State) -> Option<Found>
-    requires kept { Holds state.now }
-    requires firm { IsFirm state.now }
+    requires stands { Stands state.now }
     ensures { (actors : List (List LineCommand)) (log : List Entry) (actor : ℕ)
         → result ≡ waits_for (world actors log state.now) actor commands.Settle }
 {
@@ -57,8 +53,7 @@ fn settle_found(state: &State) -> Option<Found>
 
 // Whether an event, a taste, a request, a reap or a wash is due.
 fn is_unsettled(state: &State) -> bool
-    requires kept { Holds state.now }
-    requires firm { IsFirm state.now }
+    requires stands { Stands state.now }
     ensures { (actors : List (List LineCommand)) (log : List Entry)
         → result ≡ is_unsettled (world actors log state.now) }
 {
@@ -75,8 +70,7 @@ fn is_under_way(state: &State) -> bool
 
 // Whether a dead handle can be reaped, or a part of a withering geom washed.
 fn can_be_freed(state: &State) -> bool
-    requires kept { Holds state.now }
-    requires firm { IsFirm state.now }
+    requires stands { Stands state.now }
     ensures { (actors : List (List LineCommand)) (log : List Entry) → result
         ≡ (is_some (reap_work (world actors log state.now)) || is_some (wash_work (world actors log state.now))) }
 {

@@ -9,10 +9,12 @@ use Rattle.geo_commands.proofs.Grown.{roomy-graph}
 use Rattle.geo_commands.proofs.Reserved.{reserved_able, reserved_firm, reserved_same, reserved_told}
 use Rattle.geo_commands.proofs.appends.add_component.Goals as goal
 
-pub add_with_room-requires-clause-firm : goal.add_with_room-requires-clause-firm
-add_with_room-requires-clause-firm g c =
-    reserved_firm c.args.state.now c.reserve_events.new.state c.reserve_events.ensures.rest
-    c.reserve_events.ensures.events_stay c.requires.firm
+pub add_with_room-requires-clause-stands : goal.add_with_room-requires-clause-stands
+add_with_room-requires-clause-stands g c = record {
+  kept = c.reserve_events.ensures.kept;
+  firm = reserved_firm c.args.state.now c.reserve_events.new.state c.reserve_events.ensures.rest
+      c.reserve_events.ensures.events_stay c.requires.stands.firm;
+}
 
 pub add_with_room-requires-clause-able : goal.add_with_room-requires-clause-able
 add_with_room-requires-clause-able g c =

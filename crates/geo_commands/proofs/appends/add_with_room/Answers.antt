@@ -14,7 +14,7 @@ returns-in-Some-clause-does g c = λ able actors log. record {
 -- the consumer joined, no test is against its size, and room was reserved for all notes
 pub grow_provider-requires : goal.grow_provider-requires
 grow_provider-requires g c =
-    let may = able_grows c.args.state.now c.requires.kept c.requires.firm c.args.growing.now
+    let may = able_grows c.args.state.now c.requires.stands c.args.growing.now
     c.args.below.now c.requires.able c.join_component.new.state c.join_component.ensures.rest
     (λ actors log. sym c.in_default.is ∙ c.in_ok-errno.ensures.answer c.requires.able actors log)
     (c.in_ok-errno.ensures.joined c.in_default.is) c.in_ok-config.config (c.in_ok-config.ensures c.requires.able)
@@ -32,7 +32,7 @@ grow_provider-requires g c =
 -- the consumer joined, the configuration has its place and the provider its size: that is the append
 pub returns-clause-does : goal.returns-clause-does
 returns-clause-does g c = λ able.
-    able_told c.args.state.now c.requires.kept c.requires.firm c.args.growing.now c.args.below.now able
+    able_told c.args.state.now c.requires.stands c.args.growing.now c.args.below.now able
     c.join_component.new.state c.join_component.ensures.rest
     (λ actors log. sym c.in_default.is ∙ c.in_ok-errno.ensures.answer able actors log)
     (c.in_ok-errno.ensures.joined c.in_default.is) c.in_ok-config.config (c.in_ok-config.ensures able)
@@ -42,7 +42,7 @@ returns-clause-does g c = λ able.
 -- each note was announced in the room that was reserved, and counts are those with the consumer
 pub returns-clause-kept : goal.returns-clause-kept
 returns-clause-kept g c =
-    able_kept c.args.state.now c.requires.kept c.requires.firm c.args.growing.now c.args.below.now
+    able_kept c.args.state.now c.requires.stands c.args.growing.now c.args.below.now
     c.requires.able c.join_component.new.state c.join_component.ensures.rest
     (λ actors log. sym c.in_default.is ∙ c.in_ok-errno.ensures.answer c.requires.able actors log)
     (c.in_ok-errno.ensures.joined c.in_default.is) c.in_ok-config.config (c.in_ok-config.ensures c.requires.able)

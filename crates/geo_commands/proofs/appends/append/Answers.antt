@@ -4,14 +4,14 @@ use Rattle.geo_commands.proofs.appends.append.Goals as goal
 
 pub returns-in-Some-2-clause-does : goal.returns-in-Some-2-clause-does
 returns-in-Some-2-clause-does g c = λ log actors.
-    let a = asked c.args.state.now c.requires.firm c.args.name.now c.args.prov.now
+    let a = asked c.args.state.now c.requires.stands.firm c.args.name.now c.args.prov.now
     (sym c.in-Some.is ∙ c.growing_concat.ensures) (sym c.in-Some-below_named.is ∙ c.below_named.ensures) in
     append-refused c.args.state.now c.args.state.now c.args.line c.refused-in-Some-2.result actors log a
     c.in-Some-2.errno (sym c.in-Some-2.is ∙ c.in_ok-errno.ensures a.named actors log) c.refused-in-Some-2.ensures
 
 pub add_component-requires-clause-able : goal.add_component-requires-clause-able
 add_component-requires-clause-able g c =
-    let a = asked c.args.state.now c.requires.firm c.args.name.now c.args.prov.now
+    let a = asked c.args.state.now c.requires.stands.firm c.args.name.now c.args.prov.now
     (sym c.in-Some.is ∙ c.growing_concat.ensures) (sym c.in-Some-below_named.is ∙ c.below_named.ensures) in
     append-able c.args.state.now a (λ k l. sym c.in_default-2.is ∙ c.in_ok-errno.ensures a.named k l)
 
@@ -24,7 +24,7 @@ returns-in_err-errno-2-clause-bound g c =
 -- where the component was refused
 pub returns-in-Some-3-clause-does : goal.returns-in-Some-3-clause-does
 returns-in-Some-3-clause-does g c = λ log actors.
-    let a = asked c.args.state.now c.requires.firm c.args.name.now c.args.prov.now
+    let a = asked c.args.state.now c.requires.stands.firm c.args.name.now c.args.prov.now
     (sym c.in-Some.is ∙ c.growing_concat.ensures) (sym c.in-Some-below_named.is ∙ c.below_named.ensures) in
     append-stopped c.args.state.now c.add_component.new.state c.args.line c.refused-in-Some-3.result actors log a
     (λ k l. sym c.in_default-2.is ∙ c.in_ok-errno.ensures a.named k l) c.in_ok-errno-2.field-0
@@ -38,7 +38,7 @@ returns-in-Some-3-clause-bound g c =
 -- no test is against it and its consumer joined, so the component is appended
 pub returns-clause-does : goal.returns-clause-does
 returns-clause-does g c = λ log actors.
-    let a = asked c.args.state.now c.requires.firm c.args.name.now c.args.prov.now
+    let a = asked c.args.state.now c.requires.stands.firm c.args.name.now c.args.prov.now
     (sym c.in-Some.is ∙ c.growing_concat.ensures) (sym c.in-Some-below_named.is ∙ c.below_named.ensures) in
     append-done c.args.state.now c.add_component.new.state c.args.line c.done.result actors log a
     (λ k l. sym c.in_default-2.is ∙ c.in_ok-errno.ensures a.named k l) c.in_ok-errno-2.field-0

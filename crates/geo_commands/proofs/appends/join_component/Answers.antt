@@ -3,48 +3,48 @@ use Rattle.geo_commands.proofs.appends.join_component.Goals as goal
 
 pub join_new-requires-clause-placed : goal.join_new-requires-clause-placed
 join_new-requires-clause-placed g c =
-    all-placed c.args.state.now c.requires.kept c.requires.firm
+    all-placed c.args.state.now c.requires.stands
 
 -- the next number was given to no consumer, so no requests are counted of it
 pub join_new-requires-clause-unknown : goal.join_new-requires-clause-unknown
 join_new-requires-clause-unknown g c =
-    next-unknown c.args.state.now c.requires.kept c.requires.firm
+    next-unknown c.args.state.now c.requires.stands
 
 -- no test is against the append, so the concat and the provider are there
 pub join_new-requires-clause-stands : goal.join_new-requires-clause-stands
 join_new-requires-clause-stands g c =
-    able-stands c.args.state.now c.requires.kept c.requires.firm c.args.growing.now c.args.below.now
+    able-stands c.args.state.now c.requires.stands c.args.growing.now c.args.below.now
     c.requires.able
 
 pub join_new-requires-clause-lives : goal.join_new-requires-clause-lives
 join_new-requires-clause-lives g c =
-    able-lives c.args.state.now c.requires.kept c.requires.firm c.args.growing.now c.args.below.now
+    able-lives c.args.state.now c.requires.stands c.args.growing.now c.args.below.now
     c.requires.able
 
 -- counts that are stored are the model's, so they refuse the consumer for what the model does
 pub returns-clause-answer : goal.returns-clause-answer
 returns-clause-answer g c =
-    answer-told c.args.state.now c.requires.kept c.requires.firm c.join_new.new.topo c.join_new.result
+    answer-told c.args.state.now c.requires.stands c.join_new.new.topo c.join_new.result
     c.args.growing.now c.args.below.now c.join_new.ensures.answer
 
 -- the mesh but for its next number is the same, and so is the world
 pub returns-clause-refused : goal.returns-clause-refused
 returns-clause-refused g c =
-    used-told c.args.state.now c.requires.kept c.requires.firm c.join_new.new.topo c.join_new.result
+    used-told c.args.state.now c.requires.stands c.join_new.new.topo c.join_new.result
     c.join_new.ensures.refused
 
 pub returns-clause-same : goal.returns-clause-same
 returns-clause-same g c =
-    same-told c.args.state.now c.requires.kept c.requires.firm c.join_new.new.topo c.join_new.result
+    same-told c.args.state.now c.requires.stands c.join_new.new.topo c.join_new.result
     c.join_new.ensures.same
 
 -- nothing is kept of a number that was used up
 pub returns-clause-kept : goal.returns-clause-kept
 returns-clause-kept g c =
-    kept-told c.args.state.now c.requires.kept c.requires.firm c.join_new.new.topo c.join_new.result
+    kept-told c.args.state.now c.requires.stands c.join_new.new.topo c.join_new.result
     c.join_new.ensures.refused
 
 pub returns-clause-kept_still : goal.returns-clause-kept_still
 returns-clause-kept_still g c =
-    room-told c.args.state.now c.requires.kept c.requires.firm c.join_new.new.topo c.join_new.result
+    room-told c.args.state.now c.requires.stands c.join_new.new.topo c.join_new.result
     c.join_new.ensures.same

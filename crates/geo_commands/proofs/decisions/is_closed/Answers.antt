@@ -6,10 +6,10 @@ use Rattle.geo_commands.proofs.decisions.is_closed.Goals as goal
 pub returns-in-Some : goal.returns-in-Some
 returns-in-Some c actors log =
     c.is_idle.ensures
-    ∙ closed_at c.args.state.now c.requires.kept c.requires.firm c.args.actor c.args.name.now _
+    ∙ closed_at c.args.state.now c.requires.stands c.args.actor c.args.name.now _
     c.in-Some.ensures.handle actors log
 
 pub returns-in-None : goal.returns-in-None
 returns-in-None c actors log =
-    closed_at c.args.state.now c.requires.kept c.requires.firm c.args.actor c.args.name.now None
+    closed_at c.args.state.now c.requires.stands c.args.actor c.args.name.now None
     c.in-None.ensures.handle actors log

@@ -11,8 +11,7 @@ unreachable-requires g c =
 
 pub open-requires : goal.open-requires
 open-requires g c = record {
-  kept = c.requires.kept;
-  firm = c.requires.firm;
+  stands = c.requires.stands;
   some = some_counts c.args.grant c.requires.grant;
   decided = opens_refusal c.args.state.now c.args.actor c.args.name.now c.args.prov.now c.args.grant _
       (subst (IsDecided c.args.state.now c.args.actor (commands.Open c.args.name.now c.args.prov.now c.args.grant))

@@ -25,7 +25,7 @@ returns-in-Some-insert_refusal-clause-does c = λ log actors.
 pub stand-requires-clause-absent : goal.stand-requires-clause-absent
 stand-requires-clause-absent c =
     let named = disk-read c.args.state.now c.args.name.now c.deref.ensures.value c.disk_named.ensures c.in-Some.is in
-    none-absent c.args.state.now c.requires.kept c.in-Some.disk named.seat named.at
+    none-absent c.args.state.now c.requires.stands.kept c.in-Some.disk named.seat named.at
     (sym (seat-refusal named c.insert_refusal.result c.insert_refusal.ensures) ∙ c.in_default-insert_refusal.is)
 
 -- nothing is against the disk of the name, and it stands now

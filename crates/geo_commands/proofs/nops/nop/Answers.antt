@@ -6,7 +6,7 @@ use Rattle.geo_commands.proofs.nops.nop.Goals as goal
 -- the provider below was found in a firm world, so it has a sector size
 pub nop_refusal-requires-clause-sector : goal.nop_refusal-requires-clause-sector
 nop_refusal-requires-clause-sector c =
-    below-sectors c.args.state.now c.requires.firm
+    below-sectors c.args.state.now c.requires.stands.firm
     (below-of c.args.state.now.topo.topology c.args.prov.now (sym c.in-Some.is ∙ c.below_named.ensures))
 
 -- no test is against the nop, so the name with its tail is one
@@ -14,7 +14,7 @@ pub unreachable-requires : goal.unreachable-requires
 unreachable-requires c =
     let found = nop-found c.args.state.now.topo.topology c.args.prov.now (sym c.in-Some.is ∙ c.below_named.ensures)
     c.with_tail.result c.with_tail.ensures c.ok-name.ensures.value in
-    nop-named c.args.state.now c.requires.firm found c.args.offset c.args.size c.nop_refusal.ensures
+    nop-named c.args.state.now c.requires.stands.firm found c.args.offset c.args.size c.nop_refusal.ensures
     c.in_default-nop_refusal.is c.in_default-name.is
 
 -- Each that make asks: no test is against the nop, so what is below can carry it, its size fits, its name is free
@@ -22,21 +22,21 @@ pub make-requires-clause-stands : goal.make-requires-clause-stands
 make-requires-clause-stands c =
     let found = nop-found c.args.state.now.topo.topology c.args.prov.now (sym c.in-Some.is ∙ c.below_named.ensures)
     c.with_tail.result c.with_tail.ensures c.ok-name.ensures.value in
-    nop-stands c.args.state.now c.requires.firm found c.args.offset c.args.size c.nop_refusal.ensures
+    nop-stands c.args.state.now c.requires.stands.firm found c.args.offset c.args.size c.nop_refusal.ensures
     c.in_default-nop_refusal.is
 
 pub make-requires-clause-size : goal.make-requires-clause-size
 make-requires-clause-size c =
     let found = nop-found c.args.state.now.topo.topology c.args.prov.now (sym c.in-Some.is ∙ c.below_named.ensures)
     c.with_tail.result c.with_tail.ensures c.ok-name.ensures.value in
-    nop-sized c.args.state.now c.requires.firm found c.args.offset c.args.size c.nop_refusal.ensures
+    nop-sized c.args.state.now c.requires.stands.firm found c.args.offset c.args.size c.nop_refusal.ensures
     c.in_default-nop_refusal.is
 
 pub make-requires-clause-free : goal.make-requires-clause-free
 make-requires-clause-free c =
     let found = nop-found c.args.state.now.topo.topology c.args.prov.now (sym c.in-Some.is ∙ c.below_named.ensures)
     c.with_tail.result c.with_tail.ensures c.ok-name.ensures.value in
-    nop-free c.args.state.now c.requires.firm found c.args.offset c.args.size c.nop_refusal.ensures
+    nop-free c.args.state.now c.requires.stands.firm found c.args.offset c.args.size c.nop_refusal.ensures
     c.in_default-nop_refusal.is c.in-Some-name.is
 
 -- the nop has the next consumer, and name, size and sectors of its provider are the model's
@@ -44,7 +44,7 @@ pub returns-clause-does : goal.returns-clause-does
 returns-clause-does c = λ log actors.
     let found = nop-found c.args.state.now.topo.topology c.args.prov.now (sym c.in-Some.is ∙ c.below_named.ensures)
     c.with_tail.result c.with_tail.ensures c.ok-name.ensures.value in
-    nop-made c.args.state.now c.requires.firm found c.args.offset c.args.size c.nop_refusal.ensures
+    nop-made c.args.state.now c.requires.stands.firm found c.args.offset c.args.size c.nop_refusal.ensures
     c.in_default-nop_refusal.is c.in-Some-name.is c.make.new.state c.args.fail
     (c.nop-config.ensures
     ∙ ap (λ k. Nop (Some k) c.args.offset c.args.fail) c.coming_consumer-consumer.ensures.number)

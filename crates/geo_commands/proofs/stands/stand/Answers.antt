@@ -9,7 +9,7 @@ grow-requires-clause-size c =
     let s = c.args.state.now in
     let seat = c.index-seat.result.now in
     disk-size s c.args.disk seat
-    (slice_get_read s.disks.items _ c.args.disk seat refl c.requires.there c.index-seat.ensures) c.requires.firm
+    (slice_get_read s.disks.items _ c.args.disk seat refl c.requires.there c.index-seat.ensures) c.requires.stands.firm
 
 pub grow-requires-clause-free : goal.grow-requires-clause-free
 grow-requires-clause-free c =
@@ -36,5 +36,5 @@ returns-clause-kept c =
     stood-kept s c.args.disk seat
     (slice_get_read s.disks.items _ c.args.disk seat refl c.requires.there c.index-seat.ensures)
     c.grow.new.state c.set_geom.new.state c.disk.result c.disk.ensures c.in_ok-id.id c.in_ok-id.ensures.number
-    c.in_ok-id.ensures.grown c.set_geom.ensures.seat c.set_geom.ensures.rest c.requires.kept c.requires.firm
+    c.in_ok-id.ensures.grown c.set_geom.ensures.seat c.set_geom.ensures.rest c.requires.stands
     c.requires.absent

@@ -7,5 +7,5 @@ use Rattle.geo_commands.proofs.waits.is_unsettled.Goals as goal
 pub returns-else-is_under_way : goal.returns-else-is_under_way
 returns-else-is_under_way c actors log =
     ap (λ b. b || c.can_be_freed.result) (sym c.if-is_under_way.false)
-    ∙ unsettled c.args.state.now c.requires.kept c.requires.firm c.is_under_way.result c.can_be_freed.result
+    ∙ unsettled c.args.state.now c.requires.stands c.is_under_way.result c.can_be_freed.result
     c.is_under_way.ensures c.can_be_freed.ensures actors log
