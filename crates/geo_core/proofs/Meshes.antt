@@ -27,7 +27,7 @@ use Rattle.geo_state.specs.declared.state.State.{State}
 use Rattle.geo_state.specs.Holds.{Holds}
 use Rattle.geo_state.specs.Steps.{Makes, SameWorld}
 use Rattle.geo_state.specs.World.{world, HasBytes}
-use Rattle.geo_state.specs.Steps.{IsFirm}
+use Rattle.geo_state.specs.Steps.{Stands}
 use Rattle.geo_core.specs.declared.running.Running.{Running}
 use Rattle.geo_commands.specs.Decisions.{places_owed}
 use Rattle.geo_core.specs.Goes.{HasRoomFor}
@@ -40,9 +40,12 @@ use Rattle.geo_core.specs.Running.{seen, world_now, IsMesh}
 pub mesh_firm : (r : Running) → IsMesh r → Firm (world_now r)
 mesh_firm r is = subst Firm (sym is.world) (firm_after r.plan r.facts.items is.plan is.facts r.log.items)
 
--- so its state stands for a firm world
-pub mesh_is_firm : (r : Running) → IsMesh r → IsFirm r.state
-mesh_is_firm r is = (r.log.items, (left_of r.plan.commands r.left, mesh_firm r is))
+-- so its state, which keeps what it has to keep, stands for a firm world
+pub mesh_stands : (r : Running) → IsMesh r → Stands r.state
+mesh_stands r is = record {
+  kept = is.holds;
+  firm = (r.log.items, (left_of r.plan.commands r.left, mesh_firm r is));
+}
 
 -- its providers have names
 pub mesh_names : (r : Running) → IsMesh r → HaveNames r.state.topo.topology

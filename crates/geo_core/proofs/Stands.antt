@@ -21,7 +21,7 @@ use Rattle.geo_state.specs.declared.state.DiskSeat.{DiskSeat}
 use Rattle.geo_state.specs.Holds.{Holds}
 use Rattle.geo_state.specs.Parts.{geom_of_disk}
 use Rattle.geo_state.specs.World.{world, disk_of_seat}
-use Rattle.geo_state.specs.Steps.{IsFirm}
+use Rattle.geo_state.specs.Steps.{Stands}
 use Rattle.geo_commands.specs.Disks.{item_at}
 use Rattle.geo_commands.proofs.Finding.{seat-absent}
 use Rattle.geo_core.specs.Openings.{stand_one, stood, IsOpened}
@@ -57,9 +57,9 @@ has_seat : (o : Option DiskSeat) (disk : HeaderDisk) → option_map disk_of_seat
 has_seat None disk e = absurd (let no : ⊥ = cc in no)
 has_seat (Some seat) disk e = (seat, refl, let same : disk_of_seat seat ≡ disk = cc in same)
 
--- the state of an opening stands for a firm world
-pub opened_firm : (w : World) (s : State) → IsOpened w s → IsFirm s
-opened_firm w s is = ([], (w.actors, subst Firm (sym (is.world [])) is.firm))
+-- the state of an opening keeps what it has to keep, and stands for a firm world
+pub opened_stands : (w : World) (s : State) → IsOpened w s → Stands s
+opened_stands w s is = record { kept = is.holds; firm = ([], (w.actors, subst Firm (sym (is.world [])) is.firm)) }
 
 -- a disk can stand: its geom doesn't, and its name isn't taken
 pub record CanStand (s : State) (disk : ℕ) : Type 0 where

@@ -7,9 +7,8 @@ ghost use Rattle.geo_model.specs.declared.step.Step.{Step as StepValue};
 ghost use Rattle.geo_model.specs.Step.{go};
 ghost use Rattle.geo_model.specs.Plans.{IsCommand};
 ghost use Rattle.geo_state.specs.Holds.{Holds};
-ghost use Rattle.geo_state.specs.Steps.{SameWorld};
+ghost use Rattle.geo_state.specs.Steps.{SameWorld, Stands};
 ghost use Rattle.geo_state.specs.World.{world, HasBytes};
-ghost use Rattle.geo_state.specs.Steps.{IsFirm};
 ghost use Rattle.geo_laws_texts.specs.Naming.{HaveNames};
 ghost use Rattle.geo_core.specs.Left.{left_of, AreNext};
 ghost use Rattle.geo_core.specs.Mesh.{world_of, IsSure, Made};
@@ -78,8 +77,7 @@ fn make<L: Ledger>(
     decision: Option<Decision>,
     steps: &mut Steps<L>,
 ) -> Result<Outcome, NoMemory>
-    requires kept { Holds state.old }
-    requires firm { IsFirm state.old }
+    requires stands { Stands state.old }
     requires logged { HasBytes log.now.items state.old }
     requires next { AreNext plan.now left.old }
     requires named { HaveNames state.old.topo.topology }
@@ -117,8 +115,7 @@ fn go<L: Ledger>(
     decision: Decision,
     steps: &mut Steps<L>,
 ) -> Result<Outcome, NoMemory>
-    requires kept { Holds state.old }
-    requires firm { IsFirm state.old }
+    requires stands { Stands state.old }
     requires next { AreNext plan.now left.old }
     requires named { HaveNames state.old.topo.topology }
     requires commands { All (All (λ (c : LineCommandValue). IsCommand c.command))

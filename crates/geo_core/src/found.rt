@@ -1,6 +1,5 @@
 //! What is against a step.
-ghost use Rattle.geo_state.specs.Holds.{Holds};
-ghost use Rattle.geo_state.specs.Steps.{IsFirm};
+ghost use Rattle.geo_state.specs.Steps.{Stands};
 ghost use Rattle.geo_core.specs.Left.{AreNext};
 ghost use Rattle.geo_core.specs.Moves.{IsFound};
 
@@ -20,8 +19,7 @@ pub fn found_against(
     seat: u32,
     step: &Step,
 ) -> Option<Found>
-    requires kept { Holds state.now }
-    requires firm { IsFirm state.now }
+    requires stands { Stands state.now }
     requires next { AreNext plan.now left.now }
     ensures { IsFound plan.now.commands left.now state.now seat step.now result }
 {

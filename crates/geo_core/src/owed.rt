@@ -1,7 +1,6 @@
 //! The places of the log that are owed after a step.
 ghost use Rattle.std.specs.Prelude.{◌≡◌};
-ghost use Rattle.geo_state.specs.Holds.{Holds};
-ghost use Rattle.geo_state.specs.Steps.{IsFirm};
+ghost use Rattle.geo_state.specs.Steps.{Stands};
 ghost use Rattle.geo_core.specs.Left.{AreNext};
 ghost use Rattle.geo_core.specs.Mesh.{world_of};
 ghost use Rattle.geo_core.specs.Running.{seen, IsMesh};
@@ -24,8 +23,7 @@ pub fn decide_step<L: Ledger>(
     step: &Step,
     steps: &mut Steps<L>,
 ) -> Option<Decision>
-    requires kept { Holds state.old }
-    requires firm { IsFirm state.old }
+    requires stands { Stands state.old }
     requires next { AreNext plan.now left.now }
     ensures ready { IsReady plan.now.commands left.now state.old step.now result }
     ensures same { state.new ≡ state.old }

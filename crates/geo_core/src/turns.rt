@@ -3,9 +3,8 @@ ghost use Rattle.std.specs.Prelude.{◌++◌, ◌∷◌, [], List, None, IfOk, I
 ghost use Rattle.geo_model.specs.declared.step.Entry.{Entry as EntryValue};
 ghost use Rattle.geo_model.specs.Step.{step as answer_of, event, reap_next, wash_next};
 ghost use Rattle.geo_state.specs.Holds.{Holds};
-ghost use Rattle.geo_state.specs.Steps.{IsAgainst, Makes, SameWorld};
+ghost use Rattle.geo_state.specs.Steps.{IsAgainst, Makes, SameWorld, Stands};
 ghost use Rattle.geo_state.specs.World.{HasBytes};
-ghost use Rattle.geo_state.specs.Steps.{IsFirm};
 ghost use Rattle.geo_core.specs.Moves.{Turns, IsTurn, IsDeliver};
 
 use geo_access::Steps;
@@ -28,8 +27,7 @@ pub fn turn<L: Ledger>(
     step: &Step,
     steps: &mut Steps<L>,
 ) -> Result<Outcome, NoMemory>
-    requires kept { Holds state.old }
-    requires firm { IsFirm state.old }
+    requires stands { Stands state.old }
     requires logged { HasBytes log.now.items state.old }
     requires enabled { IsAgainst (λ w. answer_of w seat step.now) state.old None }
     requires turn { IsTurn step.now }
@@ -58,8 +56,7 @@ pub fn turn<L: Ledger>(
 
 // An Event.
 fn do_event(state: &mut State) -> Result<Outcome, NoMemory>
-    requires kept { Holds state.old }
-    requires firm { IsFirm state.old }
+    requires stands { Stands state.old }
     requires due { IsAgainst event state.old None }
     ensures made { (log : List EntryValue) → IfOk result (λ o. Makes event log state.old state.new o) }
     ensures kept { Holds state.new }
@@ -72,8 +69,7 @@ fn do_event(state: &mut State) -> Result<Outcome, NoMemory>
 
 // A Reap.
 fn do_reap<L: Ledger>(state: &mut State, steps: &mut Steps<L>) -> Outcome
-    requires kept { Holds state.old }
-    requires firm { IsFirm state.old }
+    requires stands { Stands state.old }
     requires due { IsAgainst reap_next state.old None }
     ensures made { (log : List EntryValue) → Makes reap_next log state.old state.new result }
     ensures kept { Holds state.new }
@@ -85,8 +81,7 @@ fn do_reap<L: Ledger>(state: &mut State, steps: &mut Steps<L>) -> Outcome
 
 // A Wash.
 fn do_wash(state: &mut State) -> Outcome
-    requires kept { Holds state.old }
-    requires firm { IsFirm state.old }
+    requires stands { Stands state.old }
     requires due { IsAgainst wash_next state.old None }
     ensures made { (log : List EntryValue) → Makes wash_next log state.old state.new result }
     ensures kept { Holds state.new }

@@ -2,17 +2,17 @@ use Rattle.std.proofs.Common.{refl, sym, subst, arith}
 use Rattle.geo_state.specs.declared.state.State.{State}
 use Rattle.geo_core.specs.Goes.{IsReady}
 use Rattle.geo_core.proofs.Admits.{not_ok}
-use Rattle.geo_core.proofs.Meshes.{mesh_is_firm}
+use Rattle.geo_core.proofs.Meshes.{mesh_stands}
 use Rattle.geo_core.proofs.Admitting.{other_mesh, other_seen, other_admitted, other_refused}
 use Rattle.geo_core.proofs.Applying.{refused_found, pays_room, pays_place, pays_found}
 use Rattle.geo_core.proofs.Owing.{log_few}
 use Rattle.geo_core.proofs.admit.admit.Goals as goal
 
-pub found_against-requires-clause-firm : goal.found_against-requires-clause-firm
-found_against-requires-clause-firm g c = mesh_is_firm c.args.running.now c.requires.mesh
+pub found_against-requires-clause-stands : goal.found_against-requires-clause-stands
+found_against-requires-clause-stands g c = mesh_stands c.args.running.now c.requires.mesh
 
-pub decide_step-decision-requires-clause-firm : goal.decide_step-decision-requires-clause-firm
-decide_step-decision-requires-clause-firm g c = mesh_is_firm c.args.running.now c.requires.mesh
+pub decide_step-decision-requires-clause-stands : goal.decide_step-decision-requires-clause-stands
+decide_step-decision-requires-clause-stands g c = mesh_stands c.args.running.now c.requires.mesh
 
 pub make_place-requires : goal.make_place-requires
 make_place-requires g c = let few = log_few c.args.running.now c.requires.mesh in omega (arith, few)

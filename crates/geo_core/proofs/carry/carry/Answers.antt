@@ -4,12 +4,12 @@ use Rattle.geo_log.specs.Room.{Room}
 use Rattle.geo_core.specs.Mesh.{Made}
 use Rattle.geo_core.specs.Running.{seen, IsMesh}
 use Rattle.geo_core.proofs.Admits.{not_ok}
-use Rattle.geo_core.proofs.Meshes.{mesh_is_firm, mesh_names, mesh_commands, same_mesh, one_place, more_mesh, more_made}
+use Rattle.geo_core.proofs.Meshes.{mesh_stands, mesh_names, mesh_commands, same_mesh, one_place, more_mesh, more_made}
 use Rattle.geo_core.proofs.Making.{sure_now}
 use Rattle.geo_core.proofs.carry.carry.Goals as goal
 
-pub make-requires-clause-firm : goal.make-requires-clause-firm
-make-requires-clause-firm g c = mesh_is_firm c.args.running.now c.requires.mesh
+pub make-requires-clause-stands : goal.make-requires-clause-stands
+make-requires-clause-stands g c = mesh_stands c.args.running.now c.requires.mesh
 
 pub make-requires-clause-named : goal.make-requires-clause-named
 make-requires-clause-named g c = mesh_names c.args.running.now c.requires.mesh

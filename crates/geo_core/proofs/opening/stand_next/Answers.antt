@@ -1,6 +1,6 @@
 use Rattle.std.proofs.Common.{arith}
 use Rattle.geo_core.specs.Openings.{stood}
-use Rattle.geo_core.proofs.Stands.{opened_firm, later_told, later_stays, can_stand, next_stands}
+use Rattle.geo_core.proofs.Stands.{opened_stands, later_told, later_stays, can_stand, next_stands}
 use Rattle.geo_core.proofs.opening.stand_next.Goals as goal
 
 pub overflow_cast-disk : goal.overflow_cast-disk
@@ -16,8 +16,7 @@ stand-requires c =
     can_stand c.args.plan.now facts c.args.disk c.is_later.result c.disks.ensures.plan c.requires.fit c.requires.there
     later c.args.state.now c.requires.opened c.if-is_later.false in
     record {
-      kept = c.requires.opened.holds;
-      firm = opened_firm (stood c.args.plan.now facts c.args.disk) c.args.state.now c.requires.opened;
+      stands = opened_stands (stood c.args.plan.now facts c.args.disk) c.args.state.now c.requires.opened;
       there = can.there;
       absent = can.absent;
       free = can.free;

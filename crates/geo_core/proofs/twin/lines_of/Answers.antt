@@ -1,13 +1,13 @@
 use Rattle.std.proofs.Common.{sym, subst}
 use Rattle.geo_model.specs.declared.command.Command.{Command}
-use Rattle.geo_core.proofs.Meshes.{mesh_is_firm}
+use Rattle.geo_core.proofs.Meshes.{mesh_stands}
 use Rattle.geo_core.proofs.Spares.{prints_lines, quiet_command}
 use Rattle.geo_core.specs.declared.twin.Spare.TheVariants as spares
 use Rattle.geo_core.specs.Twins.{HasCommand}
 use Rattle.geo_core.proofs.twin.lines_of.Goals as goal
 
-pub listing-requires-clause-firm : goal.listing-requires-clause-firm
-listing-requires-clause-firm c = mesh_is_firm c.args.running.now c.requires.mesh
+pub listing-requires : goal.listing-requires
+listing-requires c = record { stands = mesh_stands c.args.running.now c.requires.mesh }
 
 pub returns-in_default-clause-outcome : goal.returns-in_default-clause-outcome
 returns-in_default-clause-outcome c =

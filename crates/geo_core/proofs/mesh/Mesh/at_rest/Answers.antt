@@ -5,13 +5,14 @@ use Rattle.geo_model.specs.Freeing.{reap_work, wash_work}
 use Rattle.geo_model.specs.Order.{is_at_rest}
 use Rattle.geo_core.specs.Mesh.{MeshView, world_of, IsHistory}
 use Rattle.geo_core.specs.Running.{seen, IsMesh}
-use Rattle.geo_core.proofs.Meshes.{mesh_history, mesh_is_firm}
+use Rattle.geo_core.proofs.Meshes.{mesh_history, mesh_stands}
 use Rattle.geo_core.proofs.Due.{rested, unreaped, unwashed}
 use Rattle.geo_core.proofs.mesh.Mesh.at_rest.Goals as goal
 
-pub wash_found-requires-clause-firm : goal.wash_found-requires-clause-firm
-wash_found-requires-clause-firm c =
-    mesh_is_firm c.deref-running.result.now (subst IsMesh (sym c.deref-running.ensures) c.self.invariant)
+pub wash_found-requires : goal.wash_found-requires
+wash_found-requires c = record {
+  stands = mesh_stands c.deref-running.result.now (subst IsMesh (sym c.deref-running.ensures) c.self.invariant);
+}
 
 pub returns-then-not-is_idle-clause-rest : goal.returns-then-not-is_idle-clause-rest
 returns-then-not-is_idle-clause-rest c =

@@ -2,14 +2,14 @@ use Rattle.std.proofs.Common.{◌≡◌, ◌∙◌, sym, ap, subst}
 use Rattle.geo_model.specs.Step.{is_enabled}
 use Rattle.geo_core.specs.Mesh.{MeshView, world_of}
 use Rattle.geo_core.specs.Running.{IsMesh, seen}
-use Rattle.geo_core.proofs.Meshes.{mesh_is_firm}
+use Rattle.geo_core.proofs.Meshes.{mesh_stands}
 use Rattle.geo_core.proofs.Due.{none_told}
 use Rattle.geo_core.proofs.Applying.{enabled_is}
 use Rattle.geo_core.proofs.mesh.Mesh.enabled.Goals as goal
 
-pub found_against-requires-clause-firm : goal.found_against-requires-clause-firm
-found_against-requires-clause-firm c =
-    mesh_is_firm c.deref-running.result.now (subst IsMesh (sym c.deref-running.ensures) c.self.invariant)
+pub found_against-requires-clause-stands : goal.found_against-requires-clause-stands
+found_against-requires-clause-stands c =
+    mesh_stands c.deref-running.result.now (subst IsMesh (sym c.deref-running.ensures) c.self.invariant)
 
 -- a step is enabled in the world of the log where nothing is against it in that of the state
 pub returns : goal.returns
