@@ -1,5 +1,6 @@
 ghost use Rattle.std.specs.Prelude.{◌<◌, ◌^◌, length};
 
+use crate::same::assert_same;
 use geo_base::{Block, Calls, Name, RunsRefusal, SharedBytes, read_runs, runs_text};
 use std::alloc::Global;
 
@@ -7,12 +8,12 @@ use std::alloc::Global;
 fn blocks_are_made(rt: HostRuntime) {
     let alloc = rt.alloc();
     let block = Block::from_slice(alloc, b"ab").expect(&rt, "memory");
-    assert_eq!(rt; block.bytes(), b"ab".as_slice());
+    assert_same(&rt, block.bytes(), b"ab".as_slice());
     let mut again = block.copy(alloc).expect(&rt, "memory");
     again.cut(1);
-    assert_eq!(rt; again.bytes(), b"a".as_slice());
+    assert_same(&rt, again.bytes(), b"a".as_slice());
     let zeros = Block::zeros(alloc, 3).expect(&rt, "memory");
-    assert_eq!(rt; zeros.bytes(), b"\0\0\0".as_slice());
+    assert_same(&rt, zeros.bytes(), b"\0\0\0".as_slice());
     let calls = Calls::of(alloc, &[2, 5]).expect(&rt, "memory");
     assert!(rt; calls.has(5) && !calls.has(3));
 }
@@ -25,8 +26,8 @@ fn shared_bytes_are_copied(rt: HostRuntime) {
     let shared = own.share(alloc);
     let again = shared.copy(alloc).expect(&rt, "memory");
     drop(shared);
-    assert_eq!(rt; again.bytes(), apart.bytes());
-    assert_eq!(rt; again.len(), 2);
+    assert_same(&rt, again.bytes(), apart.bytes());
+    assert_same(&rt, again.len(), 2);
 }
 
 #[test]
@@ -65,27 +66,28 @@ fn texts_of_runs_both_ways(rt: HostRuntime) {
     let Ok(sector) = read_runs(alloc, b"00*450 a5*1 00*3 01*1 00*3 07*1 00*51 55*1 aa*1") else {
         panic!(rt; "a sector")
     };
-    assert_eq!(rt; sector.len(), 512);
+    assert_same(&rt, sector.len(), 512);
     let text = runs_text(alloc, sector.bytes()).expect(&rt, "memory");
-    assert_eq!(rt;
+    assert_same(
+        &rt,
         text.bytes(),
-        b"00*450 a5*1 00*3 01*1 00*3 07*1 00*51 55*1 aa*1".as_slice()
+        b"00*450 a5*1 00*3 01*1 00*3 07*1 00*51 55*1 aa*1".as_slice(),
     );
     let text = runs_text(alloc, b"\x00\x0f\xff\xff").expect(&rt, "memory");
-    assert_eq!(rt; text.bytes(), b"00*1 0f*1 ff*2".as_slice());
+    assert_same(&rt, text.bytes(), b"00*1 0f*1 ff*2".as_slice());
 }
 
 #[test]
 fn faults_of_runs_have_their_places(rt: HostRuntime) {
     let alloc = rt.alloc();
-    assert_eq!(rt; fault(alloc, b""), Some(0));
-    assert_eq!(rt; fault(alloc, b"00*65537"), Some(7));
-    assert_eq!(rt; fault(alloc, b"00*65536 01*1"), Some(8));
-    assert_eq!(rt; fault(alloc, b"00*01"), Some(3));
-    assert_eq!(rt; fault(alloc, b"0A*1"), Some(1));
-    assert_eq!(rt; fault(alloc, b"00*1 "), Some(5));
-    assert_eq!(rt; fault(alloc, b"00*1 00*1"), Some(6));
-    assert_eq!(rt; fault(alloc, b"00*1  01*1"), Some(5));
-    assert_eq!(rt; fault(alloc, b"00*1\n"), Some(4));
-    assert_eq!(rt; fault(alloc, b"00*1 01*2"), None);
+    assert_same(&rt, fault(alloc, b""), Some(0));
+    assert_same(&rt, fault(alloc, b"00*65537"), Some(7));
+    assert_same(&rt, fault(alloc, b"00*65536 01*1"), Some(8));
+    assert_same(&rt, fault(alloc, b"00*01"), Some(3));
+    assert_same(&rt, fault(alloc, b"0A*1"), Some(1));
+    assert_same(&rt, fault(alloc, b"00*1 "), Some(5));
+    assert_same(&rt, fault(alloc, b"00*1 00*1"), Some(6));
+    assert_same(&rt, fault(alloc, b"00*1  01*1"), Some(5));
+    assert_same(&rt, fault(alloc, b"00*1\n"), Some(4));
+    assert_same(&rt, fault(alloc, b"00*1 01*2"), None);
 }

@@ -1,5 +1,6 @@
 ghost use Rattle.std.specs.Prelude.{◌≤◌};
 
+use crate::same::assert_same;
 use geo_base::{Block, Calls, Name, NoMemory};
 use geo_disk::{Disk, DiskFailed, Drive, GiveFault, MemDisk, MemShelf, Shelf, ShelfFault, Taken};
 use std::alloc::Global;
@@ -45,7 +46,7 @@ fn each_failing_call_of_a_disk_says_so(rt: HostRuntime) {
         let bytes = first_bytes(&rt, &mut disk);
         let written = if failing == 2 { 1 } else { 7 };
         let zeroed = if failing == 3 { 3 } else { 0 };
-        assert_eq!(rt; bytes, [written, 2, zeroed]);
+        assert_same(&rt, bytes, [written, 2, zeroed]);
     }
 }
 
@@ -55,28 +56,30 @@ fn a_failing_call_does_a_part(rt: HostRuntime) {
     disk.failing_after(2);
     assert!(rt; disk.sector_size() == 512 && disk.sectors() == 3);
     // It never does all of a call, however much it was told to do.
-    assert_eq!(rt;
+    assert_same(
+        &rt,
         disk.write(0, [7u8; 1024].as_slice()),
-        Err(DiskFailed { done: 1 })
+        Err(DiskFailed { done: 1 }),
     );
-    assert_eq!(rt; disk.zero(0, 3), Err(DiskFailed { done: 2 }));
-    assert_eq!(rt; first_bytes(&rt, &mut disk), [0, 0, 3]);
+    assert_same(&rt, disk.zero(0, 3), Err(DiskFailed { done: 2 }));
+    assert_same(&rt, first_bytes(&rt, &mut disk), [0, 0, 3]);
     disk.failing_after(1);
     assert!(rt; disk.sector_size() == 512 && disk.sectors() == 3);
-    assert_eq!(rt;
+    assert_same(
+        &rt,
         disk.write(0, [9u8; 1536].as_slice()),
-        Err(DiskFailed { done: 1 })
+        Err(DiskFailed { done: 1 }),
     );
     let mut drive: Drive<MemDisk> = Drive::Ram(disk);
-    assert_eq!(rt; first_bytes(&rt, &mut drive), [9, 0, 3]);
+    assert_same(&rt, first_bytes(&rt, &mut drive), [9, 0, 3]);
 }
 
 #[test]
 fn the_flush_of_a_drive_is_that_of_its_disk(rt: HostRuntime) {
     let mut ram: Drive<MemDisk> = Drive::Ram(numbered(rt.alloc(), &[1]).expect(&rt, "memory"));
-    assert_eq!(rt; ram.flush(), Err(DiskFailed { done: 0 }));
+    assert_same(&rt, ram.flush(), Err(DiskFailed { done: 0 }));
     let mut shelved = Drive::Shelved(numbered(rt.alloc(), &[1]).expect(&rt, "memory"));
-    assert_eq!(rt; shelved.flush(), Err(DiskFailed { done: 0 }));
+    assert_same(&rt, shelved.flush(), Err(DiskFailed { done: 0 }));
 }
 
 /// A block of so many bytes of one value.
@@ -197,7 +200,7 @@ fn a_disk_goes_on_as_it_came_back(rt: HostRuntime) {
         _ => panic!(rt; "no disk"),
     };
     // Its calls are counted on: the next is the third.
-    assert_eq!(rt; first_bytes(&rt, &mut again), [5, 6, 5]);
+    assert_same(&rt, first_bytes(&rt, &mut again), [5, 6, 5]);
     drop(again);
     drop(shelf);
 }

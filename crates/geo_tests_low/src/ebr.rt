@@ -1,5 +1,6 @@
 ghost use Rattle.std.specs.Prelude.{◌<◌, ◌≤◌, length};
 
+use crate::same::assert_same;
 use geo_base::DeclineCause;
 use geo_ebr::{Chain, EbrMap, EbrTable, Link, Media, read_chain};
 use geo_range::{AddressMap, Span};
@@ -74,10 +75,10 @@ fn part_of(rt: &impl Abort, table: &EbrTable, link: usize) -> (u64, u32)
 #[test]
 fn a_chain_of_two_links(rt: HostRuntime) {
     let mut chain = Chain::new(63);
-    assert_eq!(rt; wanted(&rt, &mut chain, &leading(1, 4, 10)), 10);
+    assert_same(&rt, wanted(&rt, &mut chain, &leading(1, 4, 10)), 10);
     let table = ended(&rt, &mut chain, &last(1, 3));
-    assert_eq!(rt; part_of(&rt, &table, 0), (1, 4));
-    assert_eq!(rt; part_of(&rt, &table, 1), (11, 3));
+    assert_same(&rt, part_of(&rt, &table, 0), (1, 4));
+    assert_same(&rt, part_of(&rt, &table, 1), (11, 3));
     assert!(rt; table.parts[2].is_none());
     assert!(rt; table.parts[31].is_none());
 }
@@ -85,38 +86,44 @@ fn a_chain_of_two_links(rt: HostRuntime) {
 #[test]
 fn a_way_back(rt: HostRuntime) {
     let mut chain = Chain::new(63);
-    assert_eq!(rt;
+    assert_same(
+        &rt,
         cause_of(&rt, &mut chain, &leading(1, 4, 0)),
-        DeclineCause::Loop
+        DeclineCause::Loop,
     );
-    assert_eq!(rt; wanted(&rt, &mut chain, &leading(1, 4, 10)), 10);
-    assert_eq!(rt;
+    assert_same(&rt, wanted(&rt, &mut chain, &leading(1, 4, 10)), 10);
+    assert_same(
+        &rt,
         cause_of(&rt, &mut chain, &leading(1, 3, 0)),
-        DeclineCause::Loop
+        DeclineCause::Loop,
     );
-    assert_eq!(rt;
+    assert_same(
+        &rt,
         cause_of(&rt, &mut chain, &leading(1, 3, 10)),
-        DeclineCause::Loop
+        DeclineCause::Loop,
     );
-    assert_eq!(rt; wanted(&rt, &mut chain, &leading(1, 3, 20)), 20);
-    assert_eq!(rt;
+    assert_same(&rt, wanted(&rt, &mut chain, &leading(1, 3, 20)), 20);
+    assert_same(
+        &rt,
         cause_of(&rt, &mut chain, &leading(1, 3, 10)),
-        DeclineCause::Loop
+        DeclineCause::Loop,
     );
 }
 
 #[test]
 fn a_way_past_the_media(rt: HostRuntime) {
     let mut chain = Chain::new(63);
-    assert_eq!(rt;
+    assert_same(
+        &rt,
         cause_of(&rt, &mut chain, &leading(1, 4, 63)),
-        DeclineCause::Far
+        DeclineCause::Far,
     );
-    assert_eq!(rt;
+    assert_same(
+        &rt,
         cause_of(&rt, &mut chain, &leading(1, 4, u32::MAX)),
-        DeclineCause::Far
+        DeclineCause::Far,
     );
-    assert_eq!(rt; wanted(&rt, &mut chain, &leading(1, 4, 62)), 62);
+    assert_same(&rt, wanted(&rt, &mut chain, &leading(1, 4, 62)), 62);
 }
 
 #[test]
@@ -124,56 +131,69 @@ fn a_second_entry_of_another_type(rt: HostRuntime) {
     let mut chain = Chain::new(63);
     let mut sector = leading(1, 4, 0);
     put_entry(&mut sector, 1, 0x85, 0, 5);
-    assert_eq!(rt; cause_of(&rt, &mut chain, &sector), DeclineCause::Second);
+    assert_same(
+        &rt,
+        cause_of(&rt, &mut chain, &sector),
+        DeclineCause::Second,
+    );
     put_entry(&mut sector, 1, 0x0F, 10, 5);
-    assert_eq!(rt; wanted(&rt, &mut chain, &sector), 10);
+    assert_same(&rt, wanted(&rt, &mut chain, &sector), 10);
     sector[511] = 0;
-    assert_eq!(rt; cause_of(&rt, &mut chain, &sector), DeclineCause::Signature);
+    assert_same(
+        &rt,
+        cause_of(&rt, &mut chain, &sector),
+        DeclineCause::Signature,
+    );
 }
 
 #[test]
 fn a_link_too_many(rt: HostRuntime) {
     let mut chain = Chain::new(63);
     for next in 1..32 {
-        assert_eq!(rt;
+        assert_same(
+            &rt,
             wanted(&rt, &mut chain, &leading(1, 1, next)),
-            u64::from(next)
+            u64::from(next),
         );
     }
-    assert_eq!(rt;
+    assert_same(
+        &rt,
         cause_of(&rt, &mut chain, &leading(1, 1, 32)),
-        DeclineCause::Long
+        DeclineCause::Long,
     );
     let table = ended(&rt, &mut chain, &last(1, 2));
-    assert_eq!(rt; part_of(&rt, &table, 31), (32, 2));
+    assert_same(&rt, part_of(&rt, &table, 31), (32, 2));
 }
 
 #[test]
 fn partitions_that_are_none(rt: HostRuntime) {
     let mut chain = Chain::new(0x1_0000_0000);
-    assert_eq!(rt;
+    assert_same(
+        &rt,
         cause_of(&rt, &mut chain, &last(0, 4)),
-        DeclineCause::Nothing
+        DeclineCause::Nothing,
     );
-    assert_eq!(rt;
+    assert_same(
+        &rt,
         cause_of(&rt, &mut chain, &last(1, 0)),
-        DeclineCause::Nothing
+        DeclineCause::Nothing,
     );
-    assert_eq!(rt;
+    assert_same(
+        &rt,
         cause_of(&rt, &mut chain, &last(u32::MAX, 2)),
-        DeclineCause::Nothing
+        DeclineCause::Nothing,
     );
     let table = ended(&rt, &mut chain, &last(u32::MAX, 1));
-    assert_eq!(rt; part_of(&rt, &table, 0), (0xFFFF_FFFF, 1));
+    assert_same(&rt, part_of(&rt, &table, 0), (0xFFFF_FFFF, 1));
 }
 
 #[test]
 fn a_partition_of_the_second_link_alone(rt: HostRuntime) {
     let mut chain = Chain::new(63);
-    assert_eq!(rt; wanted(&rt, &mut chain, &leading(0, 0, 10)), 10);
+    assert_same(&rt, wanted(&rt, &mut chain, &leading(0, 0, 10)), 10);
     let table = ended(&rt, &mut chain, &last(1, 52));
     assert!(rt; table.parts[0].is_none());
-    assert_eq!(rt; part_of(&rt, &table, 1), (11, 52));
+    assert_same(&rt, part_of(&rt, &table, 1), (11, 52));
 }
 
 /// A media with one link at sector 0 and another everywhere else.
@@ -204,14 +224,14 @@ fn the_chain_of_a_media(rt: HostRuntime) {
         other: last(1, 3),
     };
     let table = read_chain(&media, 63).expect(&rt, "a chain");
-    assert_eq!(rt; part_of(&rt, &table, 1), (11, 3));
+    assert_same(&rt, part_of(&rt, &table, 1), (11, 3));
 }
 
 #[test]
 fn a_partition_lies_behind_its_first_sector(rt: HostRuntime) {
     let map = EbrMap::new(11, 3);
-    assert_eq!(rt; (map.size(), map.sector()), (1536, 512));
-    assert_eq!(rt; (map.place(0), map.place(1535)), ((0, 5632), (0, 7167)));
+    assert_same(&rt, (map.size(), map.sector()), (1536, 512));
+    assert_same(&rt, (map.place(0), map.place(1535)), ((0, 5632), (0, 7167)));
     let list = map
         .split(
             rt.alloc(),
@@ -222,5 +242,5 @@ fn a_partition_lies_behind_its_first_sector(rt: HostRuntime) {
         )
         .expect(&rt, "memory");
     assert_eq!(rt; list.items().len(), 1);
-    assert_eq!(rt; list.items()[0].span.offset, 6144);
+    assert_same(&rt, list.items()[0].span.offset, 6144);
 }

@@ -1,4 +1,5 @@
 //! What no clause says: that there is memory, and that a queue may be sent.
+use crate::same::assert_same;
 use geo_base::ProvId;
 use geo_event::{Event, EventQueue};
 
@@ -6,7 +7,7 @@ use geo_event::{Event, EventQueue};
 fn events_are_done_in_order_and_those_of_a_provider_cancelled(rt: HostRuntime) {
     let (disk, slice) = (ProvId::new(1), ProvId::new(2));
     let mut queue = EventQueue::new(rt.alloc());
-    assert_eq!(rt; queue.head(), None);
+    assert_same(&rt, queue.head(), None);
     queue.reserve(1).expect(&rt, "memory");
     queue.post(Event::NewProvider(disk));
     queue.reserve(1).expect(&rt, "memory");
@@ -17,11 +18,11 @@ fn events_are_done_in_order_and_those_of_a_provider_cancelled(rt: HostRuntime) {
     queue.post(Event::Resize(disk));
     queue.reserve(1).expect(&rt, "memory");
     queue.post(Event::Resize(slice));
-    assert_eq!(rt; queue.head(), Some(Event::NewProvider(disk)));
+    assert_same(&rt, queue.head(), Some(Event::NewProvider(disk)));
     queue.cancel(disk);
-    assert_eq!(rt; queue.head(), Some(Event::Spoil(slice)));
+    assert_same(&rt, queue.head(), Some(Event::Spoil(slice)));
     queue.drop_head();
-    assert_eq!(rt; queue.head(), Some(Event::Resize(slice)));
+    assert_same(&rt, queue.head(), Some(Event::Resize(slice)));
 }
 
 // A queue goes to another thread.
@@ -31,5 +32,5 @@ fn goes_to_another_thread<T: Send>(_value: &T) {}
 fn a_queue_may_be_sent(rt: HostRuntime) {
     let queue = EventQueue::new(rt.alloc());
     goes_to_another_thread(&queue);
-    assert_eq!(rt; queue.head(), None);
+    assert_same(&rt, queue.head(), None);
 }

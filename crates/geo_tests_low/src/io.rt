@@ -1,5 +1,6 @@
 ghost use Rattle.std.specs.Prelude.{◌<◌};
 
+use crate::same::assert_same;
 use geo_base::{Block, Calls, NoMemory};
 use geo_io::{
     Failed, MemSink, MemSource, ReadRefusal, Sink, Source, StdSink, StdSource, read_all, write_out,
@@ -24,28 +25,30 @@ fn refusal_of(alloc: Global, source: &mut MemSource) -> Option<ReadRefusal> {
 fn a_source_in_memory_is_read_whole(rt: HostRuntime) {
     let mut source = source_of(rt.alloc(), b"hello", 2, &[]).expect(&rt, "memory");
     let all = read_all(rt.alloc(), &mut source, 5).expect(&rt, "the whole source");
-    assert_eq!(rt; all.bytes(), b"hello".as_slice());
+    assert_same(&rt, all.bytes(), b"hello".as_slice());
 }
 
 #[test]
 fn a_source_that_is_too_long_is_refused(rt: HostRuntime) {
     let mut long = source_of(rt.alloc(), b"hello!", 4, &[]).expect(&rt, "memory");
-    assert_eq!(rt;
+    assert_same(
+        &rt,
         refusal_of(rt.alloc(), &mut long),
-        Some(ReadRefusal::TooLong)
+        Some(ReadRefusal::TooLong),
     );
 }
 
 #[test]
 fn a_failing_read_in_mid_stream_is_told(rt: HostRuntime) {
     let mut source = source_of(rt.alloc(), b"hello", 2, &[2]).expect(&rt, "memory");
-    assert_eq!(rt;
+    assert_same(
+        &rt,
         refusal_of(rt.alloc(), &mut source),
-        Some(ReadRefusal::ReadFault)
+        Some(ReadRefusal::ReadFault),
     );
     // The failed call took nothing, so the next goes on behind the first.
     let rest = read_all(rt.alloc(), &mut source, 5).expect(&rt, "the whole source");
-    assert_eq!(rt; rest.bytes(), b"llo".as_slice());
+    assert_same(&rt, rest.bytes(), b"llo".as_slice());
 }
 
 /// How many bytes were written before a write failed.
@@ -65,9 +68,9 @@ fn a_failing_write_in_mid_stream_is_told(rt: HostRuntime) {
         Calls::of(rt.alloc(), &[2]).expect(&rt, "memory"),
     )
     .expect(&rt, "memory");
-    assert_eq!(rt; written_at_fault(&rt, &mut sink, b"hello"), 3);
-    assert_eq!(rt; written_at_fault(&rt, &mut sink, b"hello, hello"), 6);
-    assert_eq!(rt; sink.written(), b"helhello,".as_slice());
+    assert_same(&rt, written_at_fault(&rt, &mut sink, b"hello"), 3);
+    assert_same(&rt, written_at_fault(&rt, &mut sink, b"hello, hello"), 6);
+    assert_same(&rt, sink.written(), b"helhello,".as_slice());
 }
 
 #[test]
@@ -75,7 +78,7 @@ fn a_reader_of_std_is_a_source(rt: HostRuntime) {
     let alloc = rt.alloc();
     let mut source = StdSource::new(b"two words".as_slice());
     let all = read_all(alloc, &mut source, 100).expect(&rt, "the whole source");
-    assert_eq!(rt; all.bytes(), b"two words".as_slice());
+    assert_same(&rt, all.bytes(), b"two words".as_slice());
     let mut out = [0u8; 4];
     assert!(rt; source.read(&mut out) == Ok(0));
 }

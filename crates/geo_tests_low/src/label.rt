@@ -1,5 +1,6 @@
 ghost use Rattle.std.specs.Prelude.{◌≤◌, length};
 
+use crate::same::assert_same;
 use geo_base::{DeclineCause, Name};
 use geo_label::{LabelMap, LabelRecord, decode, encode};
 use geo_range::{AddressMap, Span};
@@ -26,13 +27,14 @@ fn sector_of(rt: &impl Abort, name: Name, size: Option<u64>) -> [u8; 512] {
 #[test]
 fn a_record_of_version_1(rt: HostRuntime) {
     let sector = sector_of(&rt, Name::new(b"vol").expect(&rt, "a name"), None);
-    assert_eq!(rt;
+    assert_same(
+        &rt,
         &sector[..24],
-        b"RGEOM::LABEL\0\0\0\0\x01\0\0\0vol\0".as_slice()
+        b"RGEOM::LABEL\0\0\0\0\x01\0\0\0vol\0".as_slice(),
     );
     assert!(rt; sector[24..].iter().all(|b| *b == 0));
     let found = decode(&sector).expect(&rt, "a record");
-    assert_eq!(rt; found.name.bytes(), b"vol".as_slice());
+    assert_same(&rt, found.name.bytes(), b"vol".as_slice());
     assert!(rt; found.size.is_none());
 }
 
@@ -42,35 +44,40 @@ fn a_record_of_version_2(rt: HostRuntime) {
     let head = [
         0x52, 0x47, 0x45, 0x4f, 0x4d, 0x3a, 0x3a, 0x4c, 0x41, 0x42, 0x45, 0x4c, 0, 0, 0, 0,
     ];
-    assert_eq!(rt; &sector[..16], head.as_slice());
-    assert_eq!(rt; &sector[16..20], [2, 0, 0, 0].as_slice());
-    assert_eq!(rt;
+    assert_same(&rt, &sector[..16], head.as_slice());
+    assert_same(&rt, &sector[16..20], [2, 0, 0, 0].as_slice());
+    assert_same(
+        &rt,
         &sector[20..36],
-        b"vol\0\0\0\0\0\0\0\0\0\0\0\0\0".as_slice()
+        b"vol\0\0\0\0\0\0\0\0\0\0\0\0\0".as_slice(),
     );
-    assert_eq!(rt; &sector[36..44], [0x00, 0x0e, 0, 0, 0, 0, 0, 0].as_slice());
+    assert_same(
+        &rt,
+        &sector[36..44],
+        [0x00, 0x0e, 0, 0, 0, 0, 0, 0].as_slice(),
+    );
     assert!(rt; sector[44..].iter().all(|b| *b == 0));
     let found = decode(&sector).expect(&rt, "a record");
-    assert_eq!(rt; found.name.bytes(), b"vol".as_slice());
-    assert_eq!(rt; found.size, Some(3584));
+    assert_same(&rt, found.name.bytes(), b"vol".as_slice());
+    assert_same(&rt, found.size, Some(3584));
 }
 
 #[test]
 fn a_version_that_is_none(rt: HostRuntime) {
     let mut sector = sector_of(&rt, Name::new(b"vol").expect(&rt, "a name"), Some(3584));
     sector[16] = 0;
-    assert_eq!(rt; cause_of(&rt, &sector), DeclineCause::Version);
+    assert_same(&rt, cause_of(&rt, &sector), DeclineCause::Version);
     sector[16] = 3;
-    assert_eq!(rt; cause_of(&rt, &sector), DeclineCause::Version);
+    assert_same(&rt, cause_of(&rt, &sector), DeclineCause::Version);
     sector[16] = 2;
     sector[20] = 0;
-    assert_eq!(rt; cause_of(&rt, &sector), DeclineCause::BadName);
+    assert_same(&rt, cause_of(&rt, &sector), DeclineCause::BadName);
 }
 
 #[test]
 fn a_label_is_one_sector_shorter(rt: HostRuntime) {
     let map = LabelMap::new(1536, 512);
-    assert_eq!(rt; map.place(1535), (0, 1535));
+    assert_same(&rt, map.place(1535), (0, 1535));
     let list = map
         .split(
             rt.alloc(),
@@ -80,5 +87,5 @@ fn a_label_is_one_sector_shorter(rt: HostRuntime) {
             },
         )
         .expect(&rt, "memory");
-    assert_eq!(rt; list.items().len(), 1);
+    assert_same(&rt, list.items().len(), 1);
 }

@@ -36,6 +36,8 @@ mod range;
 #[cfg(test)]
 mod record;
 #[cfg(test)]
+mod same;
+#[cfg(test)]
 mod script;
 #[cfg(test)]
 mod slots;

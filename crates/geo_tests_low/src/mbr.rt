@@ -1,5 +1,6 @@
 ghost use Rattle.std.specs.Prelude.{◌<◌, ◌≤◌, length};
 
+use crate::same::assert_same;
 use geo_base::DeclineCause;
 use geo_mbr::{MbrMap, Slice, decode};
 use geo_range::{AddressMap, Span};
@@ -37,15 +38,15 @@ fn one_slice_behind_the_table(rt: HostRuntime) {
     let Some(slice) = table.slices[0] else {
         panic!(rt; "a slice")
     };
-    assert_eq!(rt; (slice.first, slice.count), (1, 7));
+    assert_same(&rt, (slice.first, slice.count), (1, 7));
     assert!(rt; table.slices[1].is_none());
 }
 
 #[test]
 fn a_slice_lies_behind_its_first_sector(rt: HostRuntime) {
     let map = MbrMap::new(&Slice { first: 1, count: 7 });
-    assert_eq!(rt; (map.size(), map.sector()), (3584, 512));
-    assert_eq!(rt; map.place(3583), (0, 4095));
+    assert_same(&rt, (map.size(), map.sector()), (3584, 512));
+    assert_same(&rt, map.place(3583), (0, 4095));
     let list = map
         .split(
             rt.alloc(),
@@ -55,23 +56,27 @@ fn a_slice_lies_behind_its_first_sector(rt: HostRuntime) {
             },
         )
         .expect(&rt, "memory");
-    assert_eq!(rt; list.items().len(), 1);
+    assert_same(&rt, list.items().len(), 1);
 }
 
 #[test]
 fn hostile_entries(rt: HostRuntime) {
     for place in 0..4 {
         let far = with_entry(place, 0xA5, [255; 4], [255; 4]);
-        assert_eq!(rt; cause_of(&rt, &far, 8_589_934_589), DeclineCause::Nothing);
+        assert_same(
+            &rt,
+            cause_of(&rt, &far, 8_589_934_589),
+            DeclineCause::Nothing,
+        );
         let past = with_entry(place, 0xA5, [8, 0, 0, 0], [57, 0, 0, 0]);
-        assert_eq!(rt; cause_of(&rt, &past, 64), DeclineCause::Nothing);
+        assert_same(&rt, cause_of(&rt, &past, 64), DeclineCause::Nothing);
         let at_zero = with_entry(place, 0xA5, [0; 4], [4, 0, 0, 0]);
-        assert_eq!(rt; cause_of(&rt, &at_zero, 64), DeclineCause::Nothing);
+        assert_same(&rt, cause_of(&rt, &at_zero, 64), DeclineCause::Nothing);
     }
     let mut protected = with_entry(3, 0xEE, [1, 0, 0, 0], [7, 0, 0, 0]);
-    assert_eq!(rt; cause_of(&rt, &protected, 64), DeclineCause::Protective);
+    assert_same(&rt, cause_of(&rt, &protected, 64), DeclineCause::Protective);
     protected[510] = 0x54;
-    assert_eq!(rt; cause_of(&rt, &protected, 64), DeclineCause::Signature);
+    assert_same(&rt, cause_of(&rt, &protected, 64), DeclineCause::Signature);
 }
 
 #[test]

@@ -1,3 +1,4 @@
+use crate::same::assert_same;
 use geo_base::{BioCmd, Block, Counts, Errno, Kind, Name, NoMemory, SharedBytes};
 use geo_model::{
     BioResult, ConsLine, ConsLines, GeomLine, MeshList, NameList, Outcome, ProvLine, ProvLines,
@@ -58,15 +59,15 @@ fn assert_listed(rt: &impl Abort, mesh: &MeshList) {
     let [line] = mesh.items() else {
         panic!(rt; "one geom")
     };
-    assert_eq!(rt; line.name.bytes(), b"md0".as_slice());
+    assert_same(rt, line.name.bytes(), b"md0".as_slice());
     let [provider] = line.providers.items() else {
         panic!(rt; "one provider")
     };
-    assert_eq!(rt; provider.size, 2048);
+    assert_same(rt, provider.size, 2048);
     let [consumer] = line.consumers.items() else {
         panic!(rt; "one consumer")
     };
-    assert_eq!(rt; consumer.counts.w, 1);
+    assert_same(rt, consumer.counts.w, 1);
 }
 
 #[test]
@@ -84,7 +85,7 @@ fn names_are_copied(rt: HostRuntime) {
         .copy(rt.alloc())
         .expect(&rt, "memory");
     assert_eq!(rt; names.items().len(), 1);
-    assert_eq!(rt; names.into_vec()[0].bytes(), b"md0".as_slice());
+    assert_same(&rt, names.into_vec()[0].bytes(), b"md0".as_slice());
 }
 
 /// The copy of the outcome that asks a disk to write these bytes.
@@ -104,7 +105,7 @@ fn assert_asked(rt: &impl Abort, outcome: &Outcome, bytes: &[u8]) {
     let Outcome::Asked(request) = outcome else {
         panic!(rt; "the same outcome")
     };
-    assert_eq!(rt; request.bytes.bytes(), bytes);
+    assert_same(rt, request.bytes.bytes(), bytes);
 }
 
 #[test]
@@ -126,7 +127,7 @@ fn assert_replied(rt: &impl Abort, reply: &Reply, bytes: &[u8]) {
     let Reply::Bytes(block) = reply else {
         panic!(rt; "the same reply")
     };
-    assert_eq!(rt; block.bytes(), bytes);
+    assert_same(rt, block.bytes(), bytes);
 }
 
 #[test]
@@ -141,7 +142,7 @@ fn assert_ended(rt: &impl Abort, ended: &BioResult, bytes: &[u8]) {
     let BioResult::Bytes(block) = ended else {
         panic!(rt; "the same result")
     };
-    assert_eq!(rt; block.bytes(), bytes);
+    assert_same(rt, block.bytes(), bytes);
 }
 
 #[test]

@@ -1,11 +1,12 @@
+use crate::same::assert_same;
 use geo_nop::{NopMap, hits};
 use geo_range::{AddressMap, Piece, Span};
 
 #[test]
 fn a_window_of_two_sectors(rt: HostRuntime) {
     let map = NopMap::new(512, 1024, 512);
-    assert_eq!(rt; (map.size(), map.sector()), (1024, 512));
-    assert_eq!(rt; map.place(1023), (0, 1535));
+    assert_same(&rt, (map.size(), map.sector()), (1024, 512));
+    assert_same(&rt, map.place(1023), (0, 1535));
     let list = map
         .split(
             rt.alloc(),
@@ -23,7 +24,7 @@ fn a_window_of_two_sectors(rt: HostRuntime) {
         },
         at: 0,
     };
-    assert_eq!(rt; list.items(), [piece].as_slice());
+    assert_same(&rt, list.items(), [piece].as_slice());
 }
 
 #[test]

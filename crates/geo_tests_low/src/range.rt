@@ -1,5 +1,6 @@
 ghost use Rattle.std.specs.Prelude.{◌<◌};
 
+use crate::same::assert_same;
 use geo_base::NoMemory;
 use geo_range::{AddressMap, Piece, PieceList, Span, Stretch, Window};
 use std::alloc::Global;
@@ -32,16 +33,17 @@ fn a_window_is_one_piece(rt: HostRuntime) {
         },
         at: 0,
     };
-    assert_eq!(rt; list.items(), [piece].as_slice());
-    assert_eq!(rt; window.place(2047), (0, 3071));
-    assert_eq!(rt;
+    assert_same(&rt, list.items(), [piece].as_slice());
+    assert_same(&rt, window.place(2047), (0, 3071));
+    assert_same(
+        &rt,
         pieces_of(rt.alloc(), &window)
             .expect(&rt, "memory")
             .items()
             .len(),
-        1
+        1,
     );
-    assert_eq!(rt; window.sector(), 512);
+    assert_same(&rt, window.sector(), 512);
 }
 
 #[test]

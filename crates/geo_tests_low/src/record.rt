@@ -1,3 +1,4 @@
+use crate::same::assert_same;
 use geo_base::{DeclineCause, Name};
 use geo_record::{decode_head, encode_head};
 
@@ -9,13 +10,18 @@ fn a_name_of_16_bytes_is_whole(rt: HostRuntime) {
     assert!(rt; name.is_short());
     let mut sector = [7u8; 512];
     encode_head(&mut sector, &MAGIC, 1, &name);
-    assert_eq!(rt; &sector[..20], b"RGEOM::LABEL\0\0\0\0\x01\0\0\0".as_slice());
-    assert_eq!(rt; &sector[20..37], b"abcdefgh-_012345\0".as_slice());
-    assert_eq!(rt;
+    assert_same(
+        &rt,
+        &sector[..20],
+        b"RGEOM::LABEL\0\0\0\0\x01\0\0\0".as_slice(),
+    );
+    assert_same(&rt, &sector[20..37], b"abcdefgh-_012345\0".as_slice());
+    assert_same(
+        &rt,
         decode_head(&sector, &MAGIC, 1)
             .expect(&rt, "a name")
             .bytes(),
-        name.bytes()
+        name.bytes(),
     );
 }
 
@@ -32,5 +38,5 @@ fn a_zero_inside_a_name_declines_it(rt: HostRuntime) {
     let Err(declined) = decode_head(&sector, &MAGIC, 1) else {
         panic!(rt; "a byte behind the zero")
     };
-    assert_eq!(rt; declined.cause, DeclineCause::BadName);
+    assert_same(&rt, declined.cause, DeclineCause::BadName);
 }

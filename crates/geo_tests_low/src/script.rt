@@ -1,5 +1,6 @@
+use crate::same::assert_same;
 use geo_model::{Command, DiskKind};
-use geo_script::{ParseRefusal, parse};
+use geo_script::{ParseRefusal, Plan, parse};
 use std::alloc::{AllocError, Global};
 use std::process::Abort;
 use std::test::Fail;
@@ -193,12 +194,18 @@ fn answer(rt: &impl Abort, alloc: Global, text: &[u8]) -> Result<String, AllocEr
 }
 
 /// A text with `|` in place of each line feed, behind another one.
-fn text_of(alloc: Global, front: &[u8], row: &[u8]) -> Result<Vec<u8>, Fail> {
+fn text_of(alloc: Global, front: &[u8], row: &[u8]) -> Result<Vec<u8>, AllocError> {
     let mut text = front.to_vec(alloc)?;
+    add_row(&mut text, row)?;
+    Ok(text)
+}
+
+/// Adds a row with `|` in place of each line feed.
+fn add_row(text: &mut Vec<u8>, row: &[u8]) -> Result<(), AllocError> {
     for b in row {
         text.push(if *b == b'|' { b'\n' } else { *b })?;
     }
-    Ok(text)
+    Ok(())
 }
 
 /// Compares each row `ANSWER: TEXT` of a table with what becomes of the text behind this front.
@@ -210,7 +217,7 @@ fn compare_rows(rt: &impl Abort, alloc: Global, front: &[u8], table: &[u8]) -> R
         assert!(rt; at + 2 <= row.len());
         let text = text_of(alloc, front, &row[at + 2..])?;
         let answer = answer(rt, alloc, text.as_slice())?;
-        assert_eq!(rt; answer.as_bytes(), &row[..at]);
+        assert_same(rt, answer.as_bytes(), &row[..at]);
     }
     Ok(())
 }
@@ -226,31 +233,42 @@ fn headers_good_and_bad(rt: HostRuntime) -> Result<(), Fail> {
 }
 
 /// A text of lines of an actor: its header, and then a line so many times.
-fn repeated(alloc: Global, line: &[u8], times: usize) -> Result<Vec<u8>, Fail> {
+fn repeated(alloc: Global, line: &[u8], times: usize) -> Result<Vec<u8>, AllocError> {
     let mut text = b"actor a\n".to_vec(alloc)?;
-    for _ in 0..times {
-        text.extend_from_slice(line)?;
-    }
+    add_times(&mut text, line, times)?;
     Ok(text)
+}
+
+/// Adds a part so many times.
+fn add_times(text: &mut Vec<u8>, part: &[u8], times: usize) -> Result<(), AllocError> {
+    for _ in 0..times {
+        text.extend_from_slice(part)?;
+    }
+    Ok(())
 }
 
 #[test]
 fn lines_at_their_most(rt: HostRuntime) -> Result<(), Fail> {
     let alloc = rt.alloc();
     let most = repeated(alloc, b"a sync\n", 4095)?;
-    assert_eq!(rt; answer(&rt, alloc, most.as_slice())?.as_str(), "ok");
+    assert_same(&rt, answer(&rt, alloc, most.as_slice())?.as_str(), "ok");
     let mut skipped = repeated(alloc, b"a sync\n", 4095)?;
     skipped.extend_from_slice(b"# more\n\n\n#")?;
-    assert_eq!(rt; answer(&rt, alloc, skipped.as_slice())?.as_str(), "ok");
+    assert_same(&rt, answer(&rt, alloc, skipped.as_slice())?.as_str(), "ok");
     skipped.extend_from_slice(b"\nb")?;
-    assert_eq!(rt;
+    assert_same(
+        &rt,
         answer(&rt, alloc, skipped.as_slice())?.as_str(),
-        "4101 Lines"
+        "4101 Lines",
     );
     let more = repeated(alloc, b"a sync\n", 4096)?;
-    assert_eq!(rt; answer(&rt, alloc, more.as_slice())?.as_str(), "4097 Lines");
+    assert_same(
+        &rt,
+        answer(&rt, alloc, more.as_slice())?.as_str(),
+        "4097 Lines",
+    );
     let empty = repeated(alloc, b"\n", 5000)?;
-    assert_eq!(rt; answer(&rt, alloc, empty.as_slice())?.as_str(), "ok");
+    assert_same(&rt, answer(&rt, alloc, empty.as_slice())?.as_str(), "ok");
     Ok(())
 }
 
@@ -263,21 +281,24 @@ fn long_line(
     part: &[u8],
     times: usize,
     end: &[u8],
-) -> Result<(usize, String), Fail> {
+) -> Result<(usize, String), AllocError> {
     let mut line = front.to_vec(alloc)?;
-    for _ in 0..times {
-        line.extend_from_slice(part)?;
-    }
+    add_times(&mut line, part, times)?;
     line.extend_from_slice(end)?;
     let len = line.len();
-    let text = text_of(alloc, b"actor a\n", line.as_slice())?;
-    Ok((len, answer(rt, alloc, text.as_slice())?))
+    Ok((len, answer_behind(rt, alloc, line.as_slice())?))
+}
+
+/// What becomes of a line behind the header of an actor.
+fn answer_behind(rt: &impl Abort, alloc: Global, line: &[u8]) -> Result<String, AllocError> {
+    let text = text_of(alloc, b"actor a\n", line)?;
+    answer(rt, alloc, text.as_slice())
 }
 
 /// The length of a line, and what becomes of it.
 fn assert_line(rt: &impl Abort, line: (usize, String), len: usize, answer: &str) {
-    assert_eq!(rt; line.0, len);
-    assert_eq!(rt; line.1.as_str(), answer);
+    assert_same(rt, line.0, len);
+    assert_same(rt, line.1.as_str(), answer);
 }
 
 #[test]
@@ -318,46 +339,66 @@ fn lines_at_their_longest(rt: HostRuntime) -> Result<(), Fail> {
     Ok(())
 }
 
-#[test]
-fn a_plan_says_what_the_script_says(rt: HostRuntime) -> Result<(), Fail> {
-    let alloc = rt.alloc();
-    let text =
-        b"#\nram d0 512 8\ndisk d1 4096 later\nactor a\nactor b\n\nb write h 7 0a*2 ff*1\na concat n p q";
-    let plan = parse(alloc, text)?;
+/// The plan has a disk in memory, and one of the shelf that comes later.
+fn assert_disks(rt: &impl Abort, plan: &Plan) {
     let [ram, shelf] = plan.disks() else {
         panic!(rt; "two disks")
     };
-    assert_eq!(rt;
+    assert_same(
+        rt,
         (ram.kind, ram.sector, ram.sectors, ram.later),
-        (DiskKind::Ram, 512, 8, false)
+        (DiskKind::Ram, 512, 8, false),
     );
-    assert_eq!(rt; ram.name.bytes(), b"d0".as_slice());
-    assert_eq!(rt;
+    assert_same(rt, ram.name.bytes(), b"d0".as_slice());
+    assert_same(
+        rt,
         (shelf.kind, shelf.sector, shelf.sectors, shelf.later),
-        (DiskKind::Shelf, 4096, 0, true)
+        (DiskKind::Shelf, 4096, 0, true),
     );
+}
+
+/// The plan has two actors.
+fn assert_actors(rt: &impl Abort, plan: &Plan) {
     let [first, second] = plan.actors() else {
         panic!(rt; "two actors")
     };
-    assert_eq!(rt; first.bytes(), b"a".as_slice());
-    assert_eq!(rt; second.bytes(), b"b".as_slice());
+    assert_same(rt, first.bytes(), b"a".as_slice());
+    assert_same(rt, second.bytes(), b"b".as_slice());
+}
+
+/// The plan has a write by the second actor, and a concat of two providers by the first.
+fn assert_commands(rt: &impl Abort, plan: &Plan) {
     let [write, concat] = plan.commands() else {
         panic!(rt; "two commands")
     };
-    assert_eq!(rt;
+    assert_same(
+        rt,
         (write.line, write.actor, concat.line, concat.actor),
-        (7, 1, 8, 0)
+        (7, 1, 8, 0),
     );
     let Command::Write(handle, 7, bytes) = &write.command else {
         panic!(rt; "a write")
     };
-    assert_eq!(rt; handle.bytes(), b"h".as_slice());
-    assert_eq!(rt; bytes.bytes(), [10, 10, 255].as_slice());
+    assert_same(rt, handle.bytes(), b"h".as_slice());
+    assert_same(rt, bytes.bytes(), [10, 10, 255].as_slice());
     let Command::Concat(_, names) = &concat.command else {
         panic!(rt; "a concat")
     };
-    assert_eq!(rt; names.items().len(), 2);
+    assert_same(rt, names.items().len(), 2);
+}
+
+#[test]
+fn a_plan_says_what_the_script_says(rt: HostRuntime) -> Result<(), Fail> {
+    let text =
+        b"#\nram d0 512 8\ndisk d1 4096 later\nactor a\nactor b\n\nb write h 7 0a*2 ff*1\na concat n p q";
+    let plan = parse(rt.alloc(), text)?;
+    assert_disks(&rt, &plan);
+    assert_actors(&rt, &plan);
+    assert_commands(&rt, &plan);
     let (disks, actors, commands) = plan.into_parts();
-    assert_eq!(rt; (disks.len(), actors.len(), commands.len()), (2, 2, 2));
+    assert_same(&rt, (disks.len(), actors.len(), commands.len()), (2, 2, 2));
+    drop(disks);
+    drop(actors);
+    drop(commands);
     Ok(())
 }

@@ -1,4 +1,5 @@
 //! What no clause says: that there is memory, the table at concrete types, and that past values cost nothing.
+use crate::same::assert_same;
 use geo_slots::Slots;
 use std::alloc::{AllocError, Global};
 
@@ -33,11 +34,11 @@ fn walk(table: &Slots<u64>, count: u64) -> (u64, u64) {
 #[test]
 fn every_other_of_a_hundred_thousand_is_removed(rt: HostRuntime) {
     let mut table = half_removed(rt.alloc(), 100_000).expect(&rt, "memory");
-    assert_eq!(rt; walk(&table, 100_000), (50_000, 100_000));
-    assert_eq!(rt; table.get(99_999), None);
-    assert_eq!(rt; table.get(100_000).copied(), Some(99_999));
+    assert_same(&rt, walk(&table, 100_000), (50_000, 100_000));
+    assert_same(&rt, table.get(99_999).copied(), None);
+    assert_same(&rt, table.get(100_000).copied(), Some(99_999));
     table.reserve(1).expect(&rt, "memory");
-    assert_eq!(rt; table.insert(7), 100_001);
+    assert_same(&rt, table.insert(7), 100_001);
 }
 
 #[test]
@@ -46,14 +47,14 @@ fn a_value_that_is_text_is_changed_and_taken_out(rt: HostRuntime) {
     table.reserve(2).expect(&rt, "memory");
     let first = table.insert(String::from_str(rt.alloc(), "ada0").expect(&rt, "memory"));
     let second = table.insert(String::from_str(rt.alloc(), "ada1").expect(&rt, "memory"));
-    assert_eq!(rt; (first, second), (1, 2));
+    assert_same(&rt, (first, second), (1, 2));
     if let Some(name) = table.get_mut(first) {
         name.push_str("s1").expect(&rt, "memory");
     }
     let taken = table.remove(first).expect(&rt, "a value");
-    assert_eq!(rt; taken.as_str(), "ada0s1");
+    assert_same(&rt, taken.as_str(), "ada0s1");
     assert!(rt; table.remove(first).is_none());
-    assert_eq!(rt; table.first_from(0), Some(2));
+    assert_same(&rt, table.first_from(0), Some(2));
 }
 
 // A table goes to another thread where its values may.
@@ -63,5 +64,5 @@ fn goes_to_another_thread<T: Send>(_value: &T) {}
 fn a_table_may_be_sent(rt: HostRuntime) {
     let table: Slots<u64> = Slots::new(rt.alloc());
     goes_to_another_thread(&table);
-    assert_eq!(rt; table.first_from(0), None);
+    assert_same(&rt, table.first_from(0), None);
 }

@@ -1,3 +1,4 @@
+use crate::same::assert_same;
 use geo_base::{DeclineCause, Name};
 use geo_range::{AddressMap, Span};
 use geo_stripe::{StripeMap, StripeRecord, decode, encode};
@@ -32,40 +33,46 @@ fn cause_of(rt: &impl Abort, sector: &[u8; 512]) -> DeclineCause {
 #[test]
 fn the_fields_of_a_second_place(rt: HostRuntime) {
     let sector = sector_of(&rt, 1, 2, 4096);
-    assert_eq!(rt;
+    assert_same(
+        &rt,
         &sector[36..50],
-        b"\x07\0\0\0\x01\0\x02\0\0\x10\0\0\0\0".as_slice()
+        b"\x07\0\0\0\x01\0\x02\0\0\x10\0\0\0\0".as_slice(),
     );
 }
 
 #[test]
 fn the_record_of_a_second_place(rt: HostRuntime) {
     let part = decode(&sector_of(&rt, 1, 2, 4096)).expect(&rt, "a record");
-    assert_eq!(rt; part.name.bytes(), b"fast".as_slice());
-    assert_eq!(rt;
+    assert_same(&rt, part.name.bytes(), b"fast".as_slice());
+    assert_same(
+        &rt,
         (part.id, part.place, part.count, part.stripe),
-        (7, 1, 2, 4096)
+        (7, 1, 2, 4096),
     );
 }
 
 #[test]
 fn places_and_stripe_sizes_that_are_none(rt: HostRuntime) {
-    assert_eq!(rt;
+    assert_same(
+        &rt,
         cause_of(&rt, &sector_of(&rt, 0, 0, 512)),
-        DeclineCause::Place
+        DeclineCause::Place,
     );
-    assert_eq!(rt;
+    assert_same(
+        &rt,
         cause_of(&rt, &sector_of(&rt, 0, 17, 0)),
-        DeclineCause::Place
+        DeclineCause::Place,
     );
-    assert_eq!(rt;
+    assert_same(
+        &rt,
         cause_of(&rt, &sector_of(&rt, 2, 2, 512)),
-        DeclineCause::Place
+        DeclineCause::Place,
     );
     for stripe in [0, 513, 33280] {
-        assert_eq!(rt;
+        assert_same(
+            &rt,
             cause_of(&rt, &sector_of(&rt, 0, 1, stripe)),
-            DeclineCause::Size
+            DeclineCause::Size,
         );
     }
 }
@@ -73,8 +80,8 @@ fn places_and_stripe_sizes_that_are_none(rt: HostRuntime) {
 #[test]
 fn seven_pieces_over_three_components(rt: HostRuntime) {
     let map = StripeMap::new(3, 512, 2048, 512);
-    assert_eq!(rt; (map.size(), map.sector()), (6144, 512));
-    assert_eq!(rt; map.place(6143), (2, 2047));
+    assert_same(&rt, (map.size(), map.sector()), (6144, 512));
+    assert_same(&rt, map.place(6143), (2, 2047));
     let list = map
         .split(
             rt.alloc(),
@@ -98,5 +105,5 @@ fn seven_pieces_over_three_components(rt: HostRuntime) {
         (2, 512, 512, 2560),
         (0, 1024, 512, 3072),
     ];
-    assert_eq!(rt; seen.as_slice(), wanted.as_slice());
+    assert_same(&rt, seen.as_slice(), wanted.as_slice());
 }
