@@ -2,6 +2,7 @@
 ghost use Rattle.std.specs.Prelude.{◌≡◌, ◌+◌, ◌-◌, ◌<◌, ◌≤◌, ◌^◌, [], length};
 ghost use Rattle.geo_lane.specs.LanePass.{IsSamePass};
 
+use crate::same::assert_same;
 use geo_lane::{BioId, Full, Lane, LanePass, Ticket, TicketStep};
 use std::sync::Wait;
 use std::test::Fail;
@@ -138,7 +139,7 @@ fn send_and_take<R: Threads + Wait + Sync + AllocGlobal>(rt: &R) -> Option<(bool
 
 #[test]
 fn each_ticket_of_two_senders_comes(rt: HostRuntime) -> Result<(), Fail> {
-    assert_eq!(rt; send_and_take(&rt), Some((true, 0)));
+    assert_same(&rt, send_and_take(&rt), Some((true, 0)));
     Ok(())
 }
 
@@ -146,13 +147,13 @@ fn each_ticket_of_two_senders_comes(rt: HostRuntime) -> Result<(), Fail> {
 fn a_lane_with_1024_tickets_is_full(rt: HostRuntime) -> Result<(), Fail> {
     let (lane, pass) = Lane::create(&rt)?;
     let mut pass = put_all(&rt, &lane, pass, 1024);
-    assert_eq!(rt; pass.put_so_far(), 1024);
+    assert_same(&rt, pass.put_so_far(), 1024);
     let ticket = next_ticket(&pass, 5000);
     let Err(Full { ticket }) = lane.put(&rt, &mut pass, ticket) else {
         panic!(rt; "room for one more")
     };
     assert!(rt; is_start_of(&ticket, 5000));
-    assert_eq!(rt; (ticket.sender, ticket.number), (0, 1024));
+    assert_same(&rt, (ticket.sender, ticket.number), (0, 1024));
     let Some(first) = lane.take(&rt, &mut pass) else {
         panic!(rt; "an empty lane")
     };
@@ -179,22 +180,22 @@ fn an_empty_lane_gives_nothing(rt: HostRuntime) -> Result<(), Fail> {
 fn a_sender_fills_a_lane_with_1024_tickets(rt: HostRuntime) -> Result<(), Fail> {
     let (lane, mut taker) = Lane::create(&rt)?;
     let mut sender = lane.split_pass(&rt, &mut taker)?;
-    assert_eq!(rt; put_many(&rt, &lane, &mut sender, 1023), 0);
-    assert_eq!(rt; sender.put_so_far(), 1023);
-    assert_eq!(rt; put_one(&rt, &lane, &mut sender, 1023), None);
-    assert_eq!(rt; sender.put_so_far(), 1024);
+    assert_same(&rt, put_many(&rt, &lane, &mut sender, 1023), 0);
+    assert_same(&rt, sender.put_so_far(), 1023);
+    assert_same(&rt, put_one(&rt, &lane, &mut sender, 1023), None);
+    assert_same(&rt, sender.put_so_far(), 1024);
     let Some(back) = put_one(&rt, &lane, &mut sender, 5000) else {
         panic!(rt; "room for one more")
     };
     assert!(rt; is_start_of(&back, 5000));
-    assert_eq!(rt; (back.sender, back.number), (1, 1024));
-    assert_eq!(rt; sender.put_so_far(), 1024);
+    assert_same(&rt, (back.sender, back.number), (1, 1024));
+    assert_same(&rt, sender.put_so_far(), 1024);
     let Some(first) = lane.take(&rt, &mut taker) else {
         panic!(rt; "an empty lane")
     };
     assert!(rt; is_start_of(&first, 0));
-    assert_eq!(rt; (first.sender, first.number), (1, 0));
-    assert_eq!(rt; put_one(&rt, &lane, &mut sender, 5001), None);
+    assert_same(&rt, (first.sender, first.number), (1, 0));
+    assert_same(&rt, put_one(&rt, &lane, &mut sender, 5001), None);
     assert!(rt; put_one(&rt, &lane, &mut sender, 5002).is_some());
     Ok(())
 }
@@ -204,12 +205,12 @@ fn a_taker_gets_a_ticket_of_a_pass_that_it_has_not_taken_in(rt: HostRuntime) -> 
     let (lane, mut taker) = Lane::create(&rt)?;
     let mut sender = lane.split_pass(&rt, &mut taker)?;
     assert!(rt; lane.take(&rt, &mut taker).is_none());
-    assert_eq!(rt; put_one(&rt, &lane, &mut sender, 7), None);
+    assert_same(&rt, put_one(&rt, &lane, &mut sender, 7), None);
     let Some(ticket) = lane.take(&rt, &mut taker) else {
         panic!(rt; "an empty lane")
     };
     assert!(rt; is_start_of(&ticket, 7));
-    assert_eq!(rt; (ticket.sender, ticket.number), (1, 0));
+    assert_same(&rt, (ticket.sender, ticket.number), (1, 0));
     assert!(rt; lane.take(&rt, &mut taker).is_none());
     Ok(())
 }

@@ -14,4 +14,6 @@ mod lock;
 #[cfg(test)]
 mod mesh;
 #[cfg(test)]
+mod same;
+#[cfg(test)]
 mod view;

@@ -2,6 +2,7 @@
 ghost use Rattle.geo_lock.specs.Pass.{IsSamePass};
 ghost use Rattle.geo_lock.specs.Yard.{IsPassOf};
 
+use crate::same::assert_same;
 use geo_lock::{Added, Pass, PassList, Tally, TallyRefusal, Yard};
 use std::alloc::Global;
 use std::sync::Wait;
@@ -66,7 +67,7 @@ fn two_threads_add_in_their_own_order(rt: HostRuntime) -> Result<(), Fail> {
     assert_eq!(rt; log.len(), 200);
     assert!(rt; is_counted(log, 0, 1), "the first thread");
     assert!(rt; is_counted(log, 1, 1001), "the second thread");
-    assert_eq!(rt; log[199].sum, 5_050 + 105_050);
+    assert_same(&rt, log[199].sum, 5_050 + 105_050);
     Ok(())
 }
 
@@ -76,7 +77,7 @@ fn one_pass_adds_and_is_refused(rt: HostRuntime) -> Result<(), Fail> {
     let Ok((yard, mut pass)) = Yard::create(&rt, Tally::new(alloc)) else {
         panic!(rt; "memory")
     };
-    assert_eq!(rt; pass.number(), 0);
+    assert_same(&rt, pass.number(), 0);
     assert!(rt; matches!(yard.apply(&rt, &mut pass, u64::MAX - 1), Ok(sum) if sum == u64::MAX - 1));
     assert!(rt; matches!(yard.apply(&rt, &mut pass, 2), Err(TallyRefusal::Full)));
     assert!(rt; matches!(yard.apply(&rt, &mut pass, 1), Ok(u64::MAX)));
@@ -86,7 +87,7 @@ fn one_pass_adds_and_is_refused(rt: HostRuntime) -> Result<(), Fail> {
     let Ok(tally) = yard.close(&rt, passes) else {
         panic!(rt; "memory")
     };
-    assert_eq!(rt; tally.log().len(), 2);
+    assert_same(&rt, tally.log().len(), 2);
     Ok(())
 }
 
@@ -98,6 +99,6 @@ fn a_split_pass_has_the_next_number(rt: HostRuntime) -> Result<(), Fail> {
     };
     let second = yard.split(&mut first);
     let third = yard.split(&mut first);
-    assert_eq!(rt; (second.number(), third.number()), (1, 2));
+    assert_same(&rt, (second.number(), third.number()), (1, 2));
     Ok(())
 }

@@ -5,6 +5,7 @@ ghost use Rattle.geo_lock.specs.Pass.{IsSamePass};
 ghost use Rattle.geo_lock.specs.Yard.{IsPassOf, IsWhole, first_pass};
 ghost use Rattle.geo_view.specs.Mesh.{IsHistory};
 
+use crate::same::assert_same;
 use geo_lock::{Pass, PassList, Yard};
 use geo_log::DiskFacts;
 use geo_model::{DiskDecl, DiskKind, Entry, Outcome, Reply, Step};
@@ -339,6 +340,6 @@ fn two_threads_drive_a_mesh(rt: HostRuntime) -> Result<(), Fail> {
     };
     let told = tells(&driven);
     drop(driven);
-    assert_eq!(rt; told, (true, true));
+    assert_same(&rt, told, (true, true));
     Ok(())
 }

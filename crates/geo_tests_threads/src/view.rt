@@ -7,6 +7,7 @@ ghost use Rattle.geo_view.specs.Ends.{CanShow};
 ghost use Rattle.geo_view.specs.Listings.{listing_seen};
 
 use crate::mesh::mesh_of;
+use crate::same::assert_same;
 use geo_lock::{Pass, Yard};
 use geo_model::{MeshList, Outcome, Reply, Step};
 use geo_script::parse;
@@ -338,7 +339,7 @@ fn looks_never_go_back_beside_ten_thousand_publishes(rt: HostRuntime) -> Result<
         back: 0,
         last: 4,
     };
-    assert_eq!(rt; seen, Some(wanted));
+    assert_same(&rt, seen, Some(wanted));
     Ok(())
 }
 
