@@ -3,11 +3,13 @@ ghost use Rattle.std.specs.Prelude.{◌≡◌, ◌^◌, ◌<◌, length, IfOk};
 ghost use Rattle.geo_model.specs.World.{is_down, is_sent, is_busy, is_up};
 ghost use Rattle.geo_bio.specs.BioTable.{has_phase};
 
+use crate::same::assert_same;
 use geo_base::{BioCmd, BioId, Block, ConsId, Errno, HandleId, NoMemory, ProvId, SharedBytes};
 use geo_bio::{BioResult, BioTable, LogBytes, Owner, Phase, Risen, Span, Targets};
 use geo_model::Piece;
 use geo_range::PieceList;
 use std::alloc::Global;
+use std::process::Abort;
 use std::test::Fail;
 
 // A log whose place p has the p-th page.
@@ -168,41 +170,78 @@ fn up(alloc: Global, table: &mut BioTable, bio: BioId, log: &Pages) -> Result<Ri
     Ok(table.up(alloc, bio, log)?)
 }
 
-#[test]
-fn pieces_delivered_in_reverse_are_joined_in_order(rt: HostRuntime) -> Result<(), Fail> {
-    let log = numbered_pages(rt.alloc(), 64)?;
-    let mut table = BioTable::new(rt.alloc());
-    let root = split_read(rt.alloc(), &mut table, 64)?;
+// The pieces of a READ of 64 come back, the last one first, and the last to come completes it.
+fn come_back(
+    rt: &impl Abort,
+    alloc: Global,
+    table: &mut BioTable,
+    log: &Pages,
+    root: BioId,
+) -> Result<(), Fail> {
     let mut child = root.number().saturating_add(64);
     for place in (0..64u64).rev() {
-        answer(&mut table, BioId::new(child), place)?;
-        let risen = up(rt.alloc(), &mut table, BioId::new(child), &log)?;
+        answer(table, BioId::new(child), place)?;
+        let risen = up(alloc, table, BioId::new(child), log)?;
         assert!(rt; matches!(risen, Risen::InParent { complete, .. } if complete == (place == 0)));
         child = child.saturating_sub(1);
     }
     assert!(rt; matches!(table.next_from(root.number().saturating_add(1)), None));
-    let Risen::Root(BioResult::Bytes(bytes)) = up(rt.alloc(), &mut table, root, &log)? else {
+    Ok(())
+}
+
+// These are 64 pages, each of which begins with its number.
+fn assert_numbered(rt: &impl Abort, bytes: &[u8]) {
+    assert_same(rt, bytes.len(), 64 * 512);
+    for place in 0..64usize {
+        assert_same(rt, bytes.get(place * 512).copied(), Some(place as u8));
+    }
+}
+
+// A READ is split into 64 pieces, which come back, and goes up with the bytes of all.
+fn join_reversed(
+    rt: &impl Abort,
+    alloc: Global,
+    table: &mut BioTable,
+    log: &Pages,
+) -> Result<(), Fail> {
+    let root = split_read(alloc, table, 64)?;
+    come_back(rt, alloc, table, log, root)?;
+    let Risen::Root(BioResult::Bytes(bytes)) = up(alloc, table, root, log)? else {
         return Err("no bytes".into());
     };
-    assert_eq!(rt; bytes.bytes().len(), 64 * 512);
-    for place in 0..64usize {
-        assert_eq!(rt; bytes.bytes().get(place * 512).copied(), Some(place as u8));
-    }
+    assert_numbered(rt, bytes.bytes());
     Ok(())
+}
+
+#[test]
+fn pieces_delivered_in_reverse_are_joined_in_order(rt: HostRuntime) -> Result<(), Fail> {
+    let log = numbered_pages(rt.alloc(), 64)?;
+    let mut table = BioTable::new(rt.alloc());
+    let joined = join_reversed(&rt, rt.alloc(), &mut table, &log);
+    drop(table);
+    drop(log);
+    joined
+}
+
+// Both pieces of a READ fail, the second one first. What becomes of the READ.
+fn fail_both(alloc: Global, table: &mut BioTable, log: &Pages) -> Result<Risen, Fail> {
+    let root = split_read(alloc, table, 2)?;
+    for (after, errno) in [(2u64, Errno::ENXIO), (1, Errno::EIO)] {
+        let child = BioId::new(root.number().saturating_add(after));
+        bounce(table, child, errno)?;
+        let _ = up(alloc, table, child, log)?;
+    }
+    up(alloc, table, root, log)
 }
 
 #[test]
 fn the_first_failed_piece_gives_the_error(rt: HostRuntime) -> Result<(), Fail> {
     let log = numbered_pages(rt.alloc(), 2)?;
     let mut table = BioTable::new(rt.alloc());
-    let root = split_read(rt.alloc(), &mut table, 2)?;
-    for (after, errno) in [(2u64, Errno::ENXIO), (1, Errno::EIO)] {
-        let child = BioId::new(root.number().saturating_add(after));
-        bounce(&mut table, child, errno)?;
-        let _ = up(rt.alloc(), &mut table, child, &log)?;
-    }
-    let risen = up(rt.alloc(), &mut table, root, &log)?;
-    assert!(rt; matches!(risen, Risen::Root(BioResult::Failed(Errno::EIO))));
+    let risen = fail_both(rt.alloc(), &mut table, &log);
+    drop(table);
+    drop(log);
+    assert!(rt; matches!(risen?, Risen::Root(BioResult::Failed(Errno::EIO))));
     Ok(())
 }
 
@@ -212,7 +251,7 @@ fn room_is_made_for_bios(rt: HostRuntime) -> Result<(), Fail> {
     table.reserve(2)?;
     for number in 1..3u64 {
         let root = submit_read(rt.alloc(), &mut table, 512)?;
-        assert_eq!(rt; root.number(), number);
+        assert_same(&rt, root.number(), number);
     }
     assert!(rt; matches!(table.next_from(2), Some(last) if last.number() == 2));
     assert!(rt; matches!(table.next_from(3), None));

@@ -1,4 +1,5 @@
 //! What no clause says: that there is memory, and handles of actors at concrete names.
+use crate::same::assert_same;
 use geo_base::{ConsId, Counts, HandleId, Name};
 use geo_handles::Handles;
 use std::test::Fail;
@@ -41,9 +42,10 @@ fn one_name_of_two_actors(handles: &mut Handles) -> Result<[Option<HandleId>; 4]
 fn handle_names_belong_to_their_actor(rt: HostRuntime) -> Result<(), Fail> {
     let mut handles = Handles::new(rt.alloc())?;
     let second = Some(HandleId::new(2));
-    assert_eq!(rt;
+    assert_same(
+        &rt,
         one_name_of_two_actors(&mut handles)?,
-        [None, second, None, second]
+        [None, second, None, second],
     );
     Ok(())
 }
@@ -75,6 +77,6 @@ fn two_to_reap(handles: &mut Handles) -> Result<[Option<HandleId>; 2], Fail> {
 fn the_smallest_is_reaped_first(rt: HostRuntime) -> Result<(), Fail> {
     let mut handles = Handles::new(rt.alloc())?;
     let reaped = [Some(HandleId::new(2)), Some(HandleId::new(3))];
-    assert_eq!(rt; two_to_reap(&mut handles)?, reaped);
+    assert_same(&rt, two_to_reap(&mut handles)?, reaped);
     Ok(())
 }

@@ -12,4 +12,6 @@ mod handles;
 #[cfg(test)]
 mod log;
 #[cfg(test)]
+mod same;
+#[cfg(test)]
 mod traffic;

@@ -1,4 +1,5 @@
 //! What no clause says: that there is memory, and a log with a Deliver.
+use crate::same::assert_same;
 use geo_base::{BioId, Block, SharedBytes};
 use geo_bio::LogBytes;
 use geo_log::{DeviceResult, Entry, Log, Outcome, Step};
@@ -34,7 +35,7 @@ fn one_deliver(log: &mut Log, alloc: Global) -> Result<[Option<usize>; 3], Fail>
 fn delivered_bytes_stand_at_their_place(rt: HostRuntime) -> Result<(), Fail> {
     let alloc = rt.alloc();
     let mut log = Log::new(alloc);
-    assert_eq!(rt; one_deliver(&mut log, alloc)?, [None, Some(2), None]);
-    assert_eq!(rt; log.len(), 3);
+    assert_same(&rt, one_deliver(&mut log, alloc)?, [None, Some(2), None]);
+    assert_same(&rt, log.len(), 3);
     Ok(())
 }

@@ -3,6 +3,7 @@ ghost use Rattle.std.specs.Prelude.{◌≡◌};
 ghost use Rattle.geo_model.specs.World.{is_down, is_sent, is_busy, is_up};
 ghost use Rattle.geo_bio.specs.BioTable.{has_phase};
 
+use crate::same::assert_same;
 use geo_base::{BioCmd, BioId, Block, ConsId, Errno, HandleId, NoMemory, ProvId, SharedBytes};
 use geo_log::{DeviceResult, Entry, Log, Outcome, Step};
 use geo_model::Piece;
@@ -192,12 +193,12 @@ fn all_down(alloc: Global) -> Result<[[u64; 5]; 6], Fail> {
 #[test]
 fn the_first_is_due_on_the_way_down(rt: HostRuntime) -> Result<(), Fail> {
     let seen = all_down(rt.alloc())?;
-    assert_eq!(rt; seen[0], [2, 0, 0, 0, 4]);
-    assert_eq!(rt; seen[1], [3, 2, 0, 0, 4]);
-    assert_eq!(rt; seen[2], [3, 2, 0, 0, 4]);
-    assert_eq!(rt; seen[3], [0, 2, 0, 0, 4]);
-    assert_eq!(rt; seen[4], [0, 2, 0, 1, 4]);
-    assert_eq!(rt; seen[5], [0, 4, 0, 2, 4]);
+    assert_same(&rt, seen[0], [2, 0, 0, 0, 4]);
+    assert_same(&rt, seen[1], [3, 2, 0, 0, 4]);
+    assert_same(&rt, seen[2], [3, 2, 0, 0, 4]);
+    assert_same(&rt, seen[3], [0, 2, 0, 0, 4]);
+    assert_same(&rt, seen[4], [0, 2, 0, 1, 4]);
+    assert_same(&rt, seen[5], [0, 4, 0, 2, 4]);
     Ok(())
 }
 
@@ -283,14 +284,14 @@ fn all_up(alloc: Global) -> Result<Rise, Fail> {
 #[test]
 fn the_first_is_due_on_the_way_up(rt: HostRuntime) -> Result<(), Fail> {
     let up = all_up(rt.alloc())?;
-    assert_eq!(rt; up.seen[0], [0, 4, 3, 1, 4]);
-    assert_eq!(rt; up.seen[1], [0, 4, 2, 0, 4]);
-    assert_eq!(rt; up.seen[2], [0, 4, 3, 0, 3]);
-    assert_eq!(rt; up.seen[3], [0, 4, 0, 0, 3]);
-    assert_eq!(rt; up.complete, [0, 0, 1, 0, 1]);
-    assert_eq!(rt; up.lengths, [1024, 1024]);
-    assert_eq!(rt; up.ends, [3, 4]);
-    assert_eq!(rt; up.left, 0);
+    assert_same(&rt, up.seen[0], [0, 4, 3, 1, 4]);
+    assert_same(&rt, up.seen[1], [0, 4, 2, 0, 4]);
+    assert_same(&rt, up.seen[2], [0, 4, 3, 0, 3]);
+    assert_same(&rt, up.seen[3], [0, 4, 0, 0, 3]);
+    assert_same(&rt, up.complete, [0, 0, 1, 0, 1]);
+    assert_same(&rt, up.lengths, [1024, 1024]);
+    assert_same(&rt, up.ends, [3, 4]);
+    assert_same(&rt, up.left, 0);
     Ok(())
 }
 
@@ -327,9 +328,9 @@ fn first_bounced(alloc: Global) -> Result<([u64; 5], bool, [u64; 5], u64), Fail>
 #[test]
 fn a_bounced_request_goes_up(rt: HostRuntime) -> Result<(), Fail> {
     let (seen, failed, then, next) = first_bounced(rt.alloc())?;
-    assert_eq!(rt; seen, [2, 0, 1, 0, 2]);
+    assert_same(&rt, seen, [2, 0, 1, 0, 2]);
     assert!(rt; failed);
-    assert_eq!(rt; then, [2, 0, 0, 0, 1]);
-    assert_eq!(rt; next, 2);
+    assert_same(&rt, then, [2, 0, 0, 0, 1]);
+    assert_same(&rt, next, 2);
     Ok(())
 }
