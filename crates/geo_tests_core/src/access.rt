@@ -9,6 +9,7 @@ ghost use Rattle.geo_access.specs.Join.{IsLoose};
 ghost use Rattle.geo_tests_core.specs.Built.{ConsumersAreAttached, IsBuilt};
 
 use crate::built::{consumer_of, first_mesh, geom_of, is_quiet, name, open, provider_of, stand};
+use crate::same::assert_same;
 use geo_access::{JoinRefusal, Steps, could_grant, join};
 use geo_base::{ConsId, Counts, Errno, GeomId, Kind, ProvId};
 use geo_mesh::Topo;
@@ -86,7 +87,7 @@ fn diamond_answers(alloc: Global) -> Result<[Result<(), Errno>; 2], Fail> {
 #[test]
 fn a_diamond_is_read_and_not_written(rt: HostRuntime) -> Result<(), Fail> {
     let answers = diamond_answers(rt.alloc())?;
-    assert_eq!(rt; answers, [Err(Errno::EPERM), Ok(())]);
+    assert_same(&rt, answers, [Err(Errno::EPERM), Ok(())]);
     Ok(())
 }
 
@@ -130,13 +131,14 @@ fn thirty_below(alloc: Global) -> Result<Option<Counts>, Fail> {
 #[test]
 fn a_reader_counts_once_for_each_way_down(rt: HostRuntime) -> Result<(), Fail> {
     let have = thirty_below(rt.alloc())?;
-    assert_eq!(rt;
+    assert_same(
+        &rt,
         have,
         Some(Counts {
             r: 1_073_741_824,
             w: 0,
-            e: 2_147_483_646
-        })
+            e: 2_147_483_646,
+        }),
     );
     Ok(())
 }
@@ -164,7 +166,7 @@ fn thirty_above(alloc: Global) -> Result<Result<(), Errno>, Fail> {
 #[test]
 fn one_storey_more_is_too_much(rt: HostRuntime) -> Result<(), Fail> {
     let answer = thirty_above(rt.alloc())?;
-    assert_eq!(rt; answer, Err(Errno::EOVERFLOW));
+    assert_same(&rt, answer, Err(Errno::EOVERFLOW));
     Ok(())
 }
 
@@ -237,7 +239,7 @@ fn grown(alloc: Global) -> Result<([Result<(), JoinRefusal>; 2], Option<Counts>)
 #[test]
 fn an_open_concat_grows(rt: HostRuntime) -> Result<(), Fail> {
     let (answers, have) = grown(rt.alloc())?;
-    assert_eq!(rt; answers, [Ok(()), Err(JoinRefusal::Eloop)]);
-    assert_eq!(rt; have, Some(Counts { r: 1, w: 0, e: 1 }));
+    assert_same(&rt, answers, [Ok(()), Err(JoinRefusal::Eloop)]);
+    assert_same(&rt, have, Some(Counts { r: 1, w: 0, e: 1 }));
     Ok(())
 }

@@ -3,11 +3,13 @@ ghost use Rattle.std.specs.Prelude.{◌≡◌, ◌≤◌, [], ◌∷◌, None, S
 ghost use Rattle.geo_model.specs.World.{Concat};
 
 use crate::media::table_of;
+use crate::same::assert_same;
 use geo_base::{Block, ConsId, DeclineCause, Kind, Name, ProvId, SharedBytes};
 use geo_class::{Asked, Config, Facts, Media, Shape, Taste, Verdict, judge, taste_where};
 use geo_concat::ConcatRecord;
 use geo_model::BioResult;
 use geo_range::Span;
+use std::alloc::Global;
 use std::process::Abort;
 use std::test::Fail;
 
@@ -31,32 +33,32 @@ fn sized_label() -> [u8; 512] {
 #[test]
 fn a_slice_of_a_table(rt: HostRuntime) {
     let facts = facts_of(Kind::Disk, 64);
-    assert_eq!(rt; taste_where(Kind::Mbr, &facts), Some(0));
-    assert_eq!(rt; taste_where(Kind::Ebr, &facts), None);
+    assert_same(&rt, taste_where(Kind::Mbr, &facts), Some(0));
+    assert_same(&rt, taste_where(Kind::Ebr, &facts), None);
     let sector = table_of([(5, 1, 63), (0, 0, 0)]);
     let Verdict::Accept(Shape::Slices(table)) = judge(Kind::Mbr, &sector, &facts) else {
         panic!(rt; "no table")
     };
     assert!(rt; table.slices[1].is_none());
     let config = Config::mbr(Some(ConsId::new(7)), table.slices);
-    assert_eq!(rt; config.component(0), Some(ConsId::new(7)));
-    assert_eq!(rt; config.component(1), None);
-    assert_eq!(rt; config.disk_of(), None);
+    assert_same(&rt, config.component(0), Some(ConsId::new(7)));
+    assert_same(&rt, config.component(1), None);
+    assert_same(&rt, config.disk_of(), None);
 }
 
 #[test]
 fn a_label_of_its_media_alone(rt: HostRuntime) {
     let facts = facts_of(Kind::Disk, 7);
-    assert_eq!(rt; taste_where(Kind::Label, &facts), Some(6));
+    assert_same(&rt, taste_where(Kind::Label, &facts), Some(6));
     let Verdict::Accept(Shape::Named(found)) = judge(Kind::Label, &sized_label(), &facts) else {
         panic!(rt; "no label")
     };
-    assert_eq!(rt; found.name.bytes(), b"vol".as_slice());
+    assert_same(&rt, found.name.bytes(), b"vol".as_slice());
     let longer = facts_of(Kind::Disk, 8);
     let Verdict::Decline(cause) = judge(Kind::Label, &sized_label(), &longer) else {
         panic!(rt; "another media")
     };
-    assert_eq!(rt; cause, DeclineCause::Media);
+    assert_same(&rt, cause, DeclineCause::Media);
 }
 
 /// A taste with the sector of a link back for EBR.
@@ -77,17 +79,18 @@ fn with_link(rt: &impl Abort, taste: &mut Taste, bytes: Block, facts: &Facts) ->
 fn a_chain_of_two_links(rt: HostRuntime) -> Result<(), Fail> {
     let facts = facts_of(Kind::Mbr, 63);
     let mut taste = Taste::new(ProvId::new(2), ConsId::new(5));
-    assert_eq!(rt;
+    assert_same(
+        &rt,
         (taste.provider(), taste.consumer()),
-        (ProvId::new(2), ConsId::new(5))
+        (ProvId::new(2), ConsId::new(5)),
     );
-    assert_eq!(rt; taste.next_class(), Some(Kind::Mbr));
-    assert_eq!(rt; taste.next_class(), Some(Kind::Ebr));
+    assert_same(&rt, taste.next_class(), Some(Kind::Mbr));
+    assert_same(&rt, taste.next_class(), Some(Kind::Ebr));
     let first = Block::from_slice(rt.alloc(), &table_of([(0xA5, 1, 4), (5, 10, 5)]))?;
     let Verdict::More(next) = with_link(&rt, &mut taste, first, &facts) else {
         panic!(rt; "no more")
     };
-    assert_eq!(rt; (next, taste.reads()), (10, 1));
+    assert_same(&rt, (next, taste.reads()), (10, 1));
     assert!(rt; matches!(taste.asked(), Asked::NextSector { .. }));
     let last = Block::from_slice(rt.alloc(), &table_of([(0xA5, 1, 3), (0, 0, 0)]))?;
     let Verdict::Accept(Shape::Logical(table)) = with_link(&rt, &mut taste, last, &facts) else {
@@ -96,8 +99,8 @@ fn a_chain_of_two_links(rt: HostRuntime) -> Result<(), Fail> {
     let Some(part) = table.parts[1] else {
         panic!(rt; "no partition")
     };
-    assert_eq!(rt; (part.first, part.count), (11, 3));
-    assert_eq!(rt; taste.next_class(), Some(Kind::Label));
+    assert_same(&rt, (part.first, part.count), (11, 3));
+    assert_same(&rt, taste.next_class(), Some(Kind::Label));
     Ok(())
 }
 
@@ -116,8 +119,8 @@ fn the_first_place_of_two(rt: HostRuntime) -> Result<(), Fail> {
     };
     assert!(rt; half.is_same_assembly(&empty));
     assert!(rt; !half.is_whole());
-    assert_eq!(rt; half.component(0), Some(ConsId::new(3)));
-    assert_eq!(rt; half.components(rt.alloc())?.len(), 1);
+    assert_same(&rt, half.component(0), Some(ConsId::new(3)));
+    assert_same(&rt, half.components(rt.alloc())?.len(), 1);
     Ok(())
 }
 
@@ -130,10 +133,10 @@ fn concat_of(rt: &HostRuntime) -> Result<Config, Fail>
     Ok(Config::concat(None, consumers, sizes, 512))
 }
 
-#[test]
-fn a_range_over_both_components(rt: HostRuntime) -> Result<(), Fail> {
-    let config = concat_of(&rt)?;
-    assert_eq!(rt; config.joined_size(), Some(4096));
+/// A range over both components of that concat has two pieces, each for a component of its own.
+fn assert_split(rt: &impl Abort, alloc: Global, config: &Config) -> Result<(), Fail>
+    requires { config.now ≡ Concat None (Some 3 ∷ Some 4 ∷ []) (1536 ∷ 2560 ∷ []) }
+{
     let media = Media {
         name: Name::new(b"concat/v")?,
         size: 4096,
@@ -143,25 +146,33 @@ fn a_range_over_both_components(rt: HostRuntime) -> Result<(), Fail> {
         offset: 1024,
         len: 2048,
     };
-    let list = config.split(rt.alloc(), &media, span)?;
+    let list = config.split(alloc, &media, span)?;
     let items = list.items();
-    assert_eq!(rt; items.len(), 2);
+    assert_same(rt, items.len(), 2);
     let Some(second) = items.get(1) else {
         panic!(rt; "one piece")
     };
-    assert_eq!(rt; (second.child, second.span.len), (1, 1536));
-    let consumers = config.consumers(rt.alloc(), items)?;
-    assert_eq!(rt; consumers.get(1).copied(), Some(ConsId::new(4)));
-    assert_eq!(rt; config.flush(rt.alloc())?.items().len(), 2);
+    assert_same(rt, (second.child, second.span.len), (1, 1536));
+    let consumers = config.consumers(alloc, items)?;
+    assert_same(rt, consumers.get(1).copied(), Some(ConsId::new(4)));
+    Ok(())
+}
+
+#[test]
+fn a_range_over_both_components(rt: HostRuntime) -> Result<(), Fail> {
+    let config = concat_of(&rt)?;
+    assert_same(&rt, config.joined_size(), Some(4096));
+    assert_split(&rt, rt.alloc(), &config)?;
+    assert_same(&rt, config.flush(rt.alloc())?.items().len(), 2);
     let grown = config.with_place(rt.alloc(), ConsId::new(5), 512, 512)?;
-    assert_eq!(rt; grown.joined_size(), Some(4608));
+    assert_same(&rt, grown.joined_size(), Some(4608));
     Ok(())
 }
 
 #[test]
 fn a_range_of_a_window(rt: HostRuntime) -> Result<(), Fail> {
     let config = Config::nop(Some(ConsId::new(3)), 1024, 3);
-    assert_eq!(rt; config.fail(), Some(3));
+    assert_same(&rt, config.fail(), Some(3));
     let media = Media {
         name: Name::new(b"md0.nop")?,
         size: 2048,
@@ -175,6 +186,6 @@ fn a_range_of_a_window(rt: HostRuntime) -> Result<(), Fail> {
     let Some(piece) = list.items().first() else {
         panic!(rt; "no piece")
     };
-    assert_eq!(rt; piece.span.offset, 1536);
+    assert_same(&rt, piece.span.offset, 1536);
     Ok(())
 }

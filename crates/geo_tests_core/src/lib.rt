@@ -16,4 +16,6 @@ mod class;
 #[cfg(test)]
 mod media;
 #[cfg(test)]
+mod same;
+#[cfg(test)]
 mod taste;

@@ -11,6 +11,7 @@ ghost use Rattle.geo_tests_core.specs.Built.{IsBuilt};
 
 use crate::built::{consumer_of, first_mesh, geom_of, is_quiet, name, open, stand};
 use crate::media::{Medium, sector_of};
+use crate::same::assert_same;
 use geo_access::Steps;
 use geo_base::{Block, Counts, Errno, GeomId, Kind, ProvId, SharedBytes, UNTASTED_RANK};
 use geo_class::{Asked, Config, Taste};
@@ -259,7 +260,7 @@ fn table_gives(
     want: (bool, u32, Option<u64>),
 ) -> Result<(), Fail> {
     let seen = found(alloc, Kind::Disk, Medium::Table(entries), text)?;
-    assert_eq!(rt; seen, want);
+    assert_same(rt, seen, want);
     Ok(())
 }
 
@@ -275,14 +276,14 @@ fn chain_gives(
 ) -> Result<(), Fail> {
     let medium = Medium::Chain { links, kind, last };
     let seen = found(alloc, Kind::Mbr, medium, text)?;
-    assert_eq!(rt; seen, want);
+    assert_same(rt, seen, want);
     Ok(())
 }
 
 #[test]
 fn a_blank_disk_is_read_once_by_each_class(rt: HostRuntime) -> Result<(), Fail> {
     let seen = found(rt.alloc(), Kind::Disk, Medium::Blank, b"md0s1")?;
-    assert_eq!(rt; seen, (false, 4, None));
+    assert_same(&rt, seen, (false, 4, None));
     Ok(())
 }
 
@@ -375,7 +376,7 @@ fn passed(alloc: Global, kind: Kind) -> Result<(bool, u32), Fail>
 fn a_class_that_is_attached_is_passed_over(rt: HostRuntime) -> Result<(), Fail> {
     let table = passed(rt.alloc(), Kind::Mbr)?;
     let window = passed(rt.alloc(), Kind::Nop)?;
-    assert_eq!(rt; (table, window), ((false, 3), (false, 4)));
+    assert_same(&rt, (table, window), ((false, 3), (false, 4)));
     Ok(())
 }
 
@@ -421,7 +422,7 @@ fn crowded(alloc: Global) -> Result<(bool, u32), Fail> {
 
 #[test]
 fn a_refused_read_ends_each_class(rt: HostRuntime) -> Result<(), Fail> {
-    assert_eq!(rt; crowded(rt.alloc())?, (false, 0));
+    assert_same(&rt, crowded(rt.alloc())?, (false, 0));
     Ok(())
 }
 
