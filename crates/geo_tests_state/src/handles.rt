@@ -1,5 +1,6 @@
 //! What no clause says: that there is memory, and handles that another actor doesn't find, that can be reaped no more,
 //! and for which there is no room.
+use crate::same::assert_same;
 use geo_base::{ConsId, Counts, HandleId, Name};
 use geo_handles::Handles;
 use std::test::Fail;
@@ -52,7 +53,7 @@ fn two_names(handles: &mut Handles) -> Result<[[u64; 3]; 2], Fail> {
 #[test]
 fn no_handle_of_another_actor_is_found(rt: HostRuntime) -> Result<(), Fail> {
     let mut handles = Handles::new(rt.alloc())?;
-    assert_eq!(rt; two_names(&mut handles)?, [[1, 0, 0], [0, 2, 0]]);
+    assert_same(&rt, two_names(&mut handles)?, [[1, 0, 0], [0, 2, 0]]);
     Ok(())
 }
 
@@ -82,7 +83,7 @@ fn on_and_off(handles: &mut Handles) -> Result<[u64; 5], Fail> {
 #[test]
 fn a_handle_is_ready_for_as_long_as_it_is_noted(rt: HostRuntime) -> Result<(), Fail> {
     let mut handles = Handles::new(rt.alloc())?;
-    assert_eq!(rt; on_and_off(&mut handles)?, [2, 1, 2, 0, 1]);
+    assert_same(&rt, on_and_off(&mut handles)?, [2, 1, 2, 0, 1]);
     Ok(())
 }
 
@@ -103,6 +104,6 @@ fn refused(handles: &mut Handles) -> Result<(u64, [u64; 3], u64), Fail> {
 #[test]
 fn handles_stay_where_memory_is_wanting(rt: HostRuntime) -> Result<(), Fail> {
     let mut handles = Handles::new(rt.alloc())?;
-    assert_eq!(rt; refused(&mut handles)?, (1, [1, 0, 0], 2));
+    assert_same(&rt, refused(&mut handles)?, (1, [1, 0, 0], 2));
     Ok(())
 }

@@ -10,4 +10,6 @@ mod handles;
 #[cfg(test)]
 mod log;
 #[cfg(test)]
+mod same;
+#[cfg(test)]
 mod traffic;

@@ -1,4 +1,5 @@
 //! What no clause says: that there is memory, a log with several Delivers, and one that gets no more room.
+use crate::same::assert_same;
 use geo_base::{BioId, Block, SharedBytes};
 use geo_bio::LogBytes;
 use geo_log::{DeviceResult, Entry, Log, Outcome, Step};
@@ -51,8 +52,8 @@ fn each_place_has_the_bytes_of_its_own_deliver(rt: HostRuntime) -> Result<(), Fa
     for place in [0u64, 2, 3, 5, u64::MAX] {
         assert_eq!(rt; seen(&log, place), None, "at {place}");
     }
-    assert_eq!(rt; seen(&log, 1), Some((5, b'f')));
-    assert_eq!(rt; seen(&log, 4), Some((4, b'l')));
+    assert_same(&rt, seen(&log, 1), Some((5, b'f')));
+    assert_same(&rt, seen(&log, 4), Some((4, b'l')));
     Ok(())
 }
 
@@ -72,7 +73,7 @@ fn without_memory(log: &mut Log, alloc: Global) -> Result<Option<(usize, u8)>, F
 fn bytes_are_moved_where_no_memory_is_left(rt: HostRuntime) -> Result<(), Fail> {
     let alloc = rt.alloc();
     let mut log = Log::new(alloc);
-    assert_eq!(rt; without_memory(&mut log, alloc)?, Some((5, b'm')));
-    assert_eq!(rt; (log.len(), log.entries().len()), (1, 1));
+    assert_same(&rt, without_memory(&mut log, alloc)?, Some((5, b'm')));
+    assert_same(&rt, (log.len(), log.entries().len()), (1, 1));
     Ok(())
 }
