@@ -9,3 +9,5 @@
 mod mesh;
 #[cfg(test)]
 mod names;
+#[cfg(test)]
+mod same;

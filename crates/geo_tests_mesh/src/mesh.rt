@@ -2,6 +2,7 @@
 //!
 //! Each test drops its mesh by a call. At the end of a scope or at a `?` the drop of each part of it would be written
 //! out, and proved for minutes.
+use crate::same::assert_same;
 use geo_base::{ConsId, Counts, GeomId, Kind, Name, ProvId};
 use geo_mesh::{AttachRefusal, Topo};
 use std::alloc::Global;
@@ -116,9 +117,10 @@ fn a_geom_would_reach_itself(rt: HostRuntime) -> Result<(), Fail> {
     let mut topo = first_mesh(rt.alloc())?;
     let answers = own_provider(&mut topo);
     drop(topo);
-    assert_eq!(rt;
+    assert_same(
+        &rt,
         answers?,
-        [Some(AttachRefusal::Eloop), Some(AttachRefusal::Enxio)]
+        [Some(AttachRefusal::Eloop), Some(AttachRefusal::Enxio)],
     );
     Ok(())
 }
@@ -136,7 +138,7 @@ fn a_tower_falls_by_a_storey(rt: HostRuntime) -> Result<(), Fail> {
     let mut topo = first_mesh(rt.alloc())?;
     let ranks = falling_tower(&mut topo);
     drop(topo);
-    assert_eq!(rt; ranks?, [Some(31), Some(30), None]);
+    assert_same(&rt, ranks?, [Some(31), Some(30), None]);
     Ok(())
 }
 
@@ -156,8 +158,8 @@ fn rank_33_is_too_deep(rt: HostRuntime) -> Result<(), Fail> {
     let answers = above_the_limit(&mut topo);
     let rank = topo.rank(GeomId::new(1));
     drop(topo);
-    assert_eq!(rt; answers?, [Some(AttachRefusal::Edeep), None]);
-    assert_eq!(rt; rank, Some(33));
+    assert_same(&rt, answers?, [Some(AttachRefusal::Edeep), None]);
+    assert_same(&rt, rank, Some(33));
     Ok(())
 }
 
@@ -182,7 +184,7 @@ fn a_sound_provider_is_found_first(rt: HostRuntime) -> Result<(), Fail> {
     let answer = two_of_a_name(&mut topo);
     drop(topo);
     let (second, found) = answer?;
-    assert_eq!(rt; found, [Some(second), Some(second), None]);
+    assert_same(&rt, found, [Some(second), Some(second), None]);
     Ok(())
 }
 
@@ -211,7 +213,7 @@ fn handles_are_not_above(rt: HostRuntime) -> Result<(), Fail> {
     let answer = between_handles(&mut topo);
     drop(topo);
     let (cons, found) = answer?;
-    assert_eq!(rt; found, [Some(cons), None]);
+    assert_same(&rt, found, [Some(cons), None]);
     Ok(())
 }
 
@@ -237,7 +239,7 @@ fn a_geom_is_found_by_class_and_name(rt: HostRuntime) -> Result<(), Fail> {
     let answer = two_classes(&mut topo);
     drop(topo);
     let (second, found) = answer?;
-    assert_eq!(rt; found, [Some(second), None, None, Some(GeomId::new(2))]);
+    assert_same(&rt, found, [Some(second), None, None, Some(GeomId::new(2))]);
     Ok(())
 }
 
@@ -273,7 +275,7 @@ fn a_geom_can_go_once_nothing_holds_it(rt: HostRuntime) -> Result<(), Fail> {
     let answer = two_layers(&mut topo);
     drop(topo);
     let (geoms, found) = answer?;
-    assert_eq!(rt; found, [None, Some(geoms[0]), None, Some(geoms[1])]);
+    assert_same(&rt, found, [None, Some(geoms[0]), None, Some(geoms[1])]);
     Ok(())
 }
 
@@ -330,6 +332,6 @@ fn a_used_consumer_holds_its_geom(rt: HostRuntime) -> Result<(), Fail> {
     let answer = one_consumer(&mut topo);
     drop(topo);
     let (geom, found) = answer?;
-    assert_eq!(rt; found, [None, Some(geom), None, Some(geom)]);
+    assert_same(&rt, found, [None, Some(geom), None, Some(geom)]);
     Ok(())
 }

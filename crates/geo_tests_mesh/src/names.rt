@@ -1,4 +1,5 @@
 //! What no clause says: that there is memory, and numbers of one name at concrete names.
+use crate::same::assert_same;
 use geo_base::Name;
 use geo_names::Names;
 use std::test::Fail;
@@ -27,6 +28,6 @@ fn two_of_a_name(names: &mut Names) -> Result<[Option<u64>; 3], Fail> {
 #[test]
 fn numbers_of_one_name_are_found_in_order(rt: HostRuntime) -> Result<(), Fail> {
     let mut names = Names::new(rt.alloc());
-    assert_eq!(rt; two_of_a_name(&mut names)?, [Some(3), Some(2), None]);
+    assert_same(&rt, two_of_a_name(&mut names)?, [Some(3), Some(2), None]);
     Ok(())
 }
