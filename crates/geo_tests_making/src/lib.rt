@@ -7,3 +7,5 @@
 
 #[cfg(test)]
 mod making;
+#[cfg(test)]
+mod same;

@@ -6,6 +6,7 @@
 ghost use Rattle.std.specs.Prelude.{◌≡◌, ◌<◌};
 ghost use Rattle.geo_taste.specs.Accepts.{NamesAPlace};
 
+use crate::same::assert_same;
 use geo_base::{Name, ProvId};
 use geo_class::{Config, Shape};
 use geo_event::{Event, EventQueue};
@@ -117,13 +118,13 @@ fn completed(alloc: Global, first: u16) -> Result<[Option<u64>; 2], Fail>
 
 #[test]
 fn an_assembly_is_completed_place_by_place(rt: HostRuntime) -> Result<(), Fail> {
-    assert_eq!(rt; completed(rt.alloc(), 0)?, [None, Some(2_096_128)]);
+    assert_same(&rt, completed(rt.alloc(), 0)?, [None, Some(2_096_128)]);
     Ok(())
 }
 
 #[test]
 fn an_assembly_is_completed_from_its_end(rt: HostRuntime) -> Result<(), Fail> {
-    assert_eq!(rt; completed(rt.alloc(), 1)?, [None, Some(2_096_128)]);
+    assert_same(&rt, completed(rt.alloc(), 1)?, [None, Some(2_096_128)]);
     Ok(())
 }
 
@@ -155,7 +156,7 @@ fn answered(alloc: Global) -> Result<[bool; 4], Fail> {
 
 #[test]
 fn a_filled_place_and_other_sectors_are_declined(rt: HostRuntime) -> Result<(), Fail> {
-    assert_eq!(rt; answered(rt.alloc())?, [false, true, false, false]);
+    assert_same(&rt, answered(rt.alloc())?, [false, true, false, false]);
     Ok(())
 }
 
@@ -183,7 +184,7 @@ fn named_alike(alloc: Global) -> Result<[bool; 4], Fail> {
 
 #[test]
 fn the_second_whole_of_a_name_is_declined(rt: HostRuntime) -> Result<(), Fail> {
-    assert_eq!(rt; named_alike(rt.alloc())?, [true, true, true, false]);
+    assert_same(&rt, named_alike(rt.alloc())?, [true, true, true, false]);
     Ok(())
 }
 
@@ -233,7 +234,7 @@ fn a_taken_name_declines_the_whole_table(rt: HostRuntime) -> Result<(), Fail> {
     let (made, taken, sizes) = sliced(rt.alloc())?;
     assert!(rt; made);
     assert!(rt; !taken);
-    assert_eq!(rt; sizes, [Some(32_256), None, Some(51_200), None]);
+    assert_same(&rt, sizes, [Some(32_256), None, Some(51_200), None]);
     Ok(())
 }
 
@@ -276,9 +277,10 @@ fn parted(alloc: Global) -> Result<[Option<u64>; 3], Fail> {
 
 #[test]
 fn a_chain_has_its_partitions(rt: HostRuntime) -> Result<(), Fail> {
-    assert_eq!(rt;
+    assert_same(
+        &rt,
         parted(rt.alloc())?,
-        [Some(5_120), Some(10_240), Some(15_360)]
+        [Some(5_120), Some(10_240), Some(15_360)],
     );
     Ok(())
 }
@@ -305,7 +307,7 @@ fn named_long(alloc: Global) -> Result<[bool; 3], Fail> {
 
 #[test]
 fn a_name_that_is_too_long_declines_the_whole_table(rt: HostRuntime) -> Result<(), Fail> {
-    assert_eq!(rt; named_long(rt.alloc())?, [true, false, false]);
+    assert_same(&rt, named_long(rt.alloc())?, [true, false, false]);
     Ok(())
 }
 
@@ -335,7 +337,7 @@ fn labelled(alloc: Global) -> Result<(Option<u64>, Option<Event>), Fail> {
 #[test]
 fn a_label_is_offered_for_taste(rt: HostRuntime) -> Result<(), Fail> {
     let (size, head) = labelled(rt.alloc())?;
-    assert_eq!(rt; size, Some(1_048_064));
+    assert_same(&rt, size, Some(1_048_064));
     assert!(rt; matches!(head, Some(Event::NewProvider(_))));
     Ok(())
 }
@@ -382,7 +384,7 @@ fn labels_tried(alloc: Global) -> Result<[bool; 3], Fail> {
 
 #[test]
 fn a_label_needs_a_sector_below_it_and_a_free_name(rt: HostRuntime) -> Result<(), Fail> {
-    assert_eq!(rt; labels_tried(rt.alloc())?, [false, true, false]);
+    assert_same(&rt, labels_tried(rt.alloc())?, [false, true, false]);
     Ok(())
 }
 
@@ -419,6 +421,6 @@ fn striped(alloc: Global) -> Result<Option<u64>, Fail> {
 
 #[test]
 fn a_stripe_has_whole_strips(rt: HostRuntime) -> Result<(), Fail> {
-    assert_eq!(rt; striped(rt.alloc())?, Some(2_088_960));
+    assert_same(&rt, striped(rt.alloc())?, Some(2_088_960));
     Ok(())
 }
