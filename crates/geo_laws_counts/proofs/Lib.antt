@@ -1,4 +1,3 @@
-pub mod Sums
 pub mod Wants
 pub mod Levels
 pub mod Upward
@@ -6,18 +5,19 @@ pub mod Members
 pub mod BareParts
 pub mod Quiet
 pub mod SeenCounts
-pub mod LimitFacts
 pub mod Keeping
 pub mod Stays
 pub mod Unseen
 pub mod Counters
 pub mod Numbers
-pub mod Reach
+pub mod Sums
 pub mod Gains
-pub mod Openers
 pub mod Singles
+pub mod LimitFacts
 pub mod Rising
+pub mod Openers
 pub mod Refusing
+pub mod Reach
 pub mod Orders
 pub mod Flows
 pub mod Raising

@@ -1,32 +1,29 @@
--- A demand that comes with a new consumer or goes with a removed one: what it changes.
-use Rattle.std.specs.Prelude.{◌≡◌, ◌≢◌, ℕ, zero, suc, ◌==◌, Bool, true, false, not, cond, List, [], ◌∷◌, ◌++◌, map, filter, filter_map, flat_map, Option, Some, None, All, Contains, length, if◌then◌else◌}
-use Rattle.std.specs.List.{AllByRecursion}
+-- Consumers of DEV or TASTE come and go with a grant, and which demands are refused.
+use Rattle.std.specs.Prelude.{◌≡◌, ◌≢◌, ℕ, zero, suc, ◌==◌, Bool, true, false, not, cond, List, [], ◌∷◌, ◌++◌, map, filter, filter_map, flat_map, Option, Some, None, All, Contains, length, if◌then◌else◌, IsSomeAnd, ◌↔◌}
+use Rattle.std.specs.List.{AllByRecursion, list_any}
 use Rattle.std.specs.Option.{option_map_or}
 use Rattle.std.proofs.Common.{refl, sym, ◌∙◌, ap, subst, arith, inl, inr, eq-eqb}
-use Rattle.std.proofs.lemmas.Bool.{eqb-true, ne_eqb, not-false, cases_eq}
+use Rattle.std.proofs.lemmas.Bool.{eqb-true, ne_eqb, not-false, cases_eq, not_from_true}
 use Rattle.std.proofs.lemmas.List.{append-nil}
 use Rattle.std.proofs.lemmas.List.Elements.{All-contains, All-weaker, All-push, filter-append, recursion_from_All}
 use Rattle.geo_model.proofs.FindLists.{found_in}
 use Rattle.geo_model.specs.Counts.{Counts}
-use Rattle.geo_model.specs.Words.{names_number}
-use Rattle.geo_model.specs.Topology.{Topology, Geom, Provider, Consumer, geom_at, provider_at, providers_of, providers_under, attached_to, add_consumer, remove_consumer}
+use Rattle.geo_model.specs.Words.{names_number, first_error}
+use Rattle.geo_model.specs.Topology.{Topology, Geom, Provider, Consumer, geom_at, provider_at, providers_of, providers_under, attached_to, add_consumer, remove_consumer, find_provider, is_errored}
 use Rattle.geo_model.specs.Rank.{Ranked}
-use Rattle.geo_model.specs.Opens.{below, below_within, with_grant}
+use Rattle.geo_model.specs.Opens.{below, below_within, with_grant, has_error_below, grant_refusal, with_opener, open_refusal, open_refusal_at}
 use Rattle.geo_model.specs.Demand.{no_counts, add_counts, sum_counts, have, want, is_exclusive, fits_limit}
 use Rattle.geo_model.proofs.MemberLists.{Contains-cases, nothing_in, Contains-filter}
 use Rattle.geo_model.proofs.Tests.{passes_apart}
+use Rattle.geo_model.proofs.DemandLemmas.{all_weaker}
+use Rattle.geo_model.specs.Errno.TheVariants.{ENXIO, EPERM, EOVERFLOW}
 use Rattle.geo_laws_counts.specs.CountWords.{IsAtMost, AreAtMost, more_counts, gain_of_kind, NumbersLead, DemandStays, AgreeExcept, HoldsGrants, IsOnlyOne}
 use Rattle.geo_laws_counts.specs.DemandLaws.{StaysAround}
-use Rattle.geo_laws_counts.proofs.Sums.{at_most-same, at_most-zero, add-zero, zero-add, add-assoc, counts-same, sum-same, add-move}
-use Rattle.geo_laws_counts.proofs.Levels.{have-at_most, of_each}
-use Rattle.geo_laws_counts.proofs.Members.{kept_members}
-use Rattle.geo_model.proofs.DemandLemmas.{map_same, all_weaker}
-use Rattle.geo_laws_counts.proofs.Gains.{want_gains, have_gains}
-use Rattle.geo_laws_counts.proofs.Quiet.{grant_over}
-use Rattle.geo_laws_counts.proofs.LimitFacts.{all_of, of_filter}
-use Rattle.geo_laws_counts.proofs.Reach.{below_self, stays, wants_stay}
-use Rattle.geo_laws_counts.proofs.Keeping.{exclusive_less, limit_less}
-use Rattle.geo_laws_counts.proofs.Stays.{opener_came, opener_went}
+use Rattle.geo_laws_counts.proofs.Sums.{at_most-same, at_most-zero, add-zero, zero-add, add-assoc, counts-same, sum-same, add-move, have-at_most, want_gains_by, have_gains}
+use Rattle.geo_laws_counts.proofs.Reach.{kept_members, below_self, stays, wants_stay}
+use Rattle.geo_laws_counts.proofs.Stays.{grant_over, opener_came, opener_went, grants_agree}
+use Rattle.geo_laws_counts.proofs.LimitFacts.{all_of, of_filter, exclusive_less, limit_less}
+use Rattle.geo_laws_counts.specs.AllowedLaws.{IsAllowed}
 
 -- functions that agree on what is found give the same
 flat_map-same : {X Y : Type 0} (f g : X → List Y) → ((x : X) → f x ≡ g x) → (xs : List X)
@@ -166,12 +163,6 @@ pub wants_grant : {C : Type 0} (granted : ℕ → Counts) (t : Topology C) (c : 
     → want granted t c ≡ granted c.number
 wants_grant granted t c kind = grant_over (have granted t) (granted c.number) t (geom_at t c.geom) kind
 
--- equal counts have nothing more
-more_of_same : (a b : Counts) → a ≡ b → more_counts a b ≡ no_counts
-more_of_same a b e =
-    subst (λ z. more_counts a z ≡ no_counts) e
-    (counts-same (more_counts a a) no_counts (omega arith) (omega arith) (omega arith))
-
 -- what counts have more than none is these
 more_than_none : (a : Counts) → more_counts no_counts a ≡ a
 more_than_none a = counts-same (more_counts no_counts a) a (omega arith) (omega arith) (omega arith)
@@ -284,36 +275,10 @@ module _ {C : Type 0} (granted after : ℕ → Counts) (t : Topology C) (geom p 
       (providers_of t g.number))
       no_counts)
   came_wants c g there found =
-      let u : Topology C = add_consumer t geom (Some p) in
-      let ys : List Provider = providers_of t g.number in
       let other : c.number ≢ t.next_consumer =
       All-contains (λ (x : Consumer). x.number ≢ t.next_consumer) t.consumers c free there in
-      want_gains before after before_less u c g found
-      ∙ ap
-      (λ haves. add_counts (want before u c)
-      (gain_of_kind g.kind haves (map (λ x. more_counts (have before u x.number) (have after u x.number)) ys)
-      (more_counts (before c.number) (after c.number))))
-      (map_same (λ (x : Provider). have before u x.number) (λ (x : Provider). have granted t x.number) ys
-      (of_each (λ (x : Provider). have before u x.number ≡ have granted t x.number)
-      (λ x. came_first.haves x.number) ys))
-      ∙ ap
-      (λ gains. add_counts (want before u c)
-      (gain_of_kind g.kind (map (λ x. have granted t x.number) ys) gains
-      (more_counts (before c.number) (after c.number))))
-      (map_same (λ (x : Provider). more_counts (have before u x.number) (have after u x.number))
-      (λ (x : Provider). more_counts (have granted t x.number) (have after u x.number)) ys
-      (of_each (λ (x : Provider). more_counts (have before u x.number) (have after u x.number)
-      ≡ more_counts (have granted t x.number) (have after u x.number))
-      (λ x. ap (λ a. more_counts a (have after u x.number)) (came_first.haves x.number)) ys))
-      ∙ ap
-      (λ a. add_counts (want before u c)
-      (gain_of_kind g.kind (map (λ x. have granted t x.number) ys)
-      (map (λ x. more_counts (have granted t x.number) (have after u x.number)) ys) a))
-      (more_of_same (before c.number) (after c.number) (before_agrees c.number other ∙ sym (agree c.number other)))
-      ∙ ap
-      (λ a. add_counts a
-      (gain_of_kind g.kind (map (λ x. have granted t x.number) ys)
-      (map (λ x. more_counts (have granted t x.number) (have after u x.number)) ys) no_counts))
+      want_gains_by before after before_less (add_consumer t geom (Some p)) c g found
+      (before_agrees c.number other ∙ sym (agree c.number other)) (have granted t) came_first.haves (want granted t c)
       (came_first.wants c there)
 
   -- what a provider has more is the sum of what its consumers want more, and at p the new grant
@@ -447,36 +412,10 @@ module _ {C : Type 0} (granted after : ℕ → Counts) (t : Topology C) (d : Con
       no_counts)
   went_wants c g there found =
       let u : Topology C = remove_consumer t d.number in
-      let ys : List Provider = providers_of t g.number in
       let other : c.number ≢ d.number =
       λ e. passes_apart c.number d.number (of_filter (λ x. not (x.number == d.number)) t.consumers c there).1 e in
-      want_gains without granted without_less t c g found
-      ∙ ap
-      (λ haves. add_counts (want without t c)
-      (gain_of_kind g.kind haves (map (λ x. more_counts (have without t x.number) (have granted t x.number)) ys)
-      (more_counts (without c.number) (granted c.number))))
-      (map_same (λ (x : Provider). have without t x.number) (λ (x : Provider). have after u x.number) ys
-      (of_each (λ (x : Provider). have without t x.number ≡ have after u x.number)
-      (λ x. sym (went_last.haves x.number)) ys))
-      ∙ ap
-      (λ gains. add_counts (want without t c)
-      (gain_of_kind g.kind (map (λ x. have after u x.number) ys) gains
-      (more_counts (without c.number) (granted c.number))))
-      (map_same (λ (x : Provider). more_counts (have without t x.number) (have granted t x.number))
-      (λ (x : Provider). more_counts (have after u x.number) (have granted t x.number)) ys
-      (of_each (λ (x : Provider). more_counts (have without t x.number) (have granted t x.number)
-      ≡ more_counts (have after u x.number) (have granted t x.number))
-      (λ x. ap (λ a. more_counts a (have granted t x.number)) (sym (went_last.haves x.number))) ys))
-      ∙ ap
-      (λ a. add_counts (want without t c)
-      (gain_of_kind g.kind (map (λ x. have after u x.number) ys)
-      (map (λ x. more_counts (have after u x.number) (have granted t x.number)) ys) a))
-      (more_of_same (without c.number) (granted c.number) (without_agrees c.number other))
-      ∙ ap
-      (λ a. add_counts a
-      (gain_of_kind g.kind (map (λ x. have after u x.number) ys)
-      (map (λ x. more_counts (have after u x.number) (have granted t x.number)) ys) no_counts))
-      (sym (went_last.wants c there))
+      want_gains_by without granted without_less t c g found (without_agrees c.number other) (have after u)
+      (λ q. sym (went_last.haves q)) (want after u c) (sym (went_last.wants c there))
 
   -- what a provider has less is the sum of what its consumers want less, and at p the grant that goes
   pub went_gains : (p : ℕ) → Ranked t → NumbersLead t → d.provider ≡ Some p → (q : ℕ)
@@ -522,3 +461,90 @@ module _ {C : Type 0} (granted after : ℕ → Counts) (t : Topology C) (d : Con
 
 -- what `demand_goes` says
 pub ruleset demand_goes = (went_quietly, went_less, went_stays, below_went, went_gains, went_wants)
+
+-- Demands that aren't refused.
+
+-- no error comes where no test holds
+none_of : (a b c : Bool) → first_error ((a, ENXIO) ∷ (b, EPERM) ∷ (c, EOVERFLOW) ∷ []) ≡ None
+    → (a ≡ false) × (b ≡ false) × (c ≡ false)
+none_of true b c e = cc
+none_of false true c e = cc
+none_of false false true e = cc
+none_of false false false e = (refl, refl, refl)
+
+-- and no test holds where none comes
+of_none : (a b c : Bool) → a ≡ false → b ≡ false → c ≡ false
+    → first_error ((a, ENXIO) ∷ (b, EPERM) ∷ (c, EOVERFLOW) ∷ []) ≡ None
+of_none a b c ea eb ec = rw (ea, eb, ec) refl
+
+module _ {C : Type 0} (granted : ℕ → Counts) (t : Topology C) where
+  -- a demand is refused just where it is not allowed
+  pub allowed : (p : ℕ) → grant_refusal granted t p ≡ None ↔ IsAllowed granted t p
+  allowed p = (
+    (λ e.
+        let tests = none_of (has_error_below t p) (not (is_exclusive granted t)) (not (fits_limit granted t)) e in
+        record {
+          errors = tests.0;
+          exclusive = not-false (is_exclusive granted t) tests.1;
+          limit = not-false (fits_limit granted t) tests.2;
+        }),
+    (λ facts.
+        of_none (has_error_below t p) (not (is_exclusive granted t)) (not (fits_limit granted t))
+        facts.errors (not_from_true (is_exclusive granted t) facts.exclusive)
+        (not_from_true (fits_limit granted t) facts.limit)),
+  )
+
+module _ {C : Type 0} (granted : ℕ → Counts) (t : Topology C) where
+  -- the same for an open of a found provider
+  open_at : (grant : Counts) (o : Option ℕ)
+      → open_refusal_at granted t o grant ≡ None
+      ↔ IsSomeAnd o (λ p. IsAllowed (with_grant granted t.next_consumer grant) (with_opener t p) p)
+  open_at grant None = ((λ e. cc), (λ none. absurd none))
+  open_at grant (Some p) = allowed (with_grant granted t.next_consumer grant) (with_opener t p) p
+
+  -- and for an open by name
+  pub open_allowed : (name : List ℕ) (grant : Counts)
+      → open_refusal granted t name grant ≡ None
+      ↔ IsSomeAnd (find_provider t name) (λ p. IsAllowed (with_grant granted t.next_consumer grant) (with_opener t p) p)
+  open_allowed name grant = open_at grant (find_provider t name)
+
+-- an error below is the same with the opener and without
+pub errors_came : {C : Type 0} (t : Topology C) (geom p : ℕ) → providers_of t geom ≡ []
+    → (q : ℕ) → has_error_below (add_consumer t geom (Some p)) q ≡ has_error_below t q
+errors_came t geom p bare q = ap (list_any (is_errored t)) (below_came t geom (Some p) bare q)
+
+-- grants that agree with those of an open
+agreed_at : (granted after : ℕ → Counts) (c : ℕ) → AgreeExcept c granted after → (n : ℕ)
+    → after n ≡ with_grant granted c (after c) n
+agreed_at granted after c agree n =
+    elim (cases_eq n c) [
+      | inl same ↦ rw (eq-eqb n c same) (ap after same)
+      | inr other ↦ rw (ne_eqb n c other) (agree n other)
+    ]
+
+-- grants that agree allow the same
+allowed_by : {C : Type 0} (granted after : ℕ → Counts) (t : Topology C) → ((n : ℕ) → after n ≡ granted n) → (p : ℕ)
+    → IsAllowed granted t p → IsAllowed after t p
+allowed_by granted after t agree p facts =
+    let stay : DemandStays granted t after t (Contains t.consumers) = grants_agree granted after t (λ k d h. agree _) in
+    record { errors = facts.errors; exclusive = stay.exclusive facts.exclusive; limit = stay.limit facts.limit }
+
+-- the same with the opener at a found provider
+opened_at : {C : Type 0} (granted after : ℕ → Counts) (t : Topology C) → AgreeExcept t.next_consumer granted after
+    → (o : Option ℕ)
+    → IsSomeAnd o (λ p. IsAllowed (with_grant granted t.next_consumer (after t.next_consumer)) (with_opener t p) p)
+    → IsSomeAnd o (λ p. IsAllowed after (with_opener t p) p)
+opened_at granted after t agree None facts = facts
+opened_at granted after t agree (Some p) facts =
+    allowed_by (with_grant granted t.next_consumer (after t.next_consumer)) after (with_opener t p)
+    (agreed_at granted after t.next_consumer agree) p facts
+
+-- an open that is not refused leaves what is allowed, by any grants that agree
+pub opened_allowed : {C : Type 0} (granted : ℕ → Counts) (t : Topology C) (after : ℕ → Counts) (name : List ℕ)
+    → AgreeExcept t.next_consumer granted after → open_refusal granted t name (after t.next_consumer) ≡ None
+    → IsSomeAnd (find_provider t name) (λ p. IsAllowed after (with_opener t p) p)
+opened_allowed granted t after name agree e =
+    opened_at granted after t agree (find_provider t name) ((open_allowed granted t name (after t.next_consumer)).0 e)
+
+-- what `demands_are_allowed` says
+pub ruleset demands_are_allowed = (allowed, open_allowed, opened_allowed)

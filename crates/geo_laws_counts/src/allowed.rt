@@ -3,7 +3,7 @@ ghost use Rattle.geo_laws_counts.specs.AllowedLaws.{ChangedAreEnoughForExclusive
 
 /// A demand, or an open, isn't refused just where with it there is no error below, no writer stands beside another's
 /// exclusive count, and no count is above the limit.
-#[tactic(auto, using(crate::proofs::Refusing::demands_are_allowed))]
+#[tactic(auto, using(crate::proofs::Openers::demands_are_allowed))]
 pub fn demands_are_allowed<C>()
     ensures grants { GrantsAreAllowed C }
     ensures opens { OpensAreAllowed C }
@@ -11,7 +11,7 @@ pub fn demands_are_allowed<C>()
 {}
 
 /// Where only some providers change, it is enough to look at these for exclusiveness and the limit.
-#[tactic(auto, using(crate::proofs::Rising::changed_exclusive, crate::proofs::Rising::changed_limit))]
+#[tactic(auto, using(crate::proofs::LimitFacts::changed_exclusive, crate::proofs::LimitFacts::changed_limit))]
 pub fn changed_are_enough<C>()
     ensures exclusive { ChangedAreEnoughForExclusive C }
     ensures limit { ChangedAreEnoughForLimit C }
@@ -25,7 +25,7 @@ pub fn going_stays_allowed<C>()
 
 /// No write count leaves zero where no count rises, and none comes to zero where none falls; what does so is among
 /// what changes.
-#[tactic(auto, using(crate::proofs::Rising::rises_and_falls_are_among_changes))]
+#[tactic(auto, using(crate::proofs::LimitFacts::rises_and_falls_are_among_changes))]
 pub fn rises_and_falls_are_among_changes<C>()
     ensures none_rises { NoneRises C }
     ensures none_falls { NoneFalls C }

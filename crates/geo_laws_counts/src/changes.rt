@@ -2,14 +2,14 @@
 ghost use Rattle.geo_laws_counts.specs.ChangeLaws.{ConfigsAreNotSeen, ErrorsAreNotSeen, GoneGeomsChangeNothing, GoneProvidersChangeNothing, GrantsOfConsumers, MarksAreNotSeen, NewConsumersChangeNothing, NewGeomsChangeNothing, NewProvidersChangeNothing, NextNumbersAreNotSeen, OtherConfigsAreNotSeen, QuietConsumersCome, QuietConsumersGo, QuietConsumersMove, SeenIsAll, SizesAreNotSeen, StartsAreNotSeen, WitheringIsNotSeen};
 
 /// Demand depends on numbers, classes and who is attached where, and on nothing else of a graph.
-#[tactic(auto, using(crate::proofs::SeenCounts::seen_stays, crate::proofs::Unseen::unseen_configs))]
+#[tactic(auto, using(crate::proofs::Unseen::seen_stays, crate::proofs::Unseen::unseen_configs))]
 pub fn seen_is_all<C, D>()
     ensures seen { SeenIsAll C D }
     ensures configs { OtherConfigsAreNotSeen C D }
 {}
 
 /// So errors, media sizes, withering, marks, configurations, started requests and the next numbers leave it.
-#[tactic(auto, using(crate::proofs::Unseen::little_is_seen, crate::proofs::SeenCounts::seen_stays))]
+#[tactic(auto, using(crate::proofs::Unseen::little_is_seen, crate::proofs::Unseen::seen_stays))]
 pub fn little_is_seen<C>()
     ensures errors { ErrorsAreNotSeen C }
     ensures sizes { SizesAreNotSeen C }
@@ -27,6 +27,7 @@ pub fn grants_are_of_consumers<C>()
 {}
 
 /// Geoms without parts and providers with nothing attached come and go without any count changing.
+#[tactic(auto, using(crate::proofs::Stays::geom_came, crate::proofs::Stays::provider_came, crate::proofs::Stays::provider_went))]
 pub fn bare_parts_change_nothing<C>()
     ensures new_geom { NewGeomsChangeNothing C }
     ensures gone_geom { GoneGeomsChangeNothing C }

@@ -3,7 +3,7 @@ ghost use Rattle.geo_laws_counts.specs.CountLaws.{CountersAreCounts, CountsAreSu
 
 /// In a graph without loops the counts of a provider are the sum of what its consumers want, and enough levels are
 /// enough.
-#[tactic(auto, using(crate::proofs::Upward::have_is_sum, crate::proofs::Upward::enough_levels))]
+#[tactic(auto, using(crate::proofs::Sums::have_is_sum, crate::proofs::Sums::enough_levels))]
 pub fn counts_are_sums<C>()
     ensures sums { CountsAreSums C }
     ensures levels { EnoughLevels C }
@@ -15,14 +15,14 @@ pub fn counters_are_counts<C>()
 {}
 
 /// Counts depend only on what stands above the provider.
-#[tactic(auto, using(crate::proofs::Counters::same_above))]
+#[tactic(auto, using(crate::proofs::Reach::same_above))]
 pub fn counts_depend_on_above<C, D>()
     ensures { CountsDependOnAbove C D }
 {}
 
 /// Who wants nothing: a provider with nothing attached has no counts; a consumer of DEV or TASTE wants its grant;
 /// another one wants nothing where nothing above has a count, and but for one of a disk only there.
-#[tactic(auto, using(crate::proofs::Counters::nothing_above, crate::proofs::Counters::wants_nothing))]
+#[tactic(auto, using(crate::proofs::Reach::nothing_above, crate::proofs::Reach::wants_nothing))]
 pub fn nothing_is_wanted<C>()
     ensures attached { NothingAttached C }
     ensures granted { GrantsAreWanted C }

@@ -5,7 +5,7 @@ ghost use Rattle.geo_laws_counts.specs.DemandLaws.{BelowBeginsAtIt, BelowIsClose
 /// what its geom's providers gain: partition tables, labels, concats and stripes add an exclusive count at the first
 /// demand above. Read backwards, where grants fall, they lose as much, and the exclusive count goes with the last
 /// demand.
-#[tactic(auto, using(crate::proofs::Gains::have_gains, crate::proofs::Gains::want_gains))]
+#[tactic(auto, using(crate::proofs::Sums::have_gains, crate::proofs::Sums::want_gains))]
 pub fn grants_gain<C>()
     ensures providers { ProvidersGain C }
     ensures consumers { ConsumersGain C }

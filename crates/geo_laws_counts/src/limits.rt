@@ -2,7 +2,7 @@
 ghost use Rattle.geo_laws_counts.specs.LimitLaws.{CountsFallWithConsumers, CountsRiseWithGrants, ExclusiveMeans, LessStaysExclusive, LessStaysLimited, LimitMeans, SmallerStaysExclusive, SmallerStaysLimited, WantsFallWithConsumers, WantsRiseWithGrants};
 
 /// No count and no want falls where grants rise, and none rises where consumers are left out.
-#[tactic(auto, using(crate::proofs::Levels::counts_follow_demand))]
+#[tactic(auto, using(crate::proofs::Sums::counts_follow_demand))]
 pub fn counts_follow_demand<C>()
     ensures counts { CountsRiseWithGrants C }
     ensures wants { WantsRiseWithGrants C }
@@ -11,13 +11,14 @@ pub fn counts_follow_demand<C>()
 {}
 
 /// What the tests of exclusiveness and of the limit say.
+#[tactic(auto, using(crate::proofs::LimitFacts::limit_means))]
 pub fn limits_mean<C>()
     ensures exclusive { ExclusiveMeans C }
     ensures limit { LimitMeans C }
 {}
 
 /// With less demand neither exclusiveness nor the limit begins to fail.
-#[tactic(auto, using(crate::proofs::Keeping::less_is_allowed))]
+#[tactic(auto, using(crate::proofs::LimitFacts::less_is_allowed))]
 pub fn less_is_allowed<C>()
     ensures fewer_exclusive { LessStaysExclusive C }
     ensures fewer_limited { LessStaysLimited C }

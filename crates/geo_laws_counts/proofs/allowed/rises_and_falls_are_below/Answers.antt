@@ -1,10 +1,10 @@
 use Rattle.std.specs.Prelude.{Some}
 use Rattle.geo_model.specs.Topology.{add_consumer, remove_consumer}
 use Rattle.geo_model.specs.Opens.{below}
-use Rattle.geo_laws_counts.proofs.Levels.{have-at_most}
-use Rattle.geo_laws_counts.proofs.Rising.{risen_none, fallen_none, risen_in, fallen_in}
+use Rattle.geo_laws_counts.proofs.Sums.{have-at_most}
+use Rattle.geo_laws_counts.proofs.LimitFacts.{risen_none, fallen_none, risen_in, fallen_in}
 use Rattle.geo_laws_counts.proofs.Openers.{came_more, came_stays, went_less, went_stays}
-use Rattle.geo_laws_counts.proofs.Singles.{differing_stays}
+use Rattle.geo_laws_counts.proofs.Reach.{differing_stays}
 use Rattle.geo_laws_counts.proofs.allowed.rises_and_falls_are_below.Goals as goal
 
 pub returns-clause-rising_grants : goal.returns-clause-rising_grants

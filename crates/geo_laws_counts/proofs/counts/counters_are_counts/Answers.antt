@@ -1,4 +1,4 @@
-use Rattle.geo_laws_counts.proofs.Counters.{counters_are_counts}
+use Rattle.geo_laws_counts.proofs.Reach.{counters_are_counts}
 use Rattle.geo_laws_counts.proofs.counts.counters_are_counts.Goals as goal
 
 pub returns : goal.returns

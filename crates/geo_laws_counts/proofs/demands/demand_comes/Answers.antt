@@ -1,6 +1,5 @@
 use Rattle.geo_laws_counts.proofs.Stays.{opener_came}
-use Rattle.geo_laws_counts.proofs.Openers.{came_more, came_stays, below_came, came_gains, came_wants}
-use Rattle.geo_laws_counts.proofs.Refusing.{errors_came}
+use Rattle.geo_laws_counts.proofs.Openers.{came_more, came_stays, below_came, came_gains, came_wants, errors_came}
 use Rattle.std.specs.Prelude.{Some}
 use Rattle.geo_laws_counts.proofs.demands.demand_comes.Goals as goal
 

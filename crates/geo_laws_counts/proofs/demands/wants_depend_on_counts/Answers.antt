@@ -1,5 +1,5 @@
 use Rattle.std.proofs.lemmas.List.Elements.{recursion_from_All}
-use Rattle.geo_laws_counts.proofs.Counters.{want_same}
+use Rattle.geo_laws_counts.proofs.Reach.{want_same}
 use Rattle.geo_laws_counts.proofs.demands.wants_depend_on_counts.Goals as goal
 
 pub returns : goal.returns
