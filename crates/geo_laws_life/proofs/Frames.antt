@@ -1,37 +1,189 @@
--- Consumers of DEV or TASTE come or go, and handles and the taste with them: what stood stands, so a firm world stays
--- firm.
-use Rattle.std.specs.Prelude.{◌≡◌, ◌≢◌, ◌⊎◌, ◌↔◌, ℕ, ◌<◌, ◌≤◌, ◌==◌, ◌%◌, Bool, true, false, not, map, Option, Some, None, All, Contains, IsSome, IsSomeAnd, IfSome, IsTrue, MatchOption, option_and_then}
+-- Where only handles, consumers of DEV or TASTE and the taste change, a firm world stays firm.
+use Rattle.std.specs.Prelude.{◌≡◌, ◌≢◌, ◌⊎◌, ◌==◌, ◌||◌, ℕ, true, false, [], find, Option, Some, None, Contains, IsSome, IsSomeAnd, MatchOption, ◌↔◌, ◌<◌, ◌≤◌, ◌%◌, Bool, not, map, All, IfSome, IsTrue, option_and_then, List, ◌∷◌, length, filter, fold, count_by, option_map}
+use Rattle.std.proofs.Common.{inl, inr, refl, sym, ◌∙◌, ap, subst, arith}
+use Rattle.std.proofs.lemmas.Bool.{eq-eqb, eqb-true, or_left, or_right, ne_eqb, cases_eq, not-true}
+use Rattle.std.proofs.lemmas.List.Elements.{All-contains, All-weaker, Contains-push_cases, All-from_recursion, recursion_from_All}
 use Rattle.std.specs.List.{AllZip, list_any}
 use Rattle.std.specs.Option.{option_map_or}
-use Rattle.std.proofs.Common.{inl, inr, refl, sym, ◌∙◌, ap, subst, arith}
-use Rattle.std.proofs.lemmas.Bool.{eqb-true, ne_eqb, cases_eq, not-true}
-use Rattle.std.proofs.lemmas.List.Elements.{All-contains, All-weaker, Contains-push_cases}
+use Rattle.std.proofs.lemmas.List.Sums.{length-filter}
+use Rattle.geo_model.proofs.Tests.{from_false_true, from_true_false}
+use Rattle.geo_model.proofs.DemandLemmas.{find_passes}
+use Rattle.geo_model.specs.Kind.{Kind}
+use Rattle.geo_model.specs.Kind.TheVariants as kinds
+use Rattle.geo_model.specs.Words.{is_kind, is_granted_kind, names_number, change_where}
+use Rattle.geo_model.specs.Topology.{Topology, Geom, Provider, Consumer, geom_at, consumer_at, providers_of, provider_at, geom_of_provider, consumers_of, add_consumer, remove_consumer}
+use Rattle.geo_model.specs.World.{World, Config, Nothing, Handle, Taste, Bio, granted_in, is_taste_root, is_read_out, taste_grant}
+use Rattle.geo_model.specs.Sound.{fits_kind, IsOfItsClass, HasItsConsumer, IsTasting, HasTasteConsumer, RanksHold, CountsHold, HandlesHold, IsPlaceInside, IsPlaced, LeadsDown, IsTasteInOrder, IsHandleConsumer}
+use Rattle.geo_model.specs.Fitting.{Firm, IsWholeIn, FitsBelow, sizes_of, FitsPlace, FitsPlaces, IsAskedInOrder}
 use Rattle.geo_model.proofs.FindLists.{some-passes}
 use Rattle.geo_model.proofs.MemberLists.{zip_members}
 use Rattle.geo_model.proofs.Options.{if-any, some_weaker}
-use Rattle.geo_model.proofs.Tests.{from_true_false}
 use Rattle.geo_model.specs.Counts.{Counts}
 use Rattle.geo_model.specs.TheConstants.{UNTASTED_RANK}
-use Rattle.geo_model.specs.Topology.{Topology, Geom, Provider, Consumer, geom_at, provider_at, consumer_at, geom_of_provider, providers_of, consumers_of, add_consumer, remove_consumer}
 use Rattle.geo_model.specs.Rank.{rank}
 use Rattle.geo_model.specs.Demand.{have, is_zero}
 use Rattle.geo_model.specs.Place.{Spot, place, component, components, disk_of}
 use Rattle.geo_model.specs.Acceptance.{places_of}
-use Rattle.geo_model.specs.World.{World, Config, Nothing, Handle, Taste, Bio, granted_in, is_taste_root, is_read_out}
 use Rattle.geo_model.specs.Graph.{AreNumbers, IsInOrder}
-use Rattle.geo_model.specs.Sound.{RanksHold, CountsHold, HandlesHold, HasItsConsumer, HasTasteConsumer, IsPlaceInside, IsPlaced, LeadsDown, IsTasteInOrder}
 use Rattle.geo_model.specs.SoundBios.{IsBioInOrder, IsFamilyInOrder, HasCountFor}
 use Rattle.geo_model.specs.Steady.{has_open_provider, HasItsComponents, ComesFromItsOwner}
-use Rattle.geo_model.specs.Fitting.{IsWholeIn, FitsBelow, sizes_of, FitsPlace, FitsPlaces, IsAskedInOrder, Firm}
-use Rattle.geo_laws_graph.specs.LookupLaws.{new_consumer}
-use Rattle.geo_laws_graph.proofs.Members.{find-Contains, filter-Contains, Contains-filter, All-from_contained}
-use Rattle.geo_laws_graph.proofs.Lists.{found_itself}
-use Rattle.geo_laws_graph.proofs.Found.{added-consumer, removed-consumer}
+use Rattle.geo_model.specs.declared.step.Owner.{Owner}
+use Rattle.geo_model.specs.declared.step.Owner.TheVariants as owners
+use Rattle.geo_model.specs.WorldEvents.{kill_handle}
+use Rattle.geo_laws_graph.proofs.Members.{Has, find-Contains, filter-Contains, Contains-filter, Contains-here, nothing_in, All-from_contained}
+use Rattle.geo_laws_graph.proofs.Lists.{found_fresh, found_itself, changed, changed-keeps, find-changed, filter-changed, all-changed, length-changed, numbers-changed}
 use Rattle.geo_laws_graph.proofs.Numbered.{number_found, any-contained}
+use Rattle.geo_laws_graph.specs.LookupLaws.{new_consumer}
+use Rattle.geo_laws_graph.proofs.Found.{added-consumer, removed-consumer}
 use Rattle.geo_laws_graph.proofs.Living.{found-before, all_members, sound-order}
+use Rattle.geo_laws_counts.specs.CountWords.{HoldsGrants}
+use Rattle.geo_laws_counts.proofs.Upward.{names_some}
 use Rattle.geo_laws_counts.proofs.LimitFacts.{all_of}
-use Rattle.geo_laws_life.proofs.Found.{found-with, some-with, if-found, at-found, one-found, keeps_all}
-use Rattle.geo_laws_life.proofs.Bare.{bare_there, bare_config, not_of_bare}
+use Rattle.geo_laws_life.proofs.Found.{found-with, some-with, some-there, none-there, one-found, if-found, at-found, keeps_all}
+pub use Rattle.geo_laws_life.proofs.Less.{tasting_stays}
+
+-- a class with DEV's number or TASTE's is one whose consumers hold their grants
+granted_kind : (kind : Kind) → (is_kind kind kinds.Dev || is_kind kind kinds.Taste) ≡ true
+    → is_granted_kind kind ≡ true
+granted_kind kinds.Dev e = refl
+granted_kind kinds.Taste e = refl
+granted_kind _ e = from_false_true e
+
+-- a geom of such a class has no configuration
+granted_nothing : (kind : Kind) (config : Config) → is_granted_kind kind ≡ true → fits_kind kind config ≡ true
+    → config ≡ Nothing
+granted_nothing kind Nothing granted fits = refl
+granted_nothing kinds.Dev _ granted fits = from_false_true fits
+granted_nothing kinds.Taste _ granted fits = from_false_true fits
+granted_nothing _ _ granted fits = from_false_true granted
+
+module _ (w : World) (firm : Firm w) (n : ℕ) where
+  -- the graph
+  abbrev graph : Topology Config
+  graph = w.topology
+
+  -- a geom that is found is of its class
+  pub class-at : (g : Geom Config) → geom_at graph n ≡ Some g → IsOfItsClass g
+  class-at g found =
+      All-contains IsOfItsClass graph.geoms g firm.graph.numbers.classes
+      (find-Contains (λ (x : Geom Config). x.number == n) graph.geoms g found)
+
+  module _ (bare : (n ≡ 1) ⊎ (n ≡ 2)) where
+    -- the geom of DEV or TASTE stands
+    pub stands-at : Has (geom_at graph n)
+    stands-at = by bare where
+      -- by which it is
+      by : (n ≡ 1) ⊎ (n ≡ 2) → Has (geom_at graph n)
+      by (inl e) =
+          let g = found-with (geom_at graph 1) (λ x. x.withering ≡ false) firm.graph.ranks.dev.stands in
+          record { item = g.item; is = subst (λ m. geom_at graph m ≡ Some g.item) (sym e) g.is }
+      by (inr e) =
+          let g = found-with (geom_at graph 2) (λ x. x.withering ≡ false) firm.graph.ranks.taste.stands in
+          record { item = g.item; is = subst (λ m. geom_at graph m ≡ Some g.item) (sym e) g.is }
+
+    -- it is there
+    pub bare_there : IsSome (geom_at graph n)
+    bare_there = some-there (geom_at graph n) stands-at.item stands-at.is
+
+    -- its consumers hold their grants by its class
+    granted : (g : Geom Config) → geom_at graph n ≡ Some g → is_granted_kind g.kind ≡ true
+    granted g found = granted_kind g.kind (by bare) where
+      -- its number
+      number : g.number ≡ n
+      number = number_found (λ (x : Geom Config). x.number) graph.geoms n g found
+
+      -- by which it is
+      by : (n ≡ 1) ⊎ (n ≡ 2) → (is_kind g.kind kinds.Dev || is_kind g.kind kinds.Taste) ≡ true
+      by (inl e) =
+          or_left (is_kind g.kind kinds.Dev) (is_kind g.kind kinds.Taste)
+          ((class-at g found).dev ∙ eq-eqb g.number 1 (number ∙ e))
+      by (inr e) =
+          or_right (is_kind g.kind kinds.Dev) (is_kind g.kind kinds.Taste)
+          ((class-at g found).taste ∙ eq-eqb g.number 2 (number ∙ e))
+
+    -- so they do
+    pub holds_grants : HoldsGrants graph n
+    holds_grants = some-with (geom_at graph n) (λ x. is_granted_kind x.kind ≡ true) stands-at.item stands-at.is
+        (granted stands-at.item stands-at.is)
+
+    -- it has no configuration
+    bare_config : (g : Geom Config) → geom_at graph n ≡ Some g → g.config ≡ Nothing
+    bare_config g found = granted_nothing g.kind g.config (granted g found) (class-at g found).config
+
+    -- no provider is of it
+    pub not_of_bare : (p : Provider) → Contains graph.providers p → p.geom ≢ n
+    not_of_bare p here own =
+        nothing_in p (subst (λ ps. Contains ps p) (by bare)
+        (Contains-filter (λ (x : Provider). x.geom == n) graph.providers p here (eq-eqb p.geom n own)))
+      where
+        -- it offers nothing
+        by : (n ≡ 1) ⊎ (n ≡ 2) → providers_of graph n ≡ []
+        by (inl e) = ap (providers_of graph) e ∙ firm.graph.ranks.dev.no_provider
+        by (inr e) = ap (providers_of graph) e ∙ firm.graph.ranks.taste.no_provider
+
+module _ (w : World) (firm : Firm w) where
+  -- no handle has a consumer that isn't of DEV
+  pub none_holds : (n : ℕ) → ((c : Consumer) → consumer_at w.topology n ≡ Some c → c.geom ≢ 1)
+      → find (λ (h : Handle). names_number h.consumer n) w.handles ≡ None
+  none_holds n other = by (find (λ (h : Handle). names_number h.consumer n) w.handles) refl where
+    -- by what is found
+    by : (o : Option Handle) → find (λ (h : Handle). names_number h.consumer n) w.handles ≡ o → o ≡ None
+    by None e = refl
+    by (Some h) e =
+        let names : h.consumer ≡ Some n =
+        names_some h.consumer n (find_passes (λ (h : Handle). names_number h.consumer n) w.handles h e) in
+        let its = All-contains (HasItsConsumer w.topology) w.handles h firm.handles.handles
+        (find-Contains (λ (h : Handle). names_number h.consumer n) w.handles h e) in
+        let c = found-with (consumer_at w.topology n) (λ z. z.geom ≡ 1)
+        (subst (λ o. MatchOption o (h.dead ≡ true) (λ m. IsSomeAnd (consumer_at w.topology m) (λ z. z.geom ≡ 1)))
+        names its) in
+        absurd (other c.item c.is c.fact)
+
+  -- and none has the consumer that is made next
+  pub none_holds_next : find (λ (h : Handle). names_number h.consumer w.topology.next_consumer) w.handles ≡ None
+  none_holds_next =
+      none_holds w.topology.next_consumer (λ c e one.
+      let fresh = found_fresh (λ (z : Consumer). z.number) w.topology.next_consumer w.topology.next_consumer
+      w.topology.consumers firm.graph.numbers.consumers (omega arith) in
+      none-there (consumer_at w.topology w.topology.next_consumer) fresh
+      (some-there (consumer_at w.topology w.topology.next_consumer) c e))
+
+module _ (w : World) (firm : Firm w) (s : Taste) (is : w.taste ≡ Some s) where
+  -- the taste has its consumer
+  pub tasting : IsTasting w.topology s
+  tasting = subst (HasTasteConsumer w.topology) is firm.handles.taste
+
+  -- its consumer
+  abbrev pub taster : Consumer
+  taster = tasting.consumer
+
+  -- it is one of TASTE
+  kept : Contains w.topology.consumers taster × ((taster.geom == 2) ≡ true)
+  kept = filter-Contains (λ (x : Consumer). x.geom == 2) w.topology.consumers taster
+      (subst (λ cs. Contains cs taster) (sym tasting.alone) (Contains-here taster []))
+
+  -- it stands
+  pub taster_here : Contains w.topology.consumers taster
+  taster_here = kept.0
+
+  -- its geom
+  pub taster_geom : taster.geom ≡ 2
+  taster_geom = eqb-true taster.geom 2 kept.1
+
+  -- it is found
+  pub taster_found : consumer_at w.topology taster.number ≡ Some taster
+  taster_found = found_itself (λ (x : Consumer). x.number) w.topology.next_consumer w.topology.consumers taster
+      firm.graph.numbers.consumers taster_here
+
+  -- what is found at the number that the taste names is of TASTE
+  pub of_taste : (c : Consumer) → consumer_at w.topology s.consumer ≡ Some c → c.geom ≡ 2
+  of_taste c found =
+      let one : taster ≡ c = one-found (consumer_at w.topology s.consumer) taster c
+      (subst (λ m. consumer_at w.topology m ≡ Some taster) tasting.number taster_found) found in
+      sym (ap (λ (x : Consumer). x.geom) one) ∙ taster_geom
+
+-- Consumers of DEV or TASTE come or go, and handles and the taste with them: what stood stands, so a firm world stays
+-- firm.
 
 -- Graphs
 
@@ -135,17 +287,6 @@ has_its-still t u still h = by h.consumer where
       → MatchOption o (h.dead ≡ true) (λ c. IsSomeAnd (consumer_at u c) (λ x. x.geom ≡ 1))
   by None fact = fact
   by (Some m) fact = fact_still t u (λ x. x.geom ≡ 1) still (Some m) fact
-
--- where TASTE has the consumers that it had, the taste has its consumer
-pub tasting_stays : (t u : Topology Config) → consumers_of u 2 ≡ consumers_of t 2 → (o : Option Taste)
-    → HasTasteConsumer t o → HasTasteConsumer u o
-tasting_stays t u same None is = same ∙ is
-tasting_stays t u same (Some s) is = record {
-  consumer = is.consumer;
-  alone = same ∙ is.alone;
-  number = is.number;
-  attached = is.attached;
-}
 
 -- Worlds
 
@@ -477,3 +618,91 @@ held-firm w firm v same handles owners read_out taste asked =
       taste = taste;
       asked = asked;
     })
+
+-- A handle that becomes dead: a firm world stays firm.
+
+-- what is granted is the same where it is the same at each number
+pub grants-same : (G H : ℕ → Counts) → ((c : ℕ) → G c ≡ H c) → G ≡ H
+grants-same G H so = λ i c. so c i
+
+-- a count of items by what a change keeps
+count-changed : {X : Type 0} (hit : X → Bool) (change : X → X) (test : X → Bool)
+    → ((x : X) → hit x ≡ true → test (change x) ≡ test x)
+    → (xs : List X) → count_by test (change_where hit change xs) ≡ count_by test xs
+count-changed hit change test same xs =
+    sym (length-filter test (change_where hit change xs))
+    ∙ ap (λ ys. length ys) (filter-changed hit change test same xs) ∙ length-changed hit change (filter test xs)
+    ∙ length-filter test xs
+
+-- a handle that is dead has its consumer, or none
+dead_too : (o : Option ℕ) (dead : Bool) (Q : ℕ → Type 0) → MatchOption o (dead ≡ true) Q → MatchOption o (true ≡ true) Q
+dead_too None dead Q fact = refl
+dead_too (Some c) dead Q fact = fact
+
+module _ (w : World) (firm : Firm w) (c : ℕ) where
+  -- whether a handle dies
+  abbrev hit : Handle → Bool
+  hit h = names_number h.consumer c
+
+  -- a handle that died
+  abbrev change : Handle → Handle
+  change h = record h { dead = true }
+
+  -- the world after it
+  abbrev v : World
+  v = kill_handle w c
+
+  -- a grant of what is found
+  same_grant : (o : Option Handle) (other : Counts)
+      → option_map_or (λ (h : Handle). h.grant) (option_map (changed hit change) o) other
+      ≡ option_map_or (λ (h : Handle). h.grant) o other
+  same_grant None other = refl
+  same_grant (Some h) other = changed-keeps hit change (λ (h : Handle). h.grant) (λ h e. refl) h
+
+  -- all grants are as before
+  grants : granted_in v ≡ granted_in w
+  grants =
+      grants-same (granted_in v) (granted_in w) (λ d.
+      ap (λ (o : Option Handle). option_map_or (λ (h : Handle). h.grant) o (taste_grant w.taste d))
+      (find-changed hit change (λ (h : Handle). names_number h.consumer d) (λ h e. refl) w.handles)
+      ∙ same_grant (find (λ (h : Handle). names_number h.consumer d) w.handles) (taste_grant w.taste d))
+
+  -- each consumer of DEV is that of one handle
+  consumer_of_handle : (d : Consumer) → IsHandleConsumer w.handles d → IsHandleConsumer v.handles d
+  consumer_of_handle d is = record {
+    attached = is.attached;
+    one_handle = count-changed hit change (λ (h : Handle). names_number h.consumer d.number) (λ h e. refl) w.handles
+        ∙ is.one_handle;
+  }
+
+  -- a root comes from its owner
+  comes : (x : Bio) (o : Owner) → ComesFromItsOwner w.handles w.taste x o → ComesFromItsOwner v.handles w.taste x o
+  comes x (owners.Line handle line) fact =
+      let h = found-with (find (λ (h : Handle). h.number == handle) w.handles) (λ h. h.consumer ≡ Some x.source) fact in
+      some-with (find (λ (h : Handle). h.number == handle) v.handles) (λ h. h.consumer ≡ Some x.source)
+      (changed hit change h.item)
+      (find-changed hit change (λ (h : Handle). h.number == handle) (λ h e. refl) w.handles
+      ∙ ap (option_map (changed hit change)) h.is)
+      (changed-keeps hit change (λ (h : Handle). h.consumer) (λ h e. refl) h.item ∙ h.fact)
+  comes x _ fact = fact
+
+  -- so the world is firm
+  pub killed-firm : Firm v
+  killed-firm =
+      held-firm w firm v grants (record {
+        numbers = numbers-changed (λ (h : Handle). h.number) hit change (λ h e. refl) w.next_handle w.handles
+            firm.handles.numbers;
+        consumers = All-weaker (IsHandleConsumer w.handles) (IsHandleConsumer v.handles) consumer_of_handle
+            (consumers_of w.topology 1) firm.handles.consumers;
+        handles = All-from_recursion (HasItsConsumer w.topology) v.handles
+            (all-changed hit change (HasItsConsumer w.topology)
+            (λ h e fact. dead_too h.consumer h.dead (λ d. IsSomeAnd (consumer_at w.topology d) (λ x. x.geom ≡ 1))
+            fact) w.handles (recursion_from_All (HasItsConsumer w.topology) w.handles firm.handles.handles));
+        taste = firm.handles.taste;
+      })
+      (λ x. comes x x.owner) firm.bios.read_out firm.taste.order firm.taste.asked
+
+-- so where some die
+pub all_killed-firm : (cs : List ℕ) (w : World) → Firm w → Firm (fold kill_handle w cs)
+all_killed-firm [] w firm = firm
+all_killed-firm (c ∷ cs) w firm = all_killed-firm cs (kill_handle w c) (killed-firm w firm c)

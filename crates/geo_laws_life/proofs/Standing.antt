@@ -1,7 +1,7 @@
 -- The world once some disks stand: a DISK geom for each, with one provider, which is offered for taste.
-use Rattle.std.specs.Prelude.{◌≡◌, ℕ, ◌+◌, ◌*◌, false, not, List, [], ◌∷◌, ◌++◌, length, fold, filter, zip, ◌<◌}
+use Rattle.std.specs.Prelude.{◌≡◌, ℕ, ◌+◌, ◌*◌, false, not, List, [], ◌∷◌, ◌++◌, length, fold, filter, zip, ◌<◌, suc}
 use Rattle.std.specs.List.{enumerate_from}
-use Rattle.std.proofs.Common.{sym, ◌∙◌, ap, arith, append_assoc}
+use Rattle.std.proofs.Common.{◌∙◌, arith, append_assoc}
 use Rattle.std.proofs.lemmas.List.{append-nil}
 use Rattle.geo_model.specs.Kind.TheVariants as kinds
 use Rattle.geo_model.specs.declared.command.DiskDecl.{DiskDecl}
@@ -80,42 +80,19 @@ stood w xs =
     (w.topology.next_provider + length xs)
     (w.events ++ disk_offers w.topology.next_provider xs)
 
--- worlds with the same lists are the same
-same_lists : (w : World) (gs hs : List (Geom Config)) (ps qs : List Provider) (a b c d : ℕ) (es fs : List Event)
-    → gs ≡ hs → ps ≡ qs → a ≡ b → c ≡ d → es ≡ fs → with_lists w gs ps a c es ≡ with_lists w hs qs b d fs
-same_lists w gs hs ps qs a b c d es fs g p n m e =
-    ap (λ (x : List (Geom Config)). with_lists w x ps a c es) g
-    ∙ ap (λ (x : List Provider). with_lists w hs x a c es) p
-    ∙ ap (λ (x : ℕ). with_lists w hs qs x c es) n
-    ∙ ap (λ (x : ℕ). with_lists w hs qs b x es) m
-    ∙ ap (λ (x : List Event). with_lists w hs qs b d x) e
+-- a number on the way
+one_more : (n k : ℕ) → n + 1 + k ≡ n + suc k
+one_more n k = omega arith
+
+-- nothing more
+add_none : (n : ℕ) → n + 0 ≡ n
+add_none n = omega arith
 
 -- disks that are set up one after another make the world in which they all stand
 pub stand-all : (xs : List Stander) (w : World)
     → fold (λ v item. stand v (item.0, disk_in_size item.1)) w xs ≡ stood w xs
-stand-all [] w =
-    same_lists w
-    w.topology.geoms (w.topology.geoms ++ [])
-    w.topology.providers (w.topology.providers ++ [])
-    w.topology.next_geom (w.topology.next_geom + 0)
-    w.topology.next_provider (w.topology.next_provider + 0)
-    w.events (w.events ++ [])
-    (sym (append-nil w.topology.geoms)) (sym (append-nil w.topology.providers)) (omega arith) (omega arith)
-    (sym (append-nil w.events))
-stand-all (x ∷ xs) w =
-    let one : World = stand w (x.0, disk_in_size x.1) in
-    stand-all xs one
-    ∙ same_lists w
-    (one.topology.geoms ++ disk_geoms (w.topology.next_geom + 1) xs) (w.topology.geoms
-    ++ disk_geoms w.topology.next_geom (x ∷ xs))
-    (one.topology.providers ++ disk_providers (w.topology.next_provider + 1) (w.topology.next_geom + 1) xs)
-    (w.topology.providers ++ disk_providers w.topology.next_provider w.topology.next_geom (x ∷ xs))
-    (w.topology.next_geom + 1 + length xs) (w.topology.next_geom + length (x ∷ xs))
-    (w.topology.next_provider + 1 + length xs) (w.topology.next_provider + length (x ∷ xs))
-    (one.events ++ disk_offers (w.topology.next_provider + 1) xs) (w.events
-    ++ disk_offers w.topology.next_provider (x ∷ xs))
-    (append_assoc w.topology.geoms _ _) (append_assoc w.topology.providers _ _) (omega arith) (omega arith)
-    (append_assoc w.events _ _)
+stand-all [] w = simp (append-nil, add_none)
+stand-all (x ∷ xs) w = stand-all xs (stand w (x.0, disk_in_size x.1)) ∙ simp (append_assoc, one_more)
 
 -- the disks of a plan that stand at its opening, in header order
 abbrev pub standers : Plan → List (ℕ × ℕ) → List Stander

@@ -1,5 +1,4 @@
-use Rattle.geo_laws_life.proofs.Opened.{opening-sound, opening-steady}
-use Rattle.geo_laws_life.proofs.Fits.{opening-fitting}
+use Rattle.geo_laws_life.proofs.Opened.{opening-sound, opening-steady, opening-fitting}
 use Rattle.geo_laws_life.proofs.opening.openings_are_sound.Goals as goal
 
 pub returns : goal.returns
