@@ -1,12 +1,15 @@
 -- Lists of numbered items of which one is changed: what then holds of all, of pairs, and of tests over all.
-use Rattle.std.specs.Prelude.{◌≡◌, ℕ, ◌<◌, ◌==◌, Bool, true, false, List, [], ◌∷◌, length, map, filter, find, Some, All, AllPairs, if◌then◌else◌}
+use Rattle.std.specs.Prelude.{◌≡◌, ℕ, ◌<◌, ◌==◌, Bool, true, false, List, [], ◌∷◌, length, map, filter, find, count_by, not, Some, All, AllPairs, if◌then◌else◌}
 use Rattle.std.specs.List.{AllByRecursion, list_all}
-use Rattle.std.proofs.Common.{refl, sym, subst, arith, get_or}
+use Rattle.std.proofs.Common.{refl, sym, ◌∙◌, ap, subst, arith, get_or}
 use Rattle.std.proofs.lemmas.List.{get_or-map, length-map}
 use Rattle.std.proofs.lemmas.List.Elements.{All-map, All-weaker, All-from_recursion}
+use Rattle.std.proofs.lemmas.List.Sums.{length-filter}
 use Rattle.geo_model.specs.Words.{change_where}
 use Rattle.geo_model.specs.Graph.{AreNumbers}
+use Rattle.geo_laws_graph.proofs.Lists.{filter-changed, length-changed}
 use Rattle.geo_laws_graph.proofs.Numbered.{unique}
+use Rattle.geo_laws_graph.proofs.Spared.{IsSpared, filter-spared}
 pub use Rattle.geo_laws_counts.proofs.Levels.{of_each as each_of}
 pub use Rattle.geo_model.proofs.AllLists.{two_facts as both_by_recursion}
 
@@ -30,6 +33,24 @@ pub none_kept : {X : Type 0} (test : X → Bool) (xs : List X) → AllByRecursio
     → filter test xs ≡ []
 none_kept test [] none = refl
 none_kept test (x ∷ xs) none = let out : test x ≡ false = none.0 in rw out (none_kept test xs none.1)
+
+-- as many pass where the change of some isn't seen
+pub count-changed : {X : Type 0} (hit : X → Bool) (change : X → X) (test : X → Bool)
+    → ((x : X) → hit x ≡ true → test (change x) ≡ test x) → (xs : List X)
+    → count_by test (change_where hit change xs) ≡ count_by test xs
+count-changed {X} hit change test same xs =
+    sym (length-filter test (change_where hit change xs))
+    ∙ ap (λ (ys : List X). length ys) (filter-changed hit change test same xs)
+    ∙ length-changed hit change (filter test xs)
+    ∙ length-filter test xs
+
+-- and where those that go don't pass
+pub count-spared : {X : Type 0} (gone test : X → Bool) (xs : List X) → AllByRecursion (IsSpared gone test) xs
+    → count_by test (filter (λ x. not (gone x)) xs) ≡ count_by test xs
+count-spared {X} gone test xs spared =
+    sym (length-filter test (filter (λ x. not (gone x)) xs))
+    ∙ ap (λ (ys : List X). length ys) (filter-spared gone test xs spared)
+    ∙ length-filter test xs
 
 module _ {X : Type 0} (hit test : X → Bool) (change : X → X)
     (out : (x : X) → hit x ≡ true → test (change x) ≡ false) where

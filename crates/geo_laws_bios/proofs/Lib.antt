@@ -2,13 +2,10 @@ pub mod Apart
 pub mod Items
 pub mod Components
 pub mod Phases
-pub mod Owners
-pub mod Turned
 pub mod Restarted
+pub mod Turned
 pub mod Turning
 pub mod Pieces
-pub mod Counted
-pub mod Wholes
 pub mod Joined
 pub mod Splitting
 pub mod Descending
@@ -17,6 +14,4 @@ pub mod Leaving
 pub mod Completing
 pub mod Ascending
 pub mod Serving
-pub mod Tasted
-pub mod Rising
 pub mod BioSteps

@@ -3,7 +3,8 @@
 use Rattle.std.specs.Prelude.{◌≡◌, ◌≢◌, ◌⊎◌, ℕ, ◌+◌, ◌/◌, ◌<◌, ◌≤◌, ◌==◌, Bool, true, false, not, ◌&&◌, ◌||◌, List, [], ◌∷◌, map, Option, Some, None, All, IsSome, IsSomeAnd, IfSome, IsTrue, MatchOption, option_and_then, option_map, if◌then◌else◌}
 use Rattle.std.specs.List.{list_any, enumerate_from}
 use Rattle.std.specs.Option.{option_map_or}
-use Rattle.std.proofs.Common.{refl, sym, ◌∙◌, ap, subst}
+use Rattle.std.proofs.Common.{inl, inr, refl, sym, ◌∙◌, ap, subst}
+use Rattle.std.proofs.lemmas.Bool.{cases_Bool}
 use Rattle.std.proofs.lemmas.List.{length-map}
 use Rattle.std.proofs.lemmas.List.Elements.{All-map, All-weaker}
 use Rattle.std.proofs.lemmas.Simd.{map-map}
@@ -88,17 +89,21 @@ module _ (s : Geom Config → ℕ) where
     geom_found : (n : ℕ) → geom_at u n ≡ option_map (restart s) (geom_at t n)
     geom_found n = find-map (λ (x : Geom Config). x.number == n) (restart s) t.geoms
 
+    -- a fact of geoms in a graph stays true of the restarted geom
+    abbrev Stays : (Topology Config → Geom Config → Type 0) → Type 0
+    Stays P = (g : Geom Config) → P t g → P u (restart s g)
+
     -- what holds of a geom that is there
-    geom_and : (P Q : Geom Config → Type 0) → ((g : Geom Config) → P g → Q (restart s g)) → (n : ℕ)
-        → IsSomeAnd (geom_at t n) P → IsSomeAnd (geom_at u n) Q
-    geom_and P Q so n has = subst (λ (o : Option (Geom Config)). IsSomeAnd o Q) (sym (geom_found n))
-        (some_restart P Q so (geom_at t n) has)
+    geom_and : (P : Topology Config → Geom Config → Type 0) → Stays P → (n : ℕ) → IsSomeAnd (geom_at t n) (P t)
+        → IsSomeAnd (geom_at u n) (P u)
+    geom_and P so n has = subst (λ (o : Option (Geom Config)). IsSomeAnd o (P u)) (sym (geom_found n))
+        (some_restart (P t) (P u) so (geom_at t n) has)
 
     -- what holds of a geom, if it is there
-    geom_if : (P Q : Geom Config → Type 0) → ((g : Geom Config) → P g → Q (restart s g)) → (n : ℕ)
-        → IfSome (geom_at t n) P → IfSome (geom_at u n) Q
-    geom_if P Q so n has =
-        subst (λ (o : Option (Geom Config)). IfSome o Q) (sym (geom_found n)) (if_restart P Q so (geom_at t n) has)
+    geom_if : (P : Topology Config → Geom Config → Type 0) → Stays P → (n : ℕ) → IfSome (geom_at t n) (P t)
+        → IfSome (geom_at u n) (P u)
+    geom_if P so n has = subst (λ (o : Option (Geom Config)). IfSome o (P u)) (sym (geom_found n))
+        (if_restart (P t) (P u) so (geom_at t n) has)
 
     -- it lives
     geom_lives : (n : ℕ) → IsSome (geom_at t n) → IsSome (geom_at u n)
@@ -106,17 +111,16 @@ module _ (s : Geom Config → ℕ) where
         (lives_restart (geom_at t n) lives)
 
     -- what holds of all geoms
-    all_geoms : (P Q : Geom Config → Type 0) → ((g : Geom Config) → P g → Q (restart s g)) → All P t.geoms
-        → All Q u.geoms
-    all_geoms P Q so facts =
-        All-map Q (restart s) t.geoms (All-weaker P (λ (g : Geom Config). Q (restart s g)) so t.geoms facts)
+    all_geoms : (P : Topology Config → Geom Config → Type 0) → Stays P → All (P t) t.geoms → All (P u) u.geoms
+    all_geoms P so facts =
+        All-map (P u) (restart s) t.geoms (All-weaker (P t) (λ (g : Geom Config). P u (restart s g)) so t.geoms facts)
 
     -- the geom of a provider, by the provider
-    offerer_at : (P Q : Geom Config → Type 0) → ((g : Geom Config) → P g → Q (restart s g)) → (o : Option Provider)
-        → IsSomeAnd (option_and_then (λ (x : Provider). geom_at t x.geom) o) P
-        → IsSomeAnd (option_and_then (λ (x : Provider). geom_at u x.geom) o) Q
-    offerer_at P Q so None has = has
-    offerer_at P Q so (Some x) has = geom_and P Q so x.geom has
+    offerer_at : (P : Topology Config → Geom Config → Type 0) → Stays P → (o : Option Provider)
+        → IsSomeAnd (option_and_then (λ (x : Provider). geom_at t x.geom) o) (P t)
+        → IsSomeAnd (option_and_then (λ (x : Provider). geom_at u x.geom) o) (P u)
+    offerer_at P so None has = has
+    offerer_at P so (Some x) has = geom_and P so x.geom has
 
     -- its disk, by the provider
     disk_by : (o : Option Provider)
@@ -153,8 +157,7 @@ module _ (s : Geom Config → ℕ) where
     -- a geom stands bare
     bare : (n : ℕ) → StandsBare t n → StandsBare u n
     bare n is = record {
-      stands = geom_and (λ (g : Geom Config). g.withering ≡ false) (λ (g : Geom Config). g.withering ≡ false)
-          (λ g e. e) n is.stands;
+      stands = geom_and (λ v g. g.withering ≡ false) (λ g e. e) n is.stands;
       no_provider = is.no_provider;
     }
 
@@ -162,8 +165,7 @@ module _ (s : Geom Config → ℕ) where
     ranks_hold : RanksHold t → RanksHold u
     ranks_hold hold = record {
       ranked = ranks_stay.ranked hold.ranked;
-      not_deep = all_geoms (λ (g : Geom Config). g.number ≢ 1 → g.number ≢ 2 → rank t g.number ≤ MAX_RANK)
-          (λ (g : Geom Config). g.number ≢ 1 → g.number ≢ 2 → rank u g.number ≤ MAX_RANK)
+      not_deep = all_geoms (λ v g. g.number ≢ 1 → g.number ≢ 2 → rank v g.number ≤ MAX_RANK)
           (λ g few a b. subst (λ (r : ℕ). r ≤ MAX_RANK) (sym (ranks_stay.same g.number)) (few a b)) hold.not_deep;
       dev = bare 1 hold.dev;
       taste = bare 2 hold.taste;
@@ -189,10 +191,10 @@ module _ (s : Geom Config → ℕ) where
           (sym (map-map (λ (x : Geom Config). x.number) (restart s) t.geoms)) hold.geoms;
       providers = hold.providers;
       consumers = hold.consumers;
-      classes = all_geoms IsOfItsClass IsOfItsClass
+      classes = all_geoms (λ v. IsOfItsClass)
           (λ g is. record { config = is.config; dev = is.dev; taste = is.taste }) hold.classes;
       one_geom_of_disk = pairs_map DifferInDisk (restart s) t.geoms hold.one_geom_of_disk;
-      disk_sizes = all_geoms (HasDiskSizes t w.disks) (HasDiskSizes u w.disks) (λ g has. has) hold.disk_sizes;
+      disk_sizes = all_geoms (λ v. HasDiskSizes v w.disks) (λ g has. has) hold.disk_sizes;
     }
 
     -- the taste's consumer
@@ -215,10 +217,8 @@ module _ (s : Geom Config → ℕ) where
     leads_down : (p : Provider) → LeadsDown (granted_in w) t p → LeadsDown (granted_in w) u p
     leads_down p leads =
         geom_and
-        (λ (g : Geom Config). (is_zero (have (granted_in w) t p.number) ≡ false) ⊎ (g.withering ≡ false)
-        → IsSome (disk_of g.config) ⊎ IsPlaced t g p)
-        (λ (g : Geom Config). (is_zero (have (granted_in w) u p.number) ≡ false) ⊎ (g.withering ≡ false)
-        → IsSome (disk_of g.config) ⊎ IsPlaced u g p)
+        (λ v g. (is_zero (have (granted_in w) v p.number) ≡ false) ⊎ (g.withering ≡ false)
+        → IsSome (disk_of g.config) ⊎ IsPlaced v g p)
         (λ g so used. so
         (subst (λ (n : Counts). (is_zero n ≡ false) ⊎ (g.withering ≡ false))
         (demand_stays.haves p.number) used)) p.geom leads
@@ -236,8 +236,7 @@ module _ (s : Geom Config → ℕ) where
       ranks = ranks_hold graph.ranks;
       providers = providers_hold graph.providers;
       numbers = numbers_hold graph.numbers;
-      made = all_geoms (λ (g : Geom Config). (g.number ≡ 1) ⊎ (g.number ≡ 2) → g.automatic ≡ false)
-          (λ (g : Geom Config). (g.number ≡ 1) ⊎ (g.number ≡ 2) → g.automatic ≡ false) (λ g made. made) graph.made;
+      made = all_geoms (λ v g. (g.number ≡ 1) ⊎ (g.number ≡ 2) → g.automatic ≡ false) (λ g made. made) graph.made;
       parts = record {
         providers = All-weaker (λ (p : Provider). IsSome (geom_at t p.geom))
             (λ (p : Provider). IsSome (geom_at u p.geom))
@@ -247,7 +246,7 @@ module _ (s : Geom Config → ℕ) where
             (λ c lives. geom_lives c.geom lives) t.consumers graph.parts.consumers;
       };
       attached = graph.attached;
-      partial = all_geoms (WaitsForPlaces t) (WaitsForPlaces u) (λ g waits. waits) graph.partial;
+      partial = all_geoms WaitsForPlaces (λ g waits. waits) graph.partial;
       unmarked = graph.unmarked;
     }
 
@@ -260,7 +259,7 @@ module _ (s : Geom Config → ℕ) where
       };
       places =
           All-weaker (LeadsDown (granted_in w) t) (LeadsDown (granted_in w) u) leads_down t.providers demand.places;
-      components = all_geoms (HasItsComponents (granted_in w) t) (HasItsComponents (granted_in w) u)
+      components = all_geoms (HasItsComponents (granted_in w))
           (λ g has used. has (subst (λ (b : Bool). (g.withering ≡ false) ⊎ IsTrue b)
           (open_same g) used)) demand.components;
     }
@@ -272,14 +271,13 @@ module _ (s : Geom Config → ℕ) where
       sectors = sizes.sectors;
       wholes = All-weaker (FitsBelow t) (FitsBelow u)
           (λ c fits. geom_if
-          (λ (g : Geom Config). IfSome (option_and_then (provider_at t) c.provider) (λ q. IsWholeIn g.config q.sector))
-          (λ (g : Geom Config). IfSome (option_and_then (provider_at t) c.provider)
-          (λ q. IsWholeIn g.config q.sector)) (λ g whole. whole) c.geom fits)
+          (λ v g. IfSome (option_and_then (provider_at v) c.provider) (λ q. IsWholeIn g.config q.sector))
+          (λ g whole. whole) c.geom fits)
           t.consumers sizes.wholes;
-      places = all_geoms (FitsPlaces t) (FitsPlaces u) (λ g fits. fits) sizes.places;
-      one = all_geoms (HasOneProvider t) (HasOneProvider u) (λ g has. has) sizes.one;
-      apart = all_geoms PlacesHold PlacesHold (λ g hold. record { apart = hold.apart; few = hold.few }) sizes.apart;
-      sums = all_geoms (HasItsSum t) (HasItsSum u) (λ g has. has) sizes.sums;
+      places = all_geoms FitsPlaces (λ g fits. fits) sizes.places;
+      one = all_geoms HasOneProvider (λ g has. has) sizes.one;
+      apart = all_geoms (λ v. PlacesHold) (λ g hold. record { apart = hold.apart; few = hold.few }) sizes.apart;
+      sums = all_geoms HasItsSum (λ g has. has) sizes.sums;
     }
 
     -- a class looks at a provider
@@ -296,8 +294,7 @@ module _ (s : Geom Config → ℕ) where
     -- a taste
     taste_same : (x : Taste) → IsTasteInOrder t x → IsTasteInOrder u x
     taste_same x is = record {
-      rank = offerer_at (λ (g : Geom Config). rank t g.number < UNTASTED_RANK)
-          (λ (g : Geom Config). rank u g.number < UNTASTED_RANK)
+      rank = offerer_at (λ v g. rank v g.number < UNTASTED_RANK)
           (λ g low. subst (λ (r : ℕ). r < UNTASTED_RANK) (sym (ranks_stay.same g.number)) low)
           (provider_at t x.provider) is.rank;
       reads = is.reads;
@@ -341,9 +338,7 @@ module _ (s : Geom Config → ℕ) where
         map shape_of_child (children_of w x.number) ≡ map (λ item. shape_of_piece x item.0 item.1)
         (enumerate_from 0 (piece_targets g.config p x))))
         (λ p is. geom_and
-        (λ (g : Geom Config). map shape_of_child (children_of w x.number) ≡ map
-        (λ item. shape_of_piece x item.0 item.1) (enumerate_from 0 (piece_targets g.config p x)))
-        (λ (g : Geom Config). map shape_of_child (children_of w x.number) ≡ map
+        (λ v g. map shape_of_child (children_of w x.number) ≡ map
         (λ item. shape_of_piece x item.0 item.1) (enumerate_from 0 (piece_targets g.config p x)))
         (λ g e. e) p.geom is) (provider_at t x.target) has
 
@@ -394,12 +389,6 @@ restarts_stay_firm s w firm = record {
 abbrev one_more : ℕ → Geom Config → ℕ
 one_more n x = if x.number == n then x.started + 1 else x.started
 
--- a geom then
-noted_at : (n : ℕ) (x : Geom Config) (b : Bool) → (x.number == n) ≡ b
-    → (if x.number == n then record x { started = x.started + 1 } else x) ≡ restart (one_more n) x
-noted_at n x true e = rw e refl
-noted_at n x false e = rw e refl
-
 -- the geoms then
 noted : (n : ℕ) (xs : List (Geom Config))
     → map (λ (x : Geom Config). if x.number == n then record x { started = x.started + 1 } else x) xs ≡ map
@@ -407,7 +396,8 @@ noted : (n : ℕ) (xs : List (Geom Config))
 noted n [] = refl
 noted n (x ∷ xs) =
     let change : Geom Config → Geom Config = λ y. if y.number == n then record y { started = y.started + 1 } else y in
-    ap (λ y. y ∷ map change xs) (noted_at n x (x.number == n) refl)
+    ap (λ y. y ∷ map change xs)
+    (elim (cases_Bool (x.number == n)) [ inl e ↦ rw e refl | inr e ↦ rw e refl ])
     ∙ ap (λ ys. restart (one_more n) x ∷ ys) (noted n xs)
 
 -- one more started request leaves a mesh firm

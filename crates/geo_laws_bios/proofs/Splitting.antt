@@ -1,38 +1,44 @@
--- A bio that is Down is split: it is Waiting, and its children come behind the other bios. These stay in order.
-use Rattle.std.specs.Prelude.{◌≡◌, ◌≢◌, ◌↔◌, ℕ, ◌+◌, ◌%◌, ◌<◌, ◌≤◌, ◌==◌, Bool, true, false, ◌||◌, List, [], ◌∷◌, ◌++◌, length, map, filter, find, count_by, Option, Some, None, All, AllPairs, Contains, IsSome, IsSomeAnd, IsTrue, unwrap_or, if◌then◌else◌}
+-- A bio is split: the bios stay in order where its pieces go down, and in a firm mesh they do.
+use Rattle.std.specs.Prelude.{◌≡◌, ◌≢◌, ◌↔◌, ℕ, ◌+◌, ◌%◌, ◌<◌, ◌≤◌, ◌==◌, Bool, true, false, ◌||◌, List, [], ◌∷◌, ◌++◌, length, map, filter, find, count_by, Option, Some, None, All, AllPairs, Contains, IsSome, IsSomeAnd, IsTrue, unwrap_or, ◌-◌, min, not, take, drop, sum, option_and_then, option_map, slice_get}
 use Rattle.std.specs.List.{AllByRecursion, list_any, list_all, enumerate_from}
-use Rattle.std.specs.Option.{option_map_or}
-use Rattle.std.proofs.Common.{refl, sym, ◌∙◌, ap, subst, arith, append_assoc, get_or}
-use Rattle.std.proofs.lemmas.Bool.{eqb-true, eqb-false, eq-eqb, ne_eqb}
+use Rattle.std.specs.Option.{option_map_or, option_flatten}
+use Rattle.std.proofs.Common.{refl, sym, ◌∙◌, ap, subst, arith, append_assoc, get_or, inl, inr, length-take, length-drop}
+use Rattle.std.proofs.lemmas.Bool.{eqb-true, eqb-false, eq-eqb, ne_eqb, not_from_false, cases_Bool}
 use Rattle.std.proofs.lemmas.List.{append-nil, map-append}
-use Rattle.std.proofs.lemmas.List.Elements.{All-append, All-from_recursion, All-contains, filter-append}
+use Rattle.std.proofs.lemmas.List.Elements.{All-append, All-from_recursion, All-contains, filter-append, recursion_from_All}
 use Rattle.std.proofs.lemmas.List.Folds.{list_any-append, list_any_none}
 use Rattle.std.proofs.lemmas.List.Quantifiers.{all_pairs_push}
 use Rattle.std.proofs.lemmas.List.Sums.{length-filter}
 use Rattle.std.proofs.lemmas.Simd.{map-map}
-use Rattle.geo_model.proofs.Options.{some_weaker}
+use Rattle.std.proofs.lemmas.Nat.Gcd.{dvd_of_mod-eq-zero, mod-eq-zero_of_dvd}
 use Rattle.geo_model.specs.TheConstants.{MAX_REQUEST_BYTES}
 use Rattle.geo_model.specs.declared.step.Owner.{Owner}
 use Rattle.geo_model.specs.declared.step.Owner.TheVariants as owners
 use Rattle.geo_model.specs.declared.step.Phase.TheVariants as phases
 use Rattle.geo_model.specs.Words.{change_where, is_flush, is_write}
-use Rattle.geo_model.specs.Topology.{Geom, Provider, Consumer, geom_at, provider_at, consumer_at, provider_of_consumer}
+use Rattle.geo_model.specs.Topology.{Geom, Provider, Consumer, geom_at, provider_at, consumer_at, provider_of_consumer, Topology, providers_of}
 use Rattle.geo_model.specs.Graph.{AreNumbers}
-use Rattle.geo_model.specs.World.{World, Bio, Config, bio_at, children_of, is_done, is_busy, is_sent, is_down, is_waiting, is_child_of, is_taste_root, is_read_out, granted_in}
-use Rattle.geo_model.specs.Bios.{PieceTarget, piece_targets, piece_child, bytes_of_piece, disk_of_bio}
+use Rattle.geo_model.specs.World.{World, Bio, Config, bio_at, children_of, is_done, is_busy, is_down, is_waiting, is_child_of, is_taste_root, is_read_out, granted_in, Concat}
+use Rattle.geo_model.specs.Bios.{PieceTarget, piece_targets, piece_child, bytes_of_piece, split_bio, empty_piece}
 use Rattle.geo_model.specs.SoundBios.{IsRangeInside, IsBioInOrder, IsFamilyInOrder, HasItsParent, HasItsPieces, HasCountFor, shape_of_child, shape_of_piece, NotBothBusy}
-use Rattle.geo_model.specs.Steady.{ComesFromItsOwner, HasItsResult}
-use Rattle.geo_model.specs.Fitting.{BiosOf}
+use Rattle.geo_model.specs.Steady.{HasItsResult, HasItsComponents}
+use Rattle.geo_model.specs.Fitting.{BiosOf, Firm, FitsPlaces, HasItsSum, IsWholeIn}
 use Rattle.geo_model.proofs.FilterLists.{keeps_all}
+use Rattle.geo_model.proofs.BioLemmas.{write_moves}
+use Rattle.geo_model.specs.declared.span.Piece.{Piece}
+use Rattle.geo_model.specs.Demand.{have, is_zero}
+use Rattle.geo_model.specs.Place.{Spot, place, pieces, component, components, disk_of, Follow}
+use Rattle.geo_model.specs.Acceptance.{joined_size}
+use Rattle.geo_model.specs.Sound.{IsOfItsClass, IsMediaSize, IsPlaceInside}
+use Rattle.geo_model.proofs.RankLemmas.{mapped_by}
 use Rattle.geo_laws_graph.proofs.Lists.{Rise, rise-from, rise-wider, numbers-from, filter-changed, map-changed, any-changed, length-changed, numbers-changed}
 use Rattle.geo_laws_graph.proofs.Living.{found-before}
-use Rattle.geo_laws_graph.proofs.Members.{find-Contains, filter-Contains, Contains-here, Contains-map}
-use Rattle.geo_laws_graph.proofs.Numbered.{at-here, at-unchanged}
+use Rattle.geo_laws_graph.proofs.Members.{find-Contains, filter-Contains, Contains-here, Contains-map, has, Contains-filter}
+use Rattle.geo_laws_graph.proofs.Numbered.{at-here, at-unchanged, number_found, any-contained}
 use Rattle.geo_laws_bios.specs.BioSteps.{turned}
-use Rattle.geo_laws_bios.proofs.Items.{none_kept, pairs_map, all_changed, all-fewer}
-use Rattle.geo_laws_bios.proofs.Phases.{not_waiting}
-use Rattle.geo_laws_bios.proofs.Turned.{AreItsPieces, range_turned, ReadsSector}
-use Rattle.geo_laws_bios.proofs.Owners.{parent_stays, owner_stays}
+use Rattle.geo_laws_bios.proofs.Items.{none_kept, all_changed, all-fewer, both_by_recursion}
+use Rattle.geo_laws_bios.proofs.Turned.{not_waiting, AreItsPieces, HasItsDisk, HasItsOwner, ReadsSector, order_turned, pairs_turned, parent_stays, owner_stays, bios_are_apart}
+use Rattle.geo_laws_bios.proofs.Pieces.{some_components, Below, IsBetween, LiesBelow, is_open, is_placed, range_of, whole_below, follow, pieces_below, no_piece_lost, counted, first_below, IsWholePiece, AreWholeSizes, pieces_whole, sizes_whole, concat_kind}
 
 -- Lists
 
@@ -201,21 +207,15 @@ module _ (w : World) (x : Bio) (targets : List PieceTarget) where
     parent_kept : (o : Owner) → HasItsParent w.bios o → HasItsParent parted.bios o
     parent_kept = parent_stays w.bios parted.bios (λ n has. waiting_at n (bio_at w n) refl has (n == x.number) refl)
 
-    -- so does the one's owner
-    owner_waiting : (o : Owner) → ComesFromItsOwner w.handles w.taste x o
-        → ComesFromItsOwner w.handles w.taste (wait x) o
-    owner_waiting = owner_stays w.handles w.taste x (wait x) refl refl refl
-
     -- a bio that names a parent, names one that is Waiting
     names_waiting : (o : Owner) → is_child_of o x.number ≡ true → HasItsParent w.bios o → ⊥
-    names_waiting (owners.Line handle line) child has = cc
-    names_waiting owners.Taste child has = cc
     names_waiting (owners.Child parent index) child has =
         let same : parent ≡ x.number = eqb-true parent x.number child in
         let here : bio_at w parent ≡ Some x = subst (λ (n : ℕ). bio_at w n ≡ Some x) (sym same) found in
         let waiting : is_waiting x.phase ≡ true = rw here at has in
         let waits_not : is_waiting x.phase ≡ false = waited in
         cc
+    names_waiting _ child has = cc
 
     -- so the bio had no children
     no_children : children_of w x.number ≡ []
@@ -295,16 +295,6 @@ module _ (w : World) (x : Bio) (targets : List PieceTarget) where
         root = λ root. refl;
       }
 
-      -- the bio is still in order
-      order_here : IsBioInOrder (granted_in w) w.topology x → IsBioInOrder (granted_in w) w.topology (wait x)
-      order_here is = record {
-        source = is.source;
-        target = some_weaker (λ (q : Provider). is_flush x.cmd ≡ false → IsRangeInside x q)
-            (λ (q : Provider). is_flush x.cmd ≡ false → IsRangeInside (wait x) q)
-            (range_turned x phases.Waiting (λ r. r)) (provider_at w.topology x.target) is.target;
-        bytes = is.bytes;
-      }
-
       -- the range of a child
       range_new : (k : ℕ) (z : PieceTarget) (q : Provider) → IsSpanInside z.piece.span.offset z.piece.span.len q
           → IsRangeInside (piece_child w.topology w.next_bio x k z) q
@@ -338,20 +328,12 @@ module _ (w : World) (x : Bio) (targets : List PieceTarget) where
             bytes = goes.bytes;
           }
 
-      -- of two bios that stood not both are Busy at one disk
-      not_both : (u v : Bio) (a b : Bool) → is_it u ≡ a → is_it v ≡ b → NotBothBusy w.topology u v
-          → NotBothBusy w.topology (if is_it u then wait u else u) (if is_it v then wait v else v)
-      not_both u v true b e f apart = rw e (λ busy. absurd cc)
-      not_both u v false true e f apart = rw (e, f) (λ other busy. absurd cc)
-      not_both u v false false e f apart = rw (e, f) apart
-
       -- so for all pairs
       one_busy : AllPairs (NotBothBusy w.topology) parted.bios
       one_busy =
           pairs_quiet (NotBothBusy w.topology) (λ (c : Bio). is_busy c.phase ≡ false)
           (λ a c quiet first second. absurd cc) (kids 0 targets) old
-          (pairs_map (NotBothBusy w.topology) (λ (z : Bio). if is_it z then wait z else z) w.bios
-          (λ i j d less short. not_both _ _ _ _ refl refl (hold.disks.one_busy i j d less short)))
+          (pairs_turned w is_it wait (λ z. refl) w.bios hold.disks.one_busy)
           (kids_any (λ (c : Bio). is_busy c.phase ≡ false) (λ k z. refl) 0 targets)
 
       -- no child reads for a taste
@@ -395,30 +377,25 @@ module _ (w : World) (x : Bio) (targets : List PieceTarget) where
           (Contains-map (λ (z : Bio). z.number) w.bios x (find-Contains is_it w.bios x found))
 
       -- the bios are in order afterwards
-      pub parted_hold : BiosOf parted
+      parted_hold : BiosOf parted
       parted_hold = record {
         numbers = numbers;
-        order = each_after (IsBioInOrder (granted_in w) w.topology) (IsBioInOrder (granted_in w) w.topology) order_here
-            (λ z e is. is)
+        order = each_after (IsBioInOrder (granted_in w) w.topology) (IsBioInOrder (granted_in w) w.topology)
+            (order_turned w x phases.Waiting (λ r. r)) (λ z e is. is)
             (kids_all (IsBioInOrder (granted_in w) w.topology) (GoesDown w x) order_new 0 targets lead) hold.order;
         families = each_after (IsFamilyInOrder w.topology parted.bios) (IsFamilyInOrder w.topology w.bios)
             family_here family_there
             (kids_any (IsFamilyInOrder w.topology parted.bios) family_new 0 targets) hold.families;
         disks = record {
-          at_disk = each_after (λ (z : Bio). IsTrue (is_sent z.phase || is_busy z.phase) → IsSome (disk_of_bio w z))
-              (λ (z : Bio). IsTrue (is_sent z.phase || is_busy z.phase) → IsSome (disk_of_bio w z))
-              (λ at sent. absurd cc) (λ z e at. at)
-              (kids_any (λ (z : Bio). IsTrue (is_sent z.phase || is_busy z.phase) → IsSome (disk_of_bio w z))
-              (λ k z sent. absurd cc) 0 targets) hold.disks.at_disk;
+          at_disk = each_after (HasItsDisk w) (HasItsDisk w) (λ at sent. absurd cc) (λ z e at. at)
+              (kids_any (HasItsDisk w) (λ k z sent. absurd cc) 0 targets) hold.disks.at_disk;
           one_busy = one_busy;
         };
         read_out = subst (λ (b : Bool). IsTrue b ↔ IsTrue (option_map_or (λ s. is_read_out s.asked) w.taste false))
             (sym any_same) hold.read_out;
-        owners = each_after (λ (z : Bio). ComesFromItsOwner w.handles w.taste z z.owner)
-            (λ (z : Bio). ComesFromItsOwner w.handles w.taste z z.owner)
-            (owner_waiting x.owner) (λ z e comes. comes)
-            (kids_any (λ (z : Bio). ComesFromItsOwner w.handles w.taste z z.owner)
-            (λ k z. omega (arith, below_next)) 0 targets) hold.owners;
+        owners = each_after (HasItsOwner w) (HasItsOwner w)
+            (owner_stays w.handles w.taste x (wait x) refl refl refl x.owner) (λ z e comes. comes)
+            (kids_any (HasItsOwner w) (λ k z. omega (arith, below_next)) 0 targets) hold.owners;
         results = each_after HasItsResult HasItsResult (λ has up. absurd cc) (λ z e has. has)
             (kids_any HasItsResult (λ k z up. absurd cc) 0 targets) hold.results;
         read = record {
@@ -427,3 +404,269 @@ module _ (w : World) (x : Bio) (targets : List PieceTarget) where
               (kids_any (ReadsSector w) (λ k z reads. absurd cc) 0 targets) hold.read.sector;
         };
       }
+
+-- A Start that splits a bio keeps a mesh firm.
+
+-- so many bytes from a place of as many
+bytes_cut : (at len total : ℕ) (bytes : List ℕ) → length bytes ≡ total → at + len ≤ total
+    → length (take len (drop at bytes)) ≡ len
+bytes_cut at len total bytes is inside =
+    length-take len (drop at bytes)
+    ∙ (let e : min len (length (drop at bytes)) ≡ len = omega (arith, length-drop at bytes, is, inside) in e)
+
+-- what is mapped from some items isn't empty
+map_some : {X Y : Type 0} (f : X → Y) (xs : List X) → xs ≢ [] → map f xs ≢ []
+map_some f [] some none = some refl
+map_some f (x ∷ xs) some none = cc
+
+module _ (w : World) (firm : Firm w) (x : Bio) (here : Contains w.bios x) (p : Provider)
+    (at_target : provider_at w.topology x.target ≡ Some p)
+    (g : Geom Config) (of_it : geom_at w.topology p.geom ≡ Some g) (no_disk : disk_of g.config ≡ None) where
+  -- the graph
+  abbrev t : Topology Config
+  t = w.topology
+
+  -- the provider stands
+  p_stands : Contains t.providers p
+  p_stands = find-Contains (λ (v : Provider). v.number == x.target) t.providers p at_target
+
+  -- so does its geom
+  g_stands : Contains t.geoms g
+  g_stands = find-Contains (λ (v : Geom Config). v.number == p.geom) t.geoms g of_it
+
+  -- the geom's number
+  geom_number : g.number ≡ p.geom
+  geom_number = number_found (λ (v : Geom Config). v.number) t.geoms p.geom g of_it
+
+  -- it is one of the geom's providers
+  p_offered : Contains (providers_of t g.number) p
+  p_offered = Contains-filter (λ (v : Provider). v.geom == g.number) t.providers p p_stands
+      (eq-eqb p.geom g.number (sym geom_number))
+
+  -- the sizes of a concat are whole sectors
+  sizes_by : (config : Config) → g.config ≡ config → AreWholeSizes p.sector config
+  sizes_by (Concat id places sizes) is =
+      let class : IsOfItsClass g = All-contains IsOfItsClass t.geoms g firm.graph.numbers.classes g_stands in
+      let kind = concat_kind g.kind id places sizes (rw is at class.config) in
+      let fits : FitsPlaces t g = All-contains (FitsPlaces t) t.geoms g firm.sizes.places g_stands in
+      let sum_fact : HasItsSum t g = All-contains (HasItsSum t) t.geoms g firm.sizes.sums g_stands in
+      let total : p.size ≡ joined_size g.config =
+      All-contains (λ (v : Provider). v.size ≡ joined_size g.config) (providers_of t g.number) p
+      (sum_fact (inl kind)) p_offered in
+      let size : p.size ≡ sum sizes = total ∙ ap joined_size is in
+      sizes_whole t g p 0 places sizes (rw is at fits)
+      (λ i. subst (λ (n : ℕ). component g.config n ≡ option_flatten (slice_get places i))
+      (let e : i ≡ 0 + i = omega arith in e)
+      (subst (λ (c : Config). component c i ≡ option_flatten (slice_get places i)) (sym is) refl))
+      (λ o below. subst (λ (c : Config). IsSomeAnd (place c p.name o) (IsPlaceInside t g p)) is
+      (is_placed w firm x here p at_target g of_it no_disk o (omega (arith, size))))
+  sizes_by _ is = tt
+
+  -- the consumers of the geom have the count
+  count : (c : Consumer) → c.geom ≡ g.number → HasCountFor (granted_in w) w.topology x c
+  count = counted w firm x here p at_target g of_it no_disk
+
+  -- they are of the geom of the provider to which the bio goes
+  of_the_geom : (c : Consumer) → c.geom ≡ g.number → (q : Provider) → provider_at t x.target ≡ Some q → c.geom ≡ q.geom
+  of_the_geom c of_geom q at = let same : p ≡ q = cc in of_geom ∙ geom_number ∙ ap (λ (v : Provider). v.geom) same
+
+  -- the bio is in order
+  order : IsBioInOrder (granted_in w) w.topology x
+  order = All-contains (IsBioInOrder (granted_in w) w.topology) w.bios x firm.bios.order here
+
+  module _ (moves : is_flush x.cmd ≡ false) where
+    -- the range of the bio
+    range : IsRangeInside x p
+    range = range_of w firm x here p at_target moves
+
+    -- what the configuration asks of the sector size
+    whole : IsWholeIn g.config p.sector
+    whole =
+        let first = first_below w firm x here p at_target g of_it no_disk in
+        subst (λ (n : ℕ). IsWholeIn g.config n) first.1.sector
+        (whole_below w firm x here p at_target g of_it no_disk first.0 first.1)
+
+    -- the pieces are whole sectors
+    wholes : AllByRecursion (IsWholePiece p.sector) (pieces g.config p x.offset x.len)
+    wholes =
+        let media : IsMediaSize p.size p.sector =
+        All-contains
+        (λ (v : Provider). IsMediaSize v.size v.sector) t.providers p firm.graph.providers.sizes p_stands in
+        pieces_whole p.sector p x.offset x.len g.config
+        (dvd_of_mod-eq-zero p.sector range.offset_whole) (dvd_of_mod-eq-zero p.sector range.len_whole)
+        (dvd_of_mod-eq-zero p.sector media.whole)
+        whole (sizes_by g.config refl)
+
+    -- a piece that lies below, and is of whole sectors
+    abbrev GoodPiece : Piece → Type 0
+    GoodPiece s = LiesBelow w firm x here p at_target g of_it no_disk moves s × IsWholePiece p.sector s
+
+    -- what lies below two places of one component is of one provider
+    same_below : (a b : Spot) → a.component ≡ b.component → (l : Below t g p a) (r : Below t g p b)
+        → l.provider ≡ r.provider
+    same_below a b same l r =
+        let is : component g.config a.component ≡ Some l.number = l.is in
+        let is_too : component g.config b.component ≡ Some r.number = r.is in
+        let here_too : component g.config a.component ≡ Some r.number =
+        subst (λ (k : ℕ). component g.config k ≡ Some r.number) (sym same) is_too in
+        let numbers : l.number ≡ r.number = cc in
+        let found : consumer_at t l.number ≡ Some l.consumer = l.found in
+        let found_too : consumer_at t l.number ≡ Some r.consumer =
+        subst (λ (k : ℕ). consumer_at t k ≡ Some r.consumer) (sym numbers) r.found in
+        let consumers : l.consumer ≡ r.consumer = cc in
+        let to_it : l.consumer.provider ≡ Some l.under = l.to_it in
+        let to_it_too : l.consumer.provider ≡ Some r.under =
+        subst (λ (c : Consumer). c.provider ≡ Some r.under) (sym consumers) r.to_it in
+        let unders : l.under ≡ r.under = cc in
+        let stands : provider_at t l.under ≡ Some l.provider = l.stands in
+        let stands_too : provider_at t l.under ≡ Some r.provider =
+        subst (λ (k : ℕ). provider_at t k ≡ Some r.provider) (sym unders) r.stands in
+        cc
+
+    -- such a piece goes down
+    piece_goes : (s : Piece) (c : ℕ) → component g.config s.child ≡ Some c → GoodPiece s
+        → GoesDown w x (record { consumer = c; piece = s })
+    piece_goes s c is good =
+        let between : IsBetween 0 x.len s = good.0.0 in
+        let some : 0 < s.span.len = between.some in
+        let high : s.at + s.span.len ≤ x.len = between.to_high in
+        let first = good.0.1 0 some in
+        let last = good.0.1 (s.span.len - 1) (omega arith) in
+        let one : last.provider ≡ first.provider = same_below _ _ refl last first in
+        let there : component g.config s.child ≡ Some first.number = first.is in
+        let number : first.number ≡ c = cc in
+        let low : s.span.offset + (s.span.len - 1) < last.provider.size = last.low in
+        let inside : s.span.offset + (s.span.len - 1) < first.provider.size =
+        subst (λ (q : Provider). s.span.offset + (s.span.len - 1) < q.size) one low in
+        record {
+          consumer = first.consumer;
+          found = subst (λ (n : ℕ). consumer_at t n ≡ Some first.consumer) number first.found;
+          under = first.under;
+          to_it = first.to_it;
+          provider = first.provider;
+          stands = first.stands;
+          of_geom = of_the_geom first.consumer first.of_geom;
+          count = count first.consumer first.of_geom;
+          range = λ moving. record {
+            some_byte = omega arith;
+            not_long = omega (arith, range.not_long);
+            offset_whole = subst (λ (n : ℕ). s.span.offset % n ≡ 0) (sym first.sector)
+                (mod-eq-zero_of_dvd p.sector good.1.offset);
+            len_whole = subst (λ (n : ℕ). s.span.len % n ≡ 0) (sym first.sector)
+                (mod-eq-zero_of_dvd p.sector good.1.len);
+            inside = omega arith;
+          };
+          bytes = λ write. bytes_cut s.at s.span.len x.len x.bytes (order.bytes write) high;
+        }
+
+    -- the target of a piece that is good
+    target_goes : (s : Piece) (z : PieceTarget) (o : Option ℕ) → component g.config s.child ≡ o
+        → option_map (λ c. record { consumer = c; piece = s }) o ≡ Some z → GoodPiece s → GoesDown w x z
+    target_goes s z None is found good = absurd cc
+    target_goes s z (Some c) is found good =
+        let same : record { consumer = c; piece = s } ≡ z = cc in
+        subst (GoesDown w x) same (piece_goes s c is good)
+
+    -- so all of them go down
+    pieces_go : AllByRecursion (GoesDown w x) (piece_targets g.config p x)
+    pieces_go = rw moves
+        (mapped_by GoodPiece (GoesDown w x)
+        (λ (s : Piece). option_map (λ c. record { consumer = c; piece = s }) (component g.config s.child))
+        (λ s z found good. target_goes s z (component g.config s.child) refl found good)
+        (pieces g.config p x.offset x.len)
+        (both_by_recursion (LiesBelow w firm x here p at_target g of_it no_disk moves) (IsWholePiece p.sector)
+        (pieces g.config p x.offset x.len)
+        (pieces_below w firm x here p at_target g of_it no_disk moves) wholes))
+
+    -- pieces that follow each other over some bytes are some
+    some_follow : (ss : List Piece) → Follow 0 x.len ss → ss ≡ [] → ⊥
+    some_follow [] follows none = omega (arith, follows, range.some_byte)
+    some_follow (s ∷ ss) follows none = cc
+
+    -- there are some
+    some_pieces : piece_targets g.config p x ≢ []
+    some_pieces none =
+        some_follow (pieces g.config p x.offset x.len) (follow w firm x here p at_target g of_it no_disk moves)
+        (sym (no_piece_lost w firm x here p at_target g of_it no_disk moves)
+        ∙ ap (λ (zs : List PieceTarget). map (λ (z : PieceTarget). z.piece) zs) none)
+
+  module _ (flushes : is_flush x.cmd ≡ true) where
+    -- the geom is open
+    has_open : IsTrue
+        (list_any (λ (v : Provider). not (is_zero (have (granted_in w) t v.number))) (providers_of t g.number))
+    has_open = any-contained (λ (v : Provider). not (is_zero (have (granted_in w) t v.number)))
+        (providers_of t g.number) p p_offered
+        (not_from_false (is_zero (have (granted_in w) t p.number)) (is_open w firm x here p at_target))
+
+    -- so its components are attached consumers of it
+    attached : All (λ c. IsSomeAnd (consumer_at t c) (λ v. (v.geom ≡ g.number) × IsSome v.provider))
+        (components g.config)
+    attached =
+        (All-contains (HasItsComponents (granted_in w) w.topology) t.geoms g firm.demand.components g_stands)
+        (inr has_open)
+
+    -- a FLUSH goes down to what a component is attached to
+    flush_goes : (c : ℕ) (o : Option Consumer) → consumer_at t c ≡ o
+        → IsSomeAnd o (λ v. (v.geom ≡ g.number) × IsSome v.provider)
+        → GoesDown w x (record { consumer = c; piece = empty_piece })
+    flush_goes c None found fact = absurd fact
+    flush_goes c (Some v) found fact =
+        let stands : Contains t.consumers v = find-Contains (λ (u : Consumer). u.number == c) t.consumers v found in
+        let lives : IsSome (option_and_then (provider_at t) v.provider) =
+        All-contains
+        (λ (u : Consumer). IsSome (option_and_then
+        (provider_at t) u.provider)) t.consumers v firm.graph.attached stands in
+        let n = has v.provider fact.1 in
+        let q = has (provider_at t n.item) (subst (λ o. IsSome (option_and_then (provider_at t) o)) n.is lives) in
+        record {
+          consumer = v;
+          found = found;
+          under = n.item;
+          to_it = n.is;
+          provider = q.item;
+          stands = q.is;
+          of_geom = of_the_geom v fact.0;
+          count = count v fact.0;
+          range = λ moving. absurd cc;
+          bytes = λ write. let moving : is_flush x.cmd ≡ false = write_moves x.cmd write in absurd cc;
+        }
+
+    -- for each component
+    flush_each : (cs : List ℕ) → AllByRecursion
+        (λ c. IsSomeAnd (consumer_at t c) (λ v. (v.geom ≡ g.number) × IsSome v.provider)) cs
+        → AllByRecursion (GoesDown w x) (map (λ c. record { consumer = c; piece = empty_piece }) cs)
+    flush_each [] facts = tt
+    flush_each (c ∷ cs) facts = (flush_goes c (consumer_at t c) refl facts.0, flush_each cs facts.1)
+
+    -- so a FLUSH goes down
+    flushes_go : AllByRecursion (GoesDown w x) (piece_targets g.config p x)
+    flushes_go = rw flushes (flush_each (components g.config)
+        (recursion_from_All (λ c. IsSomeAnd (consumer_at t c) (λ v. (v.geom ≡ g.number) × IsSome v.provider))
+        (components g.config) attached))
+
+    -- and to some
+    some_flushes : piece_targets g.config p x ≢ []
+    some_flushes =
+        let first = first_below w firm x here p at_target g of_it no_disk in
+        rw flushes (map_some (λ c. record { consumer = c; piece = empty_piece }) (components g.config)
+        (some_components g.config first.0.component first.1.number first.1.is))
+
+  -- all go down
+  pub all_go : AllByRecursion (GoesDown w x) (piece_targets g.config p x)
+  all_go = elim (cases_Bool (is_flush x.cmd)) [ inl flushes ↦ flushes_go flushes | inr moves ↦ pieces_go moves ]
+
+  -- and there are some
+  pub some_go : piece_targets g.config p x ≢ []
+  some_go = elim (cases_Bool (is_flush x.cmd)) [ inl flushes ↦ some_flushes flushes | inr moves ↦ some_pieces moves ]
+
+-- the world after a bio is split
+pub split_firm : (w : World) (firm : Firm w) (x : Bio) (found : bio_at w x.number ≡ Some x) → is_down x.phase ≡ true
+    → (p : Provider) (g : Geom Config) → provider_at w.topology x.target ≡ Some p
+    → geom_at w.topology p.geom ≡ Some g → disk_of g.config ≡ None
+    → Firm (split_bio w x (piece_targets g.config p x)).0
+split_firm w firm x found down p g at_target of_it no_disk =
+    let here : Contains w.bios x = find-Contains (λ (v : Bio). v.number == x.number) w.bios x found in
+    let targets = piece_targets g.config p x in
+    bios_are_apart w (parted w x targets).bios (parted w x targets).next_bio firm
+    (parted_hold w x targets firm.bios found down p g at_target of_it refl
+    (some_go w firm x here p at_target g of_it no_disk) (all_go w firm x here p at_target g of_it no_disk))

@@ -1,4 +1,4 @@
-use Rattle.geo_laws_bios.proofs.Starting.{starts_stay_firm}
+use Rattle.geo_laws_bios.proofs.BioSteps.{starts_stay_firm}
 use Rattle.geo_laws_bios.proofs.starts.starts_stay_firm.Goals as goal
 
 pub returns : goal.returns

@@ -1,4 +1,4 @@
-use Rattle.geo_laws_bios.proofs.Turning.{fails_stay_firm}
+use Rattle.geo_laws_bios.proofs.Turned.{fails_stay_firm}
 use Rattle.geo_laws_bios.proofs.steps.fails_stay_firm.Goals as goal
 
 pub returns : goal.returns

@@ -1,4 +1,4 @@
-use Rattle.geo_laws_bios.proofs.Turning.{takes_stay_firm}
+use Rattle.geo_laws_bios.proofs.Turned.{takes_stay_firm}
 use Rattle.geo_laws_bios.proofs.steps.takes_stay_firm.Goals as goal
 
 pub returns : goal.returns

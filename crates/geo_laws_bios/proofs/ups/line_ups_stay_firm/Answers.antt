@@ -1,4 +1,4 @@
-use Rattle.geo_laws_bios.proofs.Leaving.{line_ups_stay_firm}
+use Rattle.geo_laws_bios.proofs.Ascending.{line_ups_stay_firm}
 use Rattle.geo_laws_bios.proofs.ups.line_ups_stay_firm.Goals as goal
 
 pub returns : goal.returns
