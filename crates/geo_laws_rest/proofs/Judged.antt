@@ -1,11 +1,11 @@
--- A Judge that makes nothing lowers the measure.
-use Rattle.std.specs.Prelude.{◌≡◌, ◌≢◌, ℕ, ◌+◌, ◌*◌, ◌<◌, ◌≤◌, ◌==◌, Bool, true, false, List, [], ◌∷◌, length, sum_by, Option, Some, None, Contains, IsSome, MatchOption, is_some, IfSome, if◌then◌else◌, option_and_then}
+-- A Judge lowers the measure: a taste ends, asks or reads and costs less then; and where a class makes a geom, what the
+-- taste could make costs more than what it made.
+use Rattle.std.specs.Prelude.{◌≡◌, ◌≢◌, ℕ, ◌+◌, ◌*◌, ◌<◌, ◌≤◌, ◌==◌, Bool, true, false, List, [], ◌∷◌, length, sum_by, Option, Some, None, IsSome, is_some, IfSome, if◌then◌else◌, option_and_then, find, All}
 use Rattle.std.specs.Option.{option_map_or}
 use Rattle.std.proofs.Common.{refl, sym, ◌∙◌, ap, subst, arith}
-use Rattle.std.proofs.lemmas.Bool.{eqb-true}
-use Rattle.std.proofs.lemmas.List.Elements.{All-contains}
+use Rattle.std.proofs.lemmas.List.Elements.{All-contains, recursion_from_All}
 use Rattle.std.proofs.lemmas.List.Sums.{sum_by-cons}
-use Rattle.std.proofs.Math.Nat.{mul-le-mul_right}
+use Rattle.std.proofs.Math.Nat.{mul-le-mul_right, add-mul, mul-le-mul_left}
 use Rattle.geo_base.specs.declared.errno.Errno.{Errno}
 use Rattle.geo_base.specs.declared.kind.Kind.{Kind}
 use Rattle.geo_base.specs.declared.kind.Kind.TheVariants as kinds
@@ -16,28 +16,34 @@ use Rattle.geo_model.specs.declared.class.Verdict.{Verdict}
 use Rattle.geo_model.specs.declared.class.Verdict.TheVariants.{Decline, More, Accept}
 use Rattle.geo_model.specs.declared.step.BioResult.{BioResult}
 use Rattle.geo_model.specs.declared.step.BioResult.TheVariants as results
-use Rattle.geo_model.specs.Topology.{Provider, Consumer, provider_at, consumer_at, consumers_of, remove_consumer}
+use Rattle.geo_model.specs.Topology.{Provider, Consumer, provider_at, consumer_at, remove_consumer}
 use Rattle.geo_model.specs.Rank.{rank, reaches}
 use Rattle.geo_model.specs.Demand.{one_read}
 use Rattle.geo_model.specs.Opens.{grant_refusal, with_grant}
 use Rattle.geo_model.specs.Chain.{no_links}
 use Rattle.geo_model.specs.World.{World, Config, Taste, Asked, NoClass, NextSector, ReadOut, ReadBack, granted_in, is_read_out}
-use Rattle.geo_model.specs.Events.{QueuedTopology}
+use Rattle.geo_model.specs.Events.{QueuedTopology, provider_of_event}
 use Rattle.geo_model.specs.WorldEvents.{queued_of, with_queued}
 use Rattle.geo_model.specs.Acceptance.{accept, taste_where}
-use Rattle.geo_model.specs.Tasting.{Judging, facts_of, is_attached_class, is_ended, end_class, end_taste, read_sector, follow, with_read, verdict_on, take_result, ask_class, next_class, go_on, taste_step, abort_taste, submit_read, judged_world}
-use Rattle.geo_model.specs.Order.{judges_of_class, judges_left, makes_left, can_make, taste_weight, rank_of_provider, taste_left, IsLess, measure}
-use Rattle.geo_model.specs.Sound.{IsTasting, IsTasteInOrder, AreReadsInOrder}
+use Rattle.geo_model.specs.Tasting.{Judging, facts_of, is_attached_class, is_ended, end_class, end_taste, read_sector, follow, with_read, verdict_on, take_result, ask_class, next_class, go_on, abort_taste, submit_read, judged_world}
+use Rattle.geo_model.specs.Order.{judges_of_class, judges_left, makes_left, can_make, taste_weight, rank_of_provider, taste_left, IsLess, measure, event_weight}
+use Rattle.geo_model.specs.Sound.{IsTasteInOrder, AreReadsInOrder}
 use Rattle.geo_model.specs.Fitting.{Firm}
+use Rattle.geo_model.specs.declared.class.Judged.{Judged}
+use Rattle.geo_model.specs.declared.class.Shape.{Shape}
+use Rattle.geo_model.specs.declared.step.Event.{Event}
+use Rattle.geo_model.specs.StepEffects.{IsJudged}
 use Rattle.geo_laws_graph.proofs.Living.{sound-order}
-use Rattle.geo_laws_graph.proofs.Members.{has, Contains-here, filter-Contains, at_contained}
-use Rattle.geo_laws_graph.proofs.Numbered.{each_found}
+use Rattle.geo_laws_graph.proofs.Members.{has}
 use Rattle.geo_laws_graph.proofs.EdgeRanks.{reaches-none}
 use Rattle.geo_laws_graph.specs.Attach.{IsAttached}
 use Rattle.geo_laws_graph.proofs.RankChanges.{removal-lowers}
-use Rattle.geo_laws_rest.proofs.Falls.{tasting_less}
-use Rattle.geo_laws_rest.proofs.Costs.{weights_same, left_same}
-use Rattle.geo_laws_rest.proofs.Elsewhere.{elsewhere}
+use Rattle.geo_laws_life.proofs.Bare.{tasting, taster, taster_here, taster_geom, taster_found}
+use Rattle.geo_laws_making.proofs.Offered.{offered}
+use Rattle.geo_laws_making.specs.AcceptLaws.{IsAccepted}
+use Rattle.geo_laws_making.proofs.Accepted.{has_geom}
+use Rattle.geo_laws_rest.proofs.Lowered.{tasting_less, weights_same, left_same, rank_weight, elsewhere}
+use Rattle.geo_laws_rest.proofs.Accepting.{at_rank, IsLiving, living_weights, Offering, offers_cost, Makes, accepted-makes}
 
 -- a taste of the same provider that needs fewer Judge steps and can make no more costs less
 less_left : (w : World) (a b : Taste) → a.provider ≡ b.provider
@@ -59,6 +65,122 @@ record IsAs (a b : Taste) : Type 0 where
   classes : a.classes ≡ b.classes
   asked : a.asked ≡ b.asked
   reads : a.reads ≡ b.reads
+
+-- A Judge by which a class makes a geom lowers the measure: what the taste could make costs more than what it made.
+
+-- Costs
+
+module _ (w : World) (firm : Firm w) (p : ℕ) (r number : ℕ) (rank_is : rank_of_provider w p ≡ r)
+    (lives : IsSome (provider_at w.topology p)) (made : QueuedTopology Config)
+    (makes : Makes w w.topology made r number) where
+  -- the world with what is made
+  abbrev grown : World
+  grown = with_queued w made
+
+  -- the graph with the geom, before providers are offered
+  abbrev begun : QueuedTopology Config
+  begun = record { topology = makes.graph; events = w.events }
+
+  -- what an offer above the tasted provider may cost
+  abbrev above : ℕ
+  above = taste_weight (r + 1)
+
+  -- what lived lives on
+  same_lives : (q : ℕ) → IsSome (provider_at w.topology q) → IsSome (provider_at makes.graph q)
+  same_lives q there =
+      subst (λ (ps : List Provider). IsSome (find (λ (x : Provider). x.number == q) ps)) (sym makes.raised.kept) there
+
+  -- so the events are of what lives
+  events_live : All (IsLiving makes.graph) w.events
+  events_live =
+      subst (λ (ps : List Provider). All (λ (e : Event). IsSome (find (λ (x : Provider). x.number
+      == provider_of_event e) ps)) w.events) (sym makes.raised.kept) firm.taste.living
+
+  -- the offers
+  offering : Offering w makes.geom makes.sector begun
+      (offered makes.geom makes.sector begun makes.slices) (length makes.slices)
+  offering = offers_cost w makes.geom makes.sector makes.slices begun makes.raised.can events_live
+
+  -- without them the queue costs what it cost
+  begun_costs : sum_by (event_weight (with_queued w begun)) w.events ≡ sum_by (event_weight w) w.events
+  begun_costs =
+      living_weights (with_queued w begun) w makes.raised.living w.events
+      (recursion_from_All (IsLiving w.topology) w.events firm.taste.living)
+
+  -- with them it costs no more than all that the class can make
+  queue_most : sum_by (event_weight grown) made.events ≤ sum_by (event_weight w) w.events + number * above
+  queue_most =
+      let cost : sum_by (event_weight grown) made.events
+      ≡ sum_by (event_weight (with_queued w begun)) w.events
+      + length makes.slices * taste_weight (rank makes.graph makes.geom) =
+      subst (λ (q : QueuedTopology Config). sum_by (event_weight (with_queued w q)) q.events
+      ≡ sum_by (event_weight (with_queued w begun)) w.events
+      + length makes.slices * taste_weight (rank makes.graph makes.geom)) makes.is offering.cost in
+      let each = mul-le-mul_left (length makes.slices)
+      (rank_weight (r + 1) (rank makes.graph makes.geom) makes.raised.high) in
+      let all = mul-le-mul_right above makes.few in
+      omega (arith, cost, begun_costs, each, all)
+
+  -- the tasted provider keeps its rank
+  rank_stays : rank_of_provider grown p ≡ r
+  rank_stays =
+      subst (λ (q : QueuedTopology Config). rank_of_provider (with_queued w q) p
+      ≡ rank_of_provider (with_queued w begun) p) makes.is (offering.living p (same_lives p lives))
+      ∙ makes.raised.living p lives ∙ rank_is
+
+  -- a taste for which the class is done with costs so much less
+  module _ (s a : Taste) (of : s.provider ≡ p) (same : a.provider ≡ p) (classes : a.classes ≡ s.classes)
+      (can : makes_left s.asked ≡ number) (some : 1 ≤ judges_left s.asked s.reads) (is : w.taste ≡ Some s) where
+    -- the taste then
+    abbrev next : Taste
+    next = record a { asked = NoClass; reads = 0; chain = no_links }
+
+    -- the world then
+    abbrev v : World
+    v = record grown { taste = Some next }
+
+    -- what the other classes can make costs
+    abbrev others : ℕ
+    others = sum_by can_make s.classes * above
+
+    -- what the taste costs then
+    now : taste_left v (Some next) ≡ 1 + 0 + judges_of_class * length s.classes + others
+    now =
+        let weight : taste_weight (rank_of_provider v a.provider + 1) ≡ above =
+        ap (λ (q : ℕ). taste_weight (rank_of_provider grown q + 1)) same
+        ∙ ap (λ (m : ℕ). taste_weight (m + 1)) rank_stays in
+        let makes_now : sum_by can_make a.classes ≡ sum_by can_make s.classes = ap (sum_by can_make) classes in
+        let long : length a.classes ≡ length s.classes = ap (λ (ks : List Kind). length ks) classes in
+        let none : 0 + sum_by can_make a.classes ≡ sum_by can_make a.classes = omega arith in
+        let cost : taste_left v (Some next)
+        ≡ 1 + 0 + judges_of_class * length a.classes
+        + (0 + sum_by can_make a.classes) * taste_weight (rank_of_provider v a.provider + 1) = refl in
+        cost
+        ∙ ap (λ (m : ℕ). 1 + 0 + judges_of_class * length a.classes + (0 + sum_by can_make a.classes) * m) weight
+        ∙ ap (λ (m : ℕ). 1 + 0 + judges_of_class * length a.classes + m * above) (none ∙ makes_now)
+        ∙ ap (λ (m : ℕ). 1 + 0 + judges_of_class * m + others) long
+
+    -- what it cost
+    was : taste_left w w.taste
+        ≡ 1 + judges_left s.asked s.reads + judges_of_class * length s.classes + (number * above + others)
+    was =
+        let weight : taste_weight (rank_of_provider w s.provider + 1) ≡ above =
+        ap (λ (q : ℕ). taste_weight (rank_of_provider w q + 1)) of ∙ ap (λ (m : ℕ). taste_weight (m + 1)) rank_is in
+        ap (taste_left w) is
+        ∙ ap (λ (m : ℕ). 1 + judges_left s.asked s.reads + judges_of_class * length s.classes
+        + (makes_left s.asked + sum_by can_make s.classes) * m) weight
+        ∙ ap (λ (m : ℕ). 1 + judges_left s.asked s.reads + judges_of_class * length s.classes
+        + (m + sum_by can_make s.classes) * above) can
+        ∙ ap (λ (m : ℕ). 1 + judges_left s.asked s.reads + judges_of_class * length s.classes + m)
+        (add-mul number (sum_by can_make s.classes) above)
+
+    -- so the measure falls
+    made_less : IsLess (measure v) (measure w)
+    made_less =
+        let queue = weights_same v grown (λ q. refl) made.events in
+        tasting_less v w (omega arith) (omega arith) (omega (arith, queue, queue_most, now, was, some))
+
+-- Each Judge
 
 module _ (w : World) (firm : Firm w) (s : Taste) (is : w.taste ≡ Some s) where
   -- the graph with the queue, and the grants
@@ -92,57 +214,36 @@ module _ (w : World) (firm : Firm w) (s : Taste) (is : w.taste ≡ Some s) where
 
   -- The end of the taste
 
-  -- the taste's consumer
-  tasting : IsTasting w.topology s
-  tasting = subst (λ (o : Option Taste). MatchOption o (consumers_of w.topology 2 ≡ []) (IsTasting w.topology)) is
-      firm.handles.taste
-
-  -- it stands, of geom 2
-  taster_stands : Contains w.topology.consumers tasting.consumer × ((tasting.consumer.geom == 2) ≡ true)
-  taster_stands =
-      filter-Contains (λ (x : Consumer). x.geom == 2) w.topology.consumers tasting.consumer
-      (subst (λ (xs : List Consumer). Contains xs tasting.consumer) (sym tasting.alone)
-      (Contains-here tasting.consumer []))
-
-  -- it is found
-  taster_found : consumer_at w.topology s.consumer ≡ Some tasting.consumer
-  taster_found =
-      subst (λ (n : ℕ). consumer_at w.topology n ≡ Some tasting.consumer) tasting.number
-      (at_contained (λ (x : Consumer). consumer_at w.topology x.number
-      ≡ Some x) w.topology.consumers tasting.consumer
-      (each_found (λ (x : Consumer). x.number) w.topology.next_consumer w.topology.consumers
-      firm.graph.numbers.consumers) taster_stands.0)
-
   -- the tasted provider stands
   tasted : IsSome (provider_at w.topology s.provider)
   tasted =
-      subst (λ (o : Option ℕ). IsSome (option_and_then (provider_at w.topology) o)) tasting.attached
+      subst (λ (o : Option ℕ). IsSome (option_and_then (provider_at w.topology) o)) (tasting w firm s is).attached
       (All-contains (λ (x : Consumer). IsSome (option_and_then (provider_at w.topology) x.provider))
-      w.topology.consumers tasting.consumer firm.graph.attached taster_stands.0)
+      w.topology.consumers (taster w firm s is) firm.graph.attached (taster_here w firm s is))
 
   -- so the consumer is attached
   attached : IsAttached w.topology s.consumer
   attached =
       let p = has (provider_at w.topology s.provider) tasted in
       record {
-        consumer = tasting.consumer;
-        stands = taster_found;
+        consumer = taster w firm s is;
+        stands = subst (λ (n : ℕ). consumer_at w.topology n ≡ Some (taster w firm s is)) (tasting w firm s is).number
+            (taster_found w firm s is);
         number = s.provider;
-        at = tasting.attached;
+        at = (tasting w firm s is).attached;
         provider = p.item;
         offers = p.is;
       }
 
   -- without it the ranks of other geoms than TASTE stay
   abort_ranks : (n : ℕ) → n ≢ 2 → rank (remove_consumer w.topology s.consumer) n ≡ rank w.topology n
-  unfolding attached tasting
+  unfolding attached
   abort_ranks n apart =
       let lowers = (removal-lowers w.topology s.consumer attached firm.graph.ranks.ranked
       firm.graph.parts.consumers
       (sound-order w firm.graph.numbers)).1 in
-      let two : tasting.consumer.geom ≡ 2 = eqb-true tasting.consumer.geom 2 taster_stands.1 in
       sym (lowers.elsewhere n
-      (subst (λ (m : ℕ). reaches (remove_consumer w.topology s.consumer) n m ≡ false) (sym two)
+      (subst (λ (m : ℕ). reaches (remove_consumer w.topology s.consumer) n m ≡ false) (sym (taster_geom w firm s is))
       (reaches-none (remove_consumer w.topology s.consumer) n 2 firm.graph.ranks.taste.no_provider apart)))
 
   -- the taste ends
@@ -155,14 +256,14 @@ module _ (w : World) (firm : Firm w) (s : Taste) (is : w.taste ≡ Some s) where
 
   -- Judgings
 
-  -- what a judging that makes nothing comes to lowers the measure
+  -- what a judging comes to lowers the measure
   abbrev Lower : Judging → Type 0
-  Lower x = x.judged ≢ Made → IsLess (measure (judged_world w x x.judged).0) (measure w)
+  Lower x = IsLess (measure (judged_world w x x.judged).0) (measure w)
 
   -- a class that is done with
   class_lower : (a : Taste) → taste_left w (Some (record a { asked = NoClass; reads = 0; chain = no_links }))
       < taste_left w (Some s) → Lower (end_class g q a Next)
-  class_lower a less made = next_lower (record a { asked = NoClass; reads = 0; chain = no_links }) less
+  class_lower a less = next_lower (record a { asked = NoClass; reads = 0; chain = no_links }) less
 
   -- a read that is granted or not
   sector_lower : (a : Taste) (kind : Kind) (sector : ℕ) (o : Option Errno)
@@ -177,7 +278,7 @@ module _ (w : World) (firm : Firm w) (s : Taste) (is : w.taste ≡ Some s) where
         judged = Read sector;
       })
   sector_lower a kind sector (Some e) ends reads = class_lower a ends
-  sector_lower a kind sector None ends reads = λ made.
+  sector_lower a kind sector None ends reads =
       read_lower (record a { asked = ReadOut kind; reads = a.reads + 1 }) sector reads
 
   -- the reads made are few
@@ -195,29 +296,54 @@ module _ (w : World) (firm : Firm w) (s : Taste) (is : w.taste ≡ Some s) where
       less_left w (record a { asked = NoClass; reads = 0; chain = no_links }) s like.provider
       (omega (arith, judges, long, some)) (omega (arith, makes))
 
-  -- by the verdict
-  verdict_lower : (a : Taste) (p : Provider) (kind : Kind) (got : BioResult) → s.asked
-      ≡ ReadBack kind got → IsAs a s
-      → (verdict : Verdict) → Lower (follow g q a p kind verdict)
-  verdict_lower a p kind got e like (Decline cause) =
-      class_lower a (ended_less a (ReadBack kind got) e like (omega arith))
-  verdict_lower a p kind got e like (More sector) = λ made.
-      let judges : judges_left s.asked s.reads ≡ judges_left (ReadBack kind got) s.reads =
-      ap (λ (x : Asked). judges_left x s.reads) e in
-      let can : makes_left s.asked ≡ can_make kind = ap makes_left e in
-      let long : length a.classes ≡ length s.classes = ap (λ (ks : List Kind). length ks) like.classes in
-      let makes : sum_by can_make a.classes ≡ sum_by can_make s.classes = ap (sum_by can_make) like.classes in
-      let reads : judges_left (NextSector kind sector) a.reads ≡ judges_left (NextSector kind sector) s.reads =
-      ap (judges_left (NextSector kind sector)) like.reads in
-      next_lower (record a { asked = NextSector kind sector })
-      (less_left w (record a { asked = NextSector kind sector }) s like.provider
-      (omega (arith, judges, long, reads)) (omega (arith, makes, can)))
-  verdict_lower a p kind got e like (Accept shape) = by (accept q p shape) where
-    -- by what is made
-    by : (o : Option (QueuedTopology Config))
+  -- a sector that is back, and the taste with its link
+  module _ (going : is_ended w.topology s ≡ false) (p : Provider) (found : provider_at w.topology s.provider ≡ Some p)
+      (kind : Kind) (bytes : List ℕ) (read : s.asked ≡ ReadBack kind (results.Bytes bytes)) (a : Taste)
+      (like : IsAs a s) where
+    -- a class that is done with costs less
+    declined : taste_left w (Some (record a { asked = NoClass; reads = 0; chain = no_links })) < taste_left w (Some s)
+    declined = ended_less a (ReadBack kind (results.Bytes bytes)) read like (omega arith)
+
+    -- by what is made of what is accepted
+    accept_lower : (shape : Shape) → verdict_on g s kind bytes (facts_of w.topology p) ≡ Accept shape
+        → (o : Option (QueuedTopology Config)) → accept q p shape ≡ o
         → Lower (option_map_or (λ made. end_class g made a Made) o (end_class g q a Next))
-    by None = class_lower a (ended_less a (ReadBack kind got) e like (omega arith))
-    by (Some r) = λ made. absurd (made refl)
+    accept_lower shape verdict None e = class_lower a declined
+    accept_lower shape verdict (Some made) e =
+        let accepted : IsAccepted w s p kind bytes shape made = record {
+          taste = is;
+          asked = read;
+          going = going;
+          found = found;
+          verdict = verdict;
+          makes = e;
+        } in
+        let geom = has_geom w s p kind bytes shape made firm accepted in
+        let rank_is : rank_of_provider w s.provider ≡ rank w.topology p.geom =
+        at_rank w s.provider p geom.geom found geom.is in
+        let can : makes_left s.asked ≡ can_make kind = ap makes_left read in
+        let judges : judges_left s.asked s.reads ≡ judges_left (ReadBack kind (results.Bytes bytes)) s.reads =
+        ap (λ (x : Asked). judges_left x s.reads) read in
+        made_less w firm s.provider (rank w.topology p.geom) (can_make kind) rank_is tasted made
+        (accepted-makes w firm s p bytes shape made kind accepted) s a refl like.provider like.classes can
+        (omega (arith, judges)) is
+
+    -- by the verdict
+    verdict_lower : (verdict : Verdict) → verdict_on g s kind bytes (facts_of w.topology p) ≡ verdict
+        → Lower (follow g q a p kind verdict)
+    verdict_lower (Decline cause) e = class_lower a declined
+    verdict_lower (More sector) e =
+        let judges : judges_left s.asked s.reads ≡ judges_left (ReadBack kind (results.Bytes bytes)) s.reads =
+        ap (λ (x : Asked). judges_left x s.reads) read in
+        let can : makes_left s.asked ≡ can_make kind = ap makes_left read in
+        let long : length a.classes ≡ length s.classes = ap (λ (ks : List Kind). length ks) like.classes in
+        let makes : sum_by can_make a.classes ≡ sum_by can_make s.classes = ap (sum_by can_make) like.classes in
+        let reads : judges_left (NextSector kind sector) a.reads ≡ judges_left (NextSector kind sector) s.reads =
+        ap (judges_left (NextSector kind sector)) like.reads in
+        next_lower (record a { asked = NextSector kind sector })
+        (less_left w (record a { asked = NextSector kind sector }) s like.provider
+        (omega (arith, judges, long, reads)) (omega (arith, makes, can)))
+    verdict_lower (Accept shape) e = accept_lower shape e (accept q p shape) refl
 
   -- EBR's link is kept in the chain alone
   read_as : (kind : Kind) (bytes : List ℕ) (f : Facts) → IsAs (with_read g s kind bytes f) s
@@ -229,16 +355,13 @@ module _ (w : World) (firm : Firm w) (s : Taste) (is : w.taste ≡ Some s) where
   as_itself = record { provider = refl; classes = refl; asked = refl; reads = refl }
 
   -- a read that is back
-  result_lower : (p : Provider) (kind : Kind) (got : BioResult) → s.asked ≡ ReadBack kind got
-      → Lower (take_result g q s p kind got)
-  result_lower p kind (results.Bytes bytes) e =
+  result_lower : is_ended w.topology s ≡ false → (p : Provider) → provider_at w.topology s.provider ≡ Some p
+      → (kind : Kind) (got : BioResult) → s.asked ≡ ReadBack kind got → Lower (take_result g q s p kind got)
+  result_lower going p found kind (results.Bytes bytes) e =
       let f : Facts = facts_of w.topology p in
-      verdict_lower (with_read g s kind bytes f) p kind (results.Bytes bytes) e (read_as kind bytes f)
-      (verdict_on g s kind bytes f)
-  result_lower p kind results.Done e =
-      class_lower s (ended_less s (ReadBack kind results.Done) e as_itself (omega arith))
-  result_lower p kind (results.Failed error) e =
-      class_lower s (ended_less s (ReadBack kind (results.Failed error)) e as_itself (omega arith))
+      verdict_lower going p found kind bytes e (with_read g s kind bytes f) (read_as kind bytes f)
+      (verdict_on g s kind bytes f) refl
+  result_lower going p found kind got e = class_lower s (ended_less s (ReadBack kind got) e as_itself (omega arith))
 
   -- a sector that is known as next
   known_lower : (kind : Kind) (sector : ℕ) → s.asked ≡ NextSector kind sector → Lower
@@ -315,30 +438,35 @@ module _ (w : World) (firm : Firm w) (s : Taste) (is : w.taste ≡ Some s) where
   -- by the classes that are left
   classes_lower : (p : Provider) (ks : List Kind) → s.asked ≡ NoClass → s.classes ≡ ks → Lower
       (next_class g q s p ks)
-  classes_lower p [] e left = λ made. abort_lower
+  classes_lower p [] e left = abort_lower
   classes_lower p (kind ∷ rest) e left = class_asked_lower p kind rest e left
 
   -- by how far a class is asked
-  asked_lower : (p : Provider) (a : Asked) → is_read_out a ≡ false → s.asked ≡ a → Lower (go_on g q s p a)
-  asked_lower p (ReadBack kind got) idle e = result_lower p kind got e
-  asked_lower p (NextSector kind sector) idle e = known_lower kind sector e
-  asked_lower p (ReadOut kind) idle e = absurd cc
-  asked_lower p NoClass idle e = classes_lower p s.classes e refl
+  asked_lower : is_ended w.topology s ≡ false → (p : Provider) → provider_at w.topology s.provider ≡ Some p
+      → (a : Asked) → is_read_out a ≡ false → s.asked ≡ a → Lower (go_on g q s p a)
+  asked_lower going p found (ReadBack kind got) idle e = result_lower going p found kind got e
+  asked_lower going p found (NextSector kind sector) idle e = known_lower kind sector e
+  asked_lower going p found (ReadOut kind) idle e = absurd cc
+  asked_lower going p found NoClass idle e = classes_lower p s.classes e refl
 
   -- by the provider
-  provider_lower : (o : Option Provider) → is_read_out s.asked ≡ false
-      → Lower (option_map_or (λ p. go_on g q s p s.asked) o (end_taste g q s))
-  provider_lower None idle = λ made. abort_lower
-  provider_lower (Some p) idle = asked_lower p s.asked idle refl
+  provider_lower : is_ended w.topology s ≡ false → is_read_out s.asked ≡ false → (o : Option Provider)
+      → provider_at w.topology s.provider ≡ o → Lower (option_map_or (λ p. go_on g q s p s.asked) o (end_taste g q s))
+  provider_lower going idle None found = abort_lower
+  provider_lower going idle (Some p) found = asked_lower going p found s.asked idle refl
 
   -- by whether the taste can't go on
-  step_lower : (b : Bool) → is_read_out s.asked ≡ false
+  step_lower : is_read_out s.asked ≡ false → (b : Bool) → is_ended w.topology s ≡ b
       → Lower
       (if b then end_taste g q s
       else option_map_or (λ p. go_on g q s p s.asked) (provider_at w.topology s.provider) (end_taste g q s))
-  step_lower true idle = λ made. abort_lower
-  step_lower false idle = provider_lower (provider_at w.topology s.provider) idle
+  step_lower idle true e = abort_lower
+  step_lower idle false e = provider_lower e idle (provider_at w.topology s.provider) refl
 
-  -- a step of the taste that makes nothing
-  pub idle_lower : is_read_out s.asked ≡ false → Lower (taste_step g q s)
-  idle_lower idle = step_lower (is_ended w.topology s) idle
+-- so each lowers the measure
+pub judged_lower : (w : World) → Firm w → (s : Taste) (x : Judging) (j : Judged) → IsJudged w s x j
+    → IsLess (measure (judged_world w x j).0) (measure w)
+judged_lower w firm s x j is =
+    let lower = step_lower w firm s is.taste is.back (is_ended w.topology s) refl in
+    subst (λ (k : Judged). IsLess (measure (judged_world w x k).0) (measure w)) is.judged
+    (subst (λ (z : Judging). IsLess (measure (judged_world w z z.judged).0) (measure w)) is.step lower)

@@ -3,6 +3,7 @@
 ghost use Rattle.geo_laws_rest.specs.CostLaws.{JudgesLower};
 
 /// Each Judge lowers the measure: also one by which a class makes a geom, whose providers are offered for taste.
+#[tactic(auto, using(crate::proofs::EachStep::judges_lower))]
 pub fn judges_lower()
     ensures { JudgesLower }
 {}

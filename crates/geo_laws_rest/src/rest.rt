@@ -4,23 +4,27 @@ ghost use Rattle.geo_laws_rest.specs.RestLaws.{FixedOrderEnds, NoneFallsForEver,
 
 /// Each enabled step lowers the measure, a Take together with a Deliver that fits; but for a Wash of a consumer while a
 /// taste is under way or to come.
+#[tactic(auto, using(crate::proofs::EachStep::steps_lower))]
 pub fn steps_lower()
     ensures { StepsLower }
 {}
 
 /// Where a legal log leads without a Busy bio, and not to rest, the fixed order gives an enabled step that lowers the
 /// measure.
+#[tactic(auto, using(crate::proofs::Picking::pick_goes_on))]
 pub fn fixed_order_goes_on()
     ensures { PickGoesOn }
 {}
 
 /// No run lowers the measure for ever.
+#[tactic(auto, using(crate::proofs::Picking::none_falls_for_ever))]
 pub fn measures_do_not_fall_for_ever()
     ensures { NoneFallsForEver }
 {}
 
 /// From a firm mesh without a Busy bio the fixed order comes to an end, whatever disks answer, where each Take is
 /// followed by its Deliver.
+#[tactic(auto, using(crate::proofs::Picking::fixed_order_ends))]
 pub fn fixed_order_ends()
     ensures { FixedOrderEnds }
 {}

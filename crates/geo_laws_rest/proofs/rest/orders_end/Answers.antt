@@ -1,4 +1,4 @@
-use Rattle.geo_laws_rest.proofs.Rounds.{orders_end}
+use Rattle.geo_laws_rest.proofs.Picking.{orders_end}
 use Rattle.geo_laws_rest.proofs.rest.orders_end.Goals as goal
 
 pub returns : goal.returns
