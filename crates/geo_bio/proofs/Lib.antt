@@ -1,12 +1,5 @@
-pub mod ValueLemmas
 pub mod TableLemmas
-pub mod ChangeLemmas
 pub mod SplitLemmas
-pub mod GatherLemmas
-pub mod KeptLemmas
 pub mod FamilyLemmas
-pub mod CompleteLemmas
 pub mod UpLemmas
-pub mod GetLemmas
 pub mod PieceLemmas
-pub mod OrderLemmas

@@ -1,9 +1,8 @@
 -- A bio is split: its children stand at the end of the table, and it waits for them.
-use Rattle.std.proofs.Common.{◌≡◌, ◌≢◌, ◌⊎◌, ℕ, suc, ◌+◌, ◌-◌, ◌^◌, ◌<◌, ◌≤◌, max, List, [], ◌∷◌, ◌++◌, map, length, ◌==◌, cond, Bool, true, false, Option, Some, None, sym, refl, ap, ◌∙◌, subst, inl, inr, arith, append_assoc, append-nil}
+use Rattle.std.proofs.Common.{◌≡◌, ◌≢◌, ℕ, suc, ◌+◌, ◌-◌, ◌^◌, ◌<◌, ◌≤◌, max, List, [], ◌∷◌, ◌++◌, map, length, ◌==◌, true, false, Option, Some, None, sym, refl, ap, ◌∙◌, subst, inl, inr, arith, append_assoc, append-nil}
 use Rattle.std.proofs.lemmas.Bool.{cases_eq, cases_lt, eq-eqb, ne_eqb, MatchBool-at_false}
 use Rattle.std.proofs.lemmas.List.{map-append}
 use Rattle.std.proofs.lemmas.Option.{same_Some, MatchOption-at_some}
-use Rattle.std.specs.List.{cons_option}
 use Rattle.std.specs.Prelude.{count_by, if◌then◌else◌}
 use Rattle.std.specs.Option.{option_map, option_or, MatchOption, IfSome}
 use Rattle.geo_model.specs.declared.span.Piece.{Piece}
@@ -13,11 +12,9 @@ use Rattle.geo_model.specs.World.{is_done, is_down, is_waiting, change_number, b
 use Rattle.geo_bio.specs.BioTable.{BioTableView, has_phase, with_phase}
 use Rattle.geo_slots.specs.Slots.{SlotsView, IsRising, value_at, with_value, with_insert}
 use Rattle.geo_slots.proofs.RowLemmas.{IsRising-with_value, with_value_below, value_at_next}
-use Rattle.geo_bio.proofs.ValueLemmas.{value_at-with_value_same, value_at-with_value_other}
-use Rattle.geo_bio.proofs.TableLemmas.{family-with_value, family-none, seen_changed, bio_among-rows, down_facts}
-use Rattle.geo_bio.proofs.ChangeLemmas.{seen, in_phase}
+use Rattle.geo_bio.proofs.TableLemmas.{at_written, each_written, value_at-append, each_appended, family-append, family-with_value, no_family, waits_written, waits_appended, down_facts, bio_among-rows, seen_changed, seen, in_phase}
 use Rattle.geo_bio.specs.declared.bio.Bio.{Bio}
-use Rattle.geo_bio.specs.Rows.{as_bio, seen_row, Child, child_of, family, FollowFrom, HasFamily, IsSplitInto, WaitsIn, IsTable}
+use Rattle.geo_bio.specs.Rows.{as_bio, seen_row, child_of, family, FollowFrom, HasFamily, IsSplitInto, WaitsIn, IsTable}
 use Rattle.geo_bio.specs.Split.{child_for, children_for, waiting, with_all, numbered, split_into}
 
 -- the children come at the end
@@ -67,19 +64,6 @@ IsRising-numbered low [] next (x ∷ xs) rising =
     )
 IsRising-numbered low (row ∷ rows) next xs rising = (rising.0, IsRising-numbered (row.0 + 1) rows next xs rising.1)
 
--- a look-up in rows and those behind them
-pub value_at-append : {T : Type 0} → (rows more : List (ℕ × T)) (m : ℕ)
-    → value_at (rows ++ more) m ≡ option_or (value_at rows m) (value_at more m)
-value_at-append [] more m = refl
-value_at-append {T} (row ∷ rows) more m = either (row.0 == m) _ _ (value_at-append rows more m)
-  where
-    either : (b : Bool) (o r : Option (ℕ × T))
-        → option_map (λ p. p.1) o ≡ option_or (option_map (λ p. p.1) r) (value_at more m)
-        → option_map (λ p. p.1) (cond b (Some row) o)
-        ≡ option_or (option_map (λ p. p.1) (cond b (Some row) r)) (value_at more m)
-    either true o r e = refl
-    either false o r e = e
-
 -- a child that was made for a parent
 pub record IsNewChild (p : ℕ) (y : Bio) : Type 0 where
   pub index : ℕ
@@ -102,16 +86,6 @@ new_child p x k n (piece ∷ pieces) (target ∷ targets) m y found =
           }
       | inr other ↦ new_child p x (k + 1) (n + 1) pieces targets m y (rw (ne_eqb n m other) at found)
     ]
-
-family-append : (p : ℕ) (rows more : List (ℕ × Bio)) → family (rows ++ more) p ≡ family rows p ++ family more p
-family-append p [] more = refl
-family-append p (row ∷ rows) more =
-    ap (cons_option (child_of p row.0 (is_done row.1.phase) row.1.owner)) (family-append p rows more)
-    ∙ cons_append (child_of p row.0 (is_done row.1.phase) row.1.owner) (family rows p) (family more p)
-  where
-    cons_append : (o : Option Child) (xs ys : List Child) → cons_option o (xs ++ ys) ≡ cons_option o xs ++ ys
-    cons_append None xs ys = refl
-    cons_append (Some x) xs ys = refl
 
 -- the new children are the family of their parent, and of no other
 family-other : (q p : ℕ) (x : Bio) (k n : ℕ) (pieces : List Piece) (targets : List (ℕ × ℕ)) → p ≢ q
@@ -142,11 +116,6 @@ family-none_done p x k n (piece ∷ pieces) [] = refl
 family-none_done p x k n (piece ∷ pieces) (target ∷ targets) =
     rw (eq-eqb p p refl) (family-none_done p x (k + 1) (n + 1) pieces targets)
 
-either_part : {A : Type 0} (o r : Option A) (y : A) → option_or o r ≡ Some y
-    → (o ≡ Some y) ⊎ ((r ≡ Some y) × (o ≡ None))
-either_part (Some z) r y e = inl e
-either_part None r y e = inr (e, refl)
-
 module _ (rows : List (ℕ × Bio)) (next n : ℕ) (x : Bio) (pieces : List Piece) (targets : List (ℕ × ℕ)) where
   -- the rows after a split
   abbrev pub kids : List (ℕ × Bio)
@@ -167,69 +136,47 @@ module _ (rows : List (ℕ × Bio)) (next n : ℕ) (x : Bio) (pieces : List Piec
     found_all = value_at-append rows kids n ∙ ap (λ o. option_or o (value_at kids n)) found
 
     at_parent : value_at split_rows n ≡ Some parent
-    at_parent = value_at-with_value_same n x parent (rows ++ kids) found_all
+    at_parent = at_written (rows ++ kids) n x parent found_all
 
     kin : (p : ℕ) → family split_rows p ≡ family rows p ++ family kids p
-    kin p = family-with_value p n x parent 1 (rows ++ kids) (next + length (children_for n x 0 pieces targets))
-        rising_all found_all (ap (λ b. child_of p n b x.owner) (sym done)) ∙ family-append p rows kids
+    kin p = family-with_value p n x (rows ++ kids) (next + length (children_for n x 0 pieces targets)) rising_all
+        found_all parent (ap (λ b. child_of p n b x.owner) (sym done)) ∙ family-append p rows kids
 
     waits : (p : ℕ) → WaitsIn rows p → WaitsIn split_rows p
-    waits p q =
-        let differs : p ≢ n = λ here. let e = sym found ∙ ap (value_at rows) (sym here) ∙ q.1 in let x_is =
-        same_Some _ _ e in let b = sym was ∙ ap (λ (y : Bio). is_waiting y.phase) x_is ∙ q.2 in absurd (cc) in (
-          q.0,
-          value_at-with_value_other n p parent (rows ++ kids) differs ∙ value_at-append rows kids p
-              ∙ ap (λ o. option_or o (value_at kids p)) q.1,
-          q.2,
-        )
+    waits p q = waits_written (rows ++ kids) n x parent found_all was p (waits_appended rows kids p q)
 
-    where_it_stands : (m : ℕ) (y : Bio) → m ≢ n → value_at split_rows m ≡ Some y → (value_at rows m ≡ Some y)
-        ⊎ ((value_at kids m ≡ Some y) × (value_at rows m ≡ None))
-    where_it_stands m y other at =
-        either_part (value_at rows m) (value_at kids m) y (sym (value_at-append rows kids m)
-        ∙ sym (value_at-with_value_other n m parent (rows ++ kids) other) ∙ at)
+    own_family : HasFamily (family split_rows n) parent
+    own_family =
+        let none : family rows n ≡ [] = MatchBool-at_false _ _ was (t.families n x found) in
+        let split : IsSplitInto (family kids n) parent = record {
+          follow = family-follows n x 0 next pieces targets;
+          count = family-length n x 0 next pieces targets ∙ length-children_for n x 0 pieces targets same;
+          finished = family-none_done n x 0 next pieces targets;
+          few = few;
+        } in
+        rw (kin n, none) split
 
     families : (m : ℕ) (y : Bio) → value_at split_rows m ≡ Some y → HasFamily (family split_rows m) y
-    families m y at =
-        elim (cases_eq m n) [
-          | inl here ↦
-              let y_is : parent ≡ y = same_Some _ _ (sym at_parent ∙ ap (value_at split_rows) (sym here) ∙ at) in
-              let none : family rows n ≡ [] = MatchBool-at_false _ _ was (t.families n x found) in
-              let split : IsSplitInto (family kids n) parent = record {
-                follow = family-follows n x 0 next pieces targets;
-                count = family-length n x 0 next pieces targets ∙ length-children_for n x 0 pieces targets same;
-                finished = family-none_done n x 0 next pieces targets;
-                few = few;
-              } in
-              rw (kin m, here, none, ← y_is) split
-          | inr other ↦
-              let no_kids = family-other m n x 0 next pieces targets (λ here. other (sym here)) in
-              elim (where_it_stands m y other at) [
-                | inl old ↦ rw (kin m, no_kids, append-nil) (t.families m y old)
-                | inr new ↦
-                    let none = family-none m 1 rows next t.rising (λ l z k stands of. let q =
-                    t.parents l z m k stands of in let e = sym new.1 ∙ q.1 in absurd (cc)) in
-                    let child = new_child n x 0 next pieces targets m y new.0 in
-                    rw (kin m, none, no_kids, child.idle) refl
-              ]
-        ]
+    families =
+        each_written (rows ++ kids) n x parent found_all (λ m y. HasFamily (family split_rows m) y) own_family
+        (λ m y other at.
+        let no_kids = family-other m n x 0 next pieces targets (λ here. other (sym here)) in
+        each_appended rows kids (λ k z. family kids k ≡ [] → HasFamily (family split_rows k) z)
+        (λ k z old none. rw (kin k, none, append-nil) (t.families k z old))
+        (λ k z absent new none.
+        rw (kin k, no_family rows next k t absent, none, (new_child n x 0 next pieces targets k z new).idle) refl)
+        m y at no_kids)
 
     parents : (m : ℕ) (y : Bio) (p k : ℕ) → value_at split_rows m ≡ Some y → y.owner ≡ owners.Child p k
         → WaitsIn split_rows p
-    parents m y p k at of =
-        elim (cases_eq m n) [
-          | inl here ↦
-              let y_is : parent ≡ y = same_Some _ _ (sym at_parent ∙ ap (value_at split_rows) (sym here) ∙ at) in
-              waits p (t.parents n x p k found (ap (λ (z : Bio). z.owner) y_is ∙ of))
-          | inr other ↦
-              elim (where_it_stands m y other at) [
-                | inl old ↦ waits p (t.parents m y p k old of)
-                | inr new ↦
-                    let child = new_child n x 0 next pieces targets m y new.0 in
-                    let is : n ≡ p = let e = sym child.owner ∙ of in cc in
-                    subst (λ q. WaitsIn split_rows q) is (parent, at_parent, refl)
-              ]
-        ]
+    parents m y p k =
+        each_written (rows ++ kids) n x parent found_all (λ l z. z.owner ≡ owners.Child p k → WaitsIn split_rows p)
+        (λ of. waits p (t.parents n x p k found of))
+        (λ l z other. each_appended rows kids (λ i v. v.owner ≡ owners.Child p k → WaitsIn split_rows p)
+        (λ i v old of. waits p (t.parents i v p k old of))
+        (λ i v absent new of.
+        let is : n ≡ p = let e = sym (new_child n x 0 next pieces targets i v new).owner ∙ of in cc in
+        subst (λ q. WaitsIn split_rows q) is (parent, at_parent, refl)) l z) m y
 
     -- the table after a split
     pub table_split : IsTable split_rows (next + length (children_for n x 0 pieces targets))
@@ -240,48 +187,24 @@ module _ (rows : List (ℕ × Bio)) (next n : ℕ) (x : Bio) (pieces : List Piec
       parents = parents;
     }
 
--- what the two steps of a split leave
-pub split_after : (mid new : SlotsView Bio) (rows : List (ℕ × Bio)) (high room n : ℕ) (change : Bio → Bio)
+-- what the two steps of a split leave: that the bio waits changes neither the next number nor the room
+pub split_left : (mid new : SlotsView Bio) (rows : List (ℕ × Bio)) (high room n : ℕ) (change : Bio → Bio)
     → mid ≡ record { rows = rows; next = high; spare = room }
     → MatchOption (value_at mid.rows n) (new ≡ mid) (λ x. new
     ≡ record mid { rows = with_value mid.rows n (change x) })
-    → IfSome (value_at rows n) (λ x. new.rows ≡ with_value rows n (change x))
-split_after mid new rows high room n change all step =
-    by_case (value_at rows n)
-    (subst (λ m.
-    MatchOption (value_at m.rows n) (new ≡ m) (λ x. new
+    → IfSome (value_at rows n) (λ x. new.rows ≡ with_value rows n (change x)) × (new.next ≡ high)
+    × (new.spare ≡ room)
+split_left mid new rows high room n change all step =
+    by (value_at rows n)
+    (subst (λ m. MatchOption (value_at m.rows n) (new ≡ m) (λ x. new
     ≡ record m { rows = with_value m.rows n (change x) })) all step)
   where
-    by_case : (o : Option Bio)
+    by : (o : Option Bio)
         → MatchOption o (new ≡ record { rows = rows; next = high; spare = room }) (λ x. new
         ≡ record { rows = with_value rows n (change x); next = high; spare = room })
-        → IfSome o (λ x. new.rows ≡ with_value rows n (change x))
-    by_case (Some x) e = ap (λ s. s.rows) e
-    by_case None e = tt
-
-pub split_next : (mid new : SlotsView Bio) (rows : List (ℕ × Bio)) (high room n : ℕ) (change : Bio → Bio)
-    → mid ≡ record { rows = rows; next = high; spare = room }
-    → MatchOption (value_at mid.rows n) (new ≡ mid) (λ x. new
-    ≡ record mid { rows = with_value mid.rows n (change x) }) → new.next ≡ high
-split_next mid new rows high room n change all step = by_case (value_at mid.rows n) step ∙ ap (λ s. s.next) all
-  where
-    by_case : (o : Option Bio)
-        → MatchOption o (new ≡ mid) (λ x. new ≡ record mid { rows = with_value mid.rows n (change x) })
-        → new.next ≡ mid.next
-    by_case (Some x) e = ap (λ s. s.next) e
-    by_case None e = ap (λ s. s.next) e
-
-pub split_spare : (mid new : SlotsView Bio) (rows : List (ℕ × Bio)) (high room n : ℕ) (change : Bio → Bio)
-    → mid ≡ record { rows = rows; next = high; spare = room }
-    → MatchOption (value_at mid.rows n) (new ≡ mid) (λ x. new
-    ≡ record mid { rows = with_value mid.rows n (change x) }) → new.spare ≡ room
-split_spare mid new rows high room n change all step = by_case (value_at mid.rows n) step ∙ ap (λ s. s.spare) all
-  where
-    by_case : (o : Option Bio)
-        → MatchOption o (new ≡ mid) (λ x. new ≡ record mid { rows = with_value mid.rows n (change x) })
-        → new.spare ≡ mid.spare
-    by_case (Some x) e = ap (λ s. s.spare) e
-    by_case None e = ap (λ s. s.spare) e
+        → IfSome o (λ x. new.rows ≡ with_value rows n (change x)) × (new.next ≡ high) × (new.spare ≡ room)
+    by (Some x) e = (ap (λ s. s.rows) e, ap (λ s. s.next) e, ap (λ s. s.spare) e)
+    by None e = (tt, ap (λ s. s.next) e, ap (λ s. s.spare) e)
 
 -- room that was made where it was wanting, and then taken, leaves what there was beyond it
 pub room_left : (old made count : ℕ) → old ≤ made → count ≤ made → made ≤ max old count → made - count ≡ old - count

@@ -1,50 +1,235 @@
--- A table keeps its families.
-use Rattle.std.proofs.Common.{◌≡◌, ◌≢◌, ℕ, ◌+◌, ◌≤◌, List, [], ◌∷◌, ◌++◌, map, Bool, true, false, Option, Some, None, sym, refl, ap, ◌∙◌, inl, inr, arith}
-use Rattle.std.proofs.lemmas.Bool.{cases_eq, eq-eqb, ne_eqb, MatchBool-at_false}
-use Rattle.std.proofs.lemmas.Option.{same_Some}
-use Rattle.std.specs.List.{cons_option}
+-- The rows of a table of bios: what stands where after a change, the families, and what contracts see of it all.
+use Rattle.std.specs.Prelude.{is_some, count_by}
+use Rattle.std.specs.List.{cons_option, list_all}
+use Rattle.std.specs.Option.{option_map, option_map_or, option_or, MatchOption}
+use Rattle.std.specs.List.Sorted.{IsStrictlyIncreasing}
+use Rattle.std.proofs.Common.{◌≡◌, ◌≢◌, ℕ, zero, suc, ◌+◌, ◌<◌, ◌≤◌, ◌==◌, ◌&&◌, nat_le, cond, List, [], ◌∷◌, ◌++◌, map, filter, find, length, Bool, true, false, Option, Some, None, IfSome, All, sym, refl, ap, ◌∙◌, subst, inl, inr, arith, append-nil}
+use Rattle.std.proofs.lemmas.Bool.{cases_Bool, cases_eq, eq-eqb, ne_eqb, MatchBool-at_true, MatchBool-at_false}
+use Rattle.std.proofs.lemmas.List.Elements.{All-cons, All-nil, filter_map-append}
+use Rattle.std.proofs.lemmas.List.Folds.{find-append}
+use Rattle.std.proofs.lemmas.List.Sums.{sum_by-cons}
+use Rattle.std.proofs.lemmas.Option.{same_Some, MatchOption-at_some}
+use Rattle.geo_model.specs.Errno.{Errno}
 use Rattle.geo_model.specs.declared.step.Owner.{Owner}
 use Rattle.geo_model.specs.declared.step.Owner.TheVariants as owners
 use Rattle.geo_model.specs.declared.step.Phase.{Phase}
 use Rattle.geo_model.specs.declared.step.Phase.TheVariants as phases
-use Rattle.geo_model.specs.World.{BioOf, is_down, is_sent, is_busy, is_done, is_waiting, is_root, change_number, bio_among}
-use Rattle.std.specs.Option.{option_map, option_map_or}
-use Rattle.geo_slots.specs.Slots.{IsRising, value_at, with_value}
-use Rattle.geo_slots.proofs.RowLemmas.{IsRising-push, IsRising-with_value, with_value_below, value_at_below, value_at_next, find-items, change-items}
+use Rattle.geo_model.specs.World.{BioOf, is_down, is_sent, is_busy, is_up, is_done, is_waiting, is_root, is_child_of, children_among, change_number, bio_among}
+use Rattle.geo_model.proofs.FindLists.{find-map}
+use Rattle.geo_slots.specs.Slots.{SlotsView, IsRising, value_at, with_value, without}
+use Rattle.geo_slots.proofs.RowLemmas.{IsRising_ends, IsRising_from, IsRising-push, IsRising-with_value, IsRising-without, with_value_below, without_below, value_at_below, value_at-set, value_at-kept, value_at-without, value_at-gone, find-items, change-items}
 use Rattle.geo_bio.specs.declared.bio.Bio.{Bio}
 use Rattle.geo_bio.specs.declared.bio.Held.{Held}
-use Rattle.geo_bio.specs.BioTable.{has_phase}
-use Rattle.geo_bio.specs.Rows.{as_bio, seen_row, child_of, family, HasFamily, WaitsIn, IsTable}
-use Rattle.geo_bio.proofs.ValueLemmas.{value_at-with_value_same, value_at-with_value_other, value_at-push_same, value_at-push_other}
+use Rattle.geo_bio.specs.BioTable.{BioTableView, AreInOrder, HasParent, has_phase, delivered, delivered_result}
+use Rattle.geo_bio.specs.Rows.{as_bio, seen_row, up_holding, Child, child_of, family, FollowFrom, StandFrom, HasFamily, WaitsIn, IsTable, KnowsChildren}
 
--- a change that leaves the owner, and whether the bio is Done, leaves every family
-pub family-with_value : (p n : ℕ) (x w : Bio) (low : ℕ) (rows : List (ℕ × Bio)) (high : ℕ) → IsRising low rows high
-    → value_at rows n ≡ Some x → child_of p n (is_done w.phase) w.owner ≡ child_of p n (is_done x.phase) x.owner
-    → family (with_value rows n w) p ≡ family rows p
-family-with_value p n x w low [] high rising found same = refl
-family-with_value p n x w low (row ∷ rows) high rising found same =
+-- Values under numbers
+
+-- rows that have a value under a number: those before it, and those behind
+pub record StandsAt {T : Type 0} (rows : List (ℕ × T)) (n : ℕ) (x : T) : Type 0 where
+  pub front : List (ℕ × T)
+  pub back : List (ℕ × T)
+  pub rows_are : rows ≡ front ++ (n, x) ∷ back
+  pub written : (w : T) → with_value rows n w ≡ front ++ (n, w) ∷ back
+  pub gone : without rows n ≡ front ++ back
+
+pub stands_at : {T : Type 0} (n : ℕ) (x : T) (low : ℕ) (rows : List (ℕ × T)) (high : ℕ) → IsRising low rows high
+    → value_at rows n ≡ Some x → StandsAt rows n x
+stands_at n x low [] high rising found = absurd (cc)
+stands_at n x low (row ∷ rows) high rising found =
     elim (cases_eq row.0 n) [
       | inl here ↦
           let is : row.1 ≡ x = same_Some _ _ (rw (eq-eqb row.0 n here) at found) in
-          let rest = with_value_below n (row.0 + 1) w rows high rising.1 (omega (arith, here)) in
-          rw (eq-eqb row.0 n here, rest, here, is) (ap (λ o. cons_option o (family rows p)) same)
+          let below : n < row.0 + 1 = omega (arith, here) in
+          record {
+            front = [];
+            back = rows;
+            rows_are = λ i. (here i, is i) ∷ rows;
+            written = λ w. rw (eq-eqb row.0 n here)
+                (ap (λ more. (n, w) ∷ more) (with_value_below n (row.0 + 1) w rows high rising.1 below));
+            gone = rw (eq-eqb row.0 n here) (without_below n (row.0 + 1) rows high rising.1 below);
+          }
       | inr other ↦
-          rw (ne_eqb row.0 n other)
-          (ap (cons_option (child_of p row.0 (is_done row.1.phase) row.1.owner))
-          (family-with_value p n x w (row.0 + 1) rows high rising.1 (rw (ne_eqb row.0 n other) at found) same))
+          let s = stands_at n x (row.0 + 1) rows high rising.1 (rw (ne_eqb row.0 n other) at found) in
+          record {
+            front = row ∷ s.front;
+            back = s.back;
+            rows_are = ap (λ more. row ∷ more) s.rows_are;
+            written = λ w. rw (ne_eqb row.0 n other) (ap (λ more. row ∷ more) (s.written w));
+            gone = rw (ne_eqb row.0 n other) (ap (λ more. row ∷ more) s.gone);
+          }
     ]
+
+module _ {T : Type 0} (rows : List (ℕ × T)) (n : ℕ) (x w : T) (found : value_at rows n ≡ Some x) where
+  pub at_written : value_at (with_value rows n w) n ≡ Some w
+  at_written = value_at-set n w rows (ap is_some found)
+
+  -- what holds of the value that was written, and of the others as they stood, holds of each
+  pub each_written : (P : ℕ → T → Type 0) → P n w
+      → ((m : ℕ) (y : T) → m ≢ n → value_at rows m ≡ Some y → P m y)
+      → (m : ℕ) (y : T) → value_at (with_value rows n w) m ≡ Some y → P m y
+  each_written P here others m y at =
+      elim (cases_eq m n) [
+        | inl same ↦
+            let is : w ≡ y = same_Some _ _ (sym at_written ∙ ap (value_at (with_value rows n w)) (sym same) ∙ at) in
+            subst (λ (k : ℕ). P k y) (sym same) (subst (λ (z : T). P n z) is here)
+        | inr other ↦ others m y other (sym (value_at-kept n m w rows other) ∙ at)
+      ]
+
+module _ {T : Type 0} (rows more : List (ℕ × T)) where
+  -- a look-up in rows and those behind them
+  pub value_at-append : (m : ℕ) → value_at (rows ++ more) m ≡ option_or (value_at rows m) (value_at more m)
+  value_at-append m =
+      ap (option_map (λ (row : ℕ × T). row.1)) (find-append (λ (row : ℕ × T). row.0 == m) rows more)
+      ∙ by (find (λ (row : ℕ × T). row.0 == m) rows) (find (λ (row : ℕ × T). row.0 == m) more)
+    where
+      by : (o r : Option (ℕ × T)) → option_map (λ (row : ℕ × T). row.1) (option_or o r)
+          ≡ option_or (option_map (λ (row : ℕ × T). row.1) o) (option_map (λ (row : ℕ × T). row.1) r)
+      by None r = refl
+      by (Some row) r = refl
+
+  -- what holds of each value of these and of each behind them holds of each
+  pub each_appended : (P : ℕ → T → Type 0) → ((m : ℕ) (y : T) → value_at rows m ≡ Some y → P m y)
+      → ((m : ℕ) (y : T) → value_at rows m ≡ None → value_at more m ≡ Some y → P m y)
+      → (m : ℕ) (y : T) → value_at (rows ++ more) m ≡ Some y → P m y
+  each_appended P old new m y at =
+      by (value_at rows m) (value_at more m) refl refl (sym (value_at-append m) ∙ at)
+    where
+      by : (o r : Option T) → value_at rows m ≡ o → value_at more m ≡ r → option_or o r ≡ Some y → P m y
+      by (Some z) r e f here = old m y (e ∙ here)
+      by None r e f here = new m y e (f ∙ here)
+
+module _ {T : Type 0} (test : ℕ × T → Bool) where
+  pub IsRising-filter : (low : ℕ) (rows : List (ℕ × T)) (high : ℕ) → IsRising low rows high
+      → IsRising low (filter test rows) high
+  IsRising-filter low [] high rising = rising
+  IsRising-filter low (row ∷ rows) high rising =
+      let rest = IsRising-filter (row.0 + 1) rows high rising.1 in
+      elim (cases_Bool (test row)) [
+        | inl passes ↦ rw passes (rising.0, rest)
+        | inr fails ↦ rw fails (IsRising_from low (row.0 + 1) (filter test rows) high (omega (arith, rising.0)) rest)
+      ]
+
+  -- what stands among them stood before, and passes
+  pub value_at-filter_back : (low : ℕ) (rows : List (ℕ × T)) (high m : ℕ) (y : T) → IsRising low rows high
+      → value_at (filter test rows) m ≡ Some y → (value_at rows m ≡ Some y) × (test (m, y) ≡ true)
+  value_at-filter_back low [] high m y rising found = absurd (cc)
+  value_at-filter_back low (row ∷ rows) high m y rising found =
+      elim (cases_Bool (test row)) [
+        | inl passes ↦
+            kept passes (λ at. value_at-filter_back (row.0 + 1) rows high m y rising.1 at) (rw passes at found)
+        | inr fails ↦
+            let later = value_at-filter_back (row.0 + 1) rows high m y rising.1 (rw fails at found) in
+            let other : row.0 ≢ m = λ same. let absent =
+            value_at_below m (row.0 + 1) rows high rising.1 (omega (arith, same)) in let e =
+            sym absent ∙ later.0 in absurd (cc) in
+            (rw (ne_eqb row.0 m other) later.0, later.1)
+      ]
+    where
+      kept : test row ≡ true
+          → (value_at (filter test rows) m ≡ Some y → (value_at rows m ≡ Some y) × (test (m, y) ≡ true))
+          → value_at (row ∷ filter test rows) m ≡ Some y → (value_at (row ∷ rows) m ≡ Some y) × (test (m, y) ≡ true)
+      kept passes back at =
+          elim (cases_eq row.0 m) [
+            | inl same ↦
+                let is : row.1 ≡ y = same_Some _ _ (rw (eq-eqb row.0 m same) at at) in
+                let e : test (row.0, row.1) ≡ test (m, y) = λ i. test (same i, is i) in
+                (rw (eq-eqb row.0 m same) (ap Some is), sym e ∙ passes)
+            | inr other ↦
+                let later = back (rw (ne_eqb row.0 m other) at at) in
+                (rw (ne_eqb row.0 m other) later.0, later.1)
+          ]
+
+  -- what passes still stands
+  pub value_at-filter : (rows : List (ℕ × T)) (m : ℕ) (y : T) → value_at rows m ≡ Some y → test (m, y) ≡ true
+      → value_at (filter test rows) m ≡ Some y
+  value_at-filter [] m y found passes = absurd (cc)
+  value_at-filter (row ∷ rows) m y found passes =
+      elim (cases_eq row.0 m) [
+        | inl same ↦
+            let is : row.1 ≡ y = same_Some _ _ (rw (eq-eqb row.0 m same) at found) in
+            let e : test (row.0, row.1) ≡ test (m, y) = λ i. test (same i, is i) in
+            let here : test row ≡ true = e ∙ passes in
+            rw (here, eq-eqb row.0 m same) (ap Some is)
+        | inr other ↦
+            let later = value_at-filter rows m y (rw (ne_eqb row.0 m other) at found) passes in
+            elim (cases_Bool (test row)) [
+              | inl keeps ↦ rw (keeps, ne_eqb row.0 m other) later
+              | inr drops ↦ rw drops later
+            ]
+      ]
+
+-- A search from a number on goes through what contracts see
+pub find-from_seen : (n : ℕ) (rows : List (ℕ × Bio))
+    → option_map (λ x. x.number) (find (λ x. nat_le n x.number) (map seen_row rows))
+    ≡ option_map (λ row. row.0) (find (λ row. nat_le n row.0) rows)
+find-from_seen n rows =
+    ap (option_map (λ (x : BioOf Held). x.number)) (find-map (λ (x : BioOf Held). nat_le n x.number) seen_row rows)
+    ∙ by (find (λ (row : ℕ × Bio). nat_le n row.0) rows)
+  where
+    by : (o : Option (ℕ × Bio))
+        → option_map (λ (x : BioOf Held). x.number) (option_map seen_row o) ≡ option_map (λ (row : ℕ × Bio). row.0) o
+    by None = refl
+    by (Some row) = refl
+
+-- after a change of one number, what a look-up finds at another
+pub value_at-changed_other : {T : Type 0} → (old new : SlotsView T) (n m : ℕ) (change : T → T) → m ≢ n
+    → MatchOption (value_at old.rows n) (new ≡ old) (λ x. new
+    ≡ record old { rows = with_value old.rows n (change x) }) → value_at new.rows m ≡ value_at old.rows m
+value_at-changed_other {T} old new n m change differs changed = by_case (value_at old.rows n) changed
+  where
+    by_case : (o : Option T)
+        → MatchOption o (new ≡ old) (λ x. new ≡ record old { rows = with_value old.rows n (change x) })
+        → value_at new.rows m ≡ value_at old.rows m
+    by_case (Some x) is = ap (λ s. value_at s.rows m) is ∙ value_at-kept n m (change x) old.rows differs
+    by_case None is = ap (λ s. value_at s.rows m) is
+
+-- Families
+
+pub family-append : (p : ℕ) (rows more : List (ℕ × Bio)) → family (rows ++ more) p ≡ family rows p ++ family more p
+family-append p rows more =
+    filter_map-append (λ (row : ℕ × Bio). child_of p row.0 (is_done row.1.phase) row.1.owner) rows more
+
+-- a child in the family of its parent
+pub own_child : (p n k : ℕ) (done : Bool)
+    → child_of p n done (owners.Child p k) ≡ Some (record { number = n; place = k; done = done })
+own_child p n k done = rw (eq-eqb p p refl) refl
 
 -- a bio that isn't a child is in no family
 pub child_of-root : (p n : ℕ) (done : Bool) (owner : Owner) → is_root owner ≡ true → child_of p n done owner ≡ None
-child_of-root p n done (owners.Line handle line) root = refl
-child_of-root p n done owners.Taste root = refl
 child_of-root p n done (owners.Child parent index) root = absurd (cc)
+child_of-root p n done _ root = refl
 
 family-push : (p n : ℕ) (w : Bio) (rows : List (ℕ × Bio)) → is_root w.owner ≡ true
     → family (rows ++ (n, w) ∷ []) p ≡ family rows p
-family-push p n w [] root = rw (child_of-root p n (is_done w.phase) w.owner root) refl
-family-push p n w (row ∷ rows) root =
-    ap (cons_option (child_of p row.0 (is_done row.1.phase) row.1.owner)) (family-push p n w rows root)
+family-push p n w rows root =
+    family-append p rows ((n, w) ∷ [])
+    ∙ ap (λ o. family rows p ++ cons_option o []) (child_of-root p n (is_done w.phase) w.owner root)
+    ∙ append-nil (family rows p)
+
+module _ (p n : ℕ) (x : Bio) (rows : List (ℕ × Bio)) (high : ℕ) (rising : IsRising 1 rows high)
+    (found : value_at rows n ≡ Some x) where
+  -- the rows with the bio
+  pub family-with : (s : StandsAt rows n x) → family rows p
+      ≡ family s.front p ++ cons_option (child_of p n (is_done x.phase) x.owner) (family s.back p)
+  family-with s = ap (λ r. family r p) s.rows_are ∙ family-append p s.front ((n, x) ∷ s.back)
+
+  -- a change that leaves the owner, and whether the bio is Done, leaves every family
+  pub family-with_value : (w : Bio)
+      → child_of p n (is_done w.phase) w.owner ≡ child_of p n (is_done x.phase) x.owner
+      → family (with_value rows n w) p ≡ family rows p
+  family-with_value w same =
+      let s = stands_at n x 1 rows high rising found in
+      ap (λ r. family r p) (s.written w) ∙ family-append p s.front ((n, w) ∷ s.back)
+      ∙ ap (λ o. family s.front p ++ cons_option o (family s.back p)) same ∙ sym (family-with s)
+
+  -- a root that goes was in no family
+  pub family-without_root : is_root x.owner ≡ true → family (without rows n) p ≡ family rows p
+  family-without_root root =
+      let s = stands_at n x 1 rows high rising found in
+      ap (λ r. family r p) s.gone ∙ family-append p s.front s.back
+      ∙ ap (λ o. family s.front p ++ cons_option o (family s.back p))
+      (sym (child_of-root p n (is_done x.phase) x.owner root)) ∙ sym (family-with s)
 
 -- a bio that no bio names as its parent has no family
 pub family-none : (p low : ℕ) (rows : List (ℕ × Bio)) (high : ℕ) → IsRising low rows high
@@ -66,10 +251,35 @@ family-none p low (row ∷ rows) high rising none =
 
     no_child : (owner : Owner) → ((k : ℕ) → owner ≡ owners.Child p k → ⊥)
         → child_of p row.0 (is_done row.1.phase) owner ≡ None
-    no_child (owners.Line handle line) other = refl
-    no_child owners.Taste other = refl
     no_child (owners.Child parent index) other =
         rw (ne_eqb parent p (λ same. other index (ap (λ q. owners.Child q index) same))) refl
+    no_child _ other = refl
+
+-- a number without a bio has no family
+pub no_family : (rows : List (ℕ × Bio)) (next n : ℕ) → IsTable rows next → value_at rows n ≡ None → family rows n ≡ []
+no_family rows next n t absent =
+    family-none n 1 rows next t.rising (λ m x k at of. let q = t.parents m x n k at of in let e = sym absent ∙ q.1 in
+    absurd (cc))
+
+-- a bio that doesn't wait is another than one that does
+pub not_it : (rows : List (ℕ × Bio)) (n : ℕ) (x : Bio) → value_at rows n ≡ Some x → is_waiting x.phase ≡ false
+    → (p : ℕ) → WaitsIn rows p → p ≢ n
+not_it rows n x found was p q same =
+    let is : x ≡ q.0 = same_Some _ _ (sym found ∙ ap (value_at rows) (sym same) ∙ q.1) in
+    let no : false ≡ true = sym was ∙ ap (λ (y : Bio). is_waiting y.phase) is ∙ q.2 in
+    cc
+
+-- so one that waits still waits once the other is written
+pub waits_written : (rows : List (ℕ × Bio)) (n : ℕ) (x w : Bio) → value_at rows n ≡ Some x
+    → is_waiting x.phase ≡ false → (p : ℕ) → WaitsIn rows p → WaitsIn (with_value rows n w) p
+waits_written rows n x w found was p q =
+    (q.0, value_at-kept n p w rows (not_it rows n x found was p q) ∙ q.1, q.2)
+
+-- and once more come behind
+pub waits_appended : (rows more : List (ℕ × Bio)) (p : ℕ) → WaitsIn rows p → WaitsIn (rows ++ more) p
+waits_appended rows more p q = (q.0, value_at-append rows more p ∙ ap (λ o. option_or o (value_at more p)) q.1, q.2)
+
+-- A table keeps its families
 
 -- a bio that isn't Waiting changes to another phase without Done
 pub table_changed : (rows : List (ℕ × Bio)) (next n : ℕ) (x w : Bio) → IsTable rows next → value_at rows n ≡ Some x
@@ -78,46 +288,18 @@ pub table_changed : (rows : List (ℕ × Bio)) (next n : ℕ) (x w : Bio) → Is
 table_changed rows next n x w t found owner done was is =
     record {
       rising = IsRising-with_value n w 1 rows next t.rising;
-      families = families;
-      parents = parents;
+      families = each_written rows n x w found (λ m y. HasFamily (family (with_value rows n w) m) y)
+          (let none : family rows n ≡ [] = MatchBool-at_false _ _ was (t.families n x found) in
+          rw (kin n, none, is) refl)
+          (λ m y other at. rw (kin m) (t.families m y at));
+      parents = λ m y p k. each_written rows n x w found
+          (λ l z. z.owner ≡ owners.Child p k → WaitsIn (with_value rows n w) p)
+          (λ of. waits_written rows n x w found was p (t.parents n x p k found (sym owner ∙ of)))
+          (λ l z other at of. waits_written rows n x w found was p (t.parents l z p k at of)) m y;
     }
   where
     kin : (p : ℕ) → family (with_value rows n w) p ≡ family rows p
-    kin p = family-with_value p n x w 1 rows next t.rising found (λ i. child_of p n (done i) (owner i))
-
-    waits : (p : ℕ) → WaitsIn rows p → WaitsIn (with_value rows n w) p
-    waits p q =
-        let differs : p ≢ n = λ same. let e = sym found ∙ ap (value_at rows) (sym same) ∙ q.1 in let x_is =
-        same_Some _ _ e in let b = sym was ∙ ap (λ (y : Bio). is_waiting y.phase) x_is ∙ q.2 in absurd (cc) in
-        (q.0, value_at-with_value_other n p w rows differs ∙ q.1, q.2)
-
-    families : (number : ℕ) (y : Bio) → value_at (with_value rows n w) number ≡ Some y
-        → HasFamily (family (with_value rows n w) number) y
-    families number y at =
-        elim (cases_eq number n) [
-          | inl same ↦
-              let y_is : w ≡ y =
-              same_Some _ _ (sym (value_at-with_value_same n x w rows found)
-              ∙ ap (value_at (with_value rows n w)) (sym same) ∙ at) in
-              let none : family rows n ≡ [] = MatchBool-at_false _ _ was (t.families n x found) in
-              rw (kin number, same, none, ← y_is, is) refl
-          | inr other ↦
-              rw (kin number) (t.families number y (sym (value_at-with_value_other n number w rows other) ∙ at))
-        ]
-
-    parents : (number : ℕ) (y : Bio) (parent index : ℕ) → value_at (with_value rows n w) number ≡ Some y
-        → y.owner ≡ owners.Child parent index → WaitsIn (with_value rows n w) parent
-    parents number y parent index at of =
-        elim (cases_eq number n) [
-          | inl same ↦
-              let y_is : w ≡ y =
-              same_Some _ _ (sym (value_at-with_value_same n x w rows found)
-              ∙ ap (value_at (with_value rows n w)) (sym same) ∙ at) in
-              waits parent (t.parents n x parent index found (sym owner ∙ ap (λ (z : Bio). z.owner) y_is ∙ of))
-          | inr other ↦
-              waits parent
-              (t.parents number y parent index (sym (value_at-with_value_other n number w rows other) ∙ at) of)
-        ]
+    kin p = family-with_value p n x rows next t.rising found w (λ i. child_of p n (done i) (owner i))
 
 -- a root is added
 pub table_pushed : (rows : List (ℕ × Bio)) (next : ℕ) (w : Bio) → IsTable rows next → is_root w.owner ≡ true
@@ -125,75 +307,118 @@ pub table_pushed : (rows : List (ℕ × Bio)) (next : ℕ) (w : Bio) → IsTable
 table_pushed rows next w t root is =
     record {
       rising = IsRising-push 1 rows next w t.rising;
-      families = families;
-      parents = parents;
+      families = each_appended rows ((next, w) ∷ []) (λ m y. HasFamily (family (rows ++ (next, w) ∷ []) m) y)
+          (λ m y at. rw (family-push m next w rows root) (t.families m y at))
+          (λ m y absent at.
+          rw (family-push m next w rows root, no_family rows next m t absent, ← it_is m y at, is) refl);
+      parents = λ m y p k. each_appended rows ((next, w) ∷ [])
+          (λ l z. z.owner ≡ owners.Child p k → WaitsIn (rows ++ (next, w) ∷ []) p)
+          (λ l z at of. waits_appended rows ((next, w) ∷ []) p (t.parents l z p k at of))
+          (λ l z absent at of.
+          let not_root : true ≡ false = sym root ∙ ap is_root (ap (λ (v : Bio). v.owner) (it_is l z at) ∙ of) in
+          absurd (cc)) m y;
     }
   where
-    absent : (m : ℕ) → next ≤ m → value_at rows m ≡ None
-    absent m past = value_at_next m 1 rows next t.rising past
-
-    waits : (p : ℕ) → WaitsIn rows p → WaitsIn (rows ++ (next, w) ∷ []) p
-    waits p q =
-        let differs : p ≢ next = λ same. let e = sym (absent p (omega (arith, same))) ∙ q.1 in absurd (cc) in
-        (q.0, value_at-push_other rows next p w differs ∙ q.1, q.2)
-
-    none : family rows next ≡ []
-    none = family-none next 1 rows next t.rising (λ m x k at of. let q = t.parents m x next k at of in let e =
-        sym (absent next (omega arith)) ∙ q.1 in absurd (cc))
-
-    families : (number : ℕ) (y : Bio) → value_at (rows ++ (next, w) ∷ []) number ≡ Some y
-        → HasFamily (family (rows ++ (next, w) ∷ []) number) y
-    families number y at =
-        elim (cases_eq number next) [
-          | inl same ↦
-              let y_is : w ≡ y =
-              same_Some _ _ (sym (value_at-push_same 1 rows next w t.rising)
-              ∙ ap (value_at (rows ++ (next, w) ∷ [])) (sym same) ∙ at) in
-              rw (family-push number next w rows root, same, none, ← y_is, is) refl
-          | inr other ↦
-              rw (family-push number next w rows root)
-              (t.families number y (sym (value_at-push_other rows next number w other) ∙ at))
+    it_is : (m : ℕ) (y : Bio) → value_at ((next, w) ∷ []) m ≡ Some y → w ≡ y
+    it_is m y at =
+        elim (cases_eq next m) [
+          | inl same ↦ same_Some _ _ (rw (eq-eqb next m same) at at)
+          | inr other ↦ absurd (let no = rw (ne_eqb next m other) at at in cc)
         ]
 
-    parents : (number : ℕ) (y : Bio) (parent index : ℕ) → value_at (rows ++ (next, w) ∷ []) number ≡ Some y
-        → y.owner ≡ owners.Child parent index → WaitsIn (rows ++ (next, w) ∷ []) parent
-    parents number y parent index at of =
-        elim (cases_eq number next) [
+-- a root goes
+pub table_without_root : (rows : List (ℕ × Bio)) (next n : ℕ) (x : Bio) → IsTable rows next
+    → value_at rows n ≡ Some x → is_root x.owner ≡ true → is_waiting x.phase ≡ false → IsTable (without rows n) next
+table_without_root rows next n x t found root was =
+    record {
+      rising = IsRising-without n 1 rows next t.rising;
+      families = λ m y at.
+          rw (family-without_root m n x rows next t.rising found root) (t.families m y (stood m y at));
+      parents = λ m y p k at of. let q = t.parents m y p k (stood m y at) of in
+          (q.0, value_at-without n p rows (not_it rows n x found was p q) ∙ q.1, q.2);
+    }
+  where
+    stood : (m : ℕ) (y : Bio) → value_at (without rows n) m ≡ Some y → value_at rows m ≡ Some y
+    stood m y at =
+        elim (cases_eq m n) [
           | inl same ↦
-              let y_is : w ≡ y =
-              same_Some _ _ (sym (value_at-push_same 1 rows next w t.rising)
-              ∙ ap (value_at (rows ++ (next, w) ∷ [])) (sym same) ∙ at) in
-              let not_root = sym root ∙ ap is_root (ap (λ (z : Bio). z.owner) y_is ∙ of) in absurd (cc)
-          | inr other ↦
-              waits parent
-              (t.parents number y parent index (sym (value_at-push_other rows next number w other) ∙ at) of)
+              absurd (let no = sym (value_at-gone n rows) ∙ ap (value_at (without rows n)) (sym same) ∙ at in cc)
+          | inr other ↦ sym (value_at-without n m rows other) ∙ at
         ]
 
--- What a public call makes of the rows
+-- a bio in one of these phases is neither Done nor Waiting
 
 pub down_facts : (phase : Phase) → is_down phase ≡ true → (is_done phase ≡ false) × (is_waiting phase ≡ false)
 down_facts phases.Down e = (refl, refl)
-down_facts phases.Sent e = absurd (cc)
-down_facts (phases.Busy seat) e = absurd (cc)
-down_facts phases.Waiting e = absurd (cc)
-down_facts phases.Up e = absurd (cc)
-down_facts phases.Done e = absurd (cc)
+down_facts _ e = absurd (cc)
 
 pub sent_facts : (phase : Phase) → is_sent phase ≡ true → (is_done phase ≡ false) × (is_waiting phase ≡ false)
-sent_facts phases.Down e = absurd (cc)
 sent_facts phases.Sent e = (refl, refl)
-sent_facts (phases.Busy seat) e = absurd (cc)
-sent_facts phases.Waiting e = absurd (cc)
-sent_facts phases.Up e = absurd (cc)
-sent_facts phases.Done e = absurd (cc)
+sent_facts _ e = absurd (cc)
 
 pub busy_facts : (phase : Phase) → is_busy phase ≡ true → (is_done phase ≡ false) × (is_waiting phase ≡ false)
-busy_facts phases.Down e = absurd (cc)
-busy_facts phases.Sent e = absurd (cc)
 busy_facts (phases.Busy seat) e = (refl, refl)
-busy_facts phases.Waiting e = absurd (cc)
-busy_facts phases.Up e = absurd (cc)
-busy_facts phases.Done e = absurd (cc)
+busy_facts _ e = absurd (cc)
+
+pub up_facts : (phase : Phase) → is_up phase ≡ true → (is_done phase ≡ false) × (is_waiting phase ≡ false)
+up_facts phases.Up e = (refl, refl)
+up_facts _ e = absurd (cc)
+
+-- and one that waits isn't Done
+pub waiting_not_done : (phase : Phase) → is_waiting phase ≡ true → is_done phase ≡ false
+waiting_not_done phases.Waiting e = refl
+waiting_not_done _ e = absurd (cc)
+
+-- The bios stand in order of their numbers
+
+-- an empty list of numbers is increasing
+no_numbers : IsStrictlyIncreasing []
+no_numbers k less = absurd (omega (arith, less))
+
+-- increasing numbers still increase with a lower one before them
+increases_on : (n : ℕ) (rows : List (ℕ × Bio)) (high : ℕ) → IsRising (n + 1) rows high
+    → IsStrictlyIncreasing (map (λ x. x.number) (map seen_row rows))
+    → IsStrictlyIncreasing (n ∷ map (λ x. x.number) (map seen_row rows))
+increases_on n [] high rising up zero less = absurd (omega (arith, less))
+increases_on n [] high rising up (suc k) less = absurd (omega (arith, less))
+increases_on n (row ∷ rows) high rising up zero less = omega (arith, rising.0)
+increases_on n (row ∷ rows) high rising up (suc k) less = let e : suc k + 1 ≡ suc (k + 1) = omega arith in
+    rw e (up k (omega (arith, less)))
+
+-- the numbers of rising rows increase
+increases : (low : ℕ) (rows : List (ℕ × Bio)) (high : ℕ) → IsRising low rows high
+    → IsStrictlyIncreasing (map (λ x. x.number) (map seen_row rows))
+increases low [] high rising = no_numbers
+increases low (row ∷ rows) high rising =
+    increases_on row.0 rows high rising.1 (increases (row.0 + 1) rows high rising.1)
+
+-- they are below the end
+below : (low : ℕ) (rows : List (ℕ × Bio)) (high : ℕ) → IsRising low rows high
+    → All (λ n. n < high) (map (λ x. x.number) (map seen_row rows))
+below low [] high rising = All-nil (λ n. n < high)
+below low (row ∷ rows) high rising =
+    let ends = IsRising_ends (row.0 + 1) rows high rising.1 in
+    All-cons (λ n. n < high) row.0 (map (λ x. x.number) (map seen_row rows)) (omega (arith, ends))
+    (below (row.0 + 1) rows high rising.1)
+
+-- none is below the beginning
+above : (least low : ℕ) (rows : List (ℕ × Bio)) (high : ℕ) → least ≤ low → IsRising low rows high
+    → All (λ x. least ≤ x.number) (map seen_row rows)
+above least low [] high under rising = All-nil (λ x. least ≤ x.number)
+above least low (row ∷ rows) high under rising =
+    All-cons (λ x. least ≤ x.number) (seen_row row) (map seen_row rows) (omega (arith, under, rising.0))
+    (above least (row.0 + 1) rows high (omega (arith, under, rising.0)) rising.1)
+
+-- so a table's bios are in order
+pub in_order : (rows : List (ℕ × Bio)) (next spare : ℕ) → IsRising 1 rows next
+    → AreInOrder (record { bios = map seen_row rows; next = next; spare = spare })
+in_order rows next spare rising = record {
+  numbers = (increases 1 rows next rising, below 1 rows next rising);
+  from_one = above 1 1 rows next (omega arith) rising;
+  next = IsRising_ends 1 rows next rising;
+}
+
+-- What contracts see
 
 -- the bio of a number among what contracts see
 pub bio_among-rows : (rows : List (ℕ × Bio)) (n : ℕ)
@@ -220,3 +445,183 @@ pub seen_changed : (rows : List (ℕ × Bio)) (next n : ℕ) (x w : Bio) (change
 seen_changed rows next n x w change t found changed =
     sym (change-items seen_row (λ y. y.number) (λ row. refl) n w change 1 rows next t.rising
     (λ value at. ap (λ y. change (as_bio n y)) (same_Some _ _ (sym at ∙ found)) ∙ changed))
+
+-- what contracts see of a table
+abbrev pub seen : SlotsView Bio → BioTableView
+seen s = record { bios = map seen_row s.rows; next = s.next; spare = s.spare }
+
+-- the phase of a bio that is there
+pub phase_there : (test : Phase → Bool) (rows : List (ℕ × Bio)) (n : ℕ) (x : Bio) → value_at rows n ≡ Some x
+    → has_phase test (map seen_row rows) n ≡ true → test x.phase ≡ true
+phase_there test rows n x found e =
+    sym (ap (λ o. option_map_or (λ (y : BioOf Held). test y.phase) o false) (bio_among-rows rows n
+    ∙ ap (option_map (as_bio n)) found)) ∙ e
+
+-- a bio of the number that was asked for is seen in a phase
+module _ (test : Phase → Bool) (s : SlotsView Bio) {v : BioTableView} {m n : ℕ} (view : seen s ≡ v) (same : m ≡ n)
+    (is : has_phase test v.bios n ≡ true) where
+  -- it has it among the rows too
+  has : has_phase test (map seen_row s.rows) n ≡ true
+  has = subst (λ (w : BioTableView). has_phase test w.bios n ≡ true) (sym view) is
+
+  module _ {o : Option Bio} (got : o ≡ value_at s.rows m) where
+    -- so it was found
+    pub never_none : o ≡ None → ⊥
+    never_none none =
+        let x = bio_of_phase test s.rows n has in
+        let e : Some x.0 ≡ None = sym x.1 ∙ sym (ap (value_at s.rows) same) ∙ sym got ∙ none in
+        absurd (cc)
+
+    -- at its number, and in the phase
+    pub in_phase : (x : Bio) → o ≡ Some x → (value_at s.rows n ≡ Some x) × (test x.phase ≡ true)
+    in_phase x some =
+        let found : value_at s.rows n ≡ Some x = sym (ap (value_at s.rows) same) ∙ sym got ∙ some in
+        (found, phase_there test s.rows n x found has)
+
+-- What is left
+
+-- the bio of a number changed, and the rest of the table stayed
+pub record Leaves (v : BioTableView) (new : SlotsView Bio) (n : ℕ) (change : BioOf Held → BioOf Held) : Type 0 where
+  pub table : IsTable new.rows new.next
+  pub seen_is : seen new ≡ record v { bios = change_number n change v.bios }
+  pub ordered : AreInOrder (seen new)
+
+-- a bio and the one that it became have the same owner, and are neither Done nor Waiting
+pub record Moves (change : BioOf Held → BioOf Held) (n : ℕ) (x w : Bio) : Type 0 where
+  pub owner : w.owner ≡ x.owner
+  pub undone : is_done w.phase ≡ false
+  pub idle : is_waiting w.phase ≡ false
+  pub changed : change (as_bio n x) ≡ as_bio n w
+
+module _ {v : BioTableView} (s new : SlotsView Bio) (view : seen s ≡ v) (table : IsTable s.rows s.next) {m n : ℕ}
+    (same : m ≡ n) where
+  -- the bio in a phase, which is neither Done nor Waiting, changed so
+  pub one_changed : (test : Phase → Bool)
+      → ((phase : Phase) → test phase ≡ true → (is_done phase ≡ false) × (is_waiting phase ≡ false))
+      → has_phase test v.bios n ≡ true → (change : BioOf Held → BioOf Held) (write : Bio → Bio)
+      → ((x : Bio) → Moves change n x (write x))
+      → MatchOption (value_at s.rows m) (new ≡ s)
+      (λ x. new ≡ record s { rows = with_value s.rows m (write x) }) → Leaves v new n change
+  one_changed test facts is change write moves became =
+      let had : has_phase test (map seen_row s.rows) n ≡ true =
+      subst (λ (w : BioTableView). has_phase test w.bios n ≡ true) (sym view) is in
+      let x = bio_of_phase test s.rows n had in
+      let after : new ≡ record s { rows = with_value s.rows n (write x.0) } =
+      MatchOption-at_some _ _ x.0 x.1
+      (subst (λ k. MatchOption (value_at s.rows k) (new ≡ s)
+      (λ y. new ≡ record s { rows = with_value s.rows k (write y) })) same became) in
+      let was = facts x.0.phase x.2 in
+      let is_so = moves x.0 in
+      let bios = seen_changed s.rows s.next n x.0 (write x.0) change table x.1 is_so.changed in
+      let kept = table_changed s.rows s.next n x.0 (write x.0) table x.1 is_so.owner (is_so.undone ∙ sym was.0) was.1
+      is_so.idle in
+      subst (λ (w : BioTableView). Leaves w new n change) view
+      (subst (λ (t : SlotsView Bio). Leaves (seen s) t n change) (sym after) (record {
+        table = kept;
+        seen_is = λ i. record { bios = bios i; next = s.next; spare = s.spare };
+        ordered = in_order (with_value s.rows n (write x.0)) s.next s.spare kept.rising;
+      }))
+
+  -- so it is with one that its disk has answered
+  pub one_delivered : has_phase is_busy v.bios n ≡ true → (place : ℕ) (errno : Option Errno) (held : Held)
+      → IfSome (value_at s.rows m) (λ x. held ≡ delivered_result x.cmd place errno)
+      → MatchOption (value_at s.rows m) (new ≡ s)
+      (λ x. new ≡ record s { rows = with_value s.rows m (up_holding held x) })
+      → Leaves v new n (delivered place errno)
+  one_delivered is place errno held holds became =
+      one_changed is_busy busy_facts is (delivered place errno)
+      (λ x. up_holding (delivered_result x.cmd place errno) x)
+      (λ x. record { owner = refl; undone = refl; idle = refl; changed = refl })
+      (by (value_at s.rows m) holds became)
+    where
+      by : (o : Option Bio) → IfSome o (λ x. held ≡ delivered_result x.cmd place errno)
+          → MatchOption o (new ≡ s) (λ x. new ≡ record s { rows = with_value s.rows m (up_holding held x) })
+          → MatchOption o (new ≡ s)
+          (λ x. new ≡ record s { rows = with_value s.rows m (up_holding (delivered_result x.cmd place errno) x) })
+      by None is ends = ends
+      by (Some x) is ends =
+          subst (λ h. new ≡ record s { rows = with_value s.rows m (up_holding h x) }) is ends
+
+-- The children of a bio
+
+-- a row is a child of a bio, or not
+pub data Standing (p number : ℕ) (done : Bool) (owner : Owner) : Type 0 where
+  kid : (index : ℕ) → owner ≡ owners.Child p index → is_child_of owner p ≡ true
+      → child_of p number done owner ≡ Some (record { number = number; place = index; done = done })
+      → Standing p number done owner
+  stranger : is_child_of owner p ≡ false → child_of p number done owner ≡ None → Standing p number done owner
+
+pub standing : (p number : ℕ) (done : Bool) (owner : Owner) → Standing p number done owner
+standing p number done (owners.Line handle line) = stranger refl refl
+standing p number done owners.Taste = stranger refl refl
+standing p number done (owners.Child q index) =
+    elim (cases_eq q p) [
+      | inl same ↦
+          kid index (ap (λ r. owners.Child r index) same) (rw (eq-eqb q p same) refl) (rw (eq-eqb q p same) refl)
+      | inr differs ↦ stranger (rw (ne_eqb q p differs) refl) (rw (ne_eqb q p differs) refl)
+    ]
+
+-- the family of a bio among what contracts see
+pub record IsSeenFamily (p : ℕ) (seen_children : List (BioOf Held)) (children : List Child) : Type 0 where
+  pub same_length : length seen_children ≡ length children
+  pub same_count : count_by (λ x. is_done x.phase) seen_children ≡ count_by (λ c. c.done) children
+  pub same_all : list_all (λ x. is_done x.phase) seen_children ≡ list_all (λ c. c.done) children
+  pub same_places : (first place : ℕ) → FollowFrom first place children → StandFrom p first place seen_children
+
+-- one child more
+one_seen : (p : ℕ) (x : BioOf Held) (c : Child) (xs : List (BioOf Held)) (cs : List Child) → x.number ≡ c.number
+    → x.owner ≡ owners.Child p c.place → is_done x.phase ≡ c.done → IsSeenFamily p xs cs
+    → IsSeenFamily p (x ∷ xs) (c ∷ cs)
+one_seen p x c xs cs number owner same rest = record {
+  same_length = ap suc rest.same_length;
+  same_count = sum_by-cons (λ (y : BioOf Held). cond (is_done y.phase) 1 0) x xs
+      ∙ (λ i. cond (same i) 1 0 + rest.same_count i) ∙ sym (sum_by-cons (λ (d : Child). cond d.done 1 0) c cs);
+  same_all = λ i. same i && rest.same_all i;
+  same_places =
+      λ first place follow. (
+        number ∙ follow.0,
+        (owner ∙ ap (owners.Child p) follow.1.0, rest.same_places (first + 1) (place + 1) follow.1.1),
+      );
+}
+
+pub seen_family : (p : ℕ) (rows : List (ℕ × Bio))
+    → IsSeenFamily p (children_among (map seen_row rows) p) (family rows p)
+seen_family p [] =
+    record { same_length = refl; same_count = refl; same_all = refl; same_places = λ first place follow. tt }
+seen_family p (row ∷ rows) =
+    let rest = seen_family p rows in
+    elim (standing p row.0 (is_done row.1.phase) row.1.owner) [
+      | kid index owner inside mine ↦
+          rw (inside, mine)
+          (one_seen p (seen_row row) (record { number = row.0; place = index; done = is_done row.1.phase }) _ _
+          refl owner refl rest)
+      | stranger outside none ↦ rw (outside, none) rest
+    ]
+
+-- a Waiting bio knows its children
+pub family_told : (rows : List (ℕ × Bio)) (next n : ℕ) → IsTable rows next → (o : Option Bio) → o ≡ value_at rows n
+    → IfSome o (λ x. is_waiting x.phase ≡ true → KnowsChildren n (children_among (map seen_row rows) n) x)
+family_told rows next n t None found = tt
+family_told rows next n t (Some x) found =
+    λ waits.
+    let s = MatchBool-at_true _ _ waits (t.families n x (sym found)) in
+    let f = seen_family n rows in
+    record {
+      stand = f.same_places x.first_child 0 s.follow;
+      all = sym s.count ∙ sym f.same_length;
+      done =
+          sym s.finished ∙ sym f.same_count;
+    }
+
+-- the parent of a child waits
+pub parent_told : (rows : List (ℕ × Bio)) (next n : ℕ) → IsTable rows next → (o : Option Bio) → o ≡ value_at rows n
+    → IfSome o (λ x. HasParent (map seen_row rows) x.owner)
+parent_told rows next n t None found = tt
+parent_told rows next n t (Some x) found = at x.owner refl where
+  at : (owner : Owner) → x.owner ≡ owner → HasParent (map seen_row rows) owner
+  at (owners.Line handle line) is = tt
+  at owners.Taste is = tt
+  at (owners.Child parent index) is =
+      let w = t.parents n x parent index (sym found) is in
+      ap (λ o. option_map_or (λ (y : BioOf Held). is_waiting y.phase) o false) (bio_among-rows rows parent
+      ∙ ap (option_map (as_bio parent)) w.1) ∙ w.2

@@ -1,5 +1,5 @@
 use Rattle.std.proofs.Common.{Some, None}
-use Rattle.geo_bio.proofs.GatherLemmas.{error_from-at}
+use Rattle.geo_bio.proofs.FamilyLemmas.{error_from-at}
 use Rattle.geo_bio.proofs.gather.first_failure.Goals as goal
 
 -- none before this one holds an error, so its error is the first

@@ -1,4 +1,4 @@
-use Rattle.geo_bio.proofs.GatherLemmas.{bytes_from-more, join_step}
+use Rattle.geo_bio.proofs.FamilyLemmas.{bytes_from-more, join_step}
 use Rattle.geo_bio.proofs.gather.joined.Goals as goal
 
 -- the bytes of this child are added, and those of the children behind it are left

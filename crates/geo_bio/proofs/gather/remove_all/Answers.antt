@@ -1,6 +1,6 @@
 use Rattle.std.proofs.Common.{◌+◌, ◌-◌, ap, sym, ◌∙◌}
 use Rattle.geo_bio.specs.Gather.{without_all}
-use Rattle.geo_bio.proofs.GatherLemmas.{without_all-more}
+use Rattle.geo_bio.proofs.FamilyLemmas.{without_all-more}
 use Rattle.geo_bio.proofs.gather.remove_all.Goals as goal
 
 -- one child more is gone, and the children behind it are left to go

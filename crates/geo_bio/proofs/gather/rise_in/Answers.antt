@@ -4,7 +4,7 @@ use Rattle.geo_model.specs.declared.step.Phase.TheVariants as phases
 use Rattle.geo_slots.specs.Slots.{value_at}
 use Rattle.geo_bio.specs.declared.bio.Bio.{Bio}
 use Rattle.geo_bio.specs.Rows.{at_phase}
-use Rattle.geo_bio.proofs.ValueLemmas.{value_at-changed_other}
+use Rattle.geo_bio.proofs.TableLemmas.{value_at-changed_other}
 use Rattle.geo_bio.proofs.gather.rise_in.Goals as goal
 
 -- the parent is another bio than the child, so it still counts what it counted

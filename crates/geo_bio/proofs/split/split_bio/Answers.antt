@@ -1,6 +1,5 @@
 use Rattle.std.proofs.Common.{◌≡◌, ◌-◌, length, ◌∙◌, arith}
-use Rattle.geo_bio.specs.Split.{waiting}
-use Rattle.geo_bio.proofs.SplitLemmas.{with_all-numbered, split_after, split_next, split_spare}
+use Rattle.geo_bio.proofs.SplitLemmas.{with_all-numbered, split_left}
 use Rattle.geo_bio.proofs.split.split_bio.Goals as goal
 
 -- the last child's number is known, and the others have the numbers just before it, from the next one on
@@ -16,17 +15,16 @@ returns-clause-rows c =
     omega (arith, c.insert_all-last.ensures.last c.requires.some, c.len-count.ensures, c.requires.some) in
     let count : c.len-count.result ≡ length c.args.children.items =
     omega (arith, c.len-count.ensures, c.args.children.ok) in
-    let after = split_after _ c.wait_for.new.bios _ _ _ c.args.number
-    (waiting c.len-count.result (c.insert_all-last.result - (c.len-count.result - 1))) all c.wait_for.ensures.waits in
+    let after = (split_left _ c.wait_for.new.bios _ _ _ c.args.number _ all c.wait_for.ensures.waits).0 in
     rw (first, count) at after
 
 -- Here and below: that the bio waits changes neither the next number nor the room
 pub returns-clause-next : goal.returns-clause-next
 returns-clause-next c =
     let all = c.insert_all-last.ensures.inserted ∙ with_all-numbered c.args.bios.now c.args.children.items in
-    split_next _ c.wait_for.new.bios _ _ _ c.args.number _ all c.wait_for.ensures.waits
+    (split_left _ c.wait_for.new.bios _ _ _ c.args.number _ all c.wait_for.ensures.waits).1
 
 pub returns-clause-room : goal.returns-clause-room
 returns-clause-room c =
     let all = c.insert_all-last.ensures.inserted ∙ with_all-numbered c.args.bios.now c.args.children.items in
-    split_spare _ c.wait_for.new.bios _ _ _ c.args.number _ all c.wait_for.ensures.waits
+    (split_left _ c.wait_for.new.bios _ _ _ c.args.number _ all c.wait_for.ensures.waits).2

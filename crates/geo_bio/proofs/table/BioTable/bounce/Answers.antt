@@ -3,9 +3,7 @@ use Rattle.geo_model.specs.World.{is_down}
 use Rattle.geo_model.specs.Bios.{up_with}
 use Rattle.geo_bio.specs.declared.bio.Held.TheVariants as held
 use Rattle.geo_bio.specs.Rows.{up_holding}
-use Rattle.geo_bio.proofs.TableLemmas.{down_facts}
-use Rattle.geo_bio.proofs.ChangeLemmas.{one_changed}
-use Rattle.geo_bio.proofs.OrderLemmas.{in_order}
+use Rattle.geo_bio.proofs.TableLemmas.{down_facts, one_changed}
 use Rattle.geo_bio.proofs.table.BioTable.bounce.Goals as goal
 
 -- a bio that is down has no children and isn't one that is done, so its family and its parent's stay right
@@ -22,5 +20,4 @@ returns c =
     one_changed c.self.inside.bios c.end_with.new.bios c.self.view_is c.self.invariant c.number.ensures is_down
     down_facts c.requires (up_with (held.Failed c.args.errno)) (up_holding (held.Failed c.args.errno))
     (λ x. record { owner = refl; undone = refl; idle = refl; changed = refl }) c.end_with.ensures in
-    let new = c.end_with.new.bios in
-    record { bounced = left.seen_is; in_order = in_order new.rows new.next new.spare left.table.rising }
+    record { bounced = left.seen_is; in_order = left.ordered }

@@ -1,5 +1,4 @@
-use Rattle.geo_bio.proofs.ChangeLemmas.{one_delivered}
-use Rattle.geo_bio.proofs.OrderLemmas.{in_order}
+use Rattle.geo_bio.proofs.TableLemmas.{one_delivered}
 use Rattle.geo_bio.proofs.table.BioTable.deliver.Goals as goal
 
 -- a bio at its disk has no children and isn't one that is done, so its family and its parent's stay right
@@ -14,5 +13,4 @@ returns c =
     let left =
     one_delivered c.self.inside.bios c.end_with.new.bios c.self.view_is c.self.invariant c.number-number.ensures
     c.requires c.args.place c.args.errno c.delivery-held.result c.delivery-held.ensures c.end_with.ensures in
-    let new = c.end_with.new.bios in
-    record { delivered = left.seen_is; in_order = in_order new.rows new.next new.spare left.table.rising }
+    record { delivered = left.seen_is; in_order = left.ordered }

@@ -4,9 +4,7 @@ use Rattle.geo_model.specs.World.{is_waiting, children_among, bio_among}
 use Rattle.geo_slots.specs.Slots.{value_at}
 use Rattle.geo_bio.specs.BioTable.{BioTableView, AreInOrder, HasParent}
 use Rattle.geo_bio.specs.Rows.{as_bio, KnowsChildren}
-use Rattle.geo_bio.proofs.GetLemmas.{family_told, parent_told}
-use Rattle.geo_bio.proofs.OrderLemmas.{in_order}
-use Rattle.geo_bio.proofs.TableLemmas.{bio_among-rows}
+use Rattle.geo_bio.proofs.TableLemmas.{family_told, parent_told, in_order, bio_among-rows}
 use Rattle.geo_bio.proofs.table.BioTable.get.Goals as goal
 
 -- the rows are the bios that show, each under its number

@@ -3,9 +3,7 @@ use Rattle.geo_model.specs.declared.step.Phase.TheVariants as phases
 use Rattle.geo_model.specs.World.{is_down}
 use Rattle.geo_bio.specs.BioTable.{with_phase}
 use Rattle.geo_bio.specs.Rows.{at_phase}
-use Rattle.geo_bio.proofs.TableLemmas.{down_facts}
-use Rattle.geo_bio.proofs.ChangeLemmas.{one_changed}
-use Rattle.geo_bio.proofs.OrderLemmas.{in_order}
+use Rattle.geo_bio.proofs.TableLemmas.{down_facts, one_changed}
 use Rattle.geo_bio.proofs.table.BioTable.send.Goals as goal
 
 -- a bio that is down has no children and isn't one that is done, so its family and its parent's stay right
@@ -22,5 +20,4 @@ returns c =
     one_changed c.self.inside.bios c.set_phase.new.bios c.self.view_is c.self.invariant c.number.ensures is_down
     down_facts c.requires (with_phase phases.Sent) (at_phase phases.Sent)
     (λ x. record { owner = refl; undone = refl; idle = refl; changed = refl }) c.set_phase.ensures in
-    let new = c.set_phase.new.bios in
-    record { sent = left.seen_is; in_order = in_order new.rows new.next new.spare left.table.rising }
+    record { sent = left.seen_is; in_order = left.ordered }

@@ -1,9 +1,8 @@
 use Rattle.std.proofs.Common.{◌-◌, length, ap, ◌∙◌, arith}
 use Rattle.std.specs.Option.{option_copied}
 use Rattle.geo_model.specs.World.{is_down}
-use Rattle.geo_bio.proofs.ChangeLemmas.{never_none}
+use Rattle.geo_bio.proofs.TableLemmas.{never_none, in_order}
 use Rattle.geo_bio.proofs.SplitLemmas.{room_left, children_counted, started}
-use Rattle.geo_bio.proofs.OrderLemmas.{in_order}
 use Rattle.geo_bio.proofs.table.BioTable.start.Goals as goal
 
 -- the bio is down, so it is there

@@ -1,7 +1,6 @@
 use Rattle.std.proofs.Common.{refl}
 use Rattle.geo_bio.specs.Rows.{IsTable}
-use Rattle.geo_bio.proofs.OrderLemmas.{in_order}
-use Rattle.geo_bio.proofs.TableLemmas.{table_pushed}
+use Rattle.geo_bio.proofs.TableLemmas.{in_order, table_pushed}
 use Rattle.geo_bio.proofs.table.BioTable.submit.Goals as goal
 
 -- the new bio is a root, so it counts in nobody's children, and it is down, so it has none

@@ -1,9 +1,8 @@
 use Rattle.std.proofs.Common.{ap}
 use Rattle.std.specs.Option.{option_copied}
 use Rattle.geo_model.specs.World.{is_up}
-use Rattle.geo_bio.proofs.ChangeLemmas.{never_none}
+use Rattle.geo_bio.proofs.TableLemmas.{never_none}
 use Rattle.geo_bio.proofs.UpLemmas.{up_got, apart, counts, follow, raised_child, raised_root}
-use Rattle.geo_bio.proofs.OrderLemmas.{in_order}
 use Rattle.geo_bio.proofs.table.BioTable.up.Goals as goal
 
 -- the bio is up, so it is there
@@ -38,9 +37,7 @@ returns-in-Child g c =
     (ap option_copied c.in-Some.is) c.requires in
     let raised = raised_child got c.in-Child.is (g.B.LogBytes.place_bytes c.args.log.now) c.rise_in.new.bios
     c.rise_in.result c.rise_in.ensures.told c.rise_in.ensures.rises c.rise_in.ensures.stays in
-    let new = c.rise_in.new.bios in
-    let order = in_order new.rows new.next new.spare raised.table.rising in
-    assumption (raised, order)
+    assumption raised
 
 -- a root that goes has no children, and it is nobody's child
 pub invariant_of-self-in_default : goal.invariant_of-self-in_default
@@ -58,6 +55,4 @@ returns-in_default g c =
     let raised = raised_root got c.in_default.not-Child (g.B.LogBytes.place_bytes c.args.log.now)
     c.take_root.new.bios c.take_root.result c.take_root.ensures.told c.take_root.ensures.gone
     c.take_root.ensures.stays in
-    let new = c.take_root.new.bios in
-    let order = in_order new.rows new.next new.spare raised.table.rising in
-    assumption (raised, order)
+    assumption raised
