@@ -1,6 +1,5 @@
 -- Places that are free, and sizes that providers may have.
-use Rattle.std.proofs.Common.{◌≡◌, ℕ, zero, suc, ◌*◌, ◌/◌, ◌<◌, ◌≤◌, Bool, true, false, ◌||◌, not, List, [], ◌∷◌, length, Option, Some, None, sum, refl, ap, sym, ◌∙◌, arith}
-use Rattle.std.specs.Prelude.{is_none, is_some, if◌then◌else◌}
+use Rattle.std.proofs.Common.{is_none, is_some, if◌then◌else◌, ◌≡◌, ℕ, zero, suc, ◌*◌, ◌/◌, ◌<◌, ◌≤◌, Bool, true, false, ◌||◌, not, List, [], ◌∷◌, length, Option, Some, None, sum, refl, ap, sym, ◌∙◌, arith}
 use Rattle.std.specs.List.{list_all, list_any}
 use Rattle.std.proofs.lemmas.Bool.Decides.{nat_tests}
 use Rattle.geo_model.specs.TheConstants.{MAX_MEDIA_BYTES}

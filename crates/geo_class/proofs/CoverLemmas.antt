@@ -1,6 +1,5 @@
 -- Providers whose offsets have places are covered by the maps of their geoms.
-use Rattle.std.proofs.Common.{◌≡◌, ℕ, ◌+◌, ◌-◌, ◌*◌, ◌<◌, ◌≤◌, Bool, true, false, List, [], ◌∷◌, Option, Some, None, sum, refl, arith}
-use Rattle.std.specs.Prelude.{nat_lt, IfSome, IsSomeAnd, if◌then◌else◌}
+use Rattle.std.proofs.Common.{nat_lt, IfSome, IsSomeAnd, if◌then◌else◌, ◌≡◌, ℕ, ◌+◌, ◌-◌, ◌*◌, ◌<◌, ◌≤◌, Bool, true, false, List, [], ◌∷◌, Option, Some, None, sum, refl, arith}
 use Rattle.std.specs.Option.{option_map}
 use Rattle.std.proofs.lemmas.List.Sums.{sum_by-cons}
 use Rattle.std.proofs.lemmas.Bool.Decides.{nat_tests}
@@ -15,20 +14,12 @@ use Rattle.geo_class.specs.Cover.{WhatLiesIsCovered}
 abbrev at_first : ℕ → Spot
 at_first o = record { component = 0; offset = o }
 
--- the last offset of a slice that lies before MAX_MEDIA_BYTES tells its end, and so does that of a partition
-slice-end : (slice : Option Slice) (size : ℕ) → 1 ≤ size
-    → IsSomeAnd (option_map (λ (s : Slice). at_first (s.first * 512 + (size - 1))) slice)
-    (λ spot. spot.offset < MAX_MEDIA_BYTES)
-    → IfSome slice (λ s. s.first * 512 + size ≤ MAX_MEDIA_BYTES)
-slice-end (Some s) size some before = omega (arith, some, before)
-slice-end None size some before = tt
-
-part-end : (part : Option EbrPart) (size : ℕ) → 1 ≤ size
-    → IsSomeAnd (option_map (λ (s : EbrPart). at_first (s.first * 512 + (size - 1))) part)
-    (λ spot. spot.offset < MAX_MEDIA_BYTES)
-    → IfSome part (λ s. s.first * 512 + size ≤ MAX_MEDIA_BYTES)
-part-end (Some s) size some before = omega (arith, some, before)
-part-end None size some before = tt
+-- the last offset of a slice or of a partition that lies before MAX_MEDIA_BYTES tells its end
+placed-end : {X : Type 0} (first : X → ℕ) (part : Option X) (size : ℕ) → 1 ≤ size
+    → IsSomeAnd (option_map (λ s. at_first (first s * 512 + (size - 1))) part) (λ spot. spot.offset < MAX_MEDIA_BYTES)
+    → IfSome part (λ s. first s * 512 + size ≤ MAX_MEDIA_BYTES)
+placed-end first (Some s) size some before = omega (arith, some, before)
+placed-end first None size some before = tt
 
 -- an offset that has a place in components one behind the other is below their sum
 concat-step : (k o size rest : ℕ) (below : Bool) (spot : Option Spot) → nat_lt o size ≡ below
@@ -54,9 +45,9 @@ concat-inside k (size ∷ sizes) o placed =
 
 pub what_lies_is_covered : WhatLiesIsCovered
 what_lies_is_covered (Mbr below slices) name size some lies whole long =
-    slice-end (slice_at slices name) size some (lies (size - 1) (omega (arith, some)))
+    placed-end (λ (s : Slice). s.first) (slice_at slices name) size some (lies (size - 1) (omega (arith, some)))
 what_lies_is_covered (Ebr below parts) name size some lies whole long =
-    part-end (part_at parts name) size some (lies (size - 1) (omega (arith, some)))
+    placed-end (λ (s : EbrPart). s.first) (part_at parts name) size some (lies (size - 1) (omega (arith, some)))
 what_lies_is_covered (Label below) name size some lies whole long =
     let last : size - 1 < MAX_MEDIA_BYTES = lies (size - 1) (omega (arith, some)) in
     omega (arith, some, last)

@@ -1,6 +1,5 @@
 -- The pieces of a bio with their consumers.
-use Rattle.std.proofs.Common.{◌≡◌, ℕ, List, [], ◌∷◌, map, Option, Some, None, refl, ap}
-use Rattle.std.specs.Prelude.{filter_map, flat_map, IsSome}
+use Rattle.std.proofs.Common.{filter_map, flat_map, IsSome, ◌≡◌, ℕ, List, [], ◌∷◌, map, Option, Some, None, refl, ap}
 use Rattle.std.specs.List.{AllByRecursion}
 use Rattle.std.specs.Option.{option_map, option_to_list}
 use Rattle.geo_model.specs.declared.span.Piece.{Piece}

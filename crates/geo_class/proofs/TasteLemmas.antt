@@ -1,5 +1,5 @@
--- Classes that judge one sector.
-use Rattle.std.proofs.Common.{◌≡◌, ℕ, ◌*◌, Bool, List, Some, Result, Ok, Err, true, false, refl, sym, ap, ◌∙◌}
+-- What judging a sector says and makes of a taste, and that it is what the model's step makes of it.
+use Rattle.std.proofs.Common.{◌≡◌, ℕ, ◌*◌, Bool, List, Some, Result, Ok, Err, true, false, refl, sym, ap, ◌∙◌, Option, None}
 use Rattle.std.specs.Option.{option_map, option_map_or}
 use Rattle.std.specs.Prelude.{unwrap_or, if◌then◌else◌}
 use Rattle.geo_model.specs.DeclineCause.{DeclineCause}
@@ -13,13 +13,18 @@ use Rattle.geo_model.specs.declared.class.Shape.{Shape}
 use Rattle.geo_model.specs.declared.class.Shape.TheVariants.{Named, Slices, Joined, Striped}
 use Rattle.geo_model.specs.declared.class.Verdict.{Verdict}
 use Rattle.geo_model.specs.declared.class.Verdict.TheVariants.{Decline, More, Accept}
-use Rattle.geo_model.specs.Acceptance.{is_other_size, judge, label_verdict, verdict_of}
+use Rattle.geo_model.specs.Acceptance.{is_other_size, judge, label_verdict, verdict_of, accept}
 use Rattle.geo_model.specs.Records.{mbr_table, label_record, concat_record, stripe_record}
-use Rattle.geo_model.specs.Tasting.{verdict_on}
+use Rattle.geo_model.specs.Tasting.{verdict_on, end_class, facts_of, follow, take_result, with_read}
 use Rattle.geo_model.specs.Chain.{Chain}
-use Rattle.geo_model.specs.declared.step.BioResult.TheVariants.{Bytes, Done, Failed}
-use Rattle.geo_model.specs.World.{Asked, NoClass, NextSector, ReadOut, ReadBack, Taste}
+use Rattle.geo_model.specs.declared.step.BioResult.TheVariants.{Bytes}
+use Rattle.geo_model.specs.World.{Asked, NoClass, NextSector, ReadBack, Taste, Config}
 use Rattle.geo_class.specs.Taste.{after_back, after_verdict, chain_with, ended, sector_back, settled, verdict_back, verdict_with, weighed}
+use Rattle.geo_model.specs.declared.class.Judged.TheVariants.{Next, Made}
+use Rattle.geo_model.specs.declared.step.BioResult.{BioResult}
+use Rattle.geo_model.specs.Events.{QueuedTopology}
+use Rattle.geo_model.specs.Topology.{Provider}
+use Rattle.geo_class.specs.Following.{TastesFollow}
 
 module _ (granted : ℕ → Counts) (s : Taste) (kind : Kind) (bytes : List ℕ) (f : Facts) where
   after-found : {A : Type 0} (shape : A → Shape) (found : Result A DeclineCause)
@@ -88,8 +93,7 @@ pub after-moved : (granted : ℕ → Counts) (s : Taste) (asked : Asked) (kind :
     (v : Verdict)
     → after_verdict granted (record s { asked = asked }) kind bytes f v ≡ after_verdict granted s kind bytes f v
 after-moved granted s asked kind bytes f (More sector) = wanting-moved granted s asked kind bytes f sector
-after-moved granted s asked kind bytes f (Decline cause) = refl
-after-moved granted s asked kind bytes f (Accept shape) = refl
+after-moved granted s asked kind bytes f _ = refl
 
 -- a verdict needs of the taste the chain alone
 verdict-chain : (granted : ℕ → Counts) (s : Taste) (kind : Kind) (bytes : List ℕ) (f : Facts)
@@ -124,13 +128,9 @@ more-chain granted s _ bytes f sector = refl
 -- a sector that is back was asked for
 back-is : (a : Asked) (kind : Kind) (bytes : List ℕ) → sector_back a ≡ Some (kind, bytes)
     → a ≡ ReadBack kind (Bytes bytes)
-back-is NoClass kind bytes never = absurd (cc)
-back-is (NextSector k n) kind bytes never = absurd (cc)
-back-is (ReadOut k) kind bytes never = absurd (cc)
 back-is (ReadBack k (Bytes b)) kind bytes is =
     ap (λ (x : Kind × List ℕ). ReadBack x.0 (Bytes x.1)) (ap (λ o. unwrap_or o (k, b)) is)
-back-is (ReadBack k Done) kind bytes never = absurd (cc)
-back-is (ReadBack k (Failed e)) kind bytes never = absurd (cc)
+back-is _ kind bytes never = absurd (cc)
 
 module _ (granted : ℕ → Counts) (s : Taste) (kind : Kind) (bytes : List ℕ) (f : Facts)
     (is : sector_back s.asked ≡ Some (kind, bytes)) where
@@ -158,3 +158,47 @@ module _ (granted : ℕ → Counts) (s : Taste) (kind : Kind) (bytes : List ℕ)
       ap (λ c. record s { asked = ReadBack kind (Bytes bytes); chain = c })
       (chain-accepted s.chain kind bytes f shape)
       ∙ ap (λ a. record s { asked = a }) (sym (back-is s.asked kind bytes is))
+
+-- The model's step
+
+module _ (granted : ℕ → Counts) (q : QueuedTopology Config) (p : Provider) where
+  -- a taste that is done with a class has no chain, whether or not the link was kept
+  ended-read : (s : Taste) (kind : Kind) (bytes : List ℕ) (f : Facts)
+      → ended (with_read granted s kind bytes f) ≡ ended s
+  ended-read s kinds.Ebr bytes f = refl
+  ended-read s _ bytes f = refl
+
+  -- whether or not a geom was made the class is done with
+  accepted-taste : (s : Taste) (made : Option (QueuedTopology Config))
+      → (option_map_or (λ r. end_class granted r s Made) made (end_class granted q s Next)).taste ≡ ended s
+  accepted-taste s (Some r) = refl
+  accepted-taste s None = refl
+
+  followed : (s : Taste) (kind : Kind) (bytes : List ℕ) (f : Facts) (v : Verdict)
+      → (follow granted q (with_read granted s kind bytes f) p kind v).taste
+      ≡ after_verdict granted s kind bytes f v
+  followed s kind bytes f (Decline cause) = ended-read s kind bytes f
+  followed s kind bytes f (More sector) = refl
+  followed s kind bytes f (Accept shape) =
+      accepted-taste (with_read granted s kind bytes f) (accept q p shape) ∙ ended-read s kind bytes f
+
+  -- where the result is known
+  taken : (s : Taste) (kind : Kind) (got : BioResult)
+      → (take_result granted q s p kind got).taste
+      ≡ option_map_or
+      (λ (x : Kind × List ℕ). after_verdict granted s x.0 x.1 (facts_of q.topology p)
+      (verdict_on granted s x.0 x.1 (facts_of q.topology p)))
+      (sector_back (ReadBack kind got)) (ended s)
+  taken s kind (Bytes bytes) =
+      followed s kind bytes (facts_of q.topology p) (verdict_on granted s kind bytes (facts_of q.topology p))
+  taken s kind _ = refl
+
+pub tastes_follow : TastesFollow
+tastes_follow granted q s p kind got asked =
+    taken granted q p s kind got
+    ∙ ap
+    (λ (a : Asked). option_map_or
+    (λ (x : Kind × List ℕ). after_verdict granted s x.0 x.1 (facts_of q.topology p)
+    (verdict_on granted s x.0 x.1 (facts_of q.topology p)))
+    (sector_back a) (ended s))
+    (sym asked)

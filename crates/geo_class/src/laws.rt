@@ -10,7 +10,7 @@ pub fn what_lies_is_covered()
 {}
 
 /// What judging the sector that is back makes of a taste is what the model's step makes of it.
-#[tactic(auto, using(crate::proofs::FollowingLemmas::tastes_follow))]
+#[tactic(auto, using(crate::proofs::TasteLemmas::tastes_follow))]
 pub fn tastes_follow()
     ensures { TastesFollow }
 {}

@@ -1,32 +1,43 @@
--- A new consumer of TASTE is attached to any provider without an error, and no count changes by it.
-use Rattle.std.specs.Prelude.{◌≡◌, ℕ, nat_lt, Bool, true, false, not, ◌&&◌, [], ◌∷◌, Option, Some, None, IsSome, IsSomeAnd, Contains}
-use Rattle.std.proofs.Common.{refl, sym, ◌∙◌, ap, subst, inl, inr}
-use Rattle.std.proofs.lemmas.Bool.{cases_eq, false_from_ne_true}
-use Rattle.std.proofs.lemmas.List.Elements.{All-contains}
-use Rattle.std.proofs.lemmas.List.Folds.{list_any_none}
-use Rattle.geo_base.proofs.Options.{there_with_fact}
+-- The taste's consumer comes and goes: TASTE has it attached to any provider without an error, no count changes by
+-- it, and the mesh is settled still.
+use Rattle.std.proofs.Common.{◌≡◌, ℕ, nat_lt, true, false, not, ◌&&◌, [], Some, None, IsSome, Contains, sym, ◌∙◌, ap, refl, subst, eq-eqb}
+use Rattle.std.proofs.lemmas.List.Elements.{All-contains, All-filter, All-push, All-weaker}
+use Rattle.geo_base.proofs.Options.{there_with_fact, some_weaker, at-some, none-there}
 use Rattle.geo_access.proofs.Coming.{bare_of}
-use Rattle.geo_base.specs.declared.errno.Errno.TheVariants.{ENXIO, ELOOP, EDEEP}
 use Rattle.geo_base.specs.declared.kind.Kind.TheVariants as kinds
-use Rattle.geo_base.specs.declared.limits.TheConstants.{MAX_RANK}
-use Rattle.geo_model.specs.Words.{first_error, is_granted_kind}
-use Rattle.geo_model.specs.Topology.{Topology, Geom, Provider, geom_at, provider_at, consumer_at, providers_of, is_errored, add_consumer, attach}
-use Rattle.geo_model.specs.Rank.{rank, would_loop, is_too_deep, attach_refusal}
+use Rattle.geo_base.specs.declared.limits.TheConstants.{MAX_RANK, UNTASTED_RANK}
+use Rattle.geo_model.specs.Words.{is_granted_kind}
+use Rattle.geo_model.specs.Topology.{Topology, Geom, Provider, geom_at, provider_at, providers_of, is_errored, add_consumer, Consumer, remove_consumer, detach, consumer_at, geom_of_provider, consumers_of}
+use Rattle.geo_model.specs.Rank.{rank, attach_refusal}
 use Rattle.geo_mesh.specs.Graph.{IsSoundGraph, IsOffer}
-use Rattle.geo_laws_graph.specs.LookupLaws.{EachIsFound, new_consumer}
-use Rattle.geo_laws_graph.proofs.Members.{at_contained}
-use Rattle.geo_laws_graph.proofs.Numbered.{any-contained}
-use Rattle.geo_laws_graph.proofs.Found.{each-found, added-consumer}
-use Rattle.geo_laws_graph.proofs.TwoChanges.{two-changes}
 use Rattle.geo_laws_counts.specs.CountWords.{HoldsGrants}
-use Rattle.geo_laws_counts.proofs.LimitFacts.{all_of}
-use Rattle.geo_laws_graph.proofs.EdgeRanks.{reaches-none}
-use Rattle.geo_laws_graph.proofs.Opens.{open-rises, open-other}
-
--- an attach isn't refused where there is no error, no loop and nothing too deep
-not_refused : (a b c : Bool) → a ≡ false → b ≡ false → c ≡ false
-    → first_error ((a, ENXIO) ∷ (b, ELOOP) ∷ (c, EDEEP) ∷ []) ≡ None
-not_refused a b c ea eb ec = rw (ea, eb, ec) refl
+use Rattle.geo_laws_graph.proofs.Lists.{found_itself}
+use Rattle.std.specs.Prelude.{◌==◌, Bool, ◌∷◌, filter, unwrap_or, if◌then◌else◌, nat_le, ◌||◌, ◌++◌, find, Option, IfSome, All, option_map}
+use Rattle.std.specs.Option.{option_map_or, option_and_then}
+use Rattle.std.proofs.lemmas.Bool.{eqb-true, not-false, or_parts, or_left, or_right}
+use Rattle.geo_model.specs.Demand.{no_counts, want, have}
+use Rattle.geo_slots.specs.Slots.{value_at, without}
+use Rattle.geo_mesh.specs.Topo.{TopoView, Room, Scratches, no_scratch, with_topology, without_consumer, with_consumer, IsButForRoom}
+use Rattle.geo_laws_graph.specs.LookupLaws.{new_consumer}
+use Rattle.geo_laws_graph.proofs.Found.{removed-consumer, added-consumer, detached-found}
+use Rattle.geo_laws_graph.proofs.TwoChanges.{two-changes}
+use Rattle.geo_laws_counts.proofs.LimitFacts.{all_of, of_filter}
+use Rattle.geo_laws_counts.proofs.Stays.{consumers_went}
+use Rattle.geo_laws_counts.proofs.Openers.{wants_grant}
+use Rattle.geo_access.specs.Access.{granted_by, holds_grants, clear_scratches, IsCounted, IsPlaced}
+use Rattle.geo_taste.specs.Taster.{with_taster, first_taste, is_low, IsSettled, IsTasteOf}
+use Rattle.geo_base.specs.declared.request.Counts.{Counts}
+use Rattle.geo_model.specs.Events.{is_not_tasted}
+use Rattle.geo_model.specs.World.{Config}
+use Rattle.geo_laws_graph.proofs.Numbered.{find-pushed_hit, number_found}
+use Rattle.geo_access.proofs.Decided.{item_at, consumer_known}
+use Rattle.geo_mesh.proofs.IndexLemmas.{map-filter_row}
+use Rattle.geo_base.proofs.FindLists.{find-map}
+use Rattle.std.proofs.Math.Bool.{or-false}
+use Rattle.geo_taste.proofs.Raising.{accepted, CanBeAttached, allowed_can}
+use Rattle.geo_taste.proofs.Kept.{kept_counted}
+use Rattle.geo_taste.proofs.Adding.{among, stood, no_consumer, consumer_kept}
+use Rattle.geo_taste.proofs.Asking.{errored_is}
 
 module _ {C : Type 0} (t : Topology C) (sound : IsSoundGraph t) where
   -- TASTE stands
@@ -35,79 +46,260 @@ module _ {C : Type 0} (t : Topology C) (sound : IsSoundGraph t) where
 
   -- TASTE holds grants
   pub taste_holds : HoldsGrants t 2
-  taste_holds = by (geom_at t 2) sound.orderly.first.taste
-    where
-      by : (o : Option (Geom C)) → IsSomeAnd o (λ (x : Geom C). x.kind ≡ kinds.Taste)
-          → IsSomeAnd o (λ (x : Geom C). is_granted_kind x.kind ≡ true)
-      by None never = absurd never
-      by (Some g) taste = ap is_granted_kind taste
+  taste_holds =
+      some_weaker (λ (x : Geom C). x.kind ≡ kinds.Taste) (λ (x : Geom C). is_granted_kind x.kind ≡ true)
+      (λ x taste. ap is_granted_kind taste) (geom_at t 2) sound.orderly.first.taste
 
   -- it has no provider
   pub taste_bare : providers_of t 2 ≡ []
   taste_bare = bare_of t.providers 2
       (λ z there. (All-contains (λ (w : Provider). IsOffer w) t.providers z sound.orderly.offers there).not_taste)
 
-  module _ (p : ℕ) (y : Provider) (offered : provider_at t p ≡ Some y) where
-    -- the graph with the new consumer attached
-    abbrev tasted : Topology C
-    tasted = add_consumer t 2 (Some p)
+  -- a geom of the number of TASTE is of that class
+  of_taste : (x : Geom C) → Contains t.geoms x → x.number ≡ 2 → is_granted_kind x.kind ≡ true
+  of_taste x there same =
+      at-some (geom_at t 2) (λ (g : Geom C). is_granted_kind g.kind ≡ true) x
+      (ap (geom_at t) (sym same)
+      ∙ found_itself (λ (g : Geom C). g.number) t.next_geom t.geoms x sound.orderly.order.geoms there) taste_holds
 
-    -- a geom of the number of TASTE is of that class
-    of_taste : (x : Geom C) → Contains t.geoms x → x.number ≡ 2 → is_granted_kind x.kind ≡ true
-    of_taste x there same =
-        let each : EachIsFound C = each-found in
-        let at : geom_at t x.number ≡ Some x =
-        at_contained (λ (g : Geom C). geom_at t g.number ≡ Some g) t.geoms x (each.geoms t sound.orderly.order) there in
-        subst (λ o. IsSomeAnd o (λ (g : Geom C). is_granted_kind g.kind ≡ true)) (ap (geom_at t) (sym same) ∙ at)
-        taste_holds
+  -- so nothing refuses to attach it to a provider without an error
+  pub taster_allowed : (p : ℕ) (y : Provider) → provider_at t p ≡ Some y → is_errored t p ≡ false
+      → attach_refusal (add_consumer t 2 None) t.next_consumer p ≡ None
+  taster_allowed p y found fine =
+      accepted t sound 2 p y found taste_stands taste_bare fine (λ x there same before.
+      ap (λ b. not b && nat_lt MAX_RANK (rank (add_consumer t 2 (Some p)) x.number)) (of_taste x there same))
 
-    -- whether a geom is too deep
-    abbrev deep : Topology C → Geom C → Bool
-    deep u x = not (is_granted_kind x.kind) && nat_lt MAX_RANK (rank u x.number)
+-- No count changes where it comes
 
-    -- a geom is no deeper than it was, but for TASTE
-    no_deeper : (x : Geom C) → Contains t.geoms x → deep t x ≡ false → deep tasted x ≡ false
-    no_deeper x there low =
-        elim (cases_eq x.number 2) [
-          | inl same ↦ ap (λ b. not b && nat_lt MAX_RANK (rank tasted x.number)) (of_taste x there same)
-          | inr other ↦
-              ap (λ n. not (is_granted_kind x.kind) && nat_lt MAX_RANK n)
-              ((open-rises t 2 p y sound.ranked sound.orderly.parts.geoms taste_stands taste_bare
-              offered).0.same x.number other)
-              ∙ low
-        ]
+module _ {C : Type 0} (t : TopoView C) (sound : IsSoundGraph t.topology) (counted : IsCounted t) (room : Room) where
+  -- what isn't there is granted nothing, so a new consumer of TASTE wants nothing
+  taster_quiet : (p : ℕ) → want (granted_by t) t.topology (new_consumer t.topology 2 (Some p)) ≡ no_counts
+  taster_quiet p =
+      wants_grant (granted_by t) t.topology (new_consumer t.topology 2 (Some p)) (taste_holds t.topology sound)
+      ∙ ap (λ o. option_map_or
+      (λ (x : Consumer). if holds_grants t.topology x.geom then
+      unwrap_or (value_at t.wants t.topology.next_consumer) no_counts else no_counts) o no_counts)
+      (no_consumer t counted sound.orderly.order room)
 
-    -- so no geom is too deep
-    still_shallow : is_too_deep tasted ≡ false
-    still_shallow =
-        list_any_none (deep tasted) t.geoms
-        (all_of (λ (x : Geom C). deep tasted x ≡ false) t.geoms
-        (λ x there. no_deeper x there
-        (false_from_ne_true (deep t x)
-        (λ bad. let no : true ≡ false = sym (any-contained (deep t) t.geoms x there bad) ∙ sound.not_deep in cc))))
+  -- all counts are kept
+  pub taster_counted : (p : ℕ) → IsCounted (record (with_taster t p) { room = room })
+  taster_counted p =
+      kept_counted t (record (with_taster t p) { room = room }) counted
+      (consumer_kept t counted sound.orderly.order room 2 p (taster_quiet p))
 
-    -- the graph with the new consumer, which isn't attached yet
-    abbrev loose : Topology C
-    loose = add_consumer t 2 None
+-- Nor where it goes
 
-    -- it is attached
-    pub taster_attached : attach loose t.next_consumer p ≡ tasted
-    taster_attached = two-changes.made t 2 p sound.orderly.order
+-- two changes of a mesh that are one: a consumer that is detached and destroyed is destroyed
+pub gone_is : {C : Type 0} (t : TopoView C) (c : ℕ)
+    → without_consumer (with_topology t (detach t.topology c)) c ≡ without_consumer t c
+gone_is t c = ap (λ u. record (without_consumer t c) { topology = u }) (two-changes.removed t.topology c)
 
-    -- it was not
-    pub taster_loose : consumer_at loose t.next_consumer ≡ Some (new_consumer t 2 None)
-    taster_loose = added-consumer.new t 2 None sound.orderly.order
+module _ {C : Type 0} (t : TopoView C) (sound : IsSoundGraph t.topology) (counted : IsCounted t) (c : ℕ)
+    (quiet : (x : Consumer) → Contains t.topology.consumers x → x.number ≡ c
+    → want (granted_by t) t.topology x ≡ no_counts) where
+  -- the consumers that stay stood before
+  still : (x : Consumer) → Contains (remove_consumer t.topology c).consumers x → Contains t.topology.consumers x
+  still x there = (of_filter (λ (y : Consumer). not (y.number == c)) t.topology.consumers x there).0
 
-    -- its geom isn't reached from the provider's
-    no_loop : would_loop loose (consumer_at loose t.next_consumer) (provider_at loose p) ≡ false
-    no_loop =
-        ap (λ o. would_loop loose o (provider_at loose p)) taster_loose
-        ∙ ap (would_loop loose (Some (new_consumer t 2 None))) offered
-        ∙ reaches-none loose y.geom 2 taste_bare
-        (open-other t 2 p y sound.ranked sound.orderly.parts.geoms taste_stands taste_bare offered)
+  -- all counts are kept
+  pub goer_counted : IsCounted (without_consumer t c)
+  goer_counted =
+      kept_counted t (without_consumer t c) counted (record {
+        order = removed-consumer.order t.topology c sound.orderly.order;
+        kinds = counted.kinds;
+        haves = counted.haves;
+        wants = ap (λ rows. without rows c) counted.wants
+            ∙ map-filter_row (λ (x : Consumer). x.number) (want (granted_by t) t.topology) c t.topology.consumers;
+        stays = among (granted_by t) t.topology (remove_consumer t.topology c)
+            (remove_consumer t.topology c).consumers
+            (consumers_went (granted_by t) t.topology (λ (x : Consumer). not (x.number == c))
+            (all_of (λ (x : Consumer). not (x.number == c) ≡ false → want (granted_by t) t.topology x ≡ no_counts)
+            t.topology.consumers
+            (λ x there goes. quiet x there (eqb-true x.number c (not-false (x.number == c) goes)))));
+        classes = λ x there. refl;
+        known = λ x there. stood t counted sound.orderly.order t.room x (still x there);
+        risen = counted.risen;
+        fallen = counted.fallen;
+        clear = ap (λ (s : Scratches). record s { consumers = without s.consumers c }) counted.clear
+            ∙ ap (λ rows. record (clear_scratches t.topology) { consumers = rows })
+            (map-filter_row (λ (x : Consumer). x.number) (λ (x : Consumer). no_scratch) c t.topology.consumers);
+      })
 
-    -- so nothing refuses it
-    pub taster_allowed : is_errored t p ≡ false → attach_refusal loose t.next_consumer p ≡ None
-    taster_allowed errored =
-        not_refused (is_errored loose p) (would_loop loose (consumer_at loose t.next_consumer) (provider_at loose p))
-        (is_too_deep (attach loose t.next_consumer p)) errored no_loop (ap is_too_deep taster_attached ∙ still_shallow)
+-- what is kept doesn't tell the room
+pub settled_roomed : {C : Type 0} (t : TopoView C) (room : Room) → IsSettled t → IsSettled (record t { room = room })
+settled_roomed t room is = record {
+  counted = record {
+    kinds = is.counted.kinds;
+    haves = is.counted.haves;
+    wants = is.counted.wants;
+    exclusive = is.counted.exclusive;
+    limit = is.counted.limit;
+    risen = is.counted.risen;
+    fallen = is.counted.fallen;
+    clear = is.counted.clear;
+  };
+  quiet = record { risen = is.quiet.risen; fallen = is.quiet.fallen };
+  attached = is.attached;
+}
+
+-- where each consumer is attached, none that isn't is of a geom with providers
+pub settled_placed : {C : Type 0} (t : Topology C) → All (λ (c : Consumer). IsSome c.provider) t.consumers → IsPlaced t
+settled_placed t attached =
+    All-weaker (λ (c : Consumer). IsSome c.provider)
+    (λ (c : Consumer). c.provider ≡ None → filter (λ (y : Provider). y.geom == c.geom) t.providers ≡ [])
+    (λ c there none. absurd (none-there c.provider none there)) t.consumers attached
+
+-- Whether a provider is tasted
+
+module _ {C : Type 0} (t : TopoView C) where
+  -- what a provider that is tasted is
+  pub record IsTasted (p : ℕ) : Type 0 where
+    pub provider : Provider
+    pub found : provider_at t.topology p ≡ Some provider
+    pub sound : is_errored t.topology p ≡ false
+
+  -- is what the test says
+  pub tasted_is : (p : ℕ) → is_not_tasted (granted_by t) t.topology p ≡ false → IsTasted p
+  tasted_is p tasted =
+      let low : Bool = option_map_or (λ (g : Geom C). g.withering || nat_le UNTASTED_RANK (rank t.topology g.number))
+      (geom_of_provider t.topology p) true in
+      let written : Bool = not ((have (granted_by t) t.topology p).w == 0) in
+      let a = or_parts (is_errored t.topology p) (low || written) tasted in
+      let b = or_parts low written a.1 in
+      by (provider_at t.topology p) refl b.0 a.0
+    where
+      by : (o : Option Provider) → provider_at t.topology p ≡ o
+          → option_map_or (λ (g : Geom C). g.withering || nat_le UNTASTED_RANK (rank t.topology g.number))
+          (option_and_then (λ (x : Provider). geom_at t.topology x.geom) o) true ≡ false
+          → is_errored t.topology p ≡ false → IsTasted p
+      by None at never sound = absurd (cc)
+      by (Some x) at low sound = record { provider = x; found = at; sound = sound }
+
+  module _ (sound : IsSoundGraph t.topology) (counted : IsCounted t) (p : ℕ) (x : Provider)
+      (found : provider_at t.topology p ≡ Some x) where
+    -- whether the geom withers or is too high
+    abbrev high : Bool
+    high = option_map_or (λ (g : Geom C). g.withering || nat_le UNTASTED_RANK (rank t.topology g.number))
+        (geom_at t.topology x.geom) true
+
+    -- the stored counts of the provider
+    have_is : (a : Counts) → value_at t.haves p ≡ Some a → have (granted_by t) t.topology p ≡ a
+    have_is a stored =
+        let number : x.number ≡ p = number_found (λ (y : Provider). y.number) t.topology.providers p x found in
+        let e : Some (have (granted_by t) t.topology x.number) ≡ Some a =
+        sym (ap (λ rows. value_at rows p) counted.haves
+        ∙ item_at (λ (y : Provider). y.number) (λ (y : Provider). have (granted_by t) t.topology y.number) p
+        t.topology.providers x found) ∙ stored in
+        ap (have (granted_by t) t.topology) (sym number) ∙ ap (λ o. unwrap_or o a) e
+
+    -- it isn't where it carries an error, its geom withers or is too high, or it is written
+    pub tasted_told : (a : Counts) → value_at t.haves p ≡ Some a
+        → is_not_tasted (granted_by t) t.topology p ≡ (x.errored || (high || not (a.w == 0)))
+    tasted_told a stored =
+        ap (λ b. b || (option_map_or (λ (g : Geom C). g.withering || nat_le UNTASTED_RANK (rank t.topology g.number))
+        (geom_of_provider t.topology p) true || not ((have (granted_by t) t.topology p).w == 0)))
+        (errored_is t.topology sound.orderly.order p x found)
+        ∙ ap (λ o. x.errored || (option_map_or (λ (g : Geom C).
+        g.withering || nat_le UNTASTED_RANK (rank t.topology g.number))
+        (option_and_then (λ (y : Provider). geom_at t.topology y.geom) o) true
+        || not ((have (granted_by t) t.topology p).w == 0))) found
+        ∙ ap (λ (h : Counts). x.errored || (high || not (h.w == 0))) (have_is a stored)
+
+    -- so an error is enough for it not to be, and so is a writer
+    pub errored_not : (a : Counts) → value_at t.haves p ≡ Some a → x.errored ≡ true
+        → false ≡ not (is_not_tasted (granted_by t) t.topology p)
+    errored_not a stored errored =
+        sym (ap not (tasted_told a stored ∙ or_left x.errored (high || not (a.w == 0)) errored))
+
+    pub written_not : (a : Counts) → value_at t.haves p ≡ Some a → not (a.w == 0) ≡ true
+        → false ≡ not (is_not_tasted (granted_by t) t.topology p)
+    written_not a stored more =
+        sym (ap not (tasted_told a stored ∙ or_right x.errored (high || not (a.w == 0))
+        (or_right high (not (a.w == 0)) more)))
+
+    -- else its geom decides
+    pub low_tasted : (a : Counts) → value_at t.haves p ≡ Some a → x.errored ≡ false → not (a.w == 0) ≡ false
+        → is_low t.topology x.geom ≡ not (is_not_tasted (granted_by t) t.topology p)
+    low_tasted a stored good none =
+        sym (ap not (tasted_told a stored) ∙ (rw (good, none, or-false) (by (geom_at t.topology x.geom))))
+      where
+        by : (o : Option (Geom C))
+            → not (option_map_or (λ (g : Geom C). g.withering || nat_le UNTASTED_RANK (rank t.topology g.number)) o
+            true)
+            ≡ option_map_or (λ (g : Geom C). not (g.withering || nat_le UNTASTED_RANK (rank t.topology g.number)))
+            o false
+        by None = refl
+        by (Some g) = refl
+
+-- Beginning
+
+-- nothing refuses to attach the new consumer of TASTE to a provider that is tasted
+pub taster_can : (t m : TopoView Config) (p cons : ℕ) {geom : ℕ} → geom ≡ 2 → cons ≡ t.topology.next_consumer
+    → IsSoundGraph t.topology → IsButForRoom m (with_consumer t geom)
+    → is_not_tasted (granted_by t) t.topology p ≡ false → CanBeAttached t m 2 p cons
+taster_can t m p cons taste number sound added tasted =
+    let is : IsTasted t p = tasted_is t p tasted in
+    allowed_can t m 2 p cons number sound (subst (λ n. IsButForRoom m (with_consumer t n)) taste added)
+    (taster_allowed t.topology sound p is.provider is.found is.sound)
+
+-- with it the mesh is settled
+pub taster_settled : {C : Type 0} (t : TopoView C) → IsSoundGraph t.topology → IsSettled t → (p : ℕ) (room : Room)
+    → IsSettled (record (with_taster t p) { room = room })
+taster_settled t sound is p room = record {
+  counted = taster_counted t sound is.counted room p;
+  quiet = record { risen = is.quiet.risen; fallen = is.quiet.fallen };
+  attached = All-push (λ (c : Consumer). IsSome c.provider) t.topology.consumers
+      (new_consumer t.topology 2 (Some p)) is.attached refl;
+}
+
+-- its consumer is the only one of TASTE, where there was none
+pub taster_tasting : (t : TopoView Config) → IsSoundGraph t.topology → IsCounted t → (p : ℕ) (room : Room)
+    → consumers_of t.topology 2 ≡ []
+    → IsTasteOf (record (with_taster t p) { room = room }) (first_taste p t.topology.next_consumer)
+taster_tasting t sound counted p room alone =
+    let n : ℕ = t.topology.next_consumer in
+    let row : Consumer → ℕ × Counts = λ c. (c.number, want (granted_by t) t.topology c) in
+    record {
+      tasting = record {
+        consumer = new_consumer t.topology 2 (Some p);
+        alone = added-consumer.own t.topology 2 (Some p)
+            ∙ ap (λ cs. cs ++ new_consumer t.topology 2 (Some p) ∷ []) alone;
+        number = refl;
+        attached = refl;
+      };
+      holds = ap (λ o. option_map (λ (row : ℕ × Counts). row.1) o)
+          (find-pushed_hit (λ (row : ℕ × Counts). row.0 == n) t.wants (n, no_counts)
+          (ap (find (λ (row : ℕ × Counts). row.0 == n)) counted.wants
+          ∙ find-map (λ (row : ℕ × Counts). row.0 == n) row t.topology.consumers
+          ∙ ap (option_map row) (no_consumer t counted sound.orderly.order t.room))
+          (eq-eqb n n refl));
+    }
+
+-- Ending
+
+module _ {C : Type 0} (t : TopoView C) (sound : IsSoundGraph t.topology) (is : IsSettled t) (c : ℕ) where
+  -- a consumer that is detached is attached to nothing
+  pub detached_there : (x : Consumer) → consumer_at t.topology c ≡ Some x
+      → IfSome (consumer_at (detach t.topology c) c) (λ y. y.provider ≡ None)
+  detached_there x found =
+      subst (λ o. IfSome o (λ (y : Consumer). y.provider ≡ None)) (sym (detached-found.here t.topology c x found)) refl
+
+  -- a consumer that holds nothing wants nothing
+  stored_none : value_at t.wants c ≡ Some no_counts → (x : Consumer) → Contains t.topology.consumers x → x.number ≡ c
+      → want (granted_by t) t.topology x ≡ no_counts
+  stored_none stored x there same =
+      let e : Some (want (granted_by t) t.topology x) ≡ Some no_counts =
+      sym (ap (λ rows. value_at rows x.number) is.counted.wants
+      ∙ item_at (λ (y : Consumer). y.number) (want (granted_by t) t.topology) x.number t.topology.consumers x
+      (consumer_known t sound x there))
+      ∙ ap (value_at t.wants) same ∙ stored in
+      ap (λ o. unwrap_or o no_counts) e
+
+  -- without it the mesh is settled
+  pub goer_settled : value_at t.wants c ≡ Some no_counts → IsSettled (without_consumer t c)
+  goer_settled stored = record {
+    counted = goer_counted t sound is.counted c (stored_none stored);
+    quiet = record { risen = is.quiet.risen; fallen = is.quiet.fallen };
+    attached = All-filter (λ (x : Consumer). not (x.number == c)) (λ (x : Consumer). IsSome x.provider)
+        t.topology.consumers is.attached;
+  }

@@ -1,34 +1,506 @@
--- A member that joins an assembly, in a new geom or in the standing one.
-use Rattle.std.specs.Prelude.{◌≡◌, ℕ, ◌-◌, ◌<◌, Bool, true, false, List, length, Option, Some, None, is_none, IfSome, IsSome, IsSomeAnd, option_map, slice_get}
-use Rattle.std.specs.Option.{option_flatten}
-use Rattle.std.proofs.Common.{refl, sym, ◌∙◌, ap, subst}
-use Rattle.std.proofs.lemmas.Bool.{and_parts}
-use Rattle.geo_base.specs.declared.kind.Kind.{Kind}
-use Rattle.geo_model.specs.Topology.{Topology, Geom, Provider, geom_at, add_consumer, is_name_taken, is_withering, set_config}
-use Rattle.geo_model.specs.World.{Config}
-use Rattle.geo_model.specs.Acceptance.{Member, places_of, can_join, standing_geom}
-use Rattle.geo_mesh.specs.Graph.{IsSoundGraph}
-use Rattle.geo_mesh.specs.Topo.{TopoView, with_geom, with_topology, IsButForRoom}
-use Rattle.geo_event.specs.EventQueue.{Queued}
-use Rattle.geo_laws_graph.proofs.Members.{has}
-use Rattle.geo_laws_graph.proofs.Found.{config-found}
-use Rattle.geo_base.proofs.Options.{at-some, if-with}
-use Rattle.geo_laws_life.proofs.Found.{some-with, some-there, one-found}
+-- A member joins an assembly, in a new geom or in the standing one: the place that it takes, and what comes of it.
+use Rattle.std.specs.List.{list_all, AllByRecursion}
+use Rattle.std.proofs.Common.{◌≡◌, ℕ, ◌-◌, Bool, true, false, not, ◌&&◌, ◌||◌, List, [], ◌∷◌, Option, Some, None, IfSome, is_some, if◌then◌else◌, ◌≢◌, ◌⊎◌, ◌+◌, ◌^◌, ◌<◌, ◌≤◌, ◌==◌, nat_le, ◌++◌, length, find, filter, flat_map, filter_map, is_none, IsSomeAnd, IsTrue, option_map, Contains, slice_get, option_and_then, All, refl, sym, ◌∙◌, ap, subst, inl, inr, arith}
+use Rattle.std.proofs.lemmas.Bool.{and_parts, not-true, eqb-true, ne_eqb, cases_Bool}
+use Rattle.std.proofs.lemmas.List.Elements.{All-contains, recursion_from_All}
+use Rattle.geo_base.specs.Name.{is_name}
+use Rattle.geo_model.specs.Topology.{Topology, Provider, is_name_taken, Geom, geom_at, provider_at, provider_of_consumer, providers_of, is_withering, set_config}
+use Rattle.geo_model.specs.World.{Config, Concat, Stripe}
+use Rattle.geo_model.specs.Acceptance.{are_names_free, fill_place, places_of, joined_size, is_size, Member, is_same_assembly, can_join, standing_geom}
+use Rattle.geo_mesh.specs.Topo.{is_provider_size, first_geom, first_provider, TopoView, with_geom, with_topology, IsButForRoom}
+use Rattle.geo_laws_graph.specs.LookupLaws.{WalksMeetAll, left_from}
+use Rattle.geo_class.specs.Assembly.{can_stand, standing}
 use Rattle.geo_taste.specs.declared.offer.Offer.{Offer}
 use Rattle.geo_taste.specs.declared.place.Plan.{Plan}
+use Rattle.geo_taste.specs.Making.{QueuedMesh, both, AreBoth, with_attached}
+use Rattle.geo_taste.specs.Accepting.{placed, joined, joined_at, with_member, IsAccepted}
+use Rattle.geo_taste.specs.Accepts.{HaveSizes, MakesSizes}
+use Rattle.geo_taste.specs.Members.{CanBeOffered, plan_for, plan_of, with_plan}
+use Rattle.std.specs.Option.{option_flatten, option_map_or, option_to_list}
+use Rattle.geo_base.proofs.Options.{is_nothing, at-some, if-with, none-mapped}
+use Rattle.geo_base.proofs.PlaceLists.{free_at}
+use Rattle.geo_model.specs.Words.{same_name, is_kind}
+use Rattle.geo_model.specs.Place.{components}
+use Rattle.geo_model.specs.Steady.{has_free_place}
+use Rattle.geo_model.proofs.DemandLemmas.{find_passes}
+use Rattle.geo_mesh.specs.Graph.{IsSoundGraph}
+use Rattle.geo_laws_graph.proofs.Members.{Contains-here, filter-Contains, find-Contains, has}
+use Rattle.geo_laws_graph.proofs.Lists.{found_itself}
+use Rattle.geo_laws_graph.proofs.Walks.{walks-meet}
+use Rattle.geo_laws_making.proofs.Over.{false_true}
+use Rattle.geo_taste.specs.Joining.{MayBeMember, MayJoin, fits_sector, can_take, is_bare, is_of_assembly}
+use Rattle.geo_base.specs.declared.kind.Kind.{Kind}
+use Rattle.geo_base.specs.declared.kind.Kind.TheVariants as kinds
+use Rattle.geo_model.specs.Sound.{IsOfItsClass, fits_kind}
+use Rattle.geo_event.specs.EventQueue.{Queued}
+use Rattle.geo_laws_graph.proofs.Found.{config-found}
+use Rattle.geo_laws_life.proofs.Found.{some-with, some-there, one-found}
 use Rattle.geo_taste.specs.declared.shapes.Accepted.{Accepted}
 use Rattle.geo_taste.specs.declared.shapes.Accepted.TheVariants.{Made, Declined}
-use Rattle.geo_taste.specs.Making.{QueuedMesh, both, AreBoth, with_attached}
-use Rattle.geo_taste.specs.Accepting.{joined, joined_at, with_member, IsAccepted}
-use Rattle.geo_taste.specs.Accepts.{MakesSizes}
-use Rattle.geo_taste.specs.Joining.{MayBeMember, MayJoin, can_take, is_bare}
 use Rattle.geo_taste.specs.Standing.{MayOffer}
-use Rattle.geo_taste.specs.Members.{CanBeOffered, plan_of, with_plan}
-use Rattle.geo_taste.proofs.Following.{followed}
-use Rattle.geo_taste.proofs.MemberLemmas.{plan_carries, plan_made, plan_none}
-use Rattle.geo_taste.proofs.StandingLemmas.{bare_is, bare_of, standing_at, standing_may, takes_as_joins}
+use Rattle.geo_taste.proofs.Raising.{CarriesRoom, followed, still_may}
+use Rattle.geo_base.proofs.Tests.{passes_apart}
+use Rattle.geo_taste.proofs.Asking.{withering_is}
+use Rattle.geo_taste.proofs.TableLemmas.{kept_some, offer_sized}
+use Rattle.geo_taste.proofs.ModelLemmas.{answered_as}
 
--- Steps
+-- A place that is taken
+
+-- where all that is made has sizes of providers, the one of a plan has
+pub plan_sizes : (m : QueuedMesh) (prov geom : ℕ) (filled : Config) (o : Option Offer)
+    → HaveSizes (with_plan m prov geom (record { filled = filled; offer = o })).mesh.topology
+    → IfSome o (λ x. is_provider_size x.size x.sector ≡ true)
+plan_sizes m prov geom filled None sizes = tt
+plan_sizes m prov geom filled (Some x) sizes =
+    (offer_sized (placed m prov geom filled) geom x.name x.size x.sector sizes).1
+
+-- what a complete assembly comes to, and another one
+abbrev whole : Config → List ℕ → ℕ → Plan
+whole filled name sector = record {
+  filled = filled;
+  offer = Some (record { name = name; size = joined_size filled; sector = sector });
+}
+
+abbrev open_still : Config → Plan
+open_still filled = record { filled = filled; offer = None }
+
+-- the plan by the tests: whether no place is left, the size is one, the name is free, and the sectors fit
+abbrev plan_by : Config → List ℕ → ℕ → Bool → Bool → Bool → Bool → Option Plan
+plan_by filled name sector full size free sized =
+    if full
+    then (if size && (free && sized) then Some (whole filled name sector) else None)
+    else Some (open_still filled)
+
+module _ (m : QueuedMesh) (p : Provider) (geom : ℕ) (config : Config) (place : ℕ) (name : List ℕ) where
+  -- the configuration with the place filled
+  abbrev filled : Config
+  filled = fill_place config place m.mesh.topology.next_consumer (p.size - p.sector)
+
+  -- what is made, by the tests
+  abbrev made_by : Bool → Bool → Bool → Option QueuedMesh
+  made_by full size free =
+      if full
+      then (if size
+      then (if free then Some (with_plan m p.number geom (whole filled name p.sector)) else None)
+      else None)
+      else Some (with_plan m p.number geom (open_still filled))
+
+  -- a plan makes what is to be made
+  plan_by_made : (a b c d : Bool) (plan : Plan) → plan_by filled name p.sector a b c d ≡ Some plan
+      → made_by a b c ≡ Some (with_plan m p.number geom plan)
+  plan_by_made true true true true plan e =
+      let same : whole filled name p.sector ≡ plan = cc in ap (λ (x : Plan). Some (with_plan m p.number geom x)) same
+  plan_by_made false b c d plan e =
+      let same : open_still filled ≡ plan = cc in ap (λ (x : Plan). Some (with_plan m p.number geom x)) same
+  plan_by_made _ _ _ _ plan e = absurd (let no : ⊥ = cc in no)
+
+  -- where there is no plan nothing can be made, if what is made has sizes of providers
+  plan_by_none : (a b c d : Bool) → is_provider_size (joined_size filled) p.sector ≡ d
+      → plan_by filled name p.sector a b c d ≡ None
+      → MakesSizes (made_by a b c) → made_by a b c ≡ None
+  plan_by_none true true true false sized e sizes =
+      let good : is_provider_size (joined_size filled) p.sector ≡ true =
+      plan_sizes m p.number geom filled (Some (record { name = name; size = joined_size filled; sector = p.sector }))
+      sizes in
+      absurd (let no : false ≡ true = sym sized ∙ good in let none : ⊥ = cc in none)
+  plan_by_none true true false d sized e sizes = refl
+  plan_by_none true false c d sized e sizes = refl
+  plan_by_none _ _ _ _ sized e sizes = absurd (let no : ⊥ = cc in no)
+
+  -- so it is
+  pub plan_made : (plan : Plan)
+      → plan_of m.mesh.topology (p.size - p.sector) p.sector config place name ≡ Some plan
+      → joined m p geom config place name ≡ Some (with_plan m p.number geom plan)
+  plan_made plan e =
+      plan_by_made (list_all is_some (places_of filled)) (is_size (joined_size filled))
+      (are_names_free m.mesh.topology (name ∷ [])) (is_provider_size (joined_size filled) p.sector) plan e
+
+  -- and so none is
+  pub plan_none : plan_of m.mesh.topology (p.size - p.sector) p.sector config place name ≡ None
+      → MakesSizes (joined m p geom config place name) → joined m p geom config place name ≡ None
+  plan_none e sizes =
+      plan_by_none (list_all is_some (places_of filled)) (is_size (joined_size filled))
+      (are_names_free m.mesh.topology (name ∷ [])) (is_provider_size (joined_size filled) p.sector) refl e sizes
+
+-- room doesn't matter to a place that is taken
+pub plan_carries : (prov geom : ℕ) (plan : Plan) → CarriesRoom (λ m. with_plan m prov geom plan)
+plan_carries prov geom plan m room = by plan.offer refl where
+  -- by whether a provider is made
+  by : (o : Option Offer) → plan.offer ≡ o
+      → with_plan (record m { mesh = record m.mesh { room = room } }) prov geom plan
+      ≡ record (with_plan m prov geom plan) { mesh = record (with_plan m prov geom plan).mesh { room = room } }
+  by None e = rw e refl
+  by (Some x) e = rw e refl
+
+module _ (t : Topology Config) (size sector : ℕ) (config : Config) (place : ℕ) (name : List ℕ) (plan : Plan) where
+  -- the configuration with the place filled
+  abbrev now_filled : Config
+  now_filled = fill_place config place t.next_consumer size
+
+  -- by the tests
+  offer_by : (a b c d : Bool) → are_names_free t (name ∷ []) ≡ c
+      → is_provider_size (joined_size now_filled) sector ≡ d
+      → plan_by now_filled name sector a b c d ≡ Some plan
+      → IfSome plan.offer (CanBeOffered t)
+  offer_by true true true true free sized is =
+      let both = and_parts (is_name name && not (is_name_taken t name)) true free in
+      let parts = and_parts (is_name name) (not (is_name_taken t name)) both.0 in
+      subst (λ (o : Option Offer). IfSome o (CanBeOffered t))
+      (let same : Some (record { name = name; size = joined_size now_filled; sector = sector }) ≡ plan.offer = cc in
+      same)
+      (record { size = sized; free = not-true (is_name_taken t name) parts.1 })
+  offer_by false b c d free sized is =
+      subst (λ (o : Option Offer). IfSome o (CanBeOffered t)) (let same : None ≡ plan.offer = cc in same) tt
+  offer_by _ _ _ _ free sized is = absurd (let no : ⊥ = cc in no)
+
+  -- so it is
+  pub plan_offers : plan_of t size sector config place name ≡ Some plan → IfSome plan.offer (CanBeOffered t)
+  plan_offers e =
+      offer_by (list_all is_some (places_of now_filled)) (is_size (joined_size now_filled))
+      (are_names_free t (name ∷ [])) (is_provider_size (joined_size now_filled) sector) refl refl e
+
+-- Configurations that can stand
+
+-- a configuration that can't stand comes to nothing
+pub standing_none : (t : Topology Config) (filled : Config) (name : List ℕ) (sector : ℕ) → standing filled ≡ None
+    → plan_for t filled name sector ≡ None
+standing_none t filled name sector e =
+    by (list_all is_some (places_of filled)) (is_size (joined_size filled)) refl refl e
+  where
+    -- by its places and its size
+    by : (a b : Bool) → list_all is_some (places_of filled) ≡ a → is_size (joined_size filled) ≡ b
+        → (if not a || b then Some filled else None) ≡ None
+        → plan_for t filled name sector ≡ None
+    by true false full size is = rw (full, size) refl
+    by _ _ full size is = absurd (let no : ⊥ = cc in no)
+
+-- one that can is itself
+pub standing_some : (filled other : Config) → standing filled ≡ Some other → other ≡ filled
+standing_some filled other e = sym (kept_some (can_stand filled) filled other e).1
+
+-- Components of one sector size
+
+module _ (t : Topology Config) (sector : ℕ) where
+  -- the provider at a place
+  abbrev at_place : Option ℕ → Option Provider
+  at_place place = option_and_then (provider_at t) (option_and_then (provider_of_consumer t) place)
+
+  -- one place more
+  fit_step : (o : Option Provider) (rest : List Provider)
+      → (option_map_or (λ (x : Provider). x.sector == sector) o true
+      && list_all (λ (x : Provider). x.sector == sector) rest)
+      ≡ list_all (λ (x : Provider). x.sector == sector) (option_to_list o ++ rest)
+  fit_step None rest = refl
+  fit_step (Some x) rest = refl
+
+  -- the places one after another
+  kept_step : (o : Option Provider) (ps : List (Option ℕ)) (p : Option ℕ) → at_place p ≡ o
+      → filter_map at_place (p ∷ ps) ≡ option_to_list o ++ filter_map at_place ps
+  kept_step None ps p e = rw e refl
+  kept_step (Some x) ps p e = rw e refl
+
+  -- the consumers that fill places fit where the providers there have the sector size
+  all_fit : (ps : List (Option ℕ))
+      → list_all (fits_sector t sector) (flat_map option_to_list ps)
+      ≡ list_all (λ (x : Provider). x.sector == sector) (filter_map at_place ps)
+  all_fit [] = refl
+  all_fit (None ∷ ps) = all_fit ps
+  all_fit (Some c ∷ ps) =
+      ap (λ b. fits_sector t sector c && b) (all_fit ps)
+      ∙ fit_step (at_place (Some c)) (filter_map at_place ps)
+      ∙ ap (list_all (λ (x : Provider). x.sector == sector)) (sym (kept_step (at_place (Some c)) ps (Some c) refl))
+
+-- no place is below none
+no_place : (k : ℕ) → k < 0 → ⊥
+no_place k less = omega (arith, less)
+
+-- a provider can take a place of a configuration as it can join its geom
+pub takes_as_joins : (t : Topology Config) (p : Provider) (g : Geom Config) (config : Config) (k : ℕ)
+    → g.config ≡ config → k < length (places_of config)
+    → can_take t p.sector config k ≡ can_join t p g k
+takes_as_joins t p g (Concat id places sizes) k e less =
+    rw e (ap (λ b. is_none (option_flatten (slice_get places k)) && b) (all_fit t p.sector places))
+takes_as_joins t p g (Stripe id stripe places sizes) k e less =
+    rw e (ap (λ b. is_none (option_flatten (slice_get places k)) && b) (all_fit t p.sector places))
+takes_as_joins t p g _ k e less = absurd (no_place k less)
+
+-- a provider can take a place that is free where each component fits
+pub can_take_is : (t : Topology Config) (sector : ℕ) (config : Config) (k : ℕ) (b r : Bool) (cs : List ℕ)
+    → b ≡ is_none (option_flatten (slice_get (places_of config) k)) → b ≡ true
+    → r ≡ list_all (fits_sector t sector) cs → cs ≡ components config
+    → r ≡ can_take t sector config k
+can_take_is t sector config k b r cs free holds fit are =
+    fit ∙ ap (list_all (fits_sector t sector)) are
+    ∙ ap (λ z. z && list_all (fits_sector t sector) (components config)) (sym holds ∙ free)
+
+-- Places
+
+-- two configurations of one assembly have as many places
+same_places : (a b : Config) → is_same_assembly a b ≡ true → length (places_of a) ≡ length (places_of b)
+same_places (Concat (Some a) places sizes) (Concat (Some b) others other_sizes) e =
+    eqb-true (length places) (length others) (and_parts (a == b) (length places == length others) e).1
+same_places (Stripe (Some a) s places sizes) (Stripe (Some b) u others other_sizes) e =
+    eqb-true (length places) (length others)
+    (and_parts (s == u) (length places == length others)
+    (and_parts (a == b) ((s == u) && (length places == length others)) e).1).1
+same_places _ _ e = false_true e
+
+-- Standing geoms
+
+-- what a geom has that is of an assembly
+pub record IsOfAssembly (name : List ℕ) (empty : Config) (g : Geom Config) : Type 0 where
+  pub automatic : g.automatic ≡ true
+  pub stays : g.withering ≡ false
+  pub named : same_name g.name name ≡ true
+  pub same : is_same_assembly g.config empty ≡ true
+
+-- so the test tells
+pub assembly_of : (name : List ℕ) (empty : Config) (g : Geom Config) → is_of_assembly name empty g ≡ true
+    → IsOfAssembly name empty g
+assembly_of name empty g e =
+    let first = and_parts g.automatic
+    (not g.withering && (same_name g.name name && is_same_assembly g.config empty)) e in
+    let second = and_parts (not g.withering) (same_name g.name name && is_same_assembly g.config empty) first.1 in
+    let third = and_parts (same_name g.name name) (is_same_assembly g.config empty) second.1 in
+    record { automatic = first.0; stays = not-true g.withering second.0; named = third.0; same = third.1 }
+
+module _ (t : Topology Config) (sound : IsSoundGraph t) (name : List ℕ) (empty : Config) (id : ℕ) (g : Geom Config)
+    (found : geom_at t id ≡ Some g) (is : is_of_assembly name empty g ≡ true) where
+  -- the geom doesn't wither
+  pub standing_stays : is_withering t id ≡ false
+  standing_stays = withering_is t sound.orderly.order id (Some g) found ∙ (assembly_of name empty g is).stays
+
+  -- and has the place
+  pub standing_place : (place : ℕ) → place < length (places_of empty) → place < length (places_of g.config)
+  standing_place place inside =
+      subst (λ n. place < n) (sym (same_places g.config empty (assembly_of name empty g is).same)) inside
+
+module _ (m : QueuedMesh) (p : Provider) (x : Member) (g : Geom Config) (sound : IsSoundGraph m.mesh.topology)
+    (inside : x.place < length (places_of x.empty))
+    (found : standing_geom m.mesh.topology x.geom_name x.empty ≡ Some g) where
+  -- the graph
+  abbrev t : Topology Config
+  t = m.mesh.topology
+
+  -- the geom stands
+  stands : Contains t.geoms g
+  stands = find-Contains (is_of_assembly x.geom_name x.empty) t.geoms g found
+
+  -- under its number
+  pub standing_at : geom_at t g.number ≡ Some g
+  standing_at = found_itself (λ (h : Geom Config). h.number) t.next_geom t.geoms g sound.orderly.order.geoms stands
+
+  -- and passes the test
+  passes : is_of_assembly x.geom_name x.empty g ≡ true
+  passes = find_passes (is_of_assembly x.geom_name x.empty) t.geoms g found
+
+  module _ (may : MayBeMember m p x) where
+    -- it isn't of a number of those that aren't automatic
+    other : (g.number ≡ 1) ⊎ (g.number ≡ 2) → ⊥
+    other which =
+        let not_made : g.automatic ≡ false =
+        All-contains (λ (h : Geom Config). (h.number ≡ 1) ⊎ (h.number ≡ 2) → h.automatic ≡ false) t.geoms g may.first
+        stands which in
+        let no : true ≡ false = sym (assembly_of x.geom_name x.empty g passes).automatic ∙ not_made in
+        cc
+
+    -- so in a fitting mesh it can be joined
+    pub standing_may : MayJoin m p x g
+    standing_may = record {
+      not_dev = λ is. other (inl is);
+      not_taste = λ is. other (inr is);
+      waits = λ free.
+          All-contains (λ (h : Geom Config). IsTrue (has_free_place h) → providers_of t h.number ≡ []) t.geoms g
+          may.waiting stands (free_at (places_of g.config) x.place
+          (standing_place t sound x.geom_name x.empty g.number g standing_at passes x.place inside) free);
+      sizes = subst (λ (o : Option (Geom Config)). MakesSizes (joined_at m p x o)) found may.sizes;
+    }
+
+-- The walk over the geoms
+
+-- the next geom of a walk over some of the geoms
+pub record IsNextGeom (t : Topology Config) (xs : List (Geom Config)) (from_number id : ℕ) : Type 0 where
+  pub item : Geom Config
+  pub is : item.number ≡ id
+  pub left : left_from (λ (g : Geom Config). g.number) from_number xs
+      ≡ item ∷ left_from (λ (g : Geom Config). g.number) (id + 1) xs
+  pub past : from_number ≤ id
+  pub known : id < t.next_geom
+  pub fits : t.next_geom < 2 ^ 64
+  pub at : geom_at t id ≡ Some item
+
+-- so it is where it was found among the geoms that are walked
+pub next_geom_of : (t : Topology Config) (keep : Geom Config → Bool) (from_number id : ℕ) → IsSoundGraph t
+    → first_geom (filter keep t.geoms) from_number ≡ Some id → IsNextGeom t (filter keep t.geoms) from_number id
+next_geom_of t keep from_number id sound e =
+    let walk : WalksMeetAll (Geom Config) = walks-meet in
+    let step = walk.step (λ (g : Geom Config). g.number) (filter keep t.geoms) t.next_geom from_number id
+    (walk.part (λ (g : Geom Config). g.number) keep t.geoms t.next_geom sound.orderly.order.geoms) e in
+    let among : Contains (left_from (λ (g : Geom Config). g.number) from_number (filter keep t.geoms)) step.item =
+    subst (λ xs. Contains xs step.item) (sym step.left) (Contains-here step.item _) in
+    let kept : Contains (filter keep t.geoms) step.item =
+    (filter-Contains (λ (g : Geom Config). nat_le from_number g.number) (filter keep t.geoms) step.item among).0 in
+    let here : Contains t.geoms step.item = (filter-Contains keep t.geoms step.item kept).0 in
+    record {
+      item = step.item;
+      is = step.is;
+      left = step.left;
+      past = step.past;
+      known = step.known;
+      fits = sound.orderly.numbers.next_geom.fits;
+      at = subst (λ n. geom_at t n ≡ Some step.item) step.is
+          (found_itself (λ (g : Geom Config). g.number) t.next_geom t.geoms step.item sound.orderly.order.geoms here);
+    }
+
+module _ (t : Topology Config) (keep : Geom Config → Bool) (name : List ℕ) (empty : Config) (from_number id : ℕ)
+    (sound : IsSoundGraph t) (first : Some id ≡ first_geom (filter keep t.geoms) from_number)
+    (so_far : find (is_of_assembly name empty)
+    (left_from (λ (g : Geom Config). g.number) from_number (filter keep t.geoms))
+    ≡ find (is_of_assembly name empty) (filter keep t.geoms)) where
+  -- the geoms that are walked
+  abbrev xs : List (Geom Config)
+  xs = filter keep t.geoms
+
+  -- the next one
+  next : IsNextGeom t xs from_number id
+  next = next_geom_of t keep from_number id sound (sym first)
+
+  -- the test at the number is that of the item
+  at_item : option_map_or (is_of_assembly name empty) (geom_at t id) false ≡ is_of_assembly name empty next.item
+  at_item = ap (λ o. option_map_or (is_of_assembly name empty) o false) next.at
+
+  -- an item that doesn't pass is passed over
+  pub walk_on : false ≡ option_map_or (is_of_assembly name empty) (geom_at t id) false
+      → find (is_of_assembly name empty) (left_from (λ (g : Geom Config). g.number) (id + 1) xs)
+      ≡ find (is_of_assembly name empty) xs
+  walk_on fails =
+      let e : is_of_assembly name empty next.item ≡ false = sym at_item ∙ sym fails in
+      let rest : find (is_of_assembly name empty)
+      (next.item ∷ left_from (λ (g : Geom Config). g.number) (id + 1) xs)
+      ≡ find (is_of_assembly name empty) (left_from (λ (g : Geom Config). g.number) (id + 1) xs) = rw e refl in
+      sym rest ∙ ap (find (is_of_assembly name empty)) (sym next.left) ∙ so_far
+
+  -- one that passes is the first
+  pub walk_found : true ≡ option_map_or (is_of_assembly name empty) (geom_at t id) false
+      → Some id ≡ option_map (λ (g : Geom Config). g.number) (find (is_of_assembly name empty) xs)
+  walk_found holds =
+      let e : is_of_assembly name empty next.item ≡ true = sym at_item ∙ sym holds in
+      let here : find (is_of_assembly name empty)
+      (next.item ∷ left_from (λ (g : Geom Config). g.number) (id + 1) xs) ≡ Some next.item = rw e refl in
+      let whole : Some next.item ≡ find (is_of_assembly name empty) xs =
+      sym here ∙ ap (find (is_of_assembly name empty)) (sym next.left) ∙ so_far in
+      ap (λ n. Some n) (sym next.is) ∙ ap (option_map (λ (g : Geom Config). g.number)) whole
+
+  -- and is of the assembly
+  pub walk_passes : true ≡ option_map_or (is_of_assembly name empty) (geom_at t id) false
+      → IsSomeAnd (geom_at t id) (λ g. is_of_assembly name empty g ≡ true)
+  walk_passes holds =
+      subst (λ o. IsSomeAnd o (λ g. is_of_assembly name empty g ≡ true)) (sym next.at) (sym at_item ∙ sym holds)
+
+-- a walk that ends meets none
+pub walk_end : (t : Topology Config) (name : List ℕ) (empty : Config) (xs : List (Geom Config)) (from_number : ℕ)
+    → find (is_of_assembly name empty) (left_from (λ (g : Geom Config). g.number) from_number xs)
+    ≡ find (is_of_assembly name empty) xs
+    → None ≡ first_geom xs from_number
+    → None ≡ option_map (λ (g : Geom Config). g.number) (find (is_of_assembly name empty) xs)
+walk_end t name empty xs from_number so_far ends =
+    let walk : WalksMeetAll (Geom Config) = walks-meet in
+    let nothing = walk.rest (λ (g : Geom Config). g.number) xs from_number (sym ends) in
+    let whole : None ≡ find (is_of_assembly name empty) xs =
+    sym (ap (find (is_of_assembly name empty)) nothing) ∙ so_far in
+    ap (option_map (λ (g : Geom Config). g.number)) whole
+
+-- Geoms without providers
+
+-- what the test of a bare geom tells
+pub record IsBare (t : Topology Config) (geom : ℕ) : Type 0 where
+  pub not_dev : geom ≢ 1
+  pub not_taste : geom ≢ 2
+  pub bare : providers_of t geom ≡ []
+
+-- so it tells
+pub bare_of : (t : Topology Config) (geom : ℕ) → is_bare t geom ≡ true → IsBare t geom
+bare_of t geom e =
+    let first = and_parts (not (geom == 1)) (not (geom == 2) && is_none (first_provider (providers_of t geom) 0)) e in
+    let second = and_parts (not (geom == 2)) (is_none (first_provider (providers_of t geom) 0)) first.1 in
+    let walk : WalksMeetAll Provider = walks-meet in
+    record {
+      not_dev = passes_apart geom 1 first.0;
+      not_taste = passes_apart geom 2 second.0;
+      bare = walk.empty (λ (x : Provider). x.number) (providers_of t geom)
+          (is_nothing (first_provider (providers_of t geom) 0) second.1);
+    }
+
+-- and a bare geom passes it
+pub bare_is : (t : Topology Config) (geom : ℕ) → geom ≢ 1 → geom ≢ 2 → providers_of t geom ≡ []
+    → is_bare t geom ≡ true
+bare_is t geom not_dev not_taste bare =
+    rw (
+      ne_eqb geom 1 not_dev,
+      ne_eqb geom 2 not_taste,
+      ap (λ xs. first_provider xs 0) bare,
+    ) refl
+
+-- Geoms of a class and a name
+
+-- the class of a concat's configuration
+is_concat : (kind : Kind) (id : _) (places : _) (sizes : _) → fits_kind kind (Concat id places sizes) ≡ true
+    → kind ≡ kinds.Concat
+is_concat kinds.Concat id places sizes e = refl
+is_concat _ id places sizes e = false_true e
+
+-- and of a stripe's
+is_stripe : (kind : Kind) (id : _) (stripe : _) (places : _) (sizes : _)
+    → fits_kind kind (Stripe id stripe places sizes) ≡ true → kind ≡ kinds.Stripe
+is_stripe kinds.Stripe id stripe places sizes e = refl
+is_stripe _ id stripe places sizes e = false_true e
+
+-- configurations of one assembly are of one class
+same_class : (kind other : Kind) (a b : Config) → fits_kind kind a ≡ true → fits_kind other b ≡ true
+    → is_same_assembly a b ≡ true → is_kind kind other ≡ true
+same_class kind other (Concat id places sizes) (Concat x others more) f g e =
+    rw (is_concat kind id places sizes f, is_concat other x others more g) refl
+same_class kind other (Stripe id s places sizes) (Stripe x u others more) f g e =
+    rw (is_stripe kind id s places sizes f, is_stripe other x u others more g) refl
+same_class kind other (Concat (Some n) places sizes) _ f g e = false_true e
+same_class kind other (Stripe (Some n) u places sizes) _ f g e = false_true e
+same_class kind other _ _ f g e = false_true e
+
+-- whether a geom is of the class and of the name
+abbrev pub has_name : Kind → List ℕ → Geom Config → Bool
+has_name kind name g = is_kind g.kind kind && same_name g.name name
+
+-- the geoms of the class and of the name
+abbrev pub named_geoms : Kind → List ℕ → List (Geom Config) → List (Geom Config)
+named_geoms kind name xs = filter (has_name kind name) xs
+
+module _ (kind : Kind) (name : List ℕ) (empty : Config) (fits : fits_kind kind empty ≡ true) where
+  -- one of the assembly is one of those
+  passes_too : (g : Geom Config) → IsOfItsClass g → is_of_assembly name empty g ≡ true → has_name kind name g ≡ true
+  passes_too g class e =
+      let is = assembly_of name empty g e in
+      rw (same_class g.kind kind g.config empty class.config fits is.same, is.named) refl
+
+  -- so it is found among those
+  found_named : (xs : List (Geom Config)) → AllByRecursion IsOfItsClass xs
+      → find (is_of_assembly name empty) (named_geoms kind name xs) ≡ find (is_of_assembly name empty) xs
+  found_named [] classes = refl
+  found_named (g ∷ xs) classes =
+      elim (cases_Bool (is_of_assembly name empty g)) [
+        | inl of_it ↦ rw (passes_too g classes.0 of_it, of_it) refl
+        | inr other ↦
+            elim (cases_Bool (has_name kind name g)) [
+              | inl kept ↦ rw (kept, other) (found_named xs classes.1)
+              | inr gone ↦ rw (gone, other) (found_named xs classes.1)
+            ]
+      ]
+
+  -- where each geom is of its class
+  pub named_found : (xs : List (Geom Config)) → All IsOfItsClass xs
+      → find (is_of_assembly name empty) (named_geoms kind name xs) ≡ find (is_of_assembly name empty) xs
+  named_found xs classes = found_named xs (recursion_from_All IsOfItsClass xs classes)
+
+-- A member joins
 
 -- a geom that was made after room was kept
 pub geom_over : (t r u : TopoView Config) (kind : Kind) (name : List ℕ) (config : Config) (automatic : Bool)
@@ -51,17 +523,12 @@ pub may_placed : (t u v : TopoView Config) (geom prov : ℕ) (filled : Config)
     → IsButForRoom u (with_attached t geom prov) → v ≡ with_topology u (set_config u.topology geom filled)
     → MayOffer t.topology geom → MayOffer v.topology geom
 may_placed t u v geom prov filled attached swapped may =
-    let graph : u.topology ≡ add_consumer t.topology geom (Some prov) =
-    ap (λ (x : TopoView Config). x.topology) attached in
-    let lives : IsSome (geom_at u.topology geom) =
-    subst (λ (g : Topology Config). IsSome (geom_at g geom)) (sym graph) may.lives in
-    let x = has (geom_at u.topology geom) lives in
-    let stays : is_withering u.topology geom ≡ false =
-    subst (λ (g : Topology Config). is_withering g geom ≡ false) (sym graph) may.stays in
+    let more : MayOffer u.topology geom = still_may t u geom (prov ∷ []) attached may in
+    let x = has (geom_at u.topology geom) more.lives in
     subst (λ (y : TopoView Config). MayOffer y.topology geom) (sym swapped) (record {
       lives = some-there (geom_at (set_config u.topology geom filled) geom) (record x.item { config = filled })
           (config-found.here u.topology geom filled x.item x.is);
-      stays = config-found.withering u.topology geom filled geom ∙ stays;
+      stays = config-found.withering u.topology geom filled geom ∙ more.stays;
       not_dev = may.not_dev;
       not_taste = may.not_taste;
     })
@@ -173,21 +640,23 @@ module _ (t : TopoView Config) (q : Queued) (p : Provider) (x : Member) where
           (at-some (geom_at t.topology geom) (λ (h : Geom Config). x.place < length (places_of h.config)) g at place)
           told
 
+      -- what is answered to the member
+      abbrev pub IsTold : Accepted → TopoView Config → Queued → Type 0
+      IsTold a v s =
+          IfSome (geom_at t.topology geom)
+          (λ h. IsAccepted a v s (both t q) (joined_at (both t q) p x (Some h)) (MayJoin (both t q) p x h))
+
       -- what is declined leaves all
-      declined : (MayJoin (both t q) p x g → joined_at (both t q) p x (Some g) ≡ None)
-          → IfSome (geom_at t.topology geom)
-          (λ h. IsAccepted Declined t q (both t q) (joined_at (both t q) p x (Some h)) (MayJoin (both t q) p x h))
+      declined : (MayJoin (both t q) p x g → joined_at (both t q) p x (Some g) ≡ None) → IsTold Declined t q
       declined none =
           if-with (geom_at t.topology geom) _ g at (record { mesh = refl; events = refl }, none)
 
       -- it is declined where it can't join
-      pub declines_full : b ≡ false → IfSome (geom_at t.topology geom)
-          (λ h. IsAccepted Declined t q (both t q) (joined_at (both t q) p x (Some h)) (MayJoin (both t q) p x h))
+      pub declines_full : b ≡ false → IsTold Declined t q
       declines_full cannot = declined (λ may. standing_no (sym is_told ∙ cannot))
 
       -- where the geom isn't bare
-      pub declines_filled : b ≡ true → is_bare t.topology g.number ≡ false → IfSome (geom_at t.topology geom)
-          (λ h. IsAccepted Declined t q (both t q) (joined_at (both t q) p x (Some h)) (MayJoin (both t q) p x h))
+      pub declines_filled : b ≡ true → is_bare t.topology g.number ≡ false → IsTold Declined t q
       declines_filled can filled = declined (standing_no_bare (sym is_told ∙ can) filled)
 
       module _ {n : ℕ} (less : n ≡ p.sector) {o : Option Plan}
@@ -197,14 +666,12 @@ module _ (t : TopoView Config) (q : Queued) (p : Provider) (x : Member) where
         plan_is = planned ∙ ap (λ k. plan_of t.topology (p.size - k) p.sector g.config x.place x.name) less
 
         -- where its place comes to nothing
-        pub declines_planless : b ≡ true → o ≡ None → IfSome (geom_at t.topology geom)
-            (λ h. IsAccepted Declined t q (both t q) (joined_at (both t q) p x (Some h)) (MayJoin (both t q) p x h))
+        pub declines_planless : b ≡ true → o ≡ None → IsTold Declined t q
         declines_planless can none = declined (standing_no_plan (sym is_told ∙ can) (sym plan_is ∙ none))
 
         -- else it takes its place
         pub takes_place : (v : TopoView Config) (s : Queued) (plan : Plan) → b ≡ true → o ≡ Some plan
-            → AreBoth v s (with_plan (both t q) p.number g.number plan) → IfSome (geom_at t.topology geom)
-            (λ h. IsAccepted Made v s (both t q) (joined_at (both t q) p x (Some h)) (MayJoin (both t q) p x h))
+            → AreBoth v s (with_plan (both t q) p.number g.number plan) → IsTold Made v s
         takes_place v s plan can some taken =
             if-with (geom_at t.topology geom) _ g at
             (λ may. standing_joined v s plan (sym is_told ∙ can) (sym plan_is ∙ some) taken)
@@ -219,38 +686,27 @@ module _ (t : TopoView Config) (q : Queued) (p : Provider) (x : Member) where
         → Some id ≡ option_map (λ (h : Geom Config). h.number) (standing_geom t.topology x.geom_name x.empty))
         → IsAccepted a v s (both t q) (joined_at (both t q) p x (Some g)) (MayJoin (both t q) p x g)
         → IsAccepted a v s (both t q) (with_member (both t q) p x) (MayBeMember (both t q) p x)
-    member_standing a v s id g at stands answer = by a answer where
-      -- the standing geom is this one
-      it_is : (o : Option (Geom Config)) → standing_geom t.topology x.geom_name x.empty ≡ o
-          → Some id ≡ option_map (λ (h : Geom Config). h.number) o
-          → standing_geom t.topology x.geom_name x.empty ≡ Some g
-      it_is None found number = absurd (let no : ⊥ = cc in no)
-      it_is (Some h) found number =
-          let same : h.number ≡ id = let turned : id ≡ h.number = cc in sym turned in
-          let there : geom_at t.topology h.number ≡ Some h =
-          standing_at (both t q) p x h sound inside found in
-          let one : h ≡ g =
-          one-found (geom_at t.topology id) h g (subst (λ n. geom_at t.topology n ≡ Some h) same there) at in
-          found ∙ ap (λ (z : Geom Config). Some z) one
+    member_standing a v s id g at stands answer =
+        answered_as a v s (both t q) (joined_at (both t q) p x (Some g)) (with_member (both t q) p x)
+        (MayJoin (both t q) p x g) (MayBeMember (both t q) p x)
+        (λ may. ap (joined_at (both t q) p x) (sym (this may)))
+        (λ may. standing_may (both t q) p x g sound inside (this may) may) answer where
+          -- the standing geom is this one
+          it_is : (o : Option (Geom Config)) → standing_geom t.topology x.geom_name x.empty ≡ o
+              → Some id ≡ option_map (λ (h : Geom Config). h.number) o
+              → standing_geom t.topology x.geom_name x.empty ≡ Some g
+          it_is None found number = absurd (let no : ⊥ = cc in no)
+          it_is (Some h) found number =
+              let same : h.number ≡ id = let turned : id ≡ h.number = cc in sym turned in
+              let there : geom_at t.topology h.number ≡ Some h =
+              standing_at (both t q) p x h sound inside found in
+              let one : h ≡ g =
+              one-found (geom_at t.topology id) h g (subst (λ n. geom_at t.topology n ≡ Some h) same there) at in
+              found ∙ ap (λ (z : Geom Config). Some z) one
 
-      -- so it is where the facts hold
-      this : MayBeMember (both t q) p x → standing_geom t.topology x.geom_name x.empty ≡ Some g
-      this may = it_is (standing_geom t.topology x.geom_name x.empty) refl (stands may)
-
-      -- what is made is what is made there
-      made_there : MayBeMember (both t q) p x
-          → joined_at (both t q) p x (Some g) ≡ with_member (both t q) p x
-      made_there may = ap (joined_at (both t q) p x) (sym (this may))
-
-      -- and it can be joined
-      joins : MayBeMember (both t q) p x → MayJoin (both t q) p x g
-      joins may = standing_may (both t q) p x g sound inside (this may) may
-
-      -- by the answer
-      by : (a : Accepted) → IsAccepted a v s (both t q) (joined_at (both t q) p x (Some g)) (MayJoin (both t q) p x g)
-          → IsAccepted a v s (both t q) (with_member (both t q) p x) (MayBeMember (both t q) p x)
-      by Made is = λ may. subst (λ o. IsSomeAnd o (AreBoth v s)) (made_there may) (is (joins may))
-      by Declined is = (is.0, λ may. sym (made_there may) ∙ is.1 (joins may))
+          -- so it is where the facts hold
+          this : MayBeMember (both t q) p x → standing_geom t.topology x.geom_name x.empty ≡ Some g
+          this may = it_is (standing_geom t.topology x.geom_name x.empty) refl (stands may)
 
     -- the answer where none stands
     pub member_new : (a : Accepted) (v : TopoView Config) (s : Queued)
@@ -258,22 +714,13 @@ module _ (t : TopoView Config) (q : Queued) (p : Provider) (x : Member) where
         → None ≡ option_map (λ (h : Geom Config). h.number) (standing_geom t.topology x.geom_name x.empty))
         → IsAccepted a v s (both t q) (joined_at (both t q) p x None) (MakesSizes (joined_at (both t q) p x None))
         → IsAccepted a v s (both t q) (with_member (both t q) p x) (MayBeMember (both t q) p x)
-    member_new a v s stands answer = by a answer where
-      -- none stands
-      none_stands : (o : Option (Geom Config)) → None ≡ option_map (λ (h : Geom Config). h.number) o → o ≡ None
-      none_stands None e = refl
-      none_stands (Some h) e = absurd (let no : ⊥ = cc in no)
-
-      -- what is made is what is made in a new geom
-      made_new : MayBeMember (both t q) p x → joined_at (both t q) p x None ≡ with_member (both t q) p x
-      made_new may =
-          ap (joined_at (both t q) p x)
-          (sym (none_stands (standing_geom t.topology x.geom_name x.empty) (stands may)))
-
-      -- by the answer
-      by : (a : Accepted)
-          → IsAccepted a v s (both t q) (joined_at (both t q) p x None) (MakesSizes (joined_at (both t q) p x None))
-          → IsAccepted a v s (both t q) (with_member (both t q) p x) (MayBeMember (both t q) p x)
-      by Made is = λ may. subst (λ o. IsSomeAnd o (AreBoth v s)) (made_new may)
-          (is (subst MakesSizes (sym (made_new may)) may.sizes))
-      by Declined is = (is.0, λ may. sym (made_new may) ∙ is.1 (subst MakesSizes (sym (made_new may)) may.sizes))
+    member_new a v s stands answer =
+        answered_as a v s (both t q) (joined_at (both t q) p x None) (with_member (both t q) p x)
+        (MakesSizes (joined_at (both t q) p x None)) (MayBeMember (both t q) p x) made_new
+        (λ may. subst MakesSizes (sym (made_new may)) may.sizes) answer where
+          -- what is made is what is made in a new geom
+          made_new : MayBeMember (both t q) p x → joined_at (both t q) p x None ≡ with_member (both t q) p x
+          made_new may =
+              ap (joined_at (both t q) p x)
+              (sym (none-mapped (λ (h : Geom Config). h.number) (standing_geom t.topology x.geom_name x.empty)
+              (sym (stands may))))

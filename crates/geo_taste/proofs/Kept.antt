@@ -1,25 +1,21 @@
 -- A mesh whose rows have the counts of another one, where these don't change.
-use Rattle.std.specs.Prelude.{◌≡◌, ◌⊎◌, ℕ, Bool, true, false, map, Option, Some, None, IfSome, IsSomeAnd, All, Contains, unwrap_or, if◌then◌else◌}
+use Rattle.std.specs.Prelude.{◌≡◌, ◌⊎◌, ℕ, Bool, true, false, map, Option, Some, None, IfSome, All, Contains, unwrap_or, if◌then◌else◌}
 use Rattle.std.specs.Option.{option_map_or}
 use Rattle.std.proofs.Common.{refl, sym, ◌∙◌, ap}
-use Rattle.geo_base.specs.declared.request.Counts.{Counts}
 use Rattle.geo_model.specs.Words.{is_granted_kind}
-use Rattle.geo_model.specs.Topology.{Topology, Geom, Provider, Consumer, geom_at, consumer_at}
+use Rattle.geo_model.specs.Topology.{Topology, Provider, Consumer, geom_at, consumer_at}
 use Rattle.geo_model.specs.Graph.{IsInOrder}
 use Rattle.geo_model.specs.Demand.{no_counts, have, want}
-use Rattle.geo_model.proofs.DemandLemmas.{map_same}
 use Rattle.geo_slots.specs.Slots.{value_at}
 use Rattle.geo_mesh.specs.Topo.{TopoView}
-use Rattle.geo_laws_graph.specs.LookupLaws.{EachIsFound}
-use Rattle.geo_laws_graph.proofs.Found.{each-found}
+use Rattle.geo_laws_graph.proofs.Lists.{found_itself}
 use Rattle.geo_laws_counts.specs.CountWords.{DemandStays, HoldsGrants}
-use Rattle.geo_laws_counts.proofs.LimitFacts.{all_of, each_of}
+use Rattle.geo_laws_counts.proofs.LimitFacts.{all_of}
 use Rattle.geo_laws_counts.proofs.Stays.{grants_agree}
 use Rattle.geo_laws_counts.proofs.Openers.{wants_grant}
-use Rattle.geo_laws_graph.proofs.Members.{at_contained}
 use Rattle.geo_access.specs.Access.{granted_by, holds_grants, clear_scratches, IsCounted}
-use Rattle.geo_access.proofs.Clearing.{rows-same_on}
-use Rattle.geo_access.proofs.Decided.{item_at}
+use Rattle.geo_access.proofs.Clearing.{rows-same_on, rows_agree}
+use Rattle.geo_access.proofs.Decided.{granted_found, holds_is, item_at}
 
 -- the second mesh has the counts of the first in its rows, and demand is the same in both
 pub record KeepsCounts {C : Type 0} (t u : TopoView C) : Type 0 where
@@ -38,29 +34,20 @@ pub record KeepsCounts {C : Type 0} (t u : TopoView C) : Type 0 where
 
 -- a geom of which the test says so holds grants
 pub holds_of : {C : Type 0} (t : Topology C) (g : ℕ) → holds_grants t g ≡ true → HoldsGrants t g
-holds_of {C} t g holds = by (geom_at t g) holds
-  where
-    by : (o : Option (Geom C)) → option_map_or (λ (x : Geom C). is_granted_kind x.kind) o false ≡ true
-        → IsSomeAnd o (λ (x : Geom C). is_granted_kind x.kind ≡ true)
-    by None never = absurd (cc)
-    by (Some x) holds = holds
+holds_of t g holds = holds_is (geom_at t g) holds
 
 module _ {C : Type 0} (t u : TopoView C) (counted : IsCounted t) (is : KeepsCounts t u) where
   -- a consumer is found in the second mesh
   found : (c : Consumer) → Contains u.topology.consumers c → consumer_at u.topology c.number ≡ Some c
   found c there =
-      let each : EachIsFound C = each-found in
-      at_contained (λ (x : Consumer). consumer_at u.topology x.number ≡ Some x) u.topology.consumers c
-      (each.consumers u.topology is.order) there
+      found_itself (λ (x : Consumer). x.number) u.topology.next_consumer u.topology.consumers c is.order.consumers there
 
   -- what it is granted there
   granted_there : (c : Consumer) → Contains u.topology.consumers c
       → granted_by u c.number
       ≡ (if holds_grants u.topology c.geom then want (granted_by t) t.topology c else no_counts)
   granted_there c there =
-      ap (λ o. option_map_or
-      (λ (x : Consumer). if holds_grants u.topology x.geom then unwrap_or (value_at u.wants c.number) no_counts else
-      no_counts) o no_counts) (found c there)
+      granted_found u c.number c (found c there)
       ∙ ap (λ o. if holds_grants u.topology c.geom then unwrap_or o no_counts else no_counts)
       (ap (λ rows. value_at rows c.number) is.wants
       ∙ item_at (λ (x : Consumer). x.number) (want (granted_by t) t.topology) c.number u.topology.consumers c
@@ -104,13 +91,8 @@ module _ {C : Type 0} (t u : TopoView C) (counted : IsCounted t) (is : KeepsCoun
             (λ z there. sym (after.haves z.number ∙ is.stays.haves z.number));
         wants =
             is.wants
-            ∙ map_same (λ (c : Consumer). (c.number, want (granted_by t) t.topology c))
-            (λ (c : Consumer). (c.number, want (granted_by u) u.topology c)) u.topology.consumers
-            (each_of (λ (c : Consumer).
-            ◌≡◌ {A = ℕ × Counts} (c.number, want (granted_by t) t.topology c)
-            (c.number, want (granted_by u) u.topology c)) u.topology.consumers
-            (λ c there. let Q : Counts → ℕ × Counts = λ a. (c.number, a) in
-            ap Q (sym (after.wants c there ∙ is.stays.wants c there))));
+            ∙ rows_agree (λ (c : Consumer). c.number) (want (granted_by t) t.topology) (want (granted_by u) u.topology)
+            u.topology.consumers (λ c there. sym (after.wants c there ∙ is.stays.wants c there));
         exclusive = after.exclusive (is.stays.exclusive counted.exclusive);
         limit = after.limit (is.stays.limit counted.limit);
         risen = is.risen;

@@ -1,22 +1,33 @@
--- What is made is what the model makes.
-use Rattle.std.specs.Prelude.{◌≡◌, ℕ, ◌-◌, Bool, true, false, List, [], ◌∷◌, ◌++◌, map, fold, Option, Some, None, option_map, is_some, if◌then◌else◌}
+-- What is made is what the model makes, and so is each answer to a shape that a class accepts.
 use Rattle.std.specs.List.{list_all}
-use Rattle.std.proofs.Common.{refl, ap}
+use Rattle.std.proofs.Common.{◌≡◌, ℕ, ◌-◌, Bool, true, false, List, [], ◌∷◌, ◌++◌, map, fold, Option, Some, None, option_map, is_some, if◌then◌else◌, ◌%◌, ◌<◌, ◌≤◌, ◌==◌, nat_le, ◌&&◌, ◌||◌, length, IfSome, Result, IfOk, replicate, IsSomeAnd, refl, ap, sym, ◌∙◌, subst, arith, inl, inr}
 use Rattle.geo_base.specs.declared.kind.Kind.{Kind}
 use Rattle.geo_base.specs.declared.kind.Kind.TheVariants as kinds
 use Rattle.geo_model.specs.declared.class.Shape.{Shape}
 use Rattle.geo_model.specs.declared.class.Shape.TheVariants.{Slices, Logical, Named, Joined, Striped}
 use Rattle.geo_model.specs.declared.step.Event.TheVariants.{NewProvider}
 use Rattle.geo_model.specs.Names.{label_name}
-use Rattle.geo_model.specs.Topology.{Topology, Geom, Provider, add_consumer, add_provider}
-use Rattle.geo_model.specs.World.{Config, Label, Mbr, Ebr}
+use Rattle.geo_model.specs.Topology.{Topology, Geom, Provider, add_consumer, add_provider, provider_at}
+use Rattle.geo_model.specs.World.{Config, Mbr, Ebr}
 use Rattle.geo_model.specs.Events.{QueuedTopology, offer}
 use Rattle.geo_model.specs.Acceptance.{NewSlice, Member, are_names_free, with_slices, with_label, finish, join_place, join_at, can_join, accept, accept_member, fill_place, places_of, joined_size, is_size, new_slices, new_parts, concat_member, stripe_member, standing_geom}
 use Rattle.geo_model.specs.GeomCommands.{build}
 use Rattle.geo_mesh.specs.Topo.{TopoView, with_geom}
-use Rattle.geo_taste.specs.Making.{QueuedMesh, queued, with_attached, with_all_attached, with_built, with_offer}
-use Rattle.geo_taste.specs.Accepting.{over, with_slices_of, sliced, labelled, placed, finished, joined, joined_at, with_member, accepted}
+use Rattle.geo_taste.specs.Making.{QueuedMesh, queued, with_attached, with_all_attached, with_built, with_offer, both, AreBoth}
+use Rattle.geo_taste.specs.Accepting.{over, with_slices_of, sliced, labelled, placed, finished, joined, joined_at, with_member, accepted, IsAccepted}
 use Rattle.geo_taste.specs.MakingLaws.{MakesAsTheModel}
+use Rattle.std.proofs.lemmas.Bool.{and_parts, leb-true, eqb-true, or_cases}
+use Rattle.std.proofs.lemmas.List.{length-replicate}
+use Rattle.geo_base.specs.declared.limits.TheConstants.{MAX_MEDIA_BYTES}
+use Rattle.geo_mesh.specs.Graph.{IsSoundGraph}
+use Rattle.geo_event.specs.EventQueue.{Queued}
+use Rattle.geo_laws_texts.specs.RecordLaws.{IsPlace}
+use Rattle.geo_taste.specs.declared.shapes.Accepted.{Accepted}
+use Rattle.geo_taste.specs.declared.shapes.Accepted.TheVariants.{Made, Declined}
+use Rattle.geo_taste.specs.Accepts.{HaveSizes, MakesSizes, MayAccept}
+use Rattle.geo_taste.specs.Joining.{MayBeMember}
+use Rattle.geo_base.proofs.Options.{if_ok_weaker, if-with}
+use Rattle.geo_taste.proofs.Asking.{sized_there}
 
 -- the graph with the consumers
 attached_topology : (geom : ℕ) (ps : List Provider) (t : TopoView Config)
@@ -61,9 +72,7 @@ module _ (m : QueuedMesh) (p : Provider) where
       ≡ (if are_names_free t (map (λ (x : NewSlice). x.name) slices)
       then Some (with_slices (queued m) p kind config slices) else None)
   sliced_is kind config slices =
-      made_if (are_names_free t (map (λ (x : NewSlice). x.name) slices))
-      (Some (with_slices_of (over m p.number kind p.name config) t.next_geom slices)) None
-      (Some (with_slices (queued m) p kind config slices)) None
+      made_if (are_names_free t (map (λ (x : NewSlice). x.name) slices)) _ None _ None
       (ap (λ q. Some q) (slices_are t.next_geom slices (over m p.number kind p.name config))) refl
 
   -- a label
@@ -71,18 +80,14 @@ module _ (m : QueuedMesh) (p : Provider) where
       → option_map queued (labelled m p name)
       ≡ (if are_names_free t (name ∷ []) then Some (with_label (queued m) p name) else None)
   labelled_is name =
-      made_if (are_names_free t (name ∷ []))
-      (Some (with_offer (over m p.number kinds.Label p.name (Label (Some t.next_consumer)))
-      t.next_geom name (p.size - p.sector) p.sector)) None
-      (Some (with_label (queued m) p name)) None refl refl
+      made_if (are_names_free t (name ∷ [])) _ None (Some (with_label (queued m) p name)) None refl refl
 
 -- an assembly that is complete
 finished_is : (m : QueuedMesh) (geom : ℕ) (config : Config) (name : List ℕ) (sector : ℕ)
     → option_map queued (finished m geom config name sector) ≡ finish (queued m) geom config name sector
 finished_is m geom config name sector =
     made_if (is_size (joined_size config)) _ None _ None
-    (made_if (are_names_free m.mesh.topology (name ∷ []))
-    (Some (with_offer m geom name (joined_size config) sector)) None
+    (made_if (are_names_free m.mesh.topology (name ∷ [])) _ None
     (Some (offer (queued m) geom name (joined_size config) sector)) None refl refl) refl
 
 -- a place that is taken
@@ -123,3 +128,110 @@ accepted_is m p (Striped found) = member_is m p (stripe_member found)
 -- so all that is made is the model's
 pub makes_as_model : MakesAsTheModel
 makes_as_model = record { build = built_is; disk = λ m disk item. refl; accept = accepted_is }
+
+-- Sectors
+
+-- a provider has a sector
+pub has_sector : (t : Topology Config) (prov : ℕ) (p : Provider) → IsSoundGraph t → provider_at t prov ≡ Some p
+    → p.sector ≤ p.size
+has_sector t prov p sound found =
+    let first = and_parts ((p.sector == 512) || (p.sector == 4096))
+    (nat_le 1 p.size && (nat_le p.size MAX_MEDIA_BYTES && (p.size % p.sector == 0)))
+    (sized_there t sound prov p found) in
+    let second = and_parts (nat_le 1 p.size) (nat_le p.size MAX_MEDIA_BYTES && (p.size % p.sector == 0)) first.1 in
+    let third = and_parts (nat_le p.size MAX_MEDIA_BYTES) (p.size % p.sector == 0) second.1 in
+    let some : 1 ≤ p.size = leb-true 1 p.size second.0 in
+    let whole : p.size % p.sector ≡ 0 = eqb-true (p.size % p.sector) 0 third.1 in
+    elim (or_cases (p.sector == 512) (p.sector == 4096) first.0) [
+      | inl e ↦
+          let is : p.sector ≡ 512 = eqb-true p.sector 512 e in
+          let rest : p.size % 512 ≡ 0 = subst (λ n. p.size % n ≡ 0) is whole in
+          omega (arith, is, some, rest)
+      | inr e ↦
+          let is : p.sector ≡ 4096 = eqb-true p.sector 4096 e in
+          let rest : p.size % 4096 ≡ 0 = subst (λ n. p.size % n ≡ 0) is whole in
+          omega (arith, is, some, rest)
+    ]
+
+-- Answers
+
+-- an answer for other facts, where they make the same
+pub answered_as : (a : Accepted) (v : TopoView Config) (s : Queued) (m : QueuedMesh) (made other : Option QueuedMesh)
+    (facts more : Type 0) → (more → made ≡ other) → (more → facts) → IsAccepted a v s m made facts
+    → IsAccepted a v s m other more
+answered_as Made v s m made other facts more same so is = λ f.
+    subst (λ o. IsSomeAnd o (AreBoth v s)) (same f) (is (so f))
+answered_as Declined v s m made other facts more same so is = (is.0, λ f. sym (same f) ∙ is.1 (so f))
+
+-- sizes of what the model makes are those of what is made
+sizes_from : (o : Option QueuedMesh) (r : Option (QueuedTopology Config)) → option_map queued o ≡ r
+    → IfSome r (λ made. HaveSizes made.topology) → MakesSizes o
+sizes_from None r e sizes = tt
+sizes_from (Some m) r e sizes =
+    subst (λ (z : Option (QueuedTopology Config)). IfSome z (λ made. HaveSizes made.topology)) (sym e) sizes
+
+module _ (m : QueuedMesh) (p : Provider) (shape : Shape) where
+  -- so where a class may accept
+  may_sizes : MayAccept (queued m) p shape → MakesSizes (accepted m p shape)
+  may_sizes may = sizes_from (accepted m p shape) (accept (queued m) p shape) (accepted_is m p shape) may.sizes
+
+  -- and where it accepts a member, that may be one
+  pub may_member : (x : Member) → accepted m p shape ≡ with_member m p x → MayAccept (queued m) p shape
+      → MayBeMember m p x
+  may_member x same may = record {
+    classes = may.classes;
+    first = may.made;
+    waiting = may.waiting;
+    sizes = subst MakesSizes same (may_sizes may);
+  }
+
+module _ {E : Type 0} (t : TopoView Config) (q : Queued) (prov : ℕ) (p : Provider)
+    (at : provider_at t.topology prov ≡ Some p) (shape other : Shape) (is : shape ≡ other) (v : TopoView Config)
+    (s : Queued) (r : Result Accepted E) where
+  -- the mesh and the events before
+  abbrev old : QueuedMesh
+  old = both t q
+
+  -- what the class answers is answered to the shape
+  abbrev pub IsAnswered : Type 0
+  IsAnswered =
+      IfOk r (λ a. IfSome (provider_at t.topology prov)
+      (λ x. IsAccepted a v s old (accepted old x shape) (MayAccept (queued old) x shape)))
+
+  -- so it is where it is answered to what the shape is
+  answered : (P : Accepted → Type 0)
+      → ((a : Accepted) → P a → IsAccepted a v s old (accepted old p other) (MayAccept (queued old) p other))
+      → IfOk r P → IsAnswered
+  answered P so given =
+      if_ok_weaker P _ r (λ a told.
+      if-with (provider_at t.topology prov) _ p at
+      (subst (λ (z : Shape). IsAccepted a v s old (accepted old p z) (MayAccept (queued old) p z)) (sym is)
+      (so a told)))
+      given
+
+  -- where what is made has sizes of providers
+  pub shape_answered : IfOk r (λ a. IsAccepted a v s old (accepted old p other) (MakesSizes (accepted old p other)))
+      → IsAnswered
+  shape_answered =
+      answered (λ a. IsAccepted a v s old (accepted old p other) (MakesSizes (accepted old p other)))
+      (λ a. answered_as a v s old (accepted old p other) (accepted old p other) (MakesSizes (accepted old p other))
+      (MayAccept (queued old) p other) (λ may. refl) (may_sizes old p other))
+
+  -- where it may be a member
+  pub member_answered : (x y : Member) → x ≡ y → accepted old p other ≡ with_member old p y
+      → IfOk r (λ a. IsAccepted a v s old (with_member old p x) (MayBeMember old p x)) → IsAnswered
+  member_answered x y same made =
+      let joins : accepted old p other ≡ with_member old p x = made ∙ ap (with_member old p) (sym same) in
+      answered (λ a. IsAccepted a v s old (with_member old p x) (MayBeMember old p x))
+      (λ a. answered_as a v s old (with_member old p x) (accepted old p other) (MayBeMember old p x)
+      (MayAccept (queued old) p other) (λ may. sym joins) (may_member old p other x joins))
+
+-- Places
+
+-- the place of a record is one of as many as the record counts
+pub place_inside : (place count : ℕ) → IsPlace place count → place < length (replicate {A = Option ℕ} count None)
+place_inside place count is = subst (λ n. place < n) (sym (length-replicate {A = Option ℕ} count None)) is.inside
+
+-- so is that of the member that it names
+pub member_inside : (x y : Member) → x ≡ y → y.place < length (places_of y.empty) → x.place < length (places_of x.empty)
+member_inside x y same inside = subst (λ (z : Member). z.place < length (places_of z.empty)) (sym same) inside

@@ -1,24 +1,11 @@
 -- Names of partitions in digits, and names that aren't taken.
-use Rattle.std.specs.Prelude.{◌≡◌, ℕ, ◌+◌, ◌/◌, ◌%◌, ◌<◌, ◌≤◌, Bool, true, false, List, [], ◌∷◌, ◌++◌, codes, decimal}
-use Rattle.std.proofs.Common.{refl, ◌∙◌, ap, arith, append_assoc}
+use Rattle.std.proofs.Common.{◌≡◌, ℕ, ◌+◌, ◌/◌, ◌%◌, ◌<◌, ◌≤◌, Bool, true, false, List, [], ◌∷◌, ◌++◌, codes, decimal, refl, ◌∙◌, ap, arith, append_assoc}
 use Rattle.std.proofs.lemmas.Fmt.{decimal_digit, decimal_step}
 use Rattle.geo_base.specs.Name.{is_name, name_of}
 use Rattle.geo_model.specs.Names.{logical_name}
 use Rattle.geo_model.specs.Topology.{Topology, is_name_taken}
 use Rattle.geo_model.specs.World.{Config}
 use Rattle.geo_taste.specs.Free.{free_name, untaken}
-
--- one digit
-pub one_digit : (n : ℕ) → n < 10 → codes "l" ++ decimal n ≡ 108 ∷ (48 + n) ∷ []
-one_digit n small = ap (λ ds. codes "l" ++ ds) (decimal_digit n small)
-
--- two digits
-pub two_digits : (n : ℕ) → 10 ≤ n → n < 100
-    → codes "l" ++ decimal n ≡ 108 ∷ (48 + n / 10) ∷ (48 + n % 10) ∷ []
-two_digits n large small =
-    ap (λ ds. codes "l" ++ ds)
-    (decimal_step n large (omega arith)
-    ∙ ap (λ ds. ds ++ (48 + n % 10) ∷ []) (decimal_digit (n / 10) (omega arith)))
 
 -- a name that isn't taken is one that is free
 pub untaken_name : (t : Topology Config) (name : List ℕ) → untaken t (name_of name) ≡ free_name t name
@@ -32,11 +19,14 @@ untaken_name t name = by (is_name name) (is_name_taken t name) refl refl where
 -- the name of a partition of one digit
 pub name_of_one : (below : List ℕ) (n : ℕ) → n < 9 → logical_name below n ≡ below ++ 108 ∷ (48 + (n + 1)) ∷ []
 name_of_one below n small =
-    append_assoc below (codes "l") (decimal (n + 1)) ∙ ap (λ ds. below ++ ds) (one_digit (n + 1) (omega arith))
+    append_assoc below (codes "l") (decimal (n + 1))
+    ∙ ap (λ ds. below ++ (codes "l" ++ ds)) (decimal_digit (n + 1) (omega arith))
 
 -- and of two
 pub name_of_two : (below : List ℕ) (n : ℕ) → 9 ≤ n → n < 99
     → logical_name below n ≡ below ++ 108 ∷ (48 + (n + 1) / 10) ∷ (48 + (n + 1) % 10) ∷ []
 name_of_two below n large small =
     append_assoc below (codes "l") (decimal (n + 1))
-    ∙ ap (λ ds. below ++ ds) (two_digits (n + 1) (omega arith) (omega arith))
+    ∙ ap (λ ds. below ++ (codes "l" ++ ds))
+    (decimal_step (n + 1) (omega arith) (omega arith)
+    ∙ ap (λ ds. ds ++ (48 + (n + 1) % 10) ∷ []) (decimal_digit ((n + 1) / 10) (omega arith)))

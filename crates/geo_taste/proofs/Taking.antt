@@ -1,12 +1,11 @@
 -- What a step comes to where a class accepts: what is made, the mesh, the events and the taste after it.
-use Rattle.std.specs.Prelude.{◌≡◌, ◌<◌, ◌==◌, Bool, true, false, List, Option, Some, None, Result, Ok, Err, IsSome, IfSome, IsSomeAnd, IfOk, OnErr, is_some, option_map, option_and_then, if◌then◌else◌}
 use Rattle.std.specs.Option.{option_map_or}
-use Rattle.std.proofs.Common.{refl, sym, ◌∙◌, ap, subst, arith}
+use Rattle.std.proofs.Common.{◌≡◌, ◌<◌, ◌==◌, Bool, true, false, List, Option, Some, None, Result, Ok, Err, IsSome, IfSome, IsSomeAnd, IfOk, OnErr, is_some, option_map, option_and_then, if◌then◌else◌, refl, sym, ◌∙◌, ap, subst, arith}
 use Rattle.std.proofs.lemmas.Bool.{eqb-true, not-true, or_parts}
-use Rattle.geo_base.proofs.Options.{at-found}
+use Rattle.geo_base.proofs.Options.{at-found, some_of}
 use Rattle.geo_base.specs.declared.limits.TheConstants.{MAX_RANK, UNTASTED_RANK}
 use Rattle.geo_model.specs.declared.class.Judged.{Judged}
-use Rattle.geo_model.specs.declared.class.Judged.TheVariants.{Read, Next, Made, Ended}
+use Rattle.geo_model.specs.declared.class.Judged.TheVariants.{Next, Made}
 use Rattle.geo_model.specs.declared.class.Shape.{Shape}
 use Rattle.geo_model.specs.declared.class.Verdict.{Verdict}
 use Rattle.geo_model.specs.declared.class.Verdict.TheVariants.{Accept}
@@ -35,11 +34,10 @@ use Rattle.geo_taste.specs.Going.{going}
 use Rattle.geo_taste.specs.Judging.{IsJudged, IsKnownAfter, IsKnownWith, IsMadeOf, IsTakenAs, MayJudge, judged_of, made_by, making, verdict_at}
 use Rattle.geo_taste.specs.Saying.{IsAccepting, IsSaid, accepting, is_plain, with_said}
 use Rattle.geo_taste.specs.Taster.{IsSettled, IsTasteOf, judging, makes, with_judged}
-use Rattle.geo_taste.proofs.Begun.{settled_roomed}
-use Rattle.geo_taste.proofs.Going.{errored_there}
-use Rattle.geo_taste.proofs.Growing.{HoldsTaste, accepted_held}
-use Rattle.geo_taste.proofs.Naming.{back_named}
-use Rattle.geo_taste.proofs.Resting.{accepted_idle, ended_rest, rest_tasting, roomed_tasting}
+use Rattle.geo_taste.proofs.Coming.{settled_roomed}
+use Rattle.geo_taste.proofs.Asking.{no_error_there}
+use Rattle.geo_taste.proofs.Adding.{HoldsTaste, accepted_held}
+use Rattle.geo_taste.proofs.Saying.{back_named, accepted_idle, ended_rest, rest_tasting, tasting_still}
 
 -- a mesh that is another one, is that but for room
 pub but_for_room : {C : Type 0} (u w : TopoView C) → u ≡ w → IsButForRoom u w
@@ -50,7 +48,8 @@ pub settled_but : {C : Type 0} (t u : TopoView C) → IsButForRoom u t → IsSet
 settled_but {C} t u same is = subst (λ (v : TopoView C). IsSettled v) (sym same) (settled_roomed t u.room is)
 
 pub tasting_but : (t u : TopoView Config) (s : Taste) → IsButForRoom u t → IsTasteOf t s → IsTasteOf u s
-tasting_but t u s same is = subst (λ v. IsTasteOf v s) (sym same) (roomed_tasting t u.room s is)
+tasting_but t u s same is =
+    subst (λ v. IsTasteOf v s) (sym same) (tasting_still t (record t { room = u.room }) s is refl is.holds)
 
 -- What is accepted
 
@@ -68,23 +67,29 @@ module _ (m : QueuedMesh) (s : Taste) (p : Provider) (shape : Shape) (t : TopoVi
       ∙ ap (λ (es : List Event). let r : QueuedTopology Config = record { topology = t.topology; events = es } in r)
       (sym are.events)
 
+  -- the step, by what is made
+  accepting_is : (o : Option QueuedMesh) → accepted m p shape ≡ o
+      → accepting (granted_by m.mesh) (queued m) s p shape
+      ≡ option_map_or (λ x. end_class (granted_by m.mesh) x s Made) (option_map queued o)
+      (end_class (granted_by m.mesh) (queued m) s Next)
+  accepting_is o is =
+      ap (λ (r : Option (QueuedTopology Config)).
+      option_map_or (λ x. end_class (granted_by m.mesh) x s Made) r (end_class (granted_by m.mesh) (queued m) s Next))
+      (sym (accepted_is m p shape) ∙ ap (λ (o : Option QueuedMesh). option_map queued o) is)
+
   -- where something is made
   made_step : (o : Option QueuedMesh) → accepted m p shape ≡ o → IsSomeAnd o (AreBoth t q)
       → accepting (granted_by m.mesh) (queued m) s p shape ≡ judging t q.events (ended s) Made
   made_step None is never = absurd never
   made_step (Some made) is are =
-      ap (λ (r : Option (QueuedTopology Config)).
-      option_map_or (λ x. end_class (granted_by m.mesh) x s Made) r (end_class (granted_by m.mesh) (queued m) s Next))
-      (sym (accepted_is m p shape) ∙ ap (λ (o : Option QueuedMesh). option_map queued o) is)
+      accepting_is (Some made) is
       ∙ ap (λ (x : QueuedTopology Config). end_class (granted_by m.mesh) x s Made) (queued_is made are)
 
   -- where nothing is
   declined_step : AreBoth t q m → accepted m p shape ≡ None
       → accepting (granted_by m.mesh) (queued m) s p shape ≡ judging t q.events (ended s) Next
   declined_step are none =
-      ap (λ (r : Option (QueuedTopology Config)).
-      option_map_or (λ x. end_class (granted_by m.mesh) x s Made) r (end_class (granted_by m.mesh) (queued m) s Next))
-      (sym (accepted_is m p shape) ∙ ap (λ (o : Option QueuedMesh). option_map queued o) none)
+      accepting_is None none
       ∙ ap (λ (x : QueuedTopology Config). end_class (granted_by m.mesh) x s Next) (queued_is m are)
 
   module _ (held : HoldsTaste s m.mesh) (sound : IsSoundGraph m.mesh.topology)
@@ -153,18 +158,11 @@ module _ (t : Topology Config) (s : Taste) where
 
   -- which carries no error
   goes_sound : (p : Provider) → going t s ≡ Some p → p.errored ≡ false
-  goes_sound p goes = by p.errored refl
-    where
-      none : is_errored t s.provider ≡ false
-      none =
-          (or_parts (is_errored t s.provider)
-          (option_map_or (λ (c : Consumer). c.spoiled) (consumer_at t s.consumer) false) (goes_found p goes).0).0
-
-      by : (b : Bool) → p.errored ≡ b → p.errored ≡ false
-      by true errored =
-          let some : is_errored t s.provider ≡ true = errored_there t s.provider p (goes_found p goes).1 errored in
-          absurd (cc)
-      by false good = good
+  goes_sound p goes =
+      let found = goes_found p goes in
+      no_error_there t s.provider p found.1
+      (or_parts (is_errored t s.provider) (option_map_or (λ (c : Consumer). c.spoiled) (consumer_at t s.consumer) false)
+      found.0).0
 
   -- so a geom can stand on it where it isn't too high
   goes_stands : (p : Provider) → going t s ≡ Some p
@@ -198,13 +196,8 @@ module _ (m : QueuedMesh) (s : Taste) (t : TopoView Config) (q : Queued) where
     where
       by : (j : Judged) → makes j ≡ false → t ≡ with_judged m.mesh s.consumer j
           → IsMadeOf (making m s) (MayJudge m s) m s t q j
-      by (Read sector) none same = record {
-        mesh = but_for_room t (with_judged m.mesh s.consumer (Read sector)) same;
-        events = events;
-      }
-      by Next none same = record { mesh = but_for_room t m.mesh same; events = events }
       by Made never same = absurd (let no : true ≡ false = never in cc)
-      by Ended none same = record { mesh = but_for_room t m.mesh same; events = events }
+      by _ none same = record { mesh = but_for_room t _ same; events = events }
 
   module _ (shape : Shape) (z : Taste) (j : Judged) (is : IsAccepting m.mesh s shape)
       (taken : IsTakenAs m s is.provider shape t q z j) where
@@ -216,13 +209,11 @@ module _ (m : QueuedMesh) (s : Taste) (t : TopoView Config) (q : Queued) where
     mesh_by : (k : Judged)
         → IsMadeOf (accepted m is.provider shape) (MayAccept (queued m) is.provider shape) m s t q k
         → IsMadeOf (making m s) (MayJudge m s) m s t q k
-    mesh_by (Read sector) made = made
-    mesh_by Next made = made
     mesh_by Made made = λ may.
         subst (λ (o : Option QueuedMesh). IsSomeAnd o (AreBoth t q))
         (sym (making_is is.provider shape is.goes is.verdict))
         (made (may_accept may))
-    mesh_by Ended made = made
+    mesh_by _ made = made
 
     -- one in which a class accepted
     pub taken_judged : IsJudged m s t q z j
@@ -238,118 +229,109 @@ module _ (m : QueuedMesh) (s : Taste) (t : TopoView Config) (q : Queued) where
       where
         by : (k : Judged) → IsKnownWith k (MayAccept (queued m) is.provider shape) fact
             → IsKnownWith k (MayJudge m s) fact
-        by (Read sector) so = so
-        by Next so = so
         by Made so = λ may. so (may_accept may)
-        by Ended so = so
+        by _ so = so
 
 -- a fact that holds is known
 pub known_fact : (j : Judged) (leave fact : Type 0) → fact → IsKnownWith j leave fact
-known_fact (Read sector) leave fact so = so
-known_fact Next leave fact so = so
 known_fact Made leave fact so = λ m. so
-known_fact Ended leave fact so = so
+known_fact _ leave fact so = so
 
 -- What was said
 
-module _ (t u : TopoView Config) (s z : Taste) (said : Said) (is : IsSaid t s u z said) where
-  -- a step came to something
-  pub came_told : (q : Queued) (j : Judged) → said ≡ Came j → u ≡ with_said t s.consumer said → is_plain said ≡ true
-      → IsJudged (both t q) s u q z j
-  came_told q j came mesh plain =
-      came_judged (both t q) s u q z j
-      (not-true (makes j) (subst (λ (x : Said). is_plain x ≡ true) came plain))
-      (subst (IsSaid t s u z) came is q.events) (mesh ∙ ap (with_said t s.consumer) came) refl
+-- a step came to something
+pub came_told : (t u : TopoView Config) (s z : Taste) (said : Said) → IsSaid t s u z said → (q : Queued) (j : Judged)
+    → said ≡ Came j → u ≡ with_said t s.consumer said → is_plain said ≡ true → IsJudged (both t q) s u q z j
+came_told t u s z said is q j came mesh plain =
+    came_judged (both t q) s u q z j
+    (not-true (makes j) (subst (λ (x : Said). is_plain x ≡ true) came plain))
+    (subst (IsSaid t s u z) came is q.events) (mesh ∙ ap (with_said t s.consumer) came) refl
 
-  module _ (shape : Shape) (accepts : said ≡ Accepts shape) where
-    -- a class accepts
-    abbrev told : (u ≡ t) × (z ≡ s) × IsAccepting t s shape
-    told = subst (IsSaid t s u z) accepts is
+-- a class accepts a shape, and the mesh and the taste are as they were
+pub record SaysShape (t u : TopoView Config) (s z : Taste) (shape : Shape) : Type 0 where
+  pub mesh : u ≡ t
+  pub taste : z ≡ s
+  pub accepts : IsAccepting t s shape
 
-    -- nothing is out then
-    pub said_idle : is_read_out z.asked ≡ false
-    said_idle =
-        ap (λ (x : Taste). is_read_out x.asked) told.1
-        ∙ accepted_idle (granted_by t) s (facts_of t.topology told.2.provider) (Accept shape) told.2.verdict
+-- so it is where that was said
+pub said_shape : (t u : TopoView Config) (s z : Taste) (said : Said) → IsSaid t s u z said → (shape : Shape)
+    → said ≡ Accepts shape → SaysShape t u s z shape
+said_shape t u s z said is shape accepts =
+    let told : IsSaid t s u z (Accepts shape) = subst (IsSaid t s u z) accepts is in
+    record { mesh = told.0; taste = told.1; accepts = told.2 }
 
-    -- the place is one
-    pub said_place : NamesAPlace shape
-    said_place = back_named (granted_by t) s (facts_of t.topology told.2.provider) shape told.2.verdict
+-- what the step comes to then, and what is known after it
+pub record ComesOf {E : Type 0} (t : TopoView Config) (q : Queued) (s : Taste) (v : TopoView Config) (r : Queued)
+    (y : Taste) (result : Result Judged E) : Type 0 where
+  pub judged : IfOk result (IsJudged (both t q) s v r y)
+  pub same : OnErr result (AreBoth v r (both t q))
+  pub taste : OnErr result (y ≡ s)
+  pub settled : IsKnownAfter result (MayJudge (both t q) s) (IsSettled v)
+  pub tasting : IsKnownAfter result (MayJudge (both t q) s) (IsTasteOf v y)
 
-    -- the taste goes on
-    pub said_goes : IsSome (going u.topology z)
-    said_goes =
-        subst (λ (v : TopoView Config). IsSome (going v.topology z)) (sym told.0)
-        (subst (λ (x : Taste). IsSome (going t.topology x)) (sym told.1) (ap is_some told.2.goes))
+module _ {t u : TopoView Config} {s z : Taste} {shape : Shape} (told : SaysShape t u s z shape) where
+  -- what held before holds still
+  said_still : (P : TopoView Config → Taste → Type 0) → P t s → P u z
+  said_still P fact = subst (λ v. P v z) (sym told.mesh) (subst (P t) (sym told.taste) fact)
 
-    -- where it did before
-    pub said_low : IfSome (provider_at t.topology s.provider) (λ p. rank t.topology p.geom < UNTASTED_RANK)
-        → IfSome (provider_at u.topology z.provider) (λ p. rank u.topology p.geom < UNTASTED_RANK)
-    said_low low =
-        subst (λ (v : TopoView Config).
-        IfSome (provider_at v.topology z.provider) (λ p. rank v.topology p.geom < UNTASTED_RANK)) (sym told.0)
-        (subst (λ (x : Taste). IfSome (provider_at t.topology x.provider) (λ p. rank t.topology p.geom < UNTASTED_RANK))
-        (sym told.1) low)
+  -- and what holds then held before
+  said_before : (P : TopoView Config → Taste → Type 0) → P u z → P t s
+  said_before P fact = subst (λ v. P v s) told.mesh (subst (P u) told.taste fact)
 
+  -- nothing is out then
+  pub said_idle : is_read_out z.asked ≡ false
+  said_idle =
+      said_still (λ v x. is_read_out x.asked ≡ false)
+      (accepted_idle (granted_by t) s (facts_of t.topology told.accepts.provider) shape told.accepts.verdict)
+
+  -- the place is one
+  pub said_place : NamesAPlace shape
+  said_place =
+      back_named (granted_by t) s (facts_of t.topology told.accepts.provider) shape told.accepts.verdict
+
+  -- the taste goes on
+  pub said_goes : IsSome (going u.topology z)
+  said_goes = said_still (λ v x. IsSome (going v.topology x)) (ap is_some told.accepts.goes)
+
+  -- its provider is as low as before
+  pub said_low : IfSome (provider_at t.topology s.provider) (λ p. rank t.topology p.geom < UNTASTED_RANK)
+      → IfSome (provider_at u.topology z.provider) (λ p. rank u.topology p.geom < UNTASTED_RANK)
+  said_low low =
+      said_still (λ v x. IfSome (provider_at v.topology x.provider) (λ p. rank v.topology p.geom < UNTASTED_RANK)) low
+
+  module _ (q : Queued) (v : TopoView Config) (r : Queued) (y : Taste) where
     -- what was taken of it
-    abbrev TakesOne : Queued → TopoView Config → Queued → Taste → Judged → Type 0
-    TakesOne q v r y j =
-        (p : Provider) → provider_at u.topology z.provider ≡ Some p → IsTakenAs (both u q) z p shape v r y j
+    abbrev TakesOne : TopoView Config → Taste → Judged → Type 0
+    TakesOne w x j =
+        (p : Provider) → provider_at w.topology x.provider ≡ Some p → IsTakenAs (both w q) x p shape v r y j
 
-    said_taken : (q : Queued) (v : TopoView Config) (r : Queued) (y : Taste) (j : Judged) → TakesOne q v r y j
-        → IsTakenAs (both t q) s told.2.provider shape v r y j
-    said_taken q v r y j taken =
-        let found : provider_at t.topology s.provider ≡ Some told.2.provider =
-        (goes_found t.topology s told.2.provider told.2.goes).1 in
-        let there : provider_at u.topology z.provider ≡ Some told.2.provider =
-        subst (λ (w : TopoView Config). provider_at w.topology z.provider ≡ Some told.2.provider) (sym told.0)
-        (subst (λ (x : Taste). provider_at t.topology x.provider ≡ Some told.2.provider) (sym told.1) found) in
-        subst (λ (w : TopoView Config). IsTakenAs (both w q) s told.2.provider shape v r y j) told.0
-        (subst (λ (x : Taste). IsTakenAs (both u q) x told.2.provider shape v r y j) told.1
-        (taken told.2.provider there))
+    said_taken : (j : Judged) → TakesOne u z j → IsTakenAs (both t q) s told.accepts.provider shape v r y j
+    said_taken j taken =
+        said_before (λ w x. TakesOne w x j) taken told.accepts.provider
+        (goes_found t.topology s told.accepts.provider told.accepts.goes).1
 
-    module _ {E : Type 0} (q : Queued) (v : TopoView Config) (r : Queued) (y : Taste) where
-      -- the step is judged
-      pub said_judged : (result : Result Judged E) → IfOk result (TakesOne q v r y)
-          → IfOk result (IsJudged (both t q) s v r y)
-      said_judged (Ok j) taken =
-          taken_judged (both t q) s v r shape y j told.2 (said_taken q v r y j taken)
-      said_judged (Err e) taken = taken
-
-      -- the mesh is settled
-      pub said_settled : (result : Result Judged E) → IfOk result (TakesOne q v r y)
-          → OnErr result (AreBoth v r (both u q)) → IsSettled u
-          → IsKnownAfter result (MayJudge (both t q) s) (IsSettled v)
-      said_settled (Ok j) taken same settled =
-          known_from (both t q) s v r shape y j told.2 (said_taken q v r y j taken) (IsSettled v)
-          (said_taken q v r y j taken).settled
-      said_settled (Err e) taken same settled = settled_but u v same.mesh settled
-
-      -- the taste has its consumer
-      pub said_tasting : (result : Result Judged E) → IfOk result (TakesOne q v r y)
-          → OnErr result (AreBoth v r (both u q)) → OnErr result (y ≡ z) → IsTasteOf u z
-          → IsKnownAfter result (MayJudge (both t q) s) (IsTasteOf v y)
-      said_tasting (Ok j) taken same kept tasting =
-          known_from (both t q) s v r shape y j told.2 (said_taken q v r y j taken) (IsTasteOf v y)
-          (said_taken q v r y j taken).tasting
-      said_tasting (Err e) taken same kept tasting =
-          subst (IsTasteOf v) (sym kept) (tasting_but u v z same.mesh tasting)
-
-      -- nothing changed where it is refused
-      pub said_same : (result : Result Judged E) → OnErr result (AreBoth v r (both u q))
-          → OnErr result (AreBoth v r (both t q))
-      said_same (Ok j) same = same
-      said_same (Err e) same = subst (λ (w : TopoView Config). AreBoth v r (both w q)) told.0 same
-
-      pub said_kept : (result : Result Judged E) → OnErr result (y ≡ z) → OnErr result (y ≡ s)
-      said_kept (Ok j) kept = kept
-      said_kept (Err e) kept = kept ∙ told.1
+    -- so much for the whole step
+    pub comes_of : {E : Type 0} (result : Result Judged E) → IfOk result (TakesOne u z)
+        → OnErr result (AreBoth v r (both u q)) → OnErr result (y ≡ z) → IsSettled u → IsTasteOf u z
+        → ComesOf t q s v r y result
+    comes_of (Ok j) taken same kept settled tasting =
+        let take : IsTakenAs (both t q) s told.accepts.provider shape v r y j = said_taken j taken in
+        record {
+          judged = taken_judged (both t q) s v r shape y j told.accepts take;
+          same = tt;
+          taste = tt;
+          settled = known_from (both t q) s v r shape y j told.accepts take (IsSettled v) take.settled;
+          tasting = known_from (both t q) s v r shape y j told.accepts take (IsTasteOf v y) take.tasting;
+        }
+    comes_of (Err e) taken same kept settled tasting = record {
+      judged = tt;
+      same = said_before (λ w x. AreBoth v r (both w q)) same;
+      taste = kept ∙ told.taste;
+      settled = settled_but u v same.mesh settled;
+      tasting = subst (IsTasteOf v) (sym kept) (tasting_but u v z same.mesh tasting);
+    }
 
 -- a taste that goes on stands on its provider
 pub some_stands : (t : Topology Config) (s : Taste) → IsSome (going t s)
     → IfSome (provider_at t s.provider) (λ p. rank t p.geom < UNTASTED_RANK) → CanStandOn t s.provider
-some_stands t s goes low = by (going t s) refl goes
-  where
-    by : (o : Option Provider) → going t s ≡ o → IsSome o → CanStandOn t s.provider
-    by None e never = absurd (let no : false ≡ true = never in cc)
-    by (Some p) e there = goes_stands t s p e low
+some_stands t s goes low = let x = some_of (going t s) goes in goes_stands t s x.0 x.1 low

@@ -9,7 +9,7 @@ pub fn makes_as_the_model()
 {}
 
 /// In a mesh that is sound, steady and fitting a class may accept what it read.
-#[tactic(auto, using(crate::proofs::FirmLemmas::firm_meshes_accept))]
+#[tactic(auto, using(crate::proofs::Firm::firm_meshes_accept))]
 pub fn firm_meshes_accept()
     ensures { FirmMeshesAccept }
 {}

@@ -1,9 +1,8 @@
-use Rattle.std.proofs.Common.{Some, sym, ap, ◌∙◌}
-use Rattle.std.specs.Prelude.{option_map}
+use Rattle.std.proofs.Common.{option_map, Some, sym, ap, ◌∙◌}
 use Rattle.geo_model.specs.Tasting.{facts_of}
 use Rattle.geo_model.specs.Topology.{provider_at}
 use Rattle.geo_mesh.specs.Cells.{provider_seen}
-use Rattle.geo_taste.proofs.Going.{sector_some, going_errored, going_on}
+use Rattle.geo_taste.proofs.Asking.{sector_some, going_errored, going_on}
 use Rattle.geo_taste.proofs.ask.facts.Goals as goal
 
 pub returns-then-provider : goal.returns-then-provider

@@ -3,8 +3,7 @@ use Rattle.geo_model.specs.Topology.{geom_at}
 use Rattle.geo_laws_life.proofs.Found.{found-with, some-with}
 use Rattle.geo_mesh.specs.Cells.{provider_seen}
 use Rattle.geo_taste.specs.Members.{member_of}
-use Rattle.geo_taste.proofs.JoinLemmas.{member_new, member_standing}
-use Rattle.geo_taste.proofs.StandingLemmas.{standing_place, standing_stays}
+use Rattle.geo_taste.proofs.JoinLemmas.{member_new, member_standing, standing_place, standing_stays}
 use Rattle.geo_taste.proofs.join.accept_member.Goals as goal
 
 -- the standing geom of an assembly isn't withering, and no other geom has its number

@@ -1,13 +1,11 @@
-use Rattle.std.proofs.Common.{◌≡◌, ◌-◌, None, Some, ap, ◌∙◌, subst, sym, true}
-use Rattle.std.specs.Prelude.{[], ◌∷◌}
+use Rattle.std.proofs.Common.{[], ◌∷◌, ◌≡◌, ◌-◌, None, Some, ap, ◌∙◌, subst, sym, true}
 use Rattle.geo_model.specs.Topology.{providers_of}
 use Rattle.geo_mesh.specs.Cells.{provider_seen}
 use Rattle.geo_mesh.specs.Topo.{TopoView}
 use Rattle.geo_taste.specs.Making.{AreBoth, both}
 use Rattle.geo_taste.specs.Members.{joined_name, member_of, plan_of, with_plan}
 use Rattle.geo_taste.specs.Standing.{MayOffer}
-use Rattle.geo_taste.proofs.JoinLemmas.{geom_over, new_joined, new_none, offered_still}
-use Rattle.geo_taste.proofs.MemberLemmas.{plan_offers}
+use Rattle.geo_taste.proofs.JoinLemmas.{geom_over, new_joined, new_none, offered_still, plan_offers}
 use Rattle.geo_taste.proofs.Raising.{can_rise}
 use Rattle.geo_taste.proofs.TableLemmas.{stands_kept, unchanged}
 use Rattle.geo_taste.proofs.join.join_new.Goals as goal

@@ -1,15 +1,11 @@
-use Rattle.std.proofs.Common.{◌≡◌, ◌∙◌, sym}
-use Rattle.std.specs.Prelude.{[], length, ◌<◌, IfSome}
+use Rattle.std.proofs.Common.{[], length, ◌<◌, IfSome, ◌≡◌, ◌∙◌, sym}
 use Rattle.geo_model.specs.Acceptance.{places_of}
 use Rattle.geo_model.specs.Topology.{Geom, geom_at, providers_of}
 use Rattle.geo_laws_life.proofs.Found.{at-some}
 use Rattle.geo_mesh.specs.Cells.{geom_seen, provider_seen}
 use Rattle.geo_taste.specs.Members.{CanBeOffered, joined_name, member_of}
 use Rattle.geo_taste.specs.Standing.{CanStandOn, MayOffer}
-use Rattle.geo_taste.proofs.JoinLemmas.{declines_filled, declines_full, declines_planless, kept_taken, room_kept, standing_may_offer, takes_place}
-use Rattle.geo_taste.proofs.MemberLemmas.{plan_offers}
-use Rattle.geo_taste.proofs.StandingLemmas.{bare_of}
-use Rattle.geo_taste.proofs.TableLemmas.{is_no, is_yes}
+use Rattle.geo_taste.proofs.JoinLemmas.{declines_filled, declines_full, declines_planless, kept_taken, room_kept, standing_may_offer, takes_place, plan_offers, bare_of}
 use Rattle.geo_taste.proofs.join.join_standing.Goals as goal
 
 -- for each decline: the place can't be taken, or comes to nothing, so the model declines too; nothing was changed yet
@@ -25,7 +21,7 @@ returns-then-not-is_bare-clause-made c =
     declines_filled c.args.topo.now c.args.queue.now (provider_seen c.args.prov c.args.below.now)
     (member_of c.args.member.now) (geom_seen c.args.geom c.in-Some.standing.now) c.args.geom c.in-Some.ensures.geom
     c.requires.place c.in_ok-can_join.field-0 c.in_ok-can_join.ensures c.if-not-branch.false
-    (is_no c.is_bare.result _ c.is_bare.ensures c.if-not-is_bare.true)
+    (sym c.is_bare.ensures ∙ c.if-not-is_bare.true)
 
 pub place_plan-requires : goal.place_plan-requires
 place_plan-requires c =
@@ -46,13 +42,13 @@ take_place-requires-clause-may c =
     room_kept (λ t. MayOffer t c.args.geom) c.args.topo.now c.reserve.new.self c.reserve.ensures.same
     (standing_may_offer c.args.topo.now.topology c.args.geom (geom_seen c.args.geom c.in-Some.standing.now)
     c.in-Some.ensures.geom c.requires.stays
-    (is_yes c.is_bare.result _ c.is_bare.ensures c.if-not-is_bare.false))
+    (sym c.is_bare.ensures ∙ c.if-not-is_bare.false))
 
 pub take_place-requires-clause-bare : goal.take_place-requires-clause-bare
 take_place-requires-clause-bare c =
     room_kept (λ t. providers_of t c.args.geom ≡ []) c.args.topo.now c.reserve.new.self c.reserve.ensures.same
     (bare_of c.args.topo.now.topology c.args.geom
-    (is_yes c.is_bare.result _ c.is_bare.ensures c.if-not-is_bare.false)).bare
+    (sym c.is_bare.ensures ∙ c.if-not-is_bare.false)).bare
 
 pub take_place-requires-clause-stands : goal.take_place-requires-clause-stands
 take_place-requires-clause-stands c =

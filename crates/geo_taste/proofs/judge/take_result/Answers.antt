@@ -1,8 +1,7 @@
 use Rattle.std.proofs.Common.{Some, None, sym, ap, ◌∙◌, subst}
 use Rattle.geo_model.specs.Demand.{no_counts}
 use Rattle.geo_taste.specs.Saying.{IsReadTaken, with_said}
-use Rattle.geo_taste.proofs.Resting.{weighed_tasting}
-use Rattle.geo_taste.proofs.Saying.{said_plain, taken_told}
+use Rattle.geo_taste.proofs.Saying.{weighed_tasting, said_plain, taken_told}
 use Rattle.geo_taste.proofs.judge.take_result.Goals as goal
 
 -- a verdict grants nothing, so the mesh is as before

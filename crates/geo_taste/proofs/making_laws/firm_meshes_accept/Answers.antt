@@ -1,4 +1,4 @@
-use Rattle.geo_taste.proofs.FirmLemmas.{firm_meshes_accept}
+use Rattle.geo_taste.proofs.Firm.{firm_meshes_accept}
 use Rattle.geo_taste.proofs.making_laws.firm_meshes_accept.Goals as goal
 
 pub returns : goal.returns

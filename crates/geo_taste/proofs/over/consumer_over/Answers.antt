@@ -1,7 +1,7 @@
 use Rattle.std.proofs.Common.{sym}
 use Rattle.geo_access.proofs.Walking.{consumers_end, consumer_next, consumer_some}
 use Rattle.geo_taste.specs.Over.{over}
-use Rattle.geo_taste.proofs.Covering.{looked_at}
+use Rattle.geo_taste.proofs.Asking.{looked_at}
 use Rattle.geo_taste.proofs.over.consumer_over.Goals as goal
 
 pub returns-in_err-id-clause-next : goal.returns-in_err-id-clause-next

@@ -4,7 +4,7 @@ use Rattle.geo_model.specs.Topology.{Consumer}
 use Rattle.geo_laws_graph.specs.LookupLaws.{WalksMeetAll}
 use Rattle.geo_laws_graph.proofs.Walks.{walks-meet}
 use Rattle.geo_taste.specs.Over.{over, stands_as}
-use Rattle.geo_taste.proofs.Covering.{over_told, any_next, any_first}
+use Rattle.geo_taste.proofs.Asking.{over_told, any_next, any_first}
 use Rattle.geo_taste.proofs.over.is_attached.Goals as goal
 
 pub loop-id-init : goal.loop-id-init

@@ -1,8 +1,7 @@
-use Rattle.std.proofs.Common.{sym, ap, ◌∙◌}
+use Rattle.std.proofs.Common.{List, sym, ap, ◌∙◌}
 use Rattle.geo_mesh.specs.Topo.{first_consumer}
 use Rattle.geo_model.specs.Topology.{Consumer}
-use Rattle.std.specs.Prelude.{List}
-use Rattle.geo_taste.proofs.Covering.{over_all, over_above}
+use Rattle.geo_taste.proofs.Asking.{over_all, over_above}
 use Rattle.geo_taste.proofs.over.next_over.Goals as goal
 
 -- for DEV all consumers at the provider are looked at, for another class those that aren't handles

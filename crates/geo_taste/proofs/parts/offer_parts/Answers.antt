@@ -1,7 +1,7 @@
 use Rattle.std.proofs.Common.{arith, refl, subst}
 use Rattle.geo_taste.specs.declared.offer.Offer.{Offer}
 use Rattle.geo_taste.specs.Making.{AreBoth, both, with_offer}
-use Rattle.geo_taste.proofs.PartLoops.{offer_step, offer_end, offer_spare}
+use Rattle.geo_taste.proofs.TableLemmas.{offer_step, offer_end, offer_spare}
 use Rattle.geo_taste.proofs.parts.offer_parts.Goals as goal
 
 pub loop-part-init : goal.loop-part-init
@@ -18,9 +18,8 @@ loop-part-init c = record {
 -- the other parts have other names, so they can be made still, and one place of room less is wanted
 pub loop-part-preserved : goal.loop-part-preserved
 loop-part-preserved c =
-    offer_step c.args.topo.now c.loop-part.topo c.args.queue.now c.loop-part.queue c.args.geom
-    c.loop-part.part-index c.args.parts.now c.make_offer.new.topo c.make_offer.new.queue c.part-item.result
-    (omega arith) c.part-item.is c.loop-part.invariant (record {
+    offer_step c.loop-part.part-index c.loop-part.invariant c.make_offer.new.topo c.make_offer.new.queue (omega arith)
+    c.part-item.is (record {
       made = subst (λ (o : Offer). AreBoth c.make_offer.new.topo c.make_offer.new.queue
           (with_offer (both c.loop-part.topo c.loop-part.queue) c.args.geom o.name o.size o.sector)) c.offer.ensures
           c.make_offer.ensures.made;
@@ -30,10 +29,8 @@ loop-part-preserved c =
 
 pub returns-clause-made : goal.returns-clause-made
 returns-clause-made c =
-    offer_end c.args.topo.now c.loop-part.topo c.args.queue.now c.loop-part.queue c.args.geom
-    c.loop-part.part-index c.args.parts.now c.loop-part-test.false c.loop-part.invariant
+    offer_end c.loop-part.part-index c.loop-part.invariant c.loop-part-test.false
 
 pub returns-clause-spare : goal.returns-clause-spare
 returns-clause-spare c =
-    offer_spare c.args.topo.now c.loop-part.topo c.args.queue.now c.loop-part.queue c.args.geom
-    c.loop-part.part-index c.args.parts.now c.loop-part-test.false c.loop-part.invariant
+    offer_spare c.loop-part.part-index c.loop-part.invariant c.loop-part-test.false

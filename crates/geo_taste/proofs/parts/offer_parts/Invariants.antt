@@ -1,6 +1,6 @@
 -- The providers made so far.
 use Rattle.std.proofs.Common.{drop}
-use Rattle.geo_taste.proofs.PartLoops.{OfferedSoFar}
+use Rattle.geo_taste.proofs.TableLemmas.{OfferedSoFar}
 use Rattle.geo_taste.proofs.parts.offer_parts.Given as goal
 
 abbrev pub invariant-loop-part : goal.invariant-loop-part

@@ -1,7 +1,7 @@
 -- The parts named so far.
 use Rattle.std.proofs.Common.{drop}
 use Rattle.geo_model.specs.Names.{logical_name}
-use Rattle.geo_taste.proofs.PartLoops.{NamedSoFar}
+use Rattle.geo_taste.proofs.TableLemmas.{NamedSoFar}
 use Rattle.geo_taste.proofs.parts.partition_parts.Given as goal
 
 abbrev pub invariant-loop-part : goal.invariant-loop-part

@@ -1,7 +1,7 @@
 use Rattle.std.proofs.Common.{◌∙◌, sym}
 use Rattle.geo_model.specs.Acceptance.{fill_place}
 use Rattle.geo_taste.specs.Members.{joined_name}
-use Rattle.geo_taste.proofs.MemberLemmas.{standing_none, standing_some}
+use Rattle.geo_taste.proofs.JoinLemmas.{standing_none, standing_some}
 use Rattle.geo_taste.proofs.place.place_plan.Goals as goal
 
 -- the consumer that fills the place is the one that comes next; filled so, the configuration can't stand

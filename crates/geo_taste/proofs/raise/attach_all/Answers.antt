@@ -1,5 +1,5 @@
 use Rattle.std.proofs.Common.{arith, refl}
-use Rattle.geo_taste.proofs.AttachLoop.{attach_step, attach_end}
+use Rattle.geo_taste.proofs.Raising.{attach_step, attach_end}
 use Rattle.geo_taste.proofs.raise.attach_all.Goals as goal
 
 pub loop-prov-init : goal.loop-prov-init
@@ -15,8 +15,8 @@ loop-prov-init c = record {
 -- one consumer more: the geom has no provider still, and the other providers can be stood on still
 pub loop-prov-preserved : goal.loop-prov-preserved
 loop-prov-preserved c =
-    attach_step c.args.topo.now c.loop-prov.topo c.args.geom c.loop-prov.prov-index c.args.provs.now
-    c.attach_one.new.topo c.prov-item.result (omega arith) c.prov-item.is c.loop-prov.invariant (record {
+    attach_step c.loop-prov.prov-index c.loop-prov.invariant c.attach_one.new.topo (omega arith) c.prov-item.is
+    (record {
       attached = c.attach_one.ensures.attached;
       sound = c.attach_one.ensures.sound;
       room = c.attach_one.ensures.room;
@@ -25,5 +25,4 @@ loop-prov-preserved c =
 
 pub returns-clause-attached : goal.returns-clause-attached
 returns-clause-attached c =
-    attach_end c.args.topo.now c.loop-prov.topo c.args.geom c.loop-prov.prov-index c.args.provs.now
-    c.loop-prov-test.false c.loop-prov.invariant
+    attach_end c.loop-prov.prov-index c.loop-prov.invariant c.loop-prov-test.false

@@ -1,6 +1,6 @@
 -- The consumers made so far.
 use Rattle.std.proofs.Common.{drop}
-use Rattle.geo_taste.proofs.AttachLoop.{AttachedSoFar}
+use Rattle.geo_taste.proofs.Raising.{AttachedSoFar}
 use Rattle.geo_taste.proofs.raise.attach_all.Given as goal
 
 abbrev pub invariant-loop-prov : goal.invariant-loop-prov

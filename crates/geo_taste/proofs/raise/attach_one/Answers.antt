@@ -1,5 +1,5 @@
 use Rattle.std.proofs.Common.{◌≡◌, None, Some, sym, ◌∙◌}
-use Rattle.geo_taste.proofs.Attaching.{attach_can, attached_is}
+use Rattle.geo_taste.proofs.Raising.{attach_can, attached_is}
 use Rattle.geo_taste.proofs.raise.attach_one.Goals as goal
 
 pub attach-requires-clause-consumer : goal.attach-requires-clause-consumer

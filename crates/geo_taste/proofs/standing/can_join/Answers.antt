@@ -1,5 +1,5 @@
 use Rattle.std.proofs.Common.{◌∙◌}
-use Rattle.geo_taste.proofs.StandingLemmas.{can_take_is}
+use Rattle.geo_taste.proofs.JoinLemmas.{can_take_is}
 use Rattle.geo_taste.proofs.standing.can_join.Goals as goal
 
 -- the place is free, and the components that were looked at are all of the configuration

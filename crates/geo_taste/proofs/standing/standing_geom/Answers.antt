@@ -1,13 +1,17 @@
-use Rattle.std.specs.Prelude.{option_map}
-use Rattle.std.proofs.Common.{ap, arith, sym, ◌∙◌}
+use Rattle.std.proofs.Common.{option_map, find, ap, arith, sym, ◌∙◌}
 use Rattle.geo_model.specs.Topology.{Geom}
-use Rattle.geo_taste.proofs.ClassLemmas.{has_name, named_found, named_geoms}
-use Rattle.geo_taste.proofs.StandingLemmas.{next_geom_of, walk_begin, walk_end, walk_found, walk_on, walk_passes}
+use Rattle.geo_taste.proofs.JoinLemmas.{has_name, named_found, named_geoms, next_geom_of, walk_end, walk_found, walk_on, walk_passes}
 use Rattle.geo_taste.proofs.standing.standing_geom.Goals as goal
+use Rattle.geo_laws_graph.specs.LookupLaws.{WalksMeetAll}
+use Rattle.geo_laws_graph.proofs.Walks.{walks-meet}
+use Rattle.geo_model.specs.World.{Config}
+use Rattle.geo_taste.specs.Joining.{is_of_assembly}
 
 pub loop-id-init : goal.loop-id-init
-loop-id-init c = walk_begin c.args.member.now.geom_name c.args.member.now.empty
-    (named_geoms c.args.member.now.kind c.args.member.now.geom_name c.args.topo.now.topology.geoms)
+loop-id-init c =
+    ap (find (is_of_assembly c.args.member.now.geom_name c.args.member.now.empty))
+    (WalksMeetAll.begin walks-meet (λ (g : Geom Config). g.number)
+    (named_geoms c.args.member.now.kind c.args.member.now.geom_name c.args.topo.now.topology.geoms))
 
 pub returns-then-is_at-clause-found : goal.returns-then-is_at-clause-found
 returns-then-is_at-clause-found c =

@@ -2,7 +2,7 @@
 use Rattle.std.proofs.Common.{◌≡◌, ◌-◌, find}
 use Rattle.geo_laws_graph.specs.LookupLaws.{left_from}
 use Rattle.geo_taste.specs.Joining.{is_of_assembly}
-use Rattle.geo_taste.proofs.ClassLemmas.{named_geoms}
+use Rattle.geo_taste.proofs.JoinLemmas.{named_geoms}
 use Rattle.geo_taste.proofs.standing.standing_geom.Given as goal
 
 abbrev pub invariant-loop-id : goal.invariant-loop-id

@@ -1,10 +1,8 @@
-use Rattle.std.proofs.Common.{◌≡◌, None, sym, ap, ◌∙◌, subst}
-use Rattle.std.specs.Prelude.{IfSome, Some}
+use Rattle.std.proofs.Common.{IfSome, Some, ◌≡◌, None, sym, ap, ◌∙◌, subst}
 use Rattle.geo_model.specs.Topology.{Consumer, consumer_at}
 use Rattle.geo_mesh.specs.Topo.{without_consumer}
 use Rattle.geo_taste.specs.Taster.{IsSettled}
-use Rattle.geo_taste.proofs.Begun.{detached_there, goer_settled}
-use Rattle.geo_taste.proofs.Leaving.{gone_is}
+use Rattle.geo_taste.proofs.Coming.{detached_there, goer_settled, gone_is}
 use Rattle.geo_taste.proofs.Reading.{held_idle, taster_found}
 use Rattle.geo_taste.proofs.taster.abort.Goals as goal
 

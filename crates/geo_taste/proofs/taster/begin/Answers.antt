@@ -1,7 +1,8 @@
 use Rattle.std.proofs.Common.{sym, ap, ◌∙◌, subst}
 use Rattle.geo_taste.specs.Taster.{first_taste, IsSettled, IsTasteOf}
-use Rattle.geo_taste.proofs.Begun.{settled_roomed, taster_settled, tasted_is, loose_there, attach_goes, attached_is, taster_tasting}
+use Rattle.geo_taste.proofs.Coming.{settled_roomed, taster_can, taster_settled, taster_tasting}
 use Rattle.geo_taste.proofs.taster.begin.Goals as goal
+use Rattle.geo_taste.proofs.Raising.{attached_is}
 
 pub returns-in_err-consumer-clause-settled : goal.returns-in_err-consumer-clause-settled
 returns-in_err-consumer-clause-settled c =
@@ -10,25 +11,25 @@ returns-in_err-consumer-clause-settled c =
 
 pub attach-requires-clause-consumer : goal.attach-requires-clause-consumer
 attach-requires-clause-consumer c =
-    loose_there c.args.topo.now c.new_consumer.new.self c.taste_geom-geom.ensures.sound
-    c.taste_geom-geom.ensures.number c.in_ok-consumer.ensures.added c.in_ok-consumer.consumer
-    c.in_ok-consumer.ensures.number
+    (taster_can c.args.topo.now c.new_consumer.new.self c.args.prov c.in_ok-consumer.consumer
+    c.taste_geom-geom.ensures.number c.in_ok-consumer.ensures.number c.taste_geom-geom.ensures.sound
+    c.in_ok-consumer.ensures.added c.requires.tasted).consumer
 
 -- a provider to be tasted carries no error, and a consumer of TASTE closes no loop and is never too deep
 pub unreachable-requires : goal.unreachable-requires
 unreachable-requires c =
-    let none = attach_goes c.args.topo.now c.new_consumer.new.self c.taste_geom-geom.ensures.sound
-    c.taste_geom-geom.ensures.number c.in_ok-consumer.ensures.added c.in_ok-consumer.consumer
-    c.in_ok-consumer.ensures.number c.args.prov
-    (tasted_is c.args.topo.now c.args.prov c.requires.tasted) in
-    let never = sym none ∙ c.in-Err.ensures.answer in
+    let can = taster_can c.args.topo.now c.new_consumer.new.self c.args.prov c.in_ok-consumer.consumer
+    c.taste_geom-geom.ensures.number c.in_ok-consumer.ensures.number c.taste_geom-geom.ensures.sound
+    c.in_ok-consumer.ensures.added c.requires.tasted in
+    let never = sym can.accepted ∙ c.in-Err.ensures.answer in
     absurd (cc)
 
 pub returns-clause-added : goal.returns-clause-added
 returns-clause-added c =
-    attached_is c.args.topo.now c.new_consumer.new.self c.taste_geom-geom.ensures.sound
-    c.taste_geom-geom.ensures.number c.in_ok-consumer.ensures.added c.in_ok-consumer.consumer
-    c.in_ok-consumer.ensures.number c.args.prov c.attach.new.self c.in-Ok.ensures.attached
+    attached_is c.args.topo.now c.new_consumer.new.self c.attach.new.self 2 c.args.prov c.in_ok-consumer.consumer
+    (taster_can c.args.topo.now c.new_consumer.new.self c.args.prov c.in_ok-consumer.consumer
+    c.taste_geom-geom.ensures.number c.in_ok-consumer.ensures.number c.taste_geom-geom.ensures.sound
+    c.in_ok-consumer.ensures.added c.requires.tasted) c.in-Ok.ensures.attached
 
 -- the new consumer holds nothing, so all counts are right with it
 pub returns-clause-settled : goal.returns-clause-settled

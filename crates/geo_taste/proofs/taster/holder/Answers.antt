@@ -1,6 +1,6 @@
 use Rattle.std.proofs.Common.{sym, ap, ◌∙◌, subst}
 use Rattle.geo_access.specs.Access.{IsHolder, place_of}
-use Rattle.geo_taste.proofs.Begun.{settled_placed}
+use Rattle.geo_taste.proofs.Coming.{settled_placed}
 use Rattle.geo_taste.proofs.Reading.{taster_holds, taster_place}
 use Rattle.geo_taste.proofs.taster.holder.Goals as goal
 

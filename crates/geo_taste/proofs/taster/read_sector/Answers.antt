@@ -1,15 +1,13 @@
-use Rattle.std.proofs.Common.{refl, sym, ap, ◌∙◌, ◌+◌, subst}
-use Rattle.std.specs.Prelude.{All, IsSome}
-use Rattle.geo_model.specs.Topology.{Consumer}
+use Rattle.std.proofs.Common.{Some, None, refl, sym, ap, ◌∙◌, ◌+◌, subst}
 use Rattle.geo_model.specs.declared.class.Judged.TheVariants.{Read, Next}
 use Rattle.geo_model.specs.Demand.{one_read}
 use Rattle.geo_model.specs.World.{ReadOut, Taste}
-use Rattle.geo_access.specs.Access.{IsQuiet, granted_view}
+use Rattle.geo_access.specs.Access.{granted_view}
 use Rattle.geo_class.specs.Taste.{ended}
 use Rattle.geo_taste.specs.Taster.{held_by_taste, IsTasteOf}
-use Rattle.geo_taste.proofs.Asking.{read_refused, read_granted, read_made}
-use Rattle.geo_taste.proofs.Reading.{given_tasting, granted_reads, held_reads, granted_quietly, quiet_granted, refusal_told}
-use Rattle.geo_taste.proofs.Resting.{ended_rest, rest_tasting}
+use Rattle.geo_taste.proofs.Asking.{read_told, read_made}
+use Rattle.geo_taste.proofs.Reading.{given_tasting, granted_quietly, refusal_told, settled_granted, taster_reads}
+use Rattle.geo_taste.proofs.Saying.{ended_rest, rest_tasting}
 use Rattle.geo_taste.proofs.taster.read_sector.Goals as goal
 
 -- a read writes nothing, so no write count leaves zero and no note is set
@@ -18,13 +16,12 @@ returns-in-Ok-clause-topo g c =
     c.in-Ok.ensures.granted
     ∙ ap (λ n. granted_view c.args.topo.now n one_read) c.holder-consumer.ensures.number
     ∙ granted_quietly c.args.topo.now c.args.taste.now.consumer c.requires.settled.quiet
-    (granted_reads c.args.topo.now c.args.taste.now.consumer (held_by_taste c.args.taste.now) c.requires.tasting.holds
-    (held_reads c.args.taste.now)) one_read refl
+    (taster_reads c.args.topo.now c.args.taste.now c.requires.tasting) one_read refl
 
 -- for both answers: the grant is refused just where the model refuses it, and that ends the class
 pub returns-in-Ok-clause-judged : goal.returns-in-Ok-clause-judged
 returns-in-Ok-clause-judged g c events =
-    read_granted c.args.topo.now events c.args.taste.now c.args.kind c.args.sector
+    read_told c.args.topo.now events c.args.taste.now c.args.kind c.args.sector None
     (refusal_told c.args.topo.now c.args.taste.now c.holder-consumer.result c.holder-consumer.ensures.number
     c.holder-consumer.ensures.place ∙ c.in-Ok.ensures.answer)
     ∙ read_made c.args.topo.now events c.grant.new.topo
@@ -32,17 +29,13 @@ returns-in-Ok-clause-judged g c events =
     (Read c.args.sector) (ap (λ v. v.topology) (returns-in-Ok-clause-topo g c)) c.note_read.ensures
 
 pub returns-in-Ok-clause-settled : goal.returns-in-Ok-clause-settled
-returns-in-Ok-clause-settled g c = record {
-  counted = c.grant.ensures.counted;
-  quiet = subst IsQuiet (sym (returns-in-Ok-clause-topo g c))
-      (quiet_granted c.args.topo.now c.args.taste.now.consumer one_read c.requires.settled.quiet);
-  attached = subst (λ v. All (λ (x : Consumer). IsSome x.provider) v.topology.consumers)
-      (sym (returns-in-Ok-clause-topo g c)) c.requires.settled.attached;
-}
+returns-in-Ok-clause-settled g c =
+    settled_granted c.args.topo.now c.grant.new.topo c.args.taste.now.consumer one_read
+    (returns-in-Ok-clause-topo g c) c.grant.ensures.counted c.requires.settled
 
 pub returns-in-Err-clause-judged : goal.returns-in-Err-clause-judged
 returns-in-Err-clause-judged g c events =
-    read_refused c.args.topo.now events c.args.taste.now c.args.kind c.args.sector _
+    read_told c.args.topo.now events c.args.taste.now c.args.kind c.args.sector (Some _)
     (refusal_told c.args.topo.now c.args.taste.now c.holder-consumer.result c.holder-consumer.ensures.number
     c.holder-consumer.ensures.place ∙ c.in-Err.ensures.answer)
     ∙ read_made c.args.topo.now events c.grant.new.topo (ended c.args.taste.now) c.end_class.new.self Next
@@ -52,10 +45,9 @@ returns-in-Err-clause-judged g c events =
 pub returns-in-Ok-clause-tasting : goal.returns-in-Ok-clause-tasting
 returns-in-Ok-clause-tasting g c =
     let same = c.note_read.ensures in
-    subst (λ v. IsTasteOf v c.note_read.new.self) (sym (returns-in-Ok-clause-topo g c))
-    (given_tasting c.args.topo.now c.holder-consumer.ensures.sound c.args.taste.now c.requires.tasting one_read
-    c.note_read.new.self (ap (λ (z : Taste). z.consumer) same) (ap (λ (z : Taste). z.provider) same)
-    (ap (λ (z : Taste). held_by_taste z) same))
+    given_tasting c.args.topo.now c.holder-consumer.ensures.sound c.args.taste.now c.requires.tasting one_read
+    c.grant.new.topo (returns-in-Ok-clause-topo g c) c.note_read.new.self (ap (λ (z : Taste). z.consumer) same)
+    (ap (λ (z : Taste). z.provider) same) (ap (λ (z : Taste). held_by_taste z) same)
 
 pub returns-in-Err-clause-tasting : goal.returns-in-Err-clause-tasting
 returns-in-Err-clause-tasting g c =

@@ -1,6 +1,5 @@
 -- The consumers of the places so far.
-use Rattle.std.proofs.Common.{◌≡◌, take}
-use Rattle.std.specs.Prelude.{flat_map}
+use Rattle.std.proofs.Common.{flat_map, ◌≡◌, take}
 use Rattle.std.specs.Option.{option_to_list}
 use Rattle.geo_class.proofs.places.Places.consumers.Given as goal
 
