@@ -1,5 +1,5 @@
 -- Notes that are taken in order, and one step of the loops over them.
-use Rattle.std.specs.Prelude.{◌≡◌, ℕ, suc, ◌+◌, ◌<◌, ◌==◌, Bool, true, false, cond, List, [], ◌∷◌, map, filter, find, length, Some, None, unwrap_or, option_map, if◌then◌else◌, fold}
+use Rattle.std.specs.Prelude.{◌≡◌, ℕ, suc, ◌+◌, ◌<◌, ◌==◌, Bool, true, false, List, [], ◌∷◌, map, length, Some, None, fold}
 use Rattle.std.proofs.Common.{refl, sym, ap, ◌∙◌, arith, eq-eqb, subst}
 use Rattle.std.proofs.lemmas.Bool.{eqb-true}
 use Rattle.std.proofs.lemmas.Simd.{map-map}
@@ -31,9 +31,7 @@ put_below n low high v (row ∷ rows) rise below =
   where
     by : (b : Bool) → (row.0 == n) ≡ b → with_value rows n v ≡ rows → with_value (row ∷ rows) n v ≡ row ∷ rows
     by true e so = absurd (omega (arith, eqb-true row.0 n e, rise.0, below))
-    by false e so =
-        ap (λ c. (if c then (n, v) else row) ∷ with_value rows n v) e
-        ∙ ap (λ ys. row ∷ ys) so
+    by false e so = rw (e, so) refl
 
 -- the value that stood, put again
 put_again : (n low high : ℕ) (rows : List (ℕ × Bool)) → Rise low (map key rows) high
@@ -45,22 +43,14 @@ put_again n low high (row ∷ rows) rise =
     by : (b : Bool) → (row.0 == n) ≡ b → with_value rows n (is_noted rows n) ≡ rows
         → with_value (row ∷ rows) n (is_noted (row ∷ rows) n) ≡ row ∷ rows
     by true e so =
-        let its : is_noted (row ∷ rows) n ≡ row.1 =
-        ap (λ c. unwrap_or (option_map (λ (r : ℕ × Bool). r.1)
-        (if c then Some row else find (λ (r : ℕ × Bool). r.0 == n) rows)) false) e in
-        let first : (n, row.1) ≡ row = let is : row.0 ≡ n = eqb-true row.0 n e in ap (λ m. (m, row.1)) (sym is) in
-        ap (λ v. with_value (row ∷ rows) n v) its
-        ∙ ap (λ c. (if c then (n, row.1) else row) ∷ with_value rows n row.1) e
-        ∙ ap (λ r. r ∷ with_value rows n row.1) first
-        ∙ ap (λ ys. row ∷ ys)
-        (put_below n (row.0 + 1) high row.1 rows rise.2 (omega (arith, eqb-true row.0 n e)))
+        let is : row.0 ≡ n = eqb-true row.0 n e in
+        let rest : with_value rows n row.1 ≡ rows =
+        put_below n (row.0 + 1) high row.1 rows rise.2 (omega (arith, is)) in
+        let its : is_noted (row ∷ rows) n ≡ row.1 = rw e refl in
+        ap (λ v. with_value (row ∷ rows) n v) its ∙ rw (e, rest) (ap (λ m. (m, row.1) ∷ rows) (sym is))
     by false e so =
-        let its : is_noted (row ∷ rows) n ≡ is_noted rows n =
-        ap (λ c. unwrap_or (option_map (λ (r : ℕ × Bool). r.1)
-        (if c then Some row else find (λ (r : ℕ × Bool). r.0 == n) rows)) false) e in
-        ap (λ v. with_value (row ∷ rows) n v) its
-        ∙ ap (λ c. (if c then (n, is_noted rows n) else row) ∷ with_value rows n (is_noted rows n)) e
-        ∙ ap (λ ys. row ∷ ys) so
+        let its : is_noted (row ∷ rows) n ≡ is_noted rows n = rw e refl in
+        ap (λ v. with_value (row ∷ rows) n v) its ∙ rw (e, so) refl
 
 -- the least note comes first, and without it the others are noted
 next_note : (n low high : ℕ) (rows : List (ℕ × Bool)) → Rise low (map key rows) high → first_noted rows ≡ Some n
@@ -69,39 +59,18 @@ next_note n low high [] rise never = absurd (cc)
 next_note n low high (row ∷ rows) rise first =
     by row.1 (row.0 == n) refl refl (λ later. next_note n (row.0 + 1) high rows rise.2 later)
   where
-    -- whether the first note counts
-    counts_if : (c : Bool) → row.1 ≡ c → noted (row ∷ rows) ≡ (if c then row.0 ∷ noted rows else noted rows)
-    counts_if true is =
-        ap (λ c. map key (cond c (row ∷ filter (λ (r : ℕ × Bool). r.1) rows) (filter (λ (r : ℕ × Bool). r.1) rows))) is
-    counts_if false is =
-        ap (λ c. map key (cond c (row ∷ filter (λ (r : ℕ × Bool). r.1) rows) (filter (λ (r : ℕ × Bool). r.1) rows))) is
-
-    later : row.1 ≡ false → first_noted rows ≡ Some n
-    later is = sym (ap (λ c. option_map (λ (r : ℕ × Bool). r.0)
-        (if c then Some row else find (λ (r : ℕ × Bool). r.1) rows)) is) ∙ first
-
     by : (a b : Bool) → row.1 ≡ a → (row.0 == n) ≡ b
         → (first_noted rows ≡ Some n → noted rows ≡ n ∷ noted (with_value rows n false))
         → noted (row ∷ rows) ≡ n ∷ noted (with_value (row ∷ rows) n false)
     by true b is e so =
-        let found : Some row.0 ≡ Some n = sym (ap (λ c. option_map (λ (r : ℕ × Bool). r.0)
-        (if c then Some row else find (λ (r : ℕ × Bool). r.1) rows)) is) ∙ first in
+        let found : Some row.0 ≡ Some n = rw is at first in
         let here : row.0 ≡ n = cc in
         let hit : (row.0 == n) ≡ true = eq-eqb row.0 n here in
         let rest : with_value rows n false ≡ rows =
         put_below n (row.0 + 1) high false rows rise.2 (omega (arith, here)) in
-        counts_if true is
-        ∙ ap (λ m. m ∷ noted rows) here
-        ∙ ap (λ ys. n ∷ noted ys) (sym rest)
-        ∙ sym (ap (λ c. n ∷ noted ((if c then (n, false) else row) ∷ with_value rows n false)) hit)
-    by false true is e so =
-        counts_if false is ∙ so (later is)
-        ∙ sym (ap (λ c. n ∷ noted ((if c then (n, false) else row) ∷ with_value rows n false)) e)
-    by false false is e so =
-        counts_if false is ∙ so (later is)
-        ∙ sym (ap (λ c. n ∷ map key (cond c (row ∷ filter (λ (r : ℕ × Bool). r.1) (with_value rows n false))
-        (filter (λ (r : ℕ × Bool). r.1) (with_value rows n false)))) is)
-        ∙ sym (ap (λ c. n ∷ noted ((if c then (n, false) else row) ∷ with_value rows n false)) e)
+        rw (hit, is, rest, here) refl
+    by false true is e so = let later : first_noted rows ≡ Some n = rw is at first in rw (e, is) (so later)
+    by false false is e so = let later : first_noted rows ≡ Some n = rw is at first in rw (e, is) (so later)
 
 -- where no note is first, none is set
 no_note : (rows : List (ℕ × Bool)) → first_noted rows ≡ None

@@ -114,6 +114,34 @@ of_standing granted other t u any = record {
   limit = any.limit;
 }
 
+module _ {C : Type 0} where
+  -- a provider with nothing attached
+  pub unused_stays : (t : TopoView C) (p : ℕ) → attached_to t.topology p ≡ [] → CountsStay t (without_provider t p)
+  unused_stays t p none = less_stays t (without_provider t p) (record {
+    granted = λ c. refl;
+    demand = λ granted stored.
+        of_standing granted granted t.topology (remove_provider t.topology p) (provider_went granted t.topology p none);
+    wants = λ granted stored. stored;
+    haves = λ f same.
+        ap (λ rows. without rows p) same
+        ∙ without_rows (λ (y : Provider). y.number) (λ y. f y.number) t.topology.providers p;
+    geoms = λ g there. there;
+    risen_keys = without_keys (λ (y : Provider). y.number) t.topology.providers t.risen p;
+    fallen_keys = without_keys (λ (y : Provider). y.number) t.topology.providers t.fallen p;
+    quiet = λ quiet. record {
+      risen =
+          ap (λ rows. without rows p) quiet.risen
+          ∙ without_rows (λ (y : Provider). y.number) (λ y. false) t.topology.providers p;
+      fallen =
+          ap (λ rows. without rows p) quiet.fallen
+          ∙ without_rows (λ (y : Provider). y.number) (λ y. false) t.topology.providers p;
+    };
+    clear = λ clear.
+        ap (λ (s : Scratches). record s { providers = without s.providers p }) clear
+        ∙ ap (λ rows. record (clear_scratches t.topology) { providers = rows })
+        (without_rows (λ (y : Provider). y.number) (λ y. no_scratch) t.topology.providers p);
+  })
+
 module _ {C : Type 0} (t : TopoView C) (sound : IsSoundGraph t.topology) where
   -- A consumer that holds nothing
 
@@ -186,34 +214,6 @@ module _ {C : Type 0} (t : TopoView C) (sound : IsSoundGraph t.topology) where
           ∙ ap (λ rows. record (clear_scratches t.topology) { consumers = rows })
           (without_rows (λ (y : Consumer). y.number) (λ y. no_scratch) t.topology.consumers c);
     })
-
-  -- A provider with nothing attached
-
-  pub unused_stays : (p : ℕ) → attached_to t.topology p ≡ [] → CountsStay t (without_provider t p)
-  unused_stays p none = less_stays t (without_provider t p) (record {
-    granted = λ c. refl;
-    demand = λ granted stored.
-        of_standing granted granted t.topology (remove_provider t.topology p) (provider_went granted t.topology p none);
-    wants = λ granted stored. stored;
-    haves = λ f same.
-        ap (λ rows. without rows p) same
-        ∙ without_rows (λ (y : Provider). y.number) (λ y. f y.number) t.topology.providers p;
-    geoms = λ g there. there;
-    risen_keys = without_keys (λ (y : Provider). y.number) t.topology.providers t.risen p;
-    fallen_keys = without_keys (λ (y : Provider). y.number) t.topology.providers t.fallen p;
-    quiet = λ quiet. record {
-      risen =
-          ap (λ rows. without rows p) quiet.risen
-          ∙ without_rows (λ (y : Provider). y.number) (λ y. false) t.topology.providers p;
-      fallen =
-          ap (λ rows. without rows p) quiet.fallen
-          ∙ without_rows (λ (y : Provider). y.number) (λ y. false) t.topology.providers p;
-    };
-    clear = λ clear.
-        ap (λ (s : Scratches). record s { providers = without s.providers p }) clear
-        ∙ ap (λ rows. record (clear_scratches t.topology) { providers = rows })
-        (without_rows (λ (y : Provider). y.number) (λ y. no_scratch) t.topology.providers p);
-  })
 
   -- A geom without parts
 

@@ -19,7 +19,7 @@ use Rattle.geo_life.specs.Life.{AreStored, is_out}
 use Rattle.geo_life.proofs.Errors.{any_found}
 use Rattle.geo_life.proofs.MarkWalk.{stored_now}
 use Rattle.std.specs.List.{list_any, AllByRecursion}
-use Rattle.std.proofs.Math.Bool.{or-false}
+use Rattle.std.proofs.Math.Bool.{or-false, not-not}
 use Rattle.geo_base.proofs.FindLists.{found_passes}
 use Rattle.geo_slots.specs.Slots.{value_at}
 use Rattle.geo_laws_graph.proofs.Found.{each-found}
@@ -218,11 +218,7 @@ module _ {C : Type 0} (granted : ℕ → Counts) (active : ℕ → Bool) (t : To
 found_any : {X Y : Type 0} (f : X → Y) (test : X → Bool) (xs : List X)
     → is_some (option_map f (find test xs)) ≡ list_any test xs
 found_any f test [] = refl
-found_any f test (x ∷ xs) = at (test x) refl (found_any f test xs) where
-  at : (b : Bool) → test x ≡ b → is_some (option_map f (find test xs)) ≡ list_any test xs
-      → is_some (option_map f (find test (x ∷ xs))) ≡ list_any test (x ∷ xs)
-  at true e rest = rw e refl
-  at false e rest = rw e rest
+found_any f test (x ∷ xs) = grind (arith, found_any f test xs)
 
 -- one of two is there
 some_or : {X : Type 0} (o p : Option X) → is_some (option_or o p) ≡ (is_some o || is_some p)
@@ -234,22 +230,15 @@ some_if : {X : Type 0} (b : Bool) (x : X) → is_some (if b then Some x else Non
 some_if true x = refl
 some_if false x = refl
 
--- not the other is the one
-not_not : (b : Bool) → not (not b) ≡ b
-not_not true = refl
-not_not false = refl
-
 -- The first
 
 -- the first number that is there is that of the first that passes
 first_passing : {X : Type 0} (number : X → ℕ) (test : X → Bool) (xs : List X)
     → find (λ x. nat_le 0 (number x)) (filter test xs) ≡ find test xs
 first_passing number test [] = refl
-first_passing number test (x ∷ xs) = at (test x) refl (first_passing number test xs) where
-  at : (b : Bool) → test x ≡ b → find (λ y. nat_le 0 (number y)) (filter test xs) ≡ find test xs
-      → find (λ y. nat_le 0 (number y)) (filter test (x ∷ xs)) ≡ find test (x ∷ xs)
-  at true e rest = rw (e, le-leb 0 (number x) (omega arith)) refl
-  at false e rest = rw e rest
+first_passing number test (x ∷ xs) =
+    let first : nat_le 0 (number x) ≡ true = le-leb 0 (number x) (omega arith) in
+    grind (arith, first, first_passing number test xs)
 
 module _ {C : Type 0} (granted : ℕ → Counts) (v : TopoView C) (stored : AreStored granted v)
     (order : IsInOrder v.topology) where
@@ -262,7 +251,7 @@ module _ {C : Type 0} (granted : ℕ → Counts) (v : TopoView C) (stored : AreS
 
     quiet : (o : Option ℕ) → not (option_map_or (λ m. not (m == 0)) o false) ≡ option_map_or (λ m. m == 0) o true
     quiet None = refl
-    quiet (Some m) = not_not (m == 0)
+    quiet (Some m) = not-not (m == 0)
 
   -- each consumer, of a geom or not
   idle_each : (g : ℕ) (xs : List Consumer)

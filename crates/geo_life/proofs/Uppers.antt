@@ -3,7 +3,7 @@ use Rattle.std.specs.Prelude.{◌≡◌, ◌≢◌, ℕ, ◌==◌, nat_le, Bool,
 use Rattle.std.specs.Option.{option_map, option_map_or}
 use Rattle.std.proofs.Common.{refl, sym, ap, ◌∙◌, subst}
 use Rattle.std.proofs.Math.Bool.{and-false}
-use Rattle.std.proofs.lemmas.Bool.{eqb-true, eq-eqb}
+use Rattle.std.proofs.lemmas.Bool.{eqb-true, eq-eqb, not-false, and_parts}
 use Rattle.std.proofs.lemmas.List.Elements.{All-contains}
 use Rattle.geo_base.specs.declared.request.Counts.{Counts}
 use Rattle.geo_base.specs.declared.kind.Kind.TheVariants as kinds
@@ -56,20 +56,18 @@ module _ {C : Type 0} (t : Topology C) (p : ℕ) where
 
 module _ {X : Type 0} (keep test : X → Bool) where
   -- one item more of the list
-  spared_step : (x : X) (xs : List X) (a b : Bool) → keep x ≡ a → test x ≡ b → (keep x ≡ false → test x ≡ false)
+  spared_step : (x : X) (xs : List X) (a : Bool) → keep x ≡ a → (keep x ≡ false → test x ≡ false)
       → filter test (filter keep xs) ≡ filter test xs
       → filter test (filter keep (x ∷ xs)) ≡ filter test (x ∷ xs)
-  spared_step x xs true true e f so rest = rw (e, f, rest) refl
-  spared_step x xs true false e f so rest = rw (e, f, rest) refl
-  spared_step x xs false false e f so rest = rw (e, f, rest) refl
-  spared_step x xs false true e f so rest = let never : true ≡ false = sym f ∙ so e in absurd (cc)
+  spared_step x xs true e so rest = rw (e, rest) refl
+  spared_step x xs false e so rest = rw (e, so e) rest
 
   -- where none of those that go passes, those that pass are the same
   pub filter_spared : (xs : List X) → ((x : X) → Contains xs x → keep x ≡ false → test x ≡ false)
       → filter test (filter keep xs) ≡ filter test xs
   filter_spared [] so = refl
   filter_spared (x ∷ xs) so =
-      spared_step x xs (keep x) (test x) refl refl (so x (Contains-here x xs))
+      spared_step x xs (keep x) refl (so x (Contains-here x xs))
       (filter_spared xs (λ y there. so y (Contains-there x y xs there)))
 
 module _ {S X : Type 0} (keep : X → Bool) (f : S → X → S) (Fine : S → Type 0)
@@ -134,11 +132,7 @@ module _ {C : Type 0} (Is : Geom C → Type 0) (same : (x : Geom C) → Is x →
 
 -- a consumer that isn't above is of geom 1
 of_dev : (c : Consumer) → not (c.geom == 1) ≡ false → c.geom ≡ 1
-of_dev c e = by (c.geom == 1) refl e
-  where
-    by : (b : Bool) → (c.geom == 1) ≡ b → not b ≡ false → c.geom ≡ 1
-    by true is goes = eqb-true c.geom 1 is
-    by false is never = absurd (cc)
+of_dev c e = eqb-true c.geom 1 (not-false (c.geom == 1) e)
 
 module _ {C : Type 0} where
   -- An orphan
@@ -262,11 +256,6 @@ module _ {C : Type 0} where
       spared (Some g) by_hand kind =
           ap (λ b. b || is_kind g.kind kinds.Taste) by_hand ∙ ap (λ k. is_kind k kinds.Taste) kind
 
-      last : (a b d : Bool) → (a && (b && d)) ≡ true → d ≡ true
-      last true true d e = e
-      last true false d e = absurd (cc)
-      last false b d e = absurd (cc)
-
       by : (b : Bool) → (c.geom == 1) ≡ b → not b ≡ true
       by false e = refl
       by true e =
@@ -275,7 +264,8 @@ module _ {C : Type 0} where
           ap (λ n. option_map_or F (geom_at t n) false) (eqb-true c.geom 1 e)
           ∙ spared (geom_at t 1) made sound.orderly.first.dev in
           let must : option_map_or F (geom_at t c.geom) false ≡ true =
-          last (names_number c.provider p) ((want granted t c).w == 0)
-          (option_map_or F (geom_at t c.geom) false) goes in
+          (and_parts ((want granted t c).w == 0) (option_map_or F (geom_at t c.geom) false)
+          (and_parts (names_number c.provider p)
+          (((want granted t c).w == 0) && option_map_or F (geom_at t c.geom) false) goes).1).1 in
           let never : true ≡ false = sym must ∙ stays in
           absurd (cc)

@@ -40,14 +40,16 @@ pub fn wash<C: Drop>(topo: &mut Topo<C>, queue: &mut EventQueue, work: WashWork)
     ensures memory { queue.new.spare + length queue.new.events ≡ queue.old.spare + length queue.old.events }
     ensures kept { CountsStay topo.old topo.new }
 {
-    look(topo);
     match work {
         WashWork::Provider(prov) => {
             topo.destroy_provider(prov);
             queue.cancel(prov);
         }
         WashWork::Consumer(cons) => drop_consumer(topo, cons),
-        WashWork::Geom(geom) => topo.destroy_geom(geom),
+        WashWork::Geom(geom) => {
+            look(topo);
+            topo.destroy_geom(geom);
+        }
     }
 }
 

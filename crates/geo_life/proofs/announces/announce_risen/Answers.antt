@@ -7,42 +7,45 @@ use Rattle.geo_mesh.specs.Topo.{TopoView}
 use Rattle.geo_laws_counts.specs.CountWords.{seen_by_counts}
 use Rattle.geo_life.specs.Life.{queued, notes, without_rises, IsDevMade, AreStored, CountsStay}
 use Rattle.geo_life.proofs.Unseen.{mesh_kept}
-use Rattle.geo_life.proofs.Announced.{note_none, rise_step, rise_taken, rise_stored, rise_end, rise_notes, rise_mesh, rise_unseen, rise_made, rise_out}
+use Rattle.geo_life.proofs.Announced.{IsTaken, note_none, rise_step, rise_taken, rise_stored, rise_end, rise_notes, rise_mesh, rise_unseen, rise_made, rise_out}
+use Rattle.geo_life.proofs.announces.announce_risen.Given.{Over}
+use Rattle.geo_life.proofs.announces.announce_risen.Goals.{In-Some}
 use Rattle.geo_life.proofs.announces.announce_risen.Goals as goal
+
+-- the least note is taken
+taken : (g : Over) (c : In-Some g)
+    → let rows = with_value c.loop-prov.topo.risen c.in-Some.prov false in
+    IsTaken c.loop-prov.topo c.next_risen.new.topo (record c.loop-prov.topo { risen = rows })
+    c.loop-prov.topo.risen rows c.in-Some.prov
+taken g c =
+    rise_taken c.loop-prov.invariant.counted c.in-Some.ensures.sound (sym c.in-Some.ensures.first)
+    c.in-Some.ensures.dropped
 
 -- taking a note leaves the graph, so DEV is as it was made
 pub spoil_at-requires-clause-made : goal.spoil_at-requires-clause-made
 spoil_at-requires-clause-made g c =
-    let taken =
-    rise_taken c.loop-prov.invariant.counted c.in-Some.ensures.sound (sym c.in-Some.ensures.first)
-    c.in-Some.ensures.dropped in
-    subst (λ (v : TopoView g.row.C.Denot). IsDevMade v.topology) (sym taken.is) c.loop-prov.invariant.made
+    let took = taken g (goal.at.spoil_at-requires-clause-made g c).In-Some in
+    subst (λ (v : TopoView g.row.C.Denot). IsDevMade v.topology) (sym took.is) c.loop-prov.invariant.made
 
 -- the note that was taken counted for one place, which is spare still
 pub spoil_at-requires-clause-room : goal.spoil_at-requires-clause-room
 spoil_at-requires-clause-room g c =
-    let taken =
-    rise_taken c.loop-prov.invariant.counted c.in-Some.ensures.sound (sym c.in-Some.ensures.first)
-    c.in-Some.ensures.dropped in
-    omega (arith, taken.less, c.loop-prov.invariant.room)
+    let took = taken g (goal.at.spoil_at-requires-clause-room g c).In-Some in
+    omega (arith, took.less, c.loop-prov.invariant.room)
 
 pub loop-prov-smaller : goal.loop-prov-smaller
 loop-prov-smaller g c =
-    let taken =
-    rise_taken c.loop-prov.invariant.counted c.in-Some.ensures.sound (sym c.in-Some.ensures.first)
-    c.in-Some.ensures.dropped in
-    omega (arith, taken.less, ap notes (rise_notes taken c.spoil_at.ensures.rest.mesh))
+    let took = taken g (goal.at.loop-prov-smaller g c).In-Some in
+    omega (arith, took.less, ap notes (rise_notes took c.spoil_at.ensures.rest.mesh))
 
 -- the provider noted first was spoiled as the model does it first; counts see no marks, so all stored ones are right
 pub loop-prov-preserved : goal.loop-prov-preserved
 loop-prov-preserved g c =
-    let taken =
-    rise_taken c.loop-prov.invariant.counted c.in-Some.ensures.sound (sym c.in-Some.ensures.first)
-    c.in-Some.ensures.dropped in
+    let took = taken g (goal.at.loop-prov-preserved g c).In-Some in
     let rows = with_value c.loop-prov.topo.risen c.in-Some.prov false in
-    let kept : c.spoil_at.new.topo.risen ≡ rows = rise_notes taken c.spoil_at.ensures.rest.mesh in
+    let kept : c.spoil_at.new.topo.risen ≡ rows = rise_notes took c.spoil_at.ensures.rest.mesh in
     let now : notes c.spoil_at.new.topo.risen ≡ notes rows = ap notes kept in
-    let mid : c.next_risen.new.topo ≡ record c.loop-prov.topo { risen = rows } = taken.is in
+    let mid : c.next_risen.new.topo ≡ record c.loop-prov.topo { risen = rows } = took.is in
     record {
       made =
           rise_made c.next_risen.new.topo c.loop-prov.queue (queued c.spoil_at.new.topo c.spoil_at.new.queue)
@@ -51,22 +54,22 @@ loop-prov-preserved g c =
       counted = CountsStay.counted c.spoil_at.ensures.kept c.in-Some.ensures.counted;
       announced = λ granted stored.
           ap (λ rs. announce_risen granted (noted rs) (queued c.spoil_at.new.topo c.spoil_at.new.queue)) kept
-          ∙ rise_step c.loop-prov.topo.risen rows c.in-Some.prov taken.next
+          ∙ rise_step c.loop-prov.topo.risen rows c.in-Some.prov took.next
           (queued c.loop-prov.topo c.loop-prov.queue) (queued c.spoil_at.new.topo c.spoil_at.new.queue) granted
           (c.spoil_at.ensures.spoiled granted
           (subst (AreStored granted) (sym mid)
           (rise_stored c.args.topo.now c.loop-prov.invariant.mesh c.loop-prov.invariant.seen granted stored))
           ∙ ap (λ (v : TopoView g.row.C.Denot). spoil_at granted (queued v c.loop-prov.queue) c.in-Some.prov) mid)
           ∙ c.loop-prov.invariant.announced granted stored;
-      mesh = rise_mesh taken c.spoil_at.ensures.rest.mesh c.args.topo.now c.loop-prov.invariant.mesh;
+      mesh = rise_mesh took c.spoil_at.ensures.rest.mesh c.args.topo.now c.loop-prov.invariant.mesh;
       seen =
           rise_unseen c.next_risen.new.topo c.loop-prov.queue (queued c.spoil_at.new.topo c.spoil_at.new.queue)
           c.in-Some.prov c.in-Some.ensures.counted c.spoil_at.ensures.spoiled
           ∙ ap (λ (v : TopoView g.row.C.Denot). seen_by_counts v.topology) mid
           ∙ c.loop-prov.invariant.seen;
       memory = c.spoil_at.ensures.rest.room ∙ c.loop-prov.invariant.memory;
-      owed = omega (arith, taken.less, now, c.loop-prov.invariant.owed, c.spoil_at.ensures.room);
-      room = omega (arith, taken.less, now, c.loop-prov.invariant.room, c.spoil_at.ensures.room);
+      owed = omega (arith, took.less, now, c.loop-prov.invariant.owed, c.spoil_at.ensures.room);
+      room = omega (arith, took.less, now, c.loop-prov.invariant.room, c.spoil_at.ensures.room);
     }
 
 pub returns-clause-announced : goal.returns-clause-announced
@@ -96,10 +99,6 @@ returns-clause-room g c =
 
 pub returns-clause-kept : goal.returns-clause-kept
 returns-clause-kept g c =
-    mesh_kept (without_rises c.args.topo.now) c.next_risen.new.topo
-    (rise_out c.args.topo.now c.loop-prov.topo c.next_risen.new.topo
-    (rise_end c.args.topo.now c.loop-prov.invariant.mesh c.loop-prov.invariant.seen c.loop-prov.invariant.counted
-    (sym c.in_default.ensures.first))
-    c.in_default.ensures.dropped)
+    mesh_kept (without_rises c.args.topo.now) c.next_risen.new.topo (returns-clause-rest g c).mesh
     (ap (λ (v : TopoView g.row.C.Denot). seen_by_counts v.topology) c.in_default.ensures.dropped
     ∙ c.loop-prov.invariant.seen)

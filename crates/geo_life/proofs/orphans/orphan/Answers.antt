@@ -48,10 +48,7 @@ pub returns-clause-kept : goal.returns-clause-kept
 returns-clause-kept g c =
     seen_kept c.args.topo.now c.args.queue.now c.loop-id.topo c.loop-id.queue
     (orphan (queued c.args.topo.now c.args.queue.now) c.args.prov) c.loop-id.invariant.rest
-    (sym (hear_end c.args.prov orphan_consumer heard_leaves (queued c.loop-id.topo c.loop-id.queue) c.loop-id.from
-    c.in_default.ensures.next)
-    ∙ c.loop-id.invariant.orphaned
-    (sound_known c.args.topo.now c.loop-id.topo c.loop-id.invariant.known c.in_default.ensures.sound))
+    (returns-clause-orphaned g c)
     (seen_orphan (queued c.args.topo.now c.args.queue.now) c.args.prov)
 
 pub loop-id-smaller : goal.loop-id-smaller

@@ -11,5 +11,4 @@ pub returns-clause-kept : goal.returns-clause-kept
 returns-clause-kept g c =
     dropped_kept c.args.topo.now c.destroy_consumer.new.self c.args.cons c.detach_if_attached.ensures.sound
     c.requires.lives c.requires.no_counts
-    (dropped_is c.args.topo.now c.detach_if_attached.new.topo c.destroy_consumer.new.self c.args.cons
-    c.detach_if_attached.ensures.mesh c.detach_if_attached.ensures.same c.destroy_consumer.ensures)
+    (returns-clause-dropped g c)

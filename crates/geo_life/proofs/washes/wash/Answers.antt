@@ -21,7 +21,7 @@ destroy_geom-requires-clause-not_taste g c =
 pub returns-in-Provider-clause-kept : goal.returns-in-Provider-clause-kept
 returns-in-Provider-clause-kept g c =
     subst (CountsStay c.args.topo.now) (sym c.destroy_provider.ensures)
-    (unused_stays c.args.topo.now c.look.ensures.sound c.in-Provider.prov
+    (unused_stays c.args.topo.now c.in-Provider.prov
     (subst (IsFree c.args.topo.now) c.in-Provider.is c.requires.free))
 
 -- a geom without consumers wants nothing, so no count hangs on it
