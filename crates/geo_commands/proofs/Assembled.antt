@@ -1,31 +1,45 @@
--- What a concat and a stripe ask, where nothing refuses them.
-use Rattle.std.specs.Prelude.{◌≡◌, ℕ, zero, suc, ◌+◌, ◌-◌, ◌*◌, ◌/◌, ◌≤◌, ◌==◌, nat_le, Bool, true, false, List, [], ◌∷◌, ◌++◌, length, map, filter_map, Option, Some, None, Result, All, OnOk, option_and_then, if◌then◌else◌}
-use Rattle.std.specs.List.{range_with_len, AllByRecursion}
-use Rattle.std.proofs.Common.{refl, sym, ◌∙◌, ap, subst, arith, inl}
-use Rattle.std.proofs.lemmas.Bool.{and_from, le-leb}
+-- Concats and stripes: what the tests read of the providers that are named, and what is made.
+use Rattle.std.specs.Prelude.{◌≡◌, ℕ, ◌+◌, ◌==◌, nat_le, nat_lt, Bool, true, false, not, ◌&&◌, ◌||◌, List, [], ◌∷◌, length, map, Option, Some, None, is_none, IsSome, zero, suc, ◌-◌, ◌*◌, ◌/◌, ◌≤◌, ◌++◌, filter_map, Result, All, OnOk, option_and_then, if◌then◌else◌}
+use Rattle.std.specs.List.{list_any, list_all, range_with_len, AllByRecursion}
+use Rattle.std.specs.Option.{option_map}
+use Rattle.std.proofs.Common.{refl, sym, ap, ◌∙◌, subst, arith, inl, inr}
+use Rattle.std.proofs.lemmas.Bool.Decides.{nat_tests}
+use Rattle.std.proofs.lemmas.Slice.Eq.{bytes_eq-Decides}
+use Rattle.std.proofs.lemmas.List.Elements.{All-contains, All-weaker}
 use Rattle.std.proofs.lemmas.List.{length-map}
-use Rattle.std.proofs.lemmas.List.Elements.{All-contains}
+use Rattle.geo_base.specs.Name.{is_name, name_of}
+use Rattle.geo_base.specs.declared.errno.Errno.{Errno}
+use Rattle.geo_base.specs.declared.errno.Errno.TheVariants as errnos
+use Rattle.geo_base.specs.declared.limits.TheConstants.{MAX_RANK, MAX_COMPONENTS, MAX_MEDIA_BYTES}
+use Rattle.geo_model.specs.Words.{largest, same_name, first_error, is_granted_kind}
+use Rattle.geo_model.specs.Topology.{Topology, Geom, Provider, geom_at, provider_at, is_name_taken, find_provider}
+use Rattle.geo_mesh.specs.Graph.{IsSoundGraph}
+use Rattle.geo_laws_graph.proofs.Members.{find-Contains}
+use Rattle.geo_model.specs.Rank.{rank}
+use Rattle.geo_model.specs.World.{Config, World}
+use Rattle.geo_model.specs.Acceptance.{joined_size, is_size, smallest}
+use Rattle.geo_model.specs.GeomCommands.{sector_of, rank_over, is_invalid_joined, joined_tests, found_providers, new_places, with_made}
+use Rattle.geo_class.specs.Assembly.{allowed_size}
+use Rattle.geo_commands.specs.declared.below.Below.{Below}
+use Rattle.geo_laws_texts.specs.Naming.{HaveNames}
+use Rattle.geo_commands.specs.Below.{any_errored, below_seen, have_sector, is_bad_join, rank_below, sector_below, tests_below}
+use Rattle.geo_base.proofs.Options.{none-mapped}
+use Rattle.geo_base.proofs.FindLists.{any-map}
+use Rattle.std.proofs.lemmas.Simd.{map-map}
+use Rattle.std.proofs.lemmas.Bool.{cases_Bool, and_parts, false_from_ne_true, and_from, le-leb}
+use Rattle.std.proofs.lemmas.List.Folds.{list_any_none}
 use Rattle.std.proofs.lemmas.List.FromFn.{length-map-range_with_len, map-range_with_len_more}
 use Rattle.geo_base.specs.Sectors.{IsSectorSize}
-use Rattle.geo_base.specs.declared.errno.Errno.{Errno}
 use Rattle.geo_base.specs.declared.kind.Kind.{Kind}
-use Rattle.geo_base.specs.declared.limits.TheConstants.{MAX_COMPONENTS, MAX_MEDIA_BYTES}
 use Rattle.geo_model.specs.declared.command.LineCommand.{LineCommand}
 use Rattle.geo_model.specs.declared.step.Entry.{Entry}
 use Rattle.geo_model.specs.declared.step.Outcome.{Outcome}
 use Rattle.geo_model.specs.declared.step.Outcome.TheVariants as outcomes
 use Rattle.geo_model.specs.declared.step.Reply.TheVariants as replies
-use Rattle.geo_model.specs.Words.{first_error, is_granted_kind}
-use Rattle.geo_model.specs.Topology.{Topology, Provider, provider_at, find_provider, is_name_taken}
-use Rattle.geo_model.specs.World.{World, Config}
 use Rattle.geo_model.specs.Place.{disk_of}
-use Rattle.geo_model.specs.Acceptance.{is_size, joined_size, smallest}
-use Rattle.geo_model.specs.GeomCommands.{found_providers, joined_tests, new_places, sector_of, with_made}
 use Rattle.geo_model.specs.HandleCommands.{answer}
 use Rattle.geo_model.specs.Fitting.{Firm}
-use Rattle.geo_class.specs.Assembly.{allowed_size}
 use Rattle.geo_class.specs.Places.{ArePlaces, IsStriped}
-use Rattle.geo_laws_graph.proofs.Members.{find-Contains}
 use Rattle.geo_laws_making.proofs.Joined.{concats_stay, stripes_stay}
 use Rattle.geo_laws_making.proofs.NewPlaces.{whole_sizes}
 use Rattle.geo_mesh.specs.Topo.{is_provider_size}
@@ -37,12 +51,119 @@ use Rattle.geo_state.specs.Steps.{IsFirm}
 use Rattle.geo_state.specs.World.{world}
 use Rattle.geo_commands.specs.declared.assemblies.Assembly.{Assembly}
 use Rattle.geo_commands.specs.declared.assemblies.Assembly.TheVariants as assemblies
-use Rattle.geo_commands.specs.declared.below.Below.{Below}
 use Rattle.geo_commands.specs.Assemblies.{AreAllFound, CanAssemble, assembly_config, assembly_geom, assembly_kind, assembly_name, assembly_refusal, assembly_size, config_of_all, do_assembly, has_bad_strips}
-use Rattle.geo_commands.specs.Below.{below_seen, sector_below}
 use Rattle.geo_commands.specs.Makes.{IsBuilt}
-use Rattle.geo_commands.proofs.Joining.{sector_is}
-use Rattle.geo_commands.proofs.Commanded.{JoinFits, join-fits, joined-done, joined-refused, made-size, named-found, seen-of}
+use Rattle.geo_commands.proofs.Made.{JoinFits, join-fits, made-done, made-refused, made-size, named-found}
+
+-- What the tests read of the providers that a command names
+
+module _ (t : Topology Config) where
+  -- the sector size of the first
+  pub sector_is : (ps : List Provider) → sector_below (map (below_seen t) ps) ≡ sector_of ps
+  sector_is [] = refl
+  sector_is (p ∷ ps) = refl
+
+  -- one of them carries an error
+  pub errored_is : (ps : List Provider) → any_errored (map (below_seen t) ps) ≡ list_any (λ p. p.errored) ps
+  errored_is ps = any-map (λ (x : Below). x.errored) (below_seen t) ps
+
+  -- all have the sector size
+  pub sectors_are : (sector : ℕ) (ps : List Provider)
+      → have_sector sector (map (below_seen t) ps) ≡ list_all (λ p. p.sector == sector) ps
+  sectors_are sector [] = refl
+  sectors_are sector (p ∷ ps) = ap (λ b. (p.sector == sector) && b) (sectors_are sector ps)
+
+  -- the greatest rank
+  pub rank_is : (ps : List Provider) → rank_below (map (below_seen t) ps) ≡ largest (map (λ p. rank t p.geom) ps)
+  rank_is ps = ap largest (map-map (λ (x : Below). x.rank) (below_seen t) ps)
+
+-- a size is one just where there is one
+size_there : (n : ℕ) → is_none (allowed_size n) ≡ not (is_size n)
+size_there n = elim (cases_Bool (is_size n)) [ inl e ↦ rw e refl | inr e ↦ rw e refl ]
+
+-- what doesn't fit together
+pub join_is : (t : Topology Config) (config : Config) (ps : List Provider)
+    → is_bad_join (map (below_seen t) ps) (allowed_size (joined_size config)) ≡ is_invalid_joined config ps
+join_is t config ps =
+    ap (λ n. not (have_sector n (map (below_seen t) ps)) || is_none (allowed_size (joined_size config)))
+    (sector_is t ps)
+    ∙ (λ i. not (sectors_are t (sector_of ps) ps i) || size_there (joined_size config) i)
+
+-- A name that isn't one
+
+-- is that of no provider
+pub not_taken : (t : Topology Config) (bytes : List ℕ) → HaveNames t → name_of bytes ≡ None
+    → false ≡ is_name_taken t bytes
+not_taken t bytes all none =
+    sym (list_any_none (λ (x : Provider). not x.errored && same_name x.name bytes) t.providers
+    (All-weaker (λ (p : Provider). is_name p.name ≡ true)
+    (λ p. (not p.errored && same_name p.name bytes) ≡ false) differs t.providers all))
+  where
+    no_name : is_name bytes ≡ true → ⊥
+    no_name e = let some : Some bytes ≡ None = rw e at none in absurd (cc)
+
+    differs : (p : Provider) → is_name p.name ≡ true → (not p.errored && same_name p.name bytes) ≡ false
+    differs p named =
+        false_from_ne_true (not p.errored && same_name p.name bytes)
+        (λ both.
+        let same = (and_parts (not p.errored) (same_name p.name bytes) both).1 in
+        no_name (subst (λ n. is_name n ≡ true) ((bytes_eq-Decides p.name bytes).0 same) named))
+
+-- The tests
+
+-- one more than a rank is above the limit just where the rank isn't below it
+pub deeper : (n : ℕ) → nat_lt MAX_RANK (1 + n) ≡ nat_le MAX_RANK n
+deeper n = grind (arith, nat_tests)
+
+-- as many were found
+pub count_is : (t : Topology Config) (ps : List Provider) → length (map (below_seen t) ps) ≡ length ps
+count_is t ps = length-map ps (below_seen t)
+
+module _ (t : Topology Config) (name : List ℕ) (config : Config) (ps : List Provider) (wanted : ℕ) (is_bad : Bool) where
+  -- the tests, by what each reads
+  abbrev tests : ℕ → Bool → Bool → Bool → List (Bool × Errno)
+  tests count errored bad deep =
+      (is_name_taken t name, errnos.EEXIST)
+      ∷ (not (count == wanted), errnos.ENOENT)
+      ∷ (errored, errnos.ENXIO)
+      ∷ (is_bad || bad, errnos.EINVAL)
+      ∷ (deep, errnos.EDEEP)
+      ∷ []
+
+  -- the providers as they are found
+  abbrev seen : List Below
+  seen = map (below_seen t) ps
+
+  abbrev whole : Option ℕ
+  whole = allowed_size (joined_size config)
+
+  depth_is : nat_le MAX_RANK (rank_below seen) ≡ nat_lt MAX_RANK (rank_over t ps)
+  depth_is = ap (nat_le MAX_RANK) (rank_is t ps) ∙ sym (deeper (largest (map (λ p. rank t p.geom) ps)))
+
+  seen_tests : tests_below t name seen wanted whole is_bad ≡ joined_tests t name config wanted ps is_bad
+  seen_tests = λ i. tests (count_is t ps i) (errored_is t ps i) (join_is t config ps i) (depth_is i)
+
+  -- the tests of what was found are the model's
+  pub tests_are : (below : List Below) (size : Option ℕ) → below ≡ seen → size ≡ whole
+      → tests_below t name below wanted size is_bad ≡ joined_tests t name config wanted ps is_bad
+  tests_are below size is size_is =
+      (λ i. tests_below t name (is i) wanted (size_is i) is_bad) ∙ seen_tests
+
+-- a provider that is found is one of a geom that lives
+pub geom_lives : (t : Topology Config) → IsSoundGraph t → (prov : ℕ) (p : Provider) → provider_at t prov ≡ Some p
+    → geom_at t p.geom ≡ None → ⊥
+geom_lives t sound prov p found none =
+    let lives : IsSome (geom_at t p.geom) =
+    All-contains (λ (x : Provider). IsSome (geom_at t x.geom)) t.providers p sound.orderly.parts.offerers
+    (find-Contains (λ (x : Provider). x.number == prov) t.providers p found) in
+    let never : false ≡ true = subst (λ o. IsSome o) none lives in absurd (cc)
+
+-- where no rank is told, there is no geom
+pub no_rank : (t : Topology Config) (g : ℕ)
+    → None ≡ option_map (λ (x : Geom Config). rank t g) (geom_at t g) → geom_at t g ≡ None
+no_rank t g none = none-mapped (λ (x : Geom Config). rank t g) (geom_at t g) (sym none)
+
+-- What a concat and a stripe ask, where nothing refuses them
 
 -- Sizes
 
@@ -148,9 +269,7 @@ pub assembly-built : {A E : Type 0} (r : Result A E) (s new : State) (name : Lis
 assembly-built r s new name {assembly} {below} {sizes} {over} {offer} {places} {kind} {config} can places_are config_is
     kind_is over_is made =
     let made_of : config ≡ (assembly_geom s.topo.topology assembly name below).config =
-    config_is ∙ ap (λ (cs : List (Option ℕ)). assembly_config assembly cs sizes) places_are
-    ∙ ap (assembly_config assembly (map (λ n. Some n) (range_with_len s.topo.topology.next_consumer (length below))))
-    can.read in
+    config_is ∙ (λ i. assembly_config assembly (places_are i) (can.read i)) in
     let geom : NewGeom = record { kind = kind; name = name; config = config } in
     let geom_is : geom ≡ assembly_geom s.topo.topology assembly name below =
     λ i. record { kind = kind_is i; name = name; config = made_of i } in
@@ -165,12 +284,12 @@ module _ {t : Topology Config} {names : List (List ℕ)} {below : List Below} (f
   -- the sizes of the providers
   all-sizes : map (λ (x : Below). x.size) below ≡ whole_sizes ps
   all-sizes = ap (map (λ (x : Below). x.size)) found.is
-      ∙ seen-of t (λ (x : Below). x.size) (λ (p : Provider). p.size) (λ p. refl) ps
+      ∙ map-map (λ (x : Below). x.size) (below_seen t) ps
 
   -- their numbers
   all-numbers : map (λ (x : Below). x.prov) below ≡ map (λ (p : Provider). p.number) ps
   all-numbers = ap (map (λ (x : Below). x.prov)) found.is
-      ∙ seen-of t (λ (x : Below). x.prov) (λ (p : Provider). p.number) (λ p. refl) ps
+      ∙ map-map (λ (x : Below). x.prov) (below_seen t) ps
 
   -- the sector size of the first
   all-sector : sector_below below ≡ sector_of ps
@@ -201,9 +320,7 @@ module _ {t : Topology Config} {names : List (List ℕ)} {below : List Below} (f
     where
       config_is : (assembly_geom t assembly name below).config ≡ config_of_all t assembly ps
       config_is =
-          ap (λ n. assembly_config assembly (map (λ c. Some c) (range_with_len t.next_consumer n))
-          (map (λ (x : Below). x.size) below)) all-count
-          ∙ ap (assembly_config assembly (new_places t ps)) all-sizes
+          λ i. assembly_config assembly (map (λ c. Some c) (range_with_len t.next_consumer (all-count i))) (all-sizes i)
 
   -- the size of one
   all-joined : (assembly : Assembly) (size : Option ℕ)
@@ -224,9 +341,8 @@ module _ {t : Topology Config} {names : List (List ℕ)} {below : List Below} (f
   all-refusal assembly name wanted {full} {size} {bad} full_is bad_is told size_is =
       let config : Config = config_of_all t assembly ps in
       told config ps found.is (all-joined assembly size size_is)
-      ∙ ap (λ n. first_error (joined_tests t n config wanted ps bad)) full_is
-      ∙ ap (λ b. first_error (joined_tests t (assembly_name assembly name) config wanted ps b))
-      (bad_is ∙ ap (λ n. has_bad_strips assembly n) all-sector)
+      ∙ (λ i. first_error (joined_tests t (full_is i) config wanted ps
+      ((bad_is ∙ ap (λ n. has_bad_strips assembly n) all-sector) i)))
 
 -- What was read of it
 
@@ -296,8 +412,8 @@ module _ (s : State) (firm : IsFirm s) {names : List (List ℕ)} {below : List B
         → (actors : List (List LineCommand)) (log : List Entry) → o ≡ outcomes.Replied line (replies.Refused e)
         → do_assembly (world actors log s) line assembly name (length names) qs ≡ (world actors log s, o)
     assembly-refused e told line o actors log is =
-        joined-refused s s line o actors log (assembly_kind assembly) name full config (length names) qs
-        (has_bad_strips assembly (sector_of qs)) e (sym told ∙ judgement.refusal_is) is
+        made-refused s s line o actors log (assembly_refusal t assembly name (length names) qs) _ e
+        (sym judgement.refusal_is ∙ told) is
 
     -- where nothing is against it
     module _ (none : refusal ≡ None) where
@@ -362,7 +478,5 @@ module _ (s : State) (firm : IsFirm s) {names : List (List ℕ)} {below : List B
             → o ≡ outcomes.Replied line replies.Ok
             → do_assembly (world actors log s) line assembly name (length names) qs ≡ (world actors log new, o)
         assembly-done new made line o actors log is =
-            joined-done s new line o actors log (assembly_kind assembly) name full config (length names) qs
-            (has_bad_strips assembly (sector_of qs)) (assembly_geom t assembly name below)
-            (map (λ (x : Below). x.prov) below) offer (all-geom found assembly name) offer-is (all-numbers found)
-            (made actors log) is free
+            made-done s new line o actors log (all-geom found assembly name) offer-is qs (all-numbers found)
+            (made actors log) is (assembly_refusal t assembly name (length names) qs) (sym free)

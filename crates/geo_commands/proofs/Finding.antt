@@ -1,36 +1,63 @@
--- Disks of the header by their names, and the geoms that stand for them.
-use Rattle.std.specs.Prelude.{◌≡◌, ℕ, suc, ◌+◌, ◌<◌, ◌==◌, Bool, true, false, not, ◌&&◌, cond, List, [], ◌∷◌, length, map, find, Option, Some, None, AllPairs, IfSome, is_some, slice_get, if◌then◌else◌}
+-- Disks of the header by their names, the geoms that stand for them, and geoms that wither by a command.
+use Rattle.std.specs.Prelude.{◌≡◌, ℕ, suc, ◌+◌, ◌<◌, ◌==◌, Bool, true, false, not, ◌&&◌, cond, List, [], ◌∷◌, length, map, find, Option, Some, None, AllPairs, IfSome, is_some, slice_get, if◌then◌else◌, MatchOption, ◌≤◌, count_by, IsSome}
 use Rattle.std.specs.List.{AllByRecursion, enumerate_from, list_any, position_from}
-use Rattle.std.specs.Option.{option_map, option_map_or}
+use Rattle.std.specs.Option.{option_map, option_map_or, option_and_then}
 use Rattle.std.proofs.Common.{get_or, refl, sym, ◌∙◌, ap, subst, arith}
-use Rattle.std.proofs.lemmas.Bool.{eqb-true, ne_eqb}
+use Rattle.std.proofs.lemmas.Bool.{eqb-true, ne_eqb, eq-eqb}
 use Rattle.std.proofs.lemmas.Iterator.Adapters.{position_from-zero}
 use Rattle.std.proofs.lemmas.List.Elements.{recursion_from_All}
 use Rattle.std.proofs.lemmas.Option.{slice_get_read}
 use Rattle.geo_base.proofs.AllLists.{pairs_head, pairs_tail}
 use Rattle.geo_model.proofs.RefusalLemmas.{none_refused}
 use Rattle.geo_base.specs.declared.errno.Errno.{Errno}
-use Rattle.geo_base.specs.declared.errno.Errno.TheVariants.{EBUSY, EEXIST}
+use Rattle.geo_base.specs.declared.errno.Errno.TheVariants.{EBUSY, EEXIST, ENOENT, ENXIO}
 use Rattle.geo_model.specs.declared.command.LineCommand.{LineCommand}
 use Rattle.geo_model.specs.declared.step.Entry.{Entry}
 use Rattle.geo_model.specs.Words.{first_error, same_name}
-use Rattle.geo_model.specs.Topology.{Topology, Geom, geom_at, is_name_taken}
-use Rattle.geo_model.specs.GeomCommands.{header_disk as found_disk, insert_tests, is_geom_of_disk}
+use Rattle.geo_model.specs.Topology.{Topology, Geom, geom_at, is_name_taken, Provider}
+use Rattle.geo_model.specs.GeomCommands.{header_disk as found_disk, insert_tests, is_geom_of_disk, do_destroy, do_pull, header_disk, is_in_use, named_geom, wither_found}
 use Rattle.geo_model.specs.Place.{disk_of}
 use Rattle.geo_model.specs.Sound.{DifferInDisk}
-use Rattle.geo_model.specs.World.{Config, HeaderDisk}
+use Rattle.geo_model.specs.World.{Config, HeaderDisk, World, granted_in}
 use Rattle.geo_laws_graph.proofs.Lists.{found_itself}
 use Rattle.geo_laws_graph.proofs.Members.{find-Contains}
 use Rattle.geo_model.specs.Graph.{AreNumbers}
 use Rattle.geo_state.specs.declared.state.State.{State}
 use Rattle.geo_state.specs.declared.state.DiskSeat.{DiskSeat}
-use Rattle.geo_state.specs.Holds.{Holds, IsSeat}
+use Rattle.geo_state.specs.Holds.{Holds, IsSeat, owed_events}
 use Rattle.geo_state.specs.Trips.{trips}
-use Rattle.geo_state.specs.Parts.{geom_of_disk}
+use Rattle.geo_state.specs.Parts.{geom_of_disk, SameParts}
 use Rattle.geo_state.specs.Steps.{Stands}
 use Rattle.geo_state.specs.World.{disk_of_seat, world}
 use Rattle.geo_commands.specs.Disks.{disk_named, has_name, item_at}
 use Rattle.geo_commands.specs.Names.{stands}
+use Rattle.geo_base.proofs.Options.{if-with, is_some-map, none_of}
+use Rattle.std.proofs.lemmas.List.Sums.{length-filter}
+use Rattle.geo_base.specs.declared.kind.Kind.{Kind}
+use Rattle.geo_base.specs.declared.request.Counts.{Counts}
+use Rattle.geo_model.specs.declared.step.Outcome.{Outcome}
+use Rattle.geo_model.specs.declared.step.Outcome.TheVariants as outcomes
+use Rattle.geo_model.specs.declared.step.Reply.TheVariants as replies
+use Rattle.geo_model.specs.HandleCommands.{answer}
+use Rattle.geo_model.specs.Events.{QueuedTopology, wither}
+use Rattle.geo_model.specs.WorldEvents.{queued_of, with_queued}
+use Rattle.geo_event.specs.EventQueue.{Queued}
+use Rattle.geo_mesh.specs.Topo.{TopoView}
+use Rattle.geo_access.specs.Access.{granted_by}
+use Rattle.geo_life.specs.Life.{CountsStay, RestStays, queued, sound_providers}
+use Rattle.geo_state.proofs.LawLemmas.{effects_keep_parts, holds_after_effects}
+use Rattle.geo_base.proofs.FindLists.{any-contained}
+
+-- Disks of the header by their names, and the geoms that stand for them
+
+-- Tests
+
+-- where nothing is refused each test fails
+pub none_against : (rows : List (Bool × Errno)) → first_error rows ≡ None
+    → AllByRecursion (λ (row : Bool × Errno). row.0 ≡ false) rows
+none_against [] none = tt
+none_against (row ∷ rows) none =
+    let parts = none_refused row.0 row.1 rows none in (parts.0, none_against rows parts.1)
 
 -- Names
 
@@ -43,47 +70,33 @@ pub record IsFoundFrom (name : List ℕ) (k : ℕ) (seats : List DiskSeat) (disk
   pub found : find (λ (item : ℕ × HeaderDisk). same_name item.1.name name) (enumerate_from k (map disk_of_seat seats))
       ≡ Some (item_at disk seat)
 
-found-from : (name : List ℕ) (k : ℕ) (seats : List DiskSeat) (disk : ℕ)
-    → position_from (has_name name) k seats ≡ Some disk → IsFoundFrom name k seats disk
-found-from name k [] disk never = absurd (cc)
-found-from name k (seat ∷ seats) disk is = by (has_name name seat) refl is (found-from name (k + 1) seats disk)
+-- what the model finds, by the place of the first disk of the name
+from-place : (name : List ℕ) (k : ℕ) (seats : List DiskSeat)
+    → MatchOption (position_from (has_name name) k seats)
+    (find (λ (item : ℕ × HeaderDisk). same_name item.1.name name) (enumerate_from k (map disk_of_seat seats)) ≡ None)
+    (λ disk. IsFoundFrom name k seats disk)
+from-place name k [] = refl
+from-place name k (seat ∷ seats) =
+    by (has_name name seat) refl (position_from (has_name name) (k + 1) seats) (from-place name (k + 1) seats)
   where
-    by : (b : Bool) → has_name name seat ≡ b → cond b (Some k) (position_from (has_name name) (k + 1) seats) ≡ Some disk
-        → (position_from (has_name name) (k + 1) seats ≡ Some disk → IsFoundFrom name (k + 1) seats disk)
-        → IsFoundFrom name k (seat ∷ seats) disk
-    by true e same after =
-        let here : k ≡ disk = cc in
-        record {
-          seat = seat;
-          place = 0;
-          number = omega (arith, here);
-          at = refl;
-          found = rw e (ap (λ n. Some (item_at n seat)) here);
-        }
-    by false e later after =
-        let rest = after later in
-        record {
-          seat = rest.seat;
-          place = suc rest.place;
-          number = let n = rest.number in omega (arith, n);
-          at = rest.at;
-          found = rw e rest.found;
-        }
-
-none-from : (name : List ℕ) (k : ℕ) (seats : List DiskSeat) → position_from (has_name name) k seats ≡ None
-    → find (λ (item : ℕ × HeaderDisk). same_name item.1.name name) (enumerate_from k (map disk_of_seat seats)) ≡ None
-none-from name k [] none = refl
-none-from name k (seat ∷ seats) none = by (has_name name seat) refl none (none-from name (k + 1) seats)
-  where
-    by : (b : Bool) → has_name name seat ≡ b → cond b (Some k) (position_from (has_name name) (k + 1) seats) ≡ None
-        → (position_from (has_name name) (k + 1) seats ≡ None
-        → find (λ (item : ℕ × HeaderDisk). same_name item.1.name name)
+    by : (b : Bool) → has_name name seat ≡ b → (o : Option ℕ)
+        → MatchOption o
+        (find (λ (item : ℕ × HeaderDisk). same_name item.1.name name)
         (enumerate_from (k + 1) (map disk_of_seat seats)) ≡ None)
-        → find (λ (item : ℕ × HeaderDisk). same_name item.1.name name)
-        (enumerate_from k (map disk_of_seat (seat ∷ seats)))
-        ≡ None
-    by true e never after = absurd (cc)
-    by false e later after = rw e (after later)
+        (λ disk. IsFoundFrom name (k + 1) seats disk)
+        → MatchOption (cond b (Some k) o)
+        (find (λ (item : ℕ × HeaderDisk). same_name item.1.name name)
+        (enumerate_from k (map disk_of_seat (seat ∷ seats))) ≡ None)
+        (λ disk. IsFoundFrom name k (seat ∷ seats) disk)
+    by true e o rest = record { seat = seat; place = 0; number = omega arith; at = refl; found = rw e refl }
+    by false e None rest = rw e rest
+    by false e (Some disk) rest = record {
+      seat = rest.seat;
+      place = suc rest.place;
+      number = let n = rest.number in omega (arith, n);
+      at = rest.at;
+      found = rw e rest.found;
+    }
 
 -- a disk that was found by its name: its seat, and what the model finds
 pub record IsDiskNamed (s : State) (name : List ℕ) (disk : ℕ) : Type 0 where
@@ -92,36 +105,29 @@ pub record IsDiskNamed (s : State) (name : List ℕ) (disk : ℕ) : Type 0 where
   pub found : (actors : List (List LineCommand)) (log : List Entry)
       → found_disk (world actors log s) name ≡ Some (item_at disk seat)
 
-disk-found : (s : State) (name : List ℕ) (disk : ℕ) → disk_named s.disks.items name ≡ Some disk
-    → IsDiskNamed s name disk
-disk-found s name disk is =
-    let f : IsFoundFrom name 0 s.disks.items disk =
-    found-from name 0 s.disks.items disk (sym (position_from-zero (has_name name) s.disks.items) ∙ is) in
-    record {
-      seat = f.seat;
-      at = let same : disk ≡ f.place = (let n = f.number in omega (arith, n)) in
-          subst (λ n. slice_get s.disks.items n ≡ Some f.seat) (sym same) f.at;
-      found = λ actors log. f.found;
-    }
+module _ (s : State) (name : List ℕ) {seats : List DiskSeat} {read : Option ℕ} (seats_are : seats ≡ s.disks.items)
+    (read_so : read ≡ disk_named seats name) where
+  -- the place that was read in the seats
+  place-read : position_from (has_name name) 0 s.disks.items ≡ read
+  place-read =
+      sym (position_from-zero (has_name name) s.disks.items)
+      ∙ sym (read_so ∙ ap (λ (xs : List DiskSeat). disk_named xs name) seats_are)
 
-no-disk : (s : State) (name : List ℕ) → disk_named s.disks.items name ≡ None
-    → (actors : List (List LineCommand)) (log : List Entry) → found_disk (world actors log s) name ≡ None
-no-disk s name none actors log =
-    none-from name 0 s.disks.items (sym (position_from-zero (has_name name) s.disks.items) ∙ none)
+  -- a disk that was looked up in the seats as they are read
+  pub disk-read : {disk : ℕ} → read ≡ Some disk → IsDiskNamed s name disk
+  disk-read {disk} is =
+      let f : IsFoundFrom name 0 s.disks.items disk = rw (place-read ∙ is) at (from-place name 0 s.disks.items) in
+      let same : disk ≡ f.place = (let n = f.number in omega (arith, n)) in
+      record {
+        seat = f.seat;
+        at = subst (λ n. slice_get s.disks.items n ≡ Some f.seat) (sym same) f.at;
+        found = λ actors log. f.found;
+      }
 
--- a disk that was looked up in the seats as they are read
-pub disk-read : (s : State) (name : List ℕ) {seats : List DiskSeat} {read : Option ℕ} {disk : ℕ}
-    → seats ≡ s.disks.items → read ≡ disk_named seats name → read ≡ Some disk → IsDiskNamed s name disk
-disk-read s name {seats} {read} {disk} seats_are read_so is =
-    disk-found s name disk
-    (ap (λ (xs : List DiskSeat). disk_named xs name) (sym seats_are) ∙ sym read_so ∙ is)
-
--- or isn't among them
-pub disk-unread : (s : State) (name : List ℕ) {seats : List DiskSeat} {read : Option ℕ}
-    → seats ≡ s.disks.items → read ≡ disk_named seats name → read ≡ None
-    → (actors : List (List LineCommand)) (log : List Entry) → found_disk (world actors log s) name ≡ None
-disk-unread s name seats_are read_so is =
-    no-disk s name (ap (λ (xs : List DiskSeat). disk_named xs name) (sym seats_are) ∙ sym read_so ∙ is)
+  -- or isn't among them
+  pub disk-unread : read ≡ None → (actors : List (List LineCommand)) (log : List Entry)
+      → found_disk (world actors log s) name ≡ None
+  disk-unread none actors log = rw (place-read ∙ none) at (from-place name 0 s.disks.items)
 
 -- what is told of the seat of a disk, if there is one, holds of the one that was found
 pub seat-fact : {s : State} {name : List ℕ} {disk : ℕ} (named : IsDiskNamed s name disk) (P : DiskSeat → Type 0)
@@ -138,16 +144,16 @@ seat-refusal {s} {name} {disk} named told fact =
 
 -- The geom of a disk
 
--- one is found just where one is of the disk
-any-found : {X : Type 0} (test : X → Bool) (number : X → ℕ) (xs : List X)
-    → is_some (option_map number (find test xs)) ≡ list_any test xs
-any-found test number [] = refl
-any-found test number (x ∷ xs) = by (test x) refl (any-found test number xs)
-  where
-    by : (b : Bool) → test x ≡ b → is_some (option_map number (find test xs)) ≡ list_any test xs
-        → is_some (option_map number (find test (x ∷ xs))) ≡ list_any test (x ∷ xs)
-    by true e rest = rw e refl
-    by false e rest = rw e rest
+-- one is found just where one passes
+find-any : {X : Type 0} (test : X → Bool) (xs : List X) → is_some (find test xs) ≡ list_any test xs
+find-any test [] = refl
+find-any test (x ∷ xs) = grind (arith, find-any test xs)
+
+-- so a disk has a geom just where one is of it
+any-geom : (t : Topology Config) (disk : ℕ) → is_some (geom_of_disk t disk) ≡ list_any (is_geom_of_disk disk) t.geoms
+any-geom t disk =
+    is_some-map (λ (g : Geom Config). g.number) (find (is_geom_of_disk disk) t.geoms)
+    ∙ find-any (is_geom_of_disk disk) t.geoms
 
 module _ (s : State) (kept : Holds s) (disk : ℕ) (seat : DiskSeat) (at : slice_get s.disks.items disk ≡ Some seat) where
   -- what is kept of the disk
@@ -160,18 +166,12 @@ module _ (s : State) (kept : Holds s) (disk : ℕ) (seat : DiskSeat) (at : slice
 
   -- whether its geom stands
   pub seat-stands : is_some seat.geom ≡ list_any (is_geom_of_disk disk) s.topo.topology.geoms
-  seat-stands = ap (λ o. is_some o) seat-geom
-      ∙ any-found (is_geom_of_disk disk) (λ (g : Geom Config). g.number) s.topo.topology.geoms
+  seat-stands = ap (λ o. is_some o) seat-geom ∙ any-geom s.topo.topology disk
 
   -- none stands where there is none
   pub seat-absent : list_any (is_geom_of_disk disk) s.topo.topology.geoms ≡ false
       → geom_of_disk s.topo.topology disk ≡ None
-  seat-absent none = by (geom_of_disk s.topo.topology disk)
-      (any-found (is_geom_of_disk disk) (λ (g : Geom Config). g.number) s.topo.topology.geoms ∙ none)
-    where
-      by : (o : Option ℕ) → is_some o ≡ false → o ≡ None
-      by None e = refl
-      by (Some n) never = absurd (cc)
+  seat-absent none = none_of (geom_of_disk s.topo.topology disk) (any-geom s.topo.topology disk ∙ none)
 
 -- Those that don't wither
 
@@ -218,50 +218,34 @@ first-stays disk (g ∷ gs) apart =
     by true false e f rest = rw (e, f) refl
     by false b e f rest = rw e rest
 
-module _ (t : Topology Config) (apart : AllPairs DifferInDisk t.geoms)
-    (numbers : AreNumbers (map (λ (g : Geom Config). g.number) t.geoms) t.next_geom) (disk : ℕ) where
-  -- a disk without a geom
-  none-stays : geom_of_disk t disk ≡ None
-      → None ≡ option_map (λ (g : Geom Config). g.number) (find (stays disk) t.geoms)
-  unfolding unless_withers
-  none-stays none =
-      sym (ap (option_map (λ (g : Geom Config). g.number)) (first-stays disk t.geoms apart)
-      ∙ by (find (is_geom_of_disk disk) t.geoms) none)
-    where
-      by : (o : Option (Geom Config)) → option_map (λ (g : Geom Config). g.number) o ≡ None
-          → option_map (λ (g : Geom Config). g.number) (unless_withers o) ≡ None
-      by None e = refl
-      by (Some g) never = absurd (cc)
+-- a number, where its geom doesn't wither
+abbrev unless_withering : Topology Config → ℕ → Option ℕ
+unless_withering t n = if option_map_or stands (geom_at t n) false then Some n else None
 
-  -- one with a geom, by whether it withers
-  geom-stays : (n : ℕ) → geom_of_disk t disk ≡ Some n
-      → option_map (λ (g : Geom Config). g.number) (find (stays disk) t.geoms)
-      ≡ (if option_map_or stands (geom_at t n) false then Some n else None)
-  unfolding unless_withers
-  geom-stays n is =
-      ap (option_map (λ (g : Geom Config). g.number)) (first-stays disk t.geoms apart)
-      ∙ by (find (is_geom_of_disk disk) t.geoms) refl is
-    where
-      at : (g : Geom Config) → find (is_geom_of_disk disk) t.geoms ≡ Some g → geom_at t g.number ≡ Some g
-      at g found =
-          found_itself (λ (x : Geom Config). x.number) t.next_geom t.geoms g numbers
-          (find-Contains (is_geom_of_disk disk) t.geoms g found)
-
-      by : (o : Option (Geom Config)) → find (is_geom_of_disk disk) t.geoms ≡ o
-          → option_map (λ (g : Geom Config). g.number) o ≡ Some n
-          → option_map (λ (g : Geom Config). g.number) (unless_withers o)
-          ≡ (if option_map_or stands (geom_at t n) false then Some n else None)
-      by None e never = absurd (cc)
-      by (Some g) e same =
-          let number : g.number ≡ n = cc in
-          subst (λ m. option_map (λ (x : Geom Config). x.number) (if stands g then Some g else None)
-          ≡ (if option_map_or stands (geom_at t m) false then Some m else None)) number
-          (rw (at g e) (which (stands g)))
-        where
-          which : (b : Bool) → option_map (λ (x : Geom Config). x.number) (if b then Some g else None)
-              ≡ (if b then Some g.number else None)
-          which true = refl
-          which false = refl
+-- the geom of a disk that doesn't wither, by the one that it has
+stays-told : (t : Topology Config) → AllPairs DifferInDisk t.geoms
+    → AreNumbers (map (λ (g : Geom Config). g.number) t.geoms) t.next_geom → (disk : ℕ)
+    → option_map (λ (g : Geom Config). g.number) (find (stays disk) t.geoms)
+    ≡ option_and_then (unless_withering t) (geom_of_disk t disk)
+unfolding unless_withers
+stays-told t apart numbers disk =
+    ap (option_map (λ (g : Geom Config). g.number)) (first-stays disk t.geoms apart)
+    ∙ by (find (is_geom_of_disk disk) t.geoms) refl
+  where
+    by : (o : Option (Geom Config)) → find (is_geom_of_disk disk) t.geoms ≡ o
+        → option_map (λ (g : Geom Config). g.number) (unless_withers o)
+        ≡ option_and_then (unless_withering t) (option_map (λ (g : Geom Config). g.number) o)
+    by None e = refl
+    by (Some g) e =
+        let at : geom_at t g.number ≡ Some g =
+        found_itself (λ (x : Geom Config). x.number) t.next_geom t.geoms g numbers
+        (find-Contains (is_geom_of_disk disk) t.geoms g e) in
+        rw at (which (stands g))
+      where
+        which : (b : Bool) → option_map (λ (x : Geom Config). x.number) (if b then Some g else None)
+            ≡ (if b then Some g.number else None)
+        which true = refl
+        which false = refl
 
 module _ (s : State) (its : Stands s) (disk : ℕ) (seat : DiskSeat)
     (at : slice_get s.disks.items disk ≡ Some seat) where
@@ -269,26 +253,22 @@ module _ (s : State) (its : Stands s) (disk : ℕ) (seat : DiskSeat)
   abbrev standing : Option ℕ
   standing = option_map (λ (g : Geom Config). g.number) (find (stays disk) s.topo.topology.geoms)
 
-  -- where the seat has no geom there is none
-  pub disk-absent : seat.geom ≡ None → None ≡ standing
-  disk-absent none =
-      none-stays s.topo.topology its.firm.1.1.graph.numbers.one_geom_of_disk its.firm.1.1.graph.numbers.geoms disk
-      (sym (seat-geom s its.kept disk seat at) ∙ none)
+  -- it is the one of the seat, unless that withers
+  seat-told : (o : Option ℕ) → seat.geom ≡ o → standing ≡ option_and_then (unless_withering s.topo.topology) o
+  seat-told o is =
+      stays-told s.topo.topology its.firm.1.1.graph.numbers.one_geom_of_disk its.firm.1.1.graph.numbers.geoms disk
+      ∙ ap (option_and_then (unless_withering s.topo.topology)) (sym (seat-geom s its.kept disk seat at) ∙ is)
 
-  -- where it has one, it tells whether the geom stands
-  seat-told : (n : ℕ) → seat.geom ≡ Some n
-      → standing ≡ (if option_map_or stands (geom_at s.topo.topology n) false then Some n else None)
-  seat-told n is =
-      geom-stays s.topo.topology its.firm.1.1.graph.numbers.one_geom_of_disk its.firm.1.1.graph.numbers.geoms disk n
-      (sym (seat-geom s its.kept disk seat at) ∙ is)
+  pub disk-absent : seat.geom ≡ None → None ≡ standing
+  disk-absent none = sym (seat-told None none)
 
   pub disk-standing : (n : ℕ) → seat.geom ≡ Some n
       → option_map_or stands (geom_at s.topo.topology n) false ≡ true → Some n ≡ standing
-  disk-standing n is stays_so = sym (seat-told n is ∙ ap (λ b. if b then Some n else None) stays_so)
+  disk-standing n is stays_so = sym (seat-told (Some n) is ∙ ap (λ b. if b then Some n else None) stays_so)
 
   pub disk-withering : (n : ℕ) → seat.geom ≡ Some n
       → option_map_or stands (geom_at s.topo.topology n) false ≡ false → None ≡ standing
-  disk-withering n is withers = sym (seat-told n is ∙ ap (λ b. if b then Some n else None) withers)
+  disk-withering n is withers = sym (seat-told (Some n) is ∙ ap (λ b. if b then Some n else None) withers)
 
 -- What is against an insert
 
@@ -307,20 +287,11 @@ module _ (s : State) (kept : Holds s) (disk : ℕ) (seat : DiskSeat) (at : slice
       ap (λ x. refusal_by x b) (sym stands ∙ seat-stands s kept disk seat at)
       ∙ ap (refusal_by (list_any (is_geom_of_disk disk) s.topo.topology.geoms)) (sym taken)
 
-  -- so for the one seat of the disk
-  refusal-told : (a b : Bool) → is_some seat.geom ≡ a → is_name_taken s.topo.topology seat.name ≡ b
-      → IfSome (slice_get s.disks.items disk) (λ x. refusal_by a b
-      ≡ first_error (insert_tests s.topo.topology (item_at disk x)))
-  refusal-told a b stands taken =
-      subst (λ o. IfSome o (λ (x : DiskSeat). refusal_by a b
-      ≡ first_error (insert_tests s.topo.topology (item_at disk x)))) (sym at) (refusal-is a b stands taken)
-
   -- where nothing is, the disk has no geom
   pub none-absent : refusal ≡ None → geom_of_disk s.topo.topology disk ≡ None
   none-absent none =
       seat-absent s kept disk seat at
-      (none_refused (list_any (is_geom_of_disk disk) s.topo.topology.geoms) EBUSY
-      ((is_name_taken s.topo.topology seat.name, EEXIST) ∷ []) none).0
+      (none_against (insert_tests s.topo.topology (item_at disk seat)) none).0
 
 -- so for the seat that was read at its place
 pub refusal-at : (s : State) → Holds s → (disk : ℕ) (seat : DiskSeat) → disk < length s.disks.items
@@ -328,6 +299,142 @@ pub refusal-at : (s : State) → Holds s → (disk : ℕ) (seat : DiskSeat) → 
     → is_name_taken s.topo.topology seat.name ≡ b
     → IfSome (slice_get s.disks.items disk) (λ x. first_error ((a, EBUSY) ∷ (b, EEXIST) ∷ [])
     ≡ first_error (insert_tests s.topo.topology (item_at disk x)))
-refusal-at s kept disk seat there is =
-    refusal-told s kept disk seat
-    (slice_get_read s.disks.items (length s.disks.items) disk seat refl there is)
+refusal-at s kept disk seat there is a b stands taken =
+    let at = slice_get_read s.disks.items (length s.disks.items) disk seat refl there is in
+    if-with (slice_get s.disks.items disk)
+    (λ x. first_error ((a, EBUSY) ∷ (b, EEXIST) ∷ []) ≡ first_error (insert_tests s.topo.topology (item_at disk x)))
+    seat at (refusal-is s kept disk seat at a b stands taken)
+
+-- A geom that withers by a command: what the state stands for then, and that all is kept
+
+-- as many carry no error as are counted so
+sound-counted : (t : Topology Config) → sound_providers t ≡ count_by (λ (p : Provider). not p.errored) t.providers
+sound-counted t = length-filter (λ (p : Provider). not p.errored) t.providers
+
+module _ (s : State) (kept : Holds s) where
+  -- the places of the Orphans are owed
+  pub orphan-room : sound_providers s.topo.topology ≤ s.queue.spare
+  orphan-room =
+      let same = sound-counted s.topo.topology in
+      let owed : owed_events s.topo ≤ s.queue.spare = kept.room in
+      omega (arith, same, owed)
+
+  module _ (geom : ℕ) (u : TopoView Config) (q : Queued)
+      (withered : queued u q ≡ wither (queued s.topo s.queue) geom) where
+    -- the world that it stands for
+    pub withered-world : (actors : List (List LineCommand)) (log : List Entry)
+        → world actors log (record s { topo = u; queue = q })
+        ≡ with_queued (world actors log s) (wither (queued_of (world actors log s)) geom)
+    withered-world actors log = ap (with_queued (world actors log s)) withered
+
+    -- all is kept
+    pub withered-kept : RestStays s.topo s.queue u q → CountsStay s.topo u
+        → q.spare + sound_providers s.topo.topology ≡ s.queue.spare + sound_providers u.topology
+        → Holds (record s { topo = u; queue = q })
+    withered-kept rest stay owed =
+        holds_after_effects s u q kept
+        (subst (λ (r : QueuedTopology Config). SameParts s.topo.topology r.topology) (sym withered)
+        ((effects_keep_parts (granted_by s.topo) (queued s.topo s.queue)).withered geom))
+        (ap (λ (v : TopoView Config). v.active) rest.mesh)
+        stay.granted (stay.counted kept.counted) (stay.quiet kept.quiet) room
+      where
+        room : owed_events u ≤ q.spare
+        room =
+            let before = sound-counted s.topo.topology in
+            let after = sound-counted u.topology in
+            let was : owed_events s.topo ≤ s.queue.spare = kept.room in
+            let rows : u.haves ≡ s.topo.haves = ap (λ (v : TopoView Config). v.haves) rest.mesh in
+            let same : count_by (λ (row : ℕ × Counts). not (row.1.w == 0)) u.haves
+            ≡ count_by (λ (row : ℕ × Counts). not (row.1.w == 0)) s.topo.haves =
+            ap (count_by (λ (row : ℕ × Counts). not (row.1.w == 0))) rows in
+            omega (arith, before, after, was, same, owed)
+
+-- Answers
+
+-- an outcome with the world that it leaves
+abbrev pub with_outcome : World → Outcome → World × Outcome
+with_outcome w o = (w, o)
+
+-- an outcome that was said, with the world that it leaves, is the one that was meant
+pub told-so : {made now : World} {meant said : Outcome} → now ≡ made → said ≡ meant
+    → with_outcome made meant ≡ with_outcome now said
+told-so is same = λ i. with_outcome ((sym is) i) ((sym same) i)
+
+-- what was found, where this is seen of it
+pub record IsSeen {X Y : Type 0} (see : X → Y) (o : Option X) (y : Y) : Type 0 where
+  pub item : X
+  pub is : o ≡ Some item
+  pub seen : y ≡ see item
+
+pub seen-in : {X Y : Type 0} (see : X → Y) (o : Option X) {y : Y} → Some y ≡ option_map see o → IsSeen see o y
+seen-in see None never = absurd (cc)
+seen-in see (Some x) so = record { item = x; is = refl; seen = cc }
+
+-- the geom of a number that was found
+abbrev pub IsNumberOf : Option (Geom Config) → ℕ → Type 0
+IsNumberOf o n = IsSeen (λ (g : Geom Config). g.number) o n
+
+pub number-of : (o : Option (Geom Config)) (n : ℕ) → Some n ≡ option_map (λ (g : Geom Config). g.number) o
+    → IsNumberOf o n
+number-of o n is = seen-in (λ (g : Geom Config). g.number) o is
+
+-- one that is found by a test lives
+pub found-lives : (t : Topology Config) (test : Geom Config → Bool) (n : ℕ) → IsNumberOf (find test t.geoms) n
+    → IsSome (geom_at t n)
+found-lives t test n is =
+    find-any (λ (y : Geom Config). y.number == n) t.geoms
+    ∙ any-contained (λ (y : Geom Config). y.number == n) t.geoms is.item (find-Contains test t.geoms is.item is.is)
+    (eq-eqb is.item.number n (sym is.seen))
+
+module _ (s new : State) (line : ℕ) (o : Outcome) (actors : List (List LineCommand)) (log : List Entry) where
+  abbrev w : World
+  w = world actors log s
+
+  -- Pulls
+
+  pub pull-unknown : (name : List ℕ) → header_disk w name ≡ None → o ≡ outcomes.Replied line (replies.Refused ENOENT)
+      → do_pull w line (header_disk w name) ≡ (w, o)
+  pull-unknown name none is = ap (do_pull w line) none ∙ ap (with_outcome w) (sym is)
+
+  module _ (name : List ℕ) (item : ℕ × HeaderDisk) (found : header_disk w name ≡ Some item) where
+    pub pull-absent : find (λ g. is_geom_of_disk item.0 g && not g.withering) s.topo.topology.geoms ≡ None
+        → o ≡ outcomes.Replied line (replies.Refused ENXIO) → do_pull w line (header_disk w name) ≡ (w, o)
+    pull-absent none is =
+        ap (do_pull w line) found ∙ ap (λ g. wither_found w line g ENXIO) none ∙ ap (with_outcome w) (sym is)
+
+    pub pull-done : (geom : ℕ)
+        → IsNumberOf (find (λ g. is_geom_of_disk item.0 g && not g.withering) s.topo.topology.geoms) geom
+        → world actors log new ≡ with_queued w (wither (queued_of w) geom) → o ≡ outcomes.Replied line replies.Ok
+        → do_pull w line (header_disk w name) ≡ (world actors log new, o)
+    pull-done geom g made is =
+        ap (do_pull w line) found ∙ ap (λ x. wither_found w line x ENXIO) g.is
+        ∙ told-so (made ∙ ap (λ n. with_queued w (wither (queued_of w) n)) g.seen) is
+
+  -- Destroys
+
+  module _ (kind : Kind) (name : List ℕ) where
+    module _ (kept : Holds s) (geom : ℕ) (g : IsNumberOf (named_geom w kind name) geom) where
+      -- whether it is in use
+      use-is : (b : Bool) → is_in_use (granted_by s.topo) s.topo.topology geom ≡ b
+          → is_in_use (granted_in w) w.topology g.item.number ≡ b
+      use-is b is =
+          ap (λ (G : ℕ → Counts). is_in_use G w.topology g.item.number) (sym kept.grants)
+          ∙ ap (is_in_use (granted_by s.topo) w.topology) (sym g.seen) ∙ is
+
+      -- the answer, by that
+      abbrev answer_by : Bool → World × Outcome
+      answer_by b =
+          answer w line (if b then Some EBUSY else None)
+          (with_queued w (wither (queued_of w) g.item.number))
+
+      pub destroy-busy : is_in_use (granted_by s.topo) s.topo.topology geom ≡ true
+          → o ≡ outcomes.Replied line (replies.Refused EBUSY) → do_destroy w line (named_geom w kind name) ≡ (w, o)
+      destroy-busy busy is =
+          ap (do_destroy w line) g.is ∙ ap answer_by (use-is true busy) ∙ ap (with_outcome w) (sym is)
+
+      pub destroy-done : is_in_use (granted_by s.topo) s.topo.topology geom ≡ false
+          → world actors log new ≡ with_queued w (wither (queued_of w) geom) → o ≡ outcomes.Replied line replies.Ok
+          → do_destroy w line (named_geom w kind name) ≡ (world actors log new, o)
+      destroy-done free made is =
+          ap (do_destroy w line) g.is ∙ ap answer_by (use-is false free)
+          ∙ told-so (made ∙ ap (λ n. with_queued w (wither (queued_of w) n)) g.seen) is

@@ -1,36 +1,50 @@
--- A concat that has one more component: its new consumer has joined a provider, and its own provider has grown.
-use Rattle.std.specs.Prelude.{◌≡◌, ℕ, ◌+◌, ◌*◌, ◌≤◌, ◌==◌, Bool, true, false, not, ◌&&◌, List, [], ◌∷◌, length, map, filter, Some, None, Contains, IsSome, IfSome}
-use Rattle.std.specs.List.{AllByRecursion}
+-- A concat that has one more component: counts, and its provider that grows.
+use Rattle.std.specs.Prelude.{◌≡◌, ℕ, ◌==◌, Bool, true, false, option_map, Option, Some, None, unwrap_or, if◌then◌else◌, ◌+◌, ◌-◌, ◌≤◌, [], ◌∷◌, ◌++◌, ◌*◌, not, ◌&&◌, List, length, map, filter, Contains, IsSome, IfSome}
+use Rattle.std.specs.Option.{option_map_or}
 use Rattle.std.proofs.Common.{refl, sym, ◌∙◌, ap, subst, arith}
+use Rattle.geo_base.specs.declared.request.Counts.{Counts}
+use Rattle.geo_model.specs.Words.{is_granted_kind}
+use Rattle.geo_model.specs.Topology.{Topology, Geom, Provider, Consumer, consumer_at, attach, set_config, set_size, geom_at, provider_at, add_consumer}
+use Rattle.geo_model.specs.Graph.{IsInOrder}
+use Rattle.geo_model.specs.Demand.{no_counts, have, want, risen}
+use Rattle.geo_model.specs.World.{Config, World, granted_of}
+use Rattle.geo_slots.specs.Slots.{value_at}
+use Rattle.geo_mesh.specs.declared.records.Scratch.{Scratch}
+use Rattle.geo_mesh.specs.Topo.{TopoView, no_scratch, with_topology, is_provider_size, with_consumer}
+use Rattle.geo_laws_graph.proofs.Lists.{changed, changed-keeps, find-changed, map-changed, found_itself}
+use Rattle.geo_laws_graph.proofs.Numbered.{number_found}
+use Rattle.geo_laws_graph.proofs.Found.{config-found, size_found, added-consumer}
+use Rattle.geo_laws_counts.proofs.Unseen.{unseen_size}
+use Rattle.geo_laws_counts.proofs.Openers.{wants_grant}
+use Rattle.geo_access.specs.Access.{IsCounted, clear_scratches, granted_by, holds_grants, noted}
+use Rattle.geo_access.specs.Join.{joined_view}
+use Rattle.geo_access.proofs.Decided.{item_at}
+use Rattle.geo_requests.proofs.Adding.{among, config_kept, stood}
+use Rattle.geo_requests.proofs.Kept.{KeepsCounts, holds_of, kept_counted}
+use Rattle.geo_commands.specs.declared.names.Growing.{Growing}
+use Rattle.geo_commands.specs.Appends.{larger, larger_mesh, IsLarger, HasJoined, IsAble, IsAppended}
+use Rattle.geo_state.proofs.Lists.{found-changed}
+use Rattle.geo_model.specs.declared.step.Event.TheVariants as events
+use Rattle.geo_model.specs.Events.{announce_risen, post, QueuedTopology}
+use Rattle.geo_event.specs.EventQueue.{Queued}
+use Rattle.geo_life.specs.Life.{AreStored, CountsStay, RestStays, notes, queued, without_rises, IsDevMade}
+use Rattle.std.specs.List.{AllByRecursion}
 use Rattle.std.proofs.lemmas.Bool.{eqb-true}
 use Rattle.std.proofs.lemmas.List.{append-nil, map-append}
 use Rattle.std.proofs.lemmas.List.Elements.{All-contains}
 use Rattle.geo_model.proofs.FirmLemmas.{sound_of, steady_of}
 use Rattle.geo_opens.proofs.Holding.{rises_counted}
-use Rattle.geo_model.proofs.RefusalLemmas.{none_refused}
+use Rattle.geo_commands.proofs.Finding.{none_against}
 use Rattle.geo_base.specs.Sectors.{IsSectorSize}
-use Rattle.geo_base.specs.declared.errno.Errno.TheVariants.{EBUSY, EINVAL}
-use Rattle.geo_base.specs.declared.request.Counts.{Counts}
 use Rattle.geo_model.specs.declared.command.LineCommand.{LineCommand}
 use Rattle.geo_model.specs.declared.step.Entry.{Entry}
-use Rattle.geo_model.specs.declared.step.Event.TheVariants as events
-use Rattle.geo_model.specs.Words.{first_error}
-use Rattle.geo_model.specs.Topology.{Topology, Geom, Provider, Consumer, geom_at, provider_at, add_consumer, set_config}
-use Rattle.geo_model.specs.Graph.{IsInOrder}
-use Rattle.geo_model.specs.Demand.{have, risen}
 use Rattle.geo_model.specs.Place.{disk_of}
-use Rattle.geo_model.specs.Events.{QueuedTopology, announce_risen, post}
-use Rattle.geo_model.specs.World.{World, Config, granted_of}
 use Rattle.geo_model.specs.WorldEvents.{with_queued}
 use Rattle.geo_model.specs.Acceptance.{add_place}
-use Rattle.geo_model.specs.Append.{Growing as GrowingConcat, append_tests, appended, component_refusal, is_growth_busy, is_invalid_append, with_component}
+use Rattle.geo_model.specs.Append.{Growing as GrowingConcat, append_tests, component_refusal, with_component}
 use Rattle.geo_model.specs.Sound.{IsMediaSize}
 use Rattle.geo_model.specs.Fitting.{Firm}
-use Rattle.geo_event.specs.EventQueue.{Queued}
-use Rattle.geo_mesh.specs.Topo.{TopoView, is_provider_size, with_consumer}
-use Rattle.geo_laws_graph.proofs.Lists.{found_itself, map-changed}
 use Rattle.geo_laws_graph.proofs.Members.{All-from_contained, find-Contains}
-use Rattle.geo_laws_graph.proofs.Found.{added-consumer}
 use Rattle.geo_laws_graph.proofs.TwoChanges.{two-changes}
 use Rattle.geo_laws_counts.specs.CountWords.{DemandStays, AnyConsumer}
 use Rattle.geo_laws_counts.proofs.Stays.{consumer_came}
@@ -41,8 +55,6 @@ use Rattle.geo_laws_life.proofs.Found.{one-found, some-there}
 use Rattle.geo_laws_making.proofs.Over.{false_true}
 use Rattle.geo_laws_making.proofs.Concats.{IsStanding}
 use Rattle.geo_laws_making.proofs.Larger.{larger-firm, valid_from}
-use Rattle.geo_access.specs.Access.{IsCounted, granted_by, noted}
-use Rattle.geo_life.specs.Life.{AreStored, IsDevMade, notes, queued}
 use Rattle.geo_life.proofs.Places.{counts_are_stored, places_are_few}
 use Rattle.geo_life.proofs.Spared.{handles_are_spared}
 use Rattle.geo_state.specs.declared.state.State.{State}
@@ -57,14 +69,175 @@ use Rattle.geo_state.proofs.Frames.{parts-config, parts-count, parts-risen, part
 use Rattle.geo_state.proofs.OwedLemmas.{owed_are_few}
 use Rattle.geo_state.proofs.SiteLemmas.{kept_with_sites}
 use Rattle.geo_commands.specs.declared.below.Below.{Below}
-use Rattle.geo_commands.specs.declared.names.Growing.{Growing}
-use Rattle.geo_commands.specs.Appends.{HasJoined, IsAble, IsAppended, IsLarger, larger, larger_mesh}
 use Rattle.geo_commands.specs.Names.{growing_seen}
-use Rattle.geo_commands.proofs.Granting.{loose-grants}
-use Rattle.geo_commands.proofs.Joined.{next-unknown}
-use Rattle.geo_commands.proofs.Resizing.{joined_granted, larger_counted, larger_granted}
-use Rattle.geo_commands.proofs.Standing.{media_size}
-use Rattle.geo_commands.proofs.Testing.{named-stands}
+use Rattle.geo_commands.proofs.Appending.{loose-grants, named-stands}
+use Rattle.geo_opens.proofs.Admitting.{next-unknown}
+use Rattle.geo_commands.proofs.Grown.{media_size}
+use Rattle.geo_base.proofs.Options.{if-with}
+
+-- Another configuration of a geom and another size of a provider leave all counts as they are
+
+-- Counts
+
+module _ {C : Type 0} (t : TopoView C) (counted : IsCounted t) (order : IsInOrder t.topology) (p size : ℕ) where
+  -- whether it is the provider, and what becomes of it
+  abbrev hit : Provider → Bool
+  hit y = y.number == p
+
+  abbrev resized : Provider → Provider
+  resized y = record y { size = size }
+
+  -- another size of a provider leaves all counts
+  size_kept : KeepsCounts t (with_topology t (set_size t.topology p size))
+  size_kept = record {
+    order = size_found.order t.topology p size order;
+    kinds = counted.kinds;
+    haves =
+        counted.haves
+        ∙ sym (map-changed hit resized (λ (y : Provider). let row : ℕ × Counts =
+        (y.number, have (granted_by t) t.topology y.number) in row) (λ y e. refl) t.topology.providers);
+    wants = counted.wants;
+    stays = among (granted_by t) t.topology (set_size t.topology p size) t.topology.consumers
+        (unseen_size (granted_by t) t.topology p size);
+    classes = λ c there. refl;
+    known = stood t counted order t.room;
+    risen =
+        counted.risen
+        ∙ sym (map-changed hit resized (λ (y : Provider). y.number) (λ y e. refl) t.topology.providers);
+    fallen =
+        counted.fallen
+        ∙ sym (map-changed hit resized (λ (y : Provider). y.number) (λ y e. refl) t.topology.providers);
+    clear =
+        counted.clear
+        ∙ ap (λ rows. record (clear_scratches t.topology) { providers = rows })
+        (sym (map-changed hit resized (λ (y : Provider). let row : ℕ × Scratch = (y.number, no_scratch) in row)
+        (λ y e. refl) t.topology.providers));
+  }
+
+module _ (t : TopoView Config) (counted : IsCounted t) (order : IsInOrder t.topology) (x : Growing) (config : Config)
+    (size : ℕ) where
+  -- the mesh with the configuration
+  abbrev configured : TopoView Config
+  configured = with_topology t (set_config t.topology x.geom config)
+
+  -- it is counted
+  configured_counted : IsCounted configured
+  configured_counted = kept_counted t configured counted (config_kept t counted order t.room x.geom config)
+
+  -- and so is the larger one
+  pub larger_counted : IsCounted (larger_mesh t x config size)
+  larger_counted =
+      kept_counted configured (larger_mesh t x config size) configured_counted
+      (size_kept configured configured_counted (config-found.order t.topology x.geom config order) x.prov size)
+
+  -- whether a geom holds grants is as it was
+  holds_same : (g : ℕ) → holds_grants (larger t.topology x config size) g ≡ holds_grants t.topology g
+  holds_same g =
+      found-changed (λ (y : Geom Config). y.number == x.geom) (λ y. record y { config = config }) (λ y. y.number == g)
+      (λ o. option_map_or (λ (y : Geom Config). is_granted_kind y.kind) o false) (λ y e. refl) (λ y e. refl)
+      t.topology.geoms
+
+  -- so grants are the same
+  pub larger_granted : (n : ℕ) → granted_by (larger_mesh t x config size) n ≡ granted_by t n
+  larger_granted n = λ i.
+      option_map_or
+      (λ (y : Consumer). if holds_same y.geom i then unwrap_or (value_at t.wants n) no_counts else no_counts)
+      (consumer_at t.topology n) no_counts
+
+-- Grants
+
+module _ {C : Type 0} (t : TopoView C) (cons p : ℕ) where
+  -- the graph with the consumer at the provider
+  abbrev joined_graph : Topology C
+  joined_graph = attach t.topology cons p
+
+  -- what is granted to a consumer that is found, by the stored counts of its number
+  abbrev seen : Option Counts → Option Consumer → Counts
+  seen w o =
+      option_map_or (λ (x : Consumer). if holds_grants t.topology x.geom then unwrap_or w no_counts else no_counts) o
+      no_counts
+
+  abbrev joiner : Consumer → Bool
+  joiner c = c.number == cons
+
+  abbrev joining : Consumer → Consumer
+  joining c = record c { provider = Some p }
+
+  -- a consumer that joins leaves all grants
+  pub joined_granted : (n : ℕ) → granted_by (joined_view t cons p) n ≡ granted_by t n
+  joined_granted n =
+      found-changed joiner joining (λ (c : Consumer). c.number == n) (seen (value_at (joined_view t cons p).wants n))
+      (λ c e. refl) (λ c e. refl) t.topology.consumers
+      ∙ by (consumer_at t.topology n) refl
+    where
+      at : (y : Consumer) → consumer_at t.topology n ≡ Some y → (b : Bool) → holds_grants t.topology y.geom ≡ b
+          → (if b then unwrap_or (value_at (joined_view t cons p).wants n) no_counts else no_counts)
+          ≡ (if b then unwrap_or (value_at t.wants n) no_counts else no_counts)
+      at y is true holds =
+          let z : Consumer = changed joiner joining y in
+          let same : z.geom ≡ y.geom = changed-keeps joiner joining (λ (c : Consumer). c.geom) (λ c e. refl) y in
+          let stands : consumer_at joined_graph n ≡ Some z =
+          find-changed joiner joining (λ (c : Consumer). c.number == n) (λ c e. refl) t.topology.consumers
+          ∙ ap (option_map (changed joiner joining)) is in
+          ap (λ o. unwrap_or o no_counts)
+          (item_at (λ (c : Consumer). c.number) (want (granted_by t) joined_graph) n joined_graph.consumers z stands)
+          ∙ wants_grant (granted_by t) joined_graph z
+          (holds_of joined_graph z.geom (ap (holds_grants t.topology) same ∙ holds))
+          ∙ ap (granted_by t) (number_found (λ (c : Consumer). c.number) joined_graph.consumers n z stands)
+          ∙ ap (seen (value_at t.wants n)) is
+          ∙ ap (λ b. if b then unwrap_or (value_at t.wants n) no_counts else no_counts) holds
+      at y is false holds = refl
+
+      by : (o : Option Consumer) → consumer_at t.topology n ≡ o
+          → seen (value_at (joined_view t cons p).wants n) o ≡ seen (value_at t.wants n) o
+      by None is = refl
+      by (Some y) is = at y is (holds_grants t.topology y.geom) refl
+
+-- A provider that grows with its geom: what is announced of it
+
+-- what rises in a mesh was announced
+record IsAnnounced (b : TopoView Config) (q : Queued) (new : TopoView Config) (mid : Queued) : Type 0 where
+  told : (granted : ℕ → Counts) → AreStored granted b
+      → queued new mid ≡ announce_risen granted (noted b.risen) (queued b q)
+  rest : RestStays (without_rises b) q new mid
+  room : mid.spare + notes b.risen ≡ q.spare
+  kept : CountsStay (without_rises b) new
+
+module _ (t : TopoView Config) (q : Queued) (x : Growing) (config : Config) (size : ℕ) where
+  -- the mesh is the larger one
+  pub larger-is : (a b : TopoView Config) → a ≡ with_topology t (set_config t.topology x.geom config)
+      → b ≡ with_topology a (set_size a.topology x.prov size) → b ≡ larger_mesh t x config size
+  larger-is a b swapped sized =
+      sized ∙ ap (λ (v : TopoView Config). with_topology v (set_size v.topology x.prov size)) swapped
+
+  module _ (new : TopoView Config) (mid queue : Queued)
+      (posted : queue ≡ record { events = mid.events ++ events.Resize x.prov ∷ []; spare = mid.spare - 1 })
+      (enough : notes t.risen + 1 ≤ q.spare) where
+    -- once Resize is posted too
+    announced-larger : IsAnnounced (larger_mesh t x config size) q new mid → IsLarger t q x config size new queue
+    announced-larger is = record {
+      announced = λ granted stored.
+          ap (λ (z : Queued). record { topology = new.topology; events = z.events }) posted
+          ∙ ap (λ z. post z (events.Resize x.prov)) (is.told granted stored);
+      mesh = is.rest.mesh;
+      kept = is.kept;
+      room =
+          let left : mid.spare + notes t.risen ≡ q.spare = is.room in
+          let now : queue.spare ≡ mid.spare - 1 = ap (λ (z : Queued). z.spare) posted in
+          omega (arith, left, now, enough);
+    }
+
+    pub is-larger : (b : TopoView Config) → b ≡ larger_mesh t x config size
+        → ((granted : ℕ → Counts) → AreStored granted b
+        → queued new mid ≡ announce_risen granted (noted b.risen) (queued b q))
+        → RestStays (without_rises b) q new mid → mid.spare + notes b.risen ≡ q.spare
+        → CountsStay (without_rises b) new → IsLarger t q x config size new queue
+    is-larger b same told rest room kept =
+        announced-larger
+        (subst (λ (v : TopoView Config). IsAnnounced v q new mid) same
+        (record { told = told; rest = rest; room = room; kept = kept }))
+
+-- A concat that has one more component: its new consumer has joined a provider, and its own provider has grown
 
 -- what the growth of a provider asks
 pub record MayGrow (v : TopoView Config) (q : Queued) (g : Growing) (config : Config) (size : ℕ) : Type 0 where
@@ -76,11 +249,18 @@ pub record MayGrow (v : TopoView Config) (q : Queued) (g : Growing) (config : Co
   pub counted : IsCounted (larger_mesh v g config size)
   pub room : notes v.risen + 1 ≤ q.spare
 
-module _ (s : State) (stands : Stands s) (x : GrowingConcat)
-    (q : Provider) (is : IsStanding s.topo.topology x) (there : provider_at s.topo.topology q.number ≡ Some q)
-    (free : first_error (append_tests (world stands.firm.1.0 stands.firm.0 s) x q) ≡ None)
-    (none : component_refusal (world stands.firm.1.0 stands.firm.0 s) x q ≡ None) where
-  -- the world and the graph before
+-- An append that no test is against
+
+module _ (s : State) (stands : Stands s) (growing : Growing) (below : Below) (able : IsAble s growing below)
+    (none : (actors : List (List LineCommand)) (log : List Entry)
+    → None ≡ component_refusal (world actors log s) able.named.concat able.named.provider) where
+  -- the concat and the provider, and the world and the graph before
+  abbrev x : GrowingConcat
+  x = able.named.concat
+
+  abbrev q : Provider
+  q = able.named.provider
+
   abbrev w : World
   w = world stands.firm.1.0 stands.firm.0 s
 
@@ -117,12 +297,16 @@ module _ (s : State) (stands : Stands s) (x : GrowingConcat)
   order : IsInOrder t
   order = firm-order stands.firm.0 s stands.firm.1
 
+  -- the concat stands
+  standing : IsStanding t x
+  standing = named-stands order able.named
+
   -- the world with the component is firm
   grown_firm : Firm (with_component w x q)
   grown_firm =
-      let a = none_refused (is_invalid_append t x q) EINVAL ((is_growth_busy w x.provider.number, EBUSY) ∷ []) free in
-      let b = none_refused (is_growth_busy w x.provider.number) EBUSY [] a.1 in
-      larger-firm w x q stands.firm.1.1 is there (valid_from t x q a.0) b.0 none
+      let fails = none_against (append_tests w x q) (able.free stands.firm.1.0 stands.firm.0) in
+      larger-firm w x q stands.firm.1.1 standing able.named.found (valid_from t x q fails.0) fails.1.0
+      (sym (none stands.firm.1.0 stands.firm.0))
 
   -- the provider of the concat is found with its new size, which is one
   grown_size : is_provider_size (x.provider.size + q.size) x.provider.sector ≡ true
@@ -130,7 +314,7 @@ module _ (s : State) (stands : Stands s) (x : GrowingConcat)
       let y : Provider = record x.provider { size = x.provider.size + q.size } in
       let here : Contains u.providers y =
       find-Contains (λ (z : Provider). z.number == x.provider.number) u.providers y
-      (grown_is_found.provider w x q is.found) in
+      (grown_is_found.provider w x q standing.found) in
       media_size y.size y.sector
       (All-contains (λ (z : Provider). IsSectorSize z.sector) u.providers y grown_firm.sizes.sectors here)
       (All-contains (λ (z : Provider). IsMediaSize z.size z.sector) u.providers y grown_firm.graph.providers.sizes here)
@@ -152,7 +336,7 @@ module _ (s : State) (stands : Stands s) (x : GrowingConcat)
       let at : geom_at t n ≡ Some y =
       subst (λ k. geom_at t k ≡ Some y) (eqb-true y.number n same)
       (found_itself (λ (z : Geom Config). z.number) t.next_geom t.geoms y order.geoms here) in
-      ap (λ (z : Geom Config). disk_of z.config) (one-found (geom_at t n) y x.geom at is.found.geom)
+      ap (λ (z : Geom Config). disk_of z.config) (one-found (geom_at t n) y x.geom at standing.found.geom)
       ∙ sym (keeps_places x.geom.config next q.size).disk)
 
   grown_parts : SameParts added u
@@ -162,7 +346,22 @@ module _ (s : State) (stands : Stands s) (x : GrowingConcat)
 
   -- The consumer has joined
 
-  module _ (v : TopoView Config) (joined : HasJoined s.topo n q.number v) where
+  module _ (j : State) (rest : j ≡ record s { topo = j.topo })
+      (joined_as : HasJoined s.topo growing.geom below.prov j.topo) where
+    -- the mesh then
+    abbrev v : TopoView Config
+    v = j.topo
+
+    -- the queue is as it was
+    queue_is : j.queue ≡ s.queue
+    queue_is = ap (λ (z : State). z.queue) rest
+
+    -- the consumer is the concat's and joined the provider
+    joined : HasJoined s.topo n q.number v
+    joined =
+        subst (λ k. HasJoined s.topo k q.number v) (ap (λ (z : Growing). z.geom) able.named.growing_is)
+        (subst (λ k. HasJoined s.topo growing.geom k v) (ap (λ (z : Below). z.prov) able.named.below_is) joined_as)
+
     -- the graph is the one with it
     graph_is : v.topology ≡ added
     graph_is = ap (λ (z : TopoView Config). z.topology) joined.mesh ∙ two-changes.made t n q.number order
@@ -224,26 +423,42 @@ module _ (s : State) (stands : Stands s) (x : GrowingConcat)
             (λ k. sym (larger_granted v joined.counted joined_order g config size k ∙ grants_are k))
 
         offer_is : provider_at v.topology g.prov ≡ Some x.provider
-        offer_is = ap (λ (z : Topology Config). provider_at z g.prov) graph_is ∙ is.found.provider
+        offer_is = ap (λ (z : Topology Config). provider_at z g.prov) graph_is ∙ standing.found.provider
 
-        may_grow : 3 * length t.providers + 128 ≤ s.queue.spare → MayGrow v s.queue g config size
-        may_grow room = record {
-          stands = some-there (geom_at v.topology g.geom) x.geom
-              (ap (λ (z : Topology Config). geom_at z g.geom) graph_is ∙ is.found.geom);
-          lives = some-there (provider_at v.topology g.prov) x.provider offer_is;
-          sectors = subst (λ o. IfSome o (λ (y : Provider). is_provider_size size y.sector ≡ true)) (sym offer_is)
-              (ap (λ k. is_provider_size k x.provider.sector) size_is ∙ grown_size);
-          grows = subst (λ o. IfSome o (λ (y : Provider). y.size ≤ size)) (sym offer_is) (omega (arith, size_is));
-          made = subst (λ (z : Topology Config). IsDevMade z) (sym mesh_graph)
-              (handles_are_spared.made (with_component w x q) (sound_of (with_component w x q) grown_firm)
-              (steady_of (with_component w x q) grown_firm));
-          counted = mesh_counted;
-          room = let few = few_notes in omega (arith, few, room);
-        }
+        -- the provider may grow
+        pub able_grows : 3 * length t.providers + 128 ≤ s.queue.spare → MayGrow v j.queue growing config size
+        able_grows room =
+            subst (λ (z : Queued). MayGrow v z growing config size) (sym queue_is)
+            (subst (λ (k : Growing). MayGrow v s.queue k config size) (sym able.named.growing_is)
+            (record {
+              stands = some-there (geom_at v.topology g.geom) x.geom
+                  (ap (λ (z : Topology Config). geom_at z g.geom) graph_is ∙ standing.found.geom);
+              lives = some-there (provider_at v.topology g.prov) x.provider offer_is;
+              sectors = if-with (provider_at v.topology g.prov) (λ y. is_provider_size size y.sector ≡ true) x.provider
+                  offer_is (ap (λ k. is_provider_size k x.provider.sector) size_is ∙ grown_size);
+              grows = if-with (provider_at v.topology g.prov) (λ y. y.size ≤ size) x.provider offer_is
+                  (omega (arith, size_is));
+              made = subst (λ (z : Topology Config). IsDevMade z) (sym mesh_graph)
+                  (handles_are_spared.made (with_component w x q) (sound_of (with_component w x q) grown_firm)
+                  (steady_of (with_component w x q) grown_firm));
+              counted = mesh_counted;
+              room = let few = few_notes in omega (arith, few, room);
+            }))
 
         -- Once the provider has grown
 
-        module _ (new : TopoView Config) (queue : Queued) (grew : IsLarger v s.queue g config size new queue) where
+        module _ (new : TopoView Config) (queue : Queued)
+            (grew_as : IsLarger v j.queue growing config size new queue) where
+          -- it grew as it was found
+          grew : IsLarger v s.queue g config size new queue
+          grew =
+              subst (λ (k : Growing). IsLarger v s.queue k config size new queue) able.named.growing_is
+              (subst (λ (z : Queued). IsLarger v z growing config size new queue) queue_is grew_as)
+
+          -- all else is as it was
+          end_is : record j { topo = new; queue = queue } ≡ record s { topo = new; queue = queue }
+          end_is = ap (λ (z : State). record z { topo = new; queue = queue }) rest
+
           -- the graph and the queue are those of the model
           told : queued new queue
               ≡ post
@@ -257,10 +472,13 @@ module _ (s : State) (stands : Stands s) (x : GrowingConcat)
               ∙ ap (λ (z : Topology Config). post (announce_risen granted (risen granted t granted u)
               (record { topology = z; events = s.queue.events })) (events.Resize x.provider.number)) mesh_graph
 
-          -- so is the world
-          lengthened_world : (actors : List (List LineCommand)) (log : List Entry)
-              → world actors log (record s { topo = new; queue = queue }) ≡ appended (world actors log s) x q
-          lengthened_world actors log = ap (with_queued (world actors log s)) told
+          -- so the component is appended
+          pub able_told : (actors : List (List LineCommand)) (log : List Entry)
+              → IsAppended (world actors log s) (world actors log (record j { topo = new; queue = queue })) x q None
+          able_told actors log = record {
+            refused = none actors log;
+            made = λ line. ap (world actors log) end_is ∙ ap (with_queued (world actors log s)) told;
+          }
 
           -- parts are where they were
           parts : SameParts added new.topology
@@ -309,82 +527,16 @@ module _ (s : State) (stands : Stands s) (x : GrowingConcat)
                     omega (arith, few, owed, as_many, left, room);
               }
 
-          -- so all is kept
-          lengthened_kept : 3 * length t.providers + 128 ≤ s.queue.spare
-              → Holds (record s { topo = new; queue = queue })
-          lengthened_kept room =
+          -- and all is kept
+          pub able_kept : 3 * length t.providers + 128 ≤ s.queue.spare
+              → Holds (record j { topo = new; queue = queue })
+          able_kept room =
               let same : s.providers + 0 ≡ s.providers = omega arith in
-              subst (λ k. Holds (record s { topo = new; queue = queue; providers = k })) same
+              subst Holds (sym end_is)
+              (subst (λ k. Holds (record s { topo = new; queue = queue; providers = k })) same
               (kept_with_sites.comers stands.firm.0 s new queue s.taste
               (record { consumers = next ∷ []; geoms = []; providers = [] })
-              stands.kept stands.firm.1 comer_came (next-unknown s stands, tt) tt
+              stands.kept stands.firm.1 comer_came (next-unknown s stands.kept order, tt) tt
               (λ k.
               grew.kept.granted k ∙ larger_granted v joined.counted joined_order g config size k ∙ grants_are k)
-              (settled room))
-
--- An append that no test is against, once its consumer has joined
-
-module _ (s : State) (stands : Stands s) (g : Growing) (b : Below)
-    (able : IsAble s g b) (j : State) (rest : j ≡ record s { topo = j.topo })
-    (none : (actors : List (List LineCommand)) (log : List Entry)
-    → None ≡ component_refusal (world actors log s) able.named.concat able.named.provider)
-    (joined : HasJoined s.topo g.geom b.prov j.topo) (config : Config)
-    (config_is : config
-    ≡ add_place able.named.concat.geom.config s.topo.topology.next_consumer able.named.provider.size) (size : ℕ)
-    (size_is : size ≡ able.named.concat.provider.size + able.named.provider.size) where
-  -- the concat stands
-  standing : IsStanding s.topo.topology able.named.concat
-  standing = named-stands (firm-order stands.firm.0 s stands.firm.1) able.named
-
-  -- its consumer joined the provider
-  joined_so : HasJoined s.topo able.named.concat.geom.number able.named.provider.number j.topo
-  joined_so =
-      subst (λ k. HasJoined s.topo k able.named.provider.number j.topo)
-      (ap (λ (z : Growing). z.geom) able.named.growing_is)
-      (subst (λ k. HasJoined s.topo g.geom k j.topo) (ap (λ (z : Below). z.prov) able.named.below_is) joined)
-
-  -- the queue is as it was
-  queue_is : j.queue ≡ s.queue
-  queue_is = ap (λ (z : State). z.queue) rest
-
-  -- the provider may grow
-  pub able_grows : 3 * length s.topo.topology.providers + 128 ≤ s.queue.spare → MayGrow j.topo j.queue g config size
-  able_grows room =
-      subst (λ (z : Queued). MayGrow j.topo z g config size) (sym queue_is)
-      (subst (λ (k : Growing). MayGrow j.topo s.queue k config size) (sym able.named.growing_is)
-      (may_grow s stands able.named.concat able.named.provider standing able.named.found
-      (able.free stands.firm.1.0 stands.firm.0) (sym (none stands.firm.1.0 stands.firm.0)) j.topo joined_so config
-      config_is size size_is room))
-
-  module _ (new : TopoView Config) (queue : Queued) (grew : IsLarger j.topo j.queue g config size new queue) where
-    -- it grew as it was found
-    grew_so : IsLarger j.topo s.queue (growing_seen able.named.concat) config size new queue
-    grew_so =
-        subst (λ (k : Growing). IsLarger j.topo s.queue k config size new queue) able.named.growing_is
-        (subst (λ (z : Queued). IsLarger j.topo z g config size new queue) queue_is grew)
-
-    -- all else is as it was
-    end_is : record j { topo = new; queue = queue } ≡ record s { topo = new; queue = queue }
-    end_is = ap (λ (z : State). record z { topo = new; queue = queue }) rest
-
-    -- the component is appended
-    pub able_told : (actors : List (List LineCommand)) (log : List Entry)
-        → IsAppended (world actors log s) (world actors log (record j { topo = new; queue = queue }))
-        able.named.concat able.named.provider None
-    able_told actors log = record {
-      refused = none actors log;
-      made = λ line.
-          ap (world actors log) end_is
-          ∙ lengthened_world s stands able.named.concat able.named.provider standing able.named.found
-          (able.free stands.firm.1.0 stands.firm.0) (sym (none stands.firm.1.0 stands.firm.0)) j.topo joined_so config
-          config_is size size_is new queue grew_so actors log;
-    }
-
-    -- and all is kept
-    pub able_kept : 3 * length s.topo.topology.providers + 128 ≤ s.queue.spare
-        → Holds (record j { topo = new; queue = queue })
-    able_kept room =
-        subst Holds (sym end_is)
-        (lengthened_kept s stands able.named.concat able.named.provider standing able.named.found
-        (able.free stands.firm.1.0 stands.firm.0) (sym (none stands.firm.1.0 stands.firm.0)) j.topo joined_so config
-        config_is size size_is new queue grew_so room)
+              (settled room)))

@@ -1,17 +1,16 @@
--- The providers that are reached upwards from one are those below which it is.
-use Rattle.std.specs.Prelude.{◌≡◌, ◌≢◌, ◌⊎◌, ℕ, zero, suc, ◌+◌, ◌<◌, ◌≤◌, ◌==◌, Bool, true, false, not, List, [], ◌∷◌, ◌++◌, length, map, flat_map, fold, Option, Some, None, Contains, IsSomeAnd, slice_get, if◌then◌else◌}
-use Rattle.std.specs.List.{AllByRecursion}
+-- The providers that are reached upwards from one, and whether a bio goes to them.
+use Rattle.std.specs.Prelude.{◌≡◌, ◌≢◌, ◌⊎◌, ℕ, zero, suc, ◌+◌, ◌<◌, ◌≤◌, ◌==◌, Bool, true, false, not, List, [], ◌∷◌, ◌++◌, length, map, flat_map, fold, Option, Some, None, Contains, IsSomeAnd, slice_get, if◌then◌else◌, ◌||◌}
 use Rattle.std.specs.Option.{option_map_or}
-use Rattle.std.proofs.Common.{refl, sym, ◌∙◌, ap, subst, arith, inl, inr}
-use Rattle.std.proofs.lemmas.Bool.{cases_eq, cases_lt, eq-eqb, eqb-true, ne_eqb, false_from_ne_true, or_parts}
-use Rattle.std.proofs.lemmas.List.{length-append, length-map}
-use Rattle.std.proofs.lemmas.List.Elements.{All-contains, Contains-append_left, Contains-append_right, Contains-append_cases}
-use Rattle.geo_base.proofs.MemberLists.{in_flat_map, flat_map_cases}
+use Rattle.std.proofs.Common.{refl, sym, ◌∙◌, ap, subst, arith, inl, inr, append_assoc}
+use Rattle.std.proofs.lemmas.Bool.{cases_lt, eq-eqb, eqb-true, ne_eqb, false_from_ne_true, or_parts, le-leb, cases_Bool}
+use Rattle.std.proofs.lemmas.List.{length-append, length-map, append-nil}
+use Rattle.std.proofs.lemmas.List.Elements.{All-contains, Contains-append_left, Contains-push, Contains-push_cases}
+use Rattle.geo_base.proofs.MemberLists.{in_flat_map, flat_map_cases, one_only, slot-contained}
 use Rattle.geo_laws_counts.proofs.Orders.{contains-has}
 use Rattle.geo_model.specs.Words.{names_number}
 use Rattle.geo_model.specs.Topology.{Topology, Provider, Consumer, provider_at, consumers_of, providers_of, providers_under, attached_to}
 use Rattle.geo_model.specs.Opens.{below, below_within, is_below}
-use Rattle.geo_model.specs.World.{Config}
+use Rattle.geo_model.specs.World.{Config, Bio, BioOf, Taste}
 use Rattle.geo_model.proofs.DemandLemmas.{names_some}
 use Rattle.geo_mesh.specs.Graph.{IsSoundGraph, IsOffer}
 use Rattle.geo_laws_graph.specs.LookupLaws.{EachIsFound, left_from}
@@ -23,65 +22,44 @@ use Rattle.geo_laws_life.proofs.Standers.{PairsByRecursion}
 use Rattle.geo_laws_making.proofs.Concats.{no_more}
 use Rattle.geo_life.specs.Life.{consumers_above}
 use Rattle.geo_commands.specs.Above.{has_number, offers_of, users_of, with_number}
+use Rattle.geo_base.proofs.FindLists.{some-passes}
+use Rattle.geo_base.proofs.AllLists.{all_pushed}
+use Rattle.std.proofs.lemmas.Option.{slice_get_within, slice_get_read}
+use Rattle.std.specs.List.{list_any}
+use Rattle.geo_model.specs.declared.command.LineCommand.{LineCommand}
+use Rattle.geo_model.specs.declared.step.Entry.{Entry}
+use Rattle.geo_model.specs.Append.{is_growth_busy}
+use Rattle.geo_bio.specs.declared.bio.Held.{Held}
+use Rattle.geo_bio.specs.BioTable.{AreInOrder, BioTableView, bio_from}
+use Rattle.geo_log.specs.Places.{delivered_at}
+use Rattle.geo_state.specs.Shown.{shown_bios}
+use Rattle.geo_state.specs.declared.state.State.{State}
+use Rattle.geo_state.specs.Oldest.{first_passing, passes}
+use Rattle.geo_state.specs.World.{world}
+use Rattle.geo_state.proofs.CursorLemmas.{reached_above, reached_there}
+use Rattle.geo_state.proofs.OrderLemmas.{number_below, table_rises}
+use Rattle.geo_state.proofs.Walks.{walk_goes_on, walk_hits}
+
+-- The providers that are reached upwards from one are those below which it is
 
 -- Numbers
 
--- and one that is among them is contained
+-- one that is among them is contained
 contained-has : (ns : List ℕ) (n : ℕ) → has_number ns n ≡ true → Contains ns n
-contained-has [] n never = absurd (cc)
-contained-has (m ∷ ns) n has =
-    elim (cases_eq m n) [
-      | inl same ↦ subst (λ k. Contains (m ∷ ns) k) same (Contains-here m ns)
-      | inr other ↦
-          (let rest : has_number ns n ≡ true = rw (ne_eqb m n other) at has in
-          Contains-there m n ns (contained-has ns n rest))
-    ]
+contained-has ns n has =
+    let p = some-passes (λ m. m == n) ns has in subst (λ k. Contains ns k) (eqb-true p.item n p.passes) p.here
 
--- a number behind them keeps those that were there
-with-old : (ns : List ℕ) (m n : ℕ) → Contains ns n → Contains (with_number ns m) n
-with-old ns m n there = by (has_number ns m)
-  where
-    by : (b : Bool) → Contains (if b then ns else ns ++ m ∷ []) n
-    by true = there
-    by false = Contains-append_left ns (m ∷ []) n there
-
--- it is there then
+-- once it is put behind them it is there
 with-new : (ns : List ℕ) (m : ℕ) → Contains (with_number ns m) m
 with-new ns m = by (has_number ns m) refl
   where
     by : (b : Bool) → has_number ns m ≡ b → Contains (if b then ns else ns ++ m ∷ []) m
     by true e = contained-has ns m e
-    by false e = Contains-append_right ns (m ∷ []) m (Contains-here m [])
+    by false e = Contains-push ns m
 
--- and nothing else
-with-only : (P : ℕ → Type 0) (ns : List ℕ) (m : ℕ) → ((n : ℕ) → Contains ns n → P n) → P m → (n : ℕ)
-    → Contains (with_number ns m) n → P n
-with-only P ns m old new n there = by (has_number ns m) there
-  where
-    by : (b : Bool) → Contains (if b then ns else ns ++ m ∷ []) n → P n
-    by true here = old n here
-    by false here =
-        elim (Contains-append_cases ns (m ∷ []) n here) [
-          | inl was ↦ old n was
-          | inr last ↦
-              elim (Contains-cases m n [] last) [
-                | inl same ↦ subst P same new
-                | inr never ↦ absurd (nothing_in n never)
-              ]
-        ]
-
--- what stands at a place stays there
-with-place : (ns : List ℕ) (m k n : ℕ) → slice_get ns k ≡ Some n → slice_get (with_number ns m) k ≡ Some n
-with-place ns m k n is = by (has_number ns m)
-  where
-    front : (xs ys : List ℕ) (j : ℕ) → slice_get xs j ≡ Some n → slice_get (xs ++ ys) j ≡ Some n
-    front [] ys j never = absurd (cc)
-    front (x ∷ xs) ys zero e = e
-    front (x ∷ xs) ys (suc j) e = front xs ys j e
-
-    by : (b : Bool) → slice_get (if b then ns else ns ++ m ∷ []) k ≡ Some n
-    by true = is
-    by false = front ns (m ∷ []) k is
+-- the only one
+alone : (n m : ℕ) → Contains (n ∷ []) m → n ≡ m
+alone n m = one_only (n ∷ []) n m (omega arith) (Contains-here n [])
 
 -- what is apart stays so
 pairs-with : (ns : List ℕ) (m : ℕ) → PairsByRecursion (λ a b. a ≢ b) ns → has_number ns m ≡ false
@@ -89,36 +67,28 @@ pairs-with : (ns : List ℕ) (m : ℕ) → PairsByRecursion (λ a b. a ≢ b) ns
 pairs-with [] m apart none = (tt, tt)
 pairs-with (n ∷ ns) m apart none =
     let parts = or_parts (n == m) (has_number ns m) none in
-    (all-but ns apart.0 parts.0, pairs-with ns m apart.1 parts.1)
+    let other : n ≢ m = λ same. let never : true ≡ false = sym (eq-eqb n m same) ∙ parts.0 in absurd (cc) in
+    (all_pushed (λ b. n ≢ b) ns m apart.0 other, pairs-with ns m apart.1 parts.1)
+
+-- Many that are put behind them
+
+-- a fact that stays with each that comes new holds with all of them
+gathered : (P : List ℕ → Type 0) (ms : List ℕ)
+    → ((ns : List ℕ) (m : ℕ) → Contains ms m → has_number ns m ≡ false → P ns → P (ns ++ m ∷ []))
+    → (ns : List ℕ) → P ns → P (fold with_number ns ms)
+gathered P [] more ns now = now
+gathered P (m ∷ ms) more ns now =
+    gathered P ms (λ ks k here. more ks k (Contains-there m k ms here)) (with_number ns m) (by (has_number ns m) refl)
   where
-    all-but : (ks : List ℕ) → AllByRecursion (λ b. n ≢ b) ks → (n == m) ≡ false
-        → AllByRecursion (λ b. n ≢ b) (ks ++ m ∷ [])
-    all-but [] facts other =
-        ((λ same. let never : true ≡ false = sym (eq-eqb n m same) ∙ other in absurd (cc)), tt)
-    all-but (k ∷ ks) facts other = (facts.0, all-but ks facts.1 other)
+    by : (b : Bool) → has_number ns m ≡ b → P (if b then ns else ns ++ m ∷ [])
+    by true e = now
+    by false e = more ns m (Contains-here m ms) e now
 
-with-apart : (ns : List ℕ) (m : ℕ) → PairsByRecursion (λ a b. a ≢ b) ns
-    → PairsByRecursion (λ a b. a ≢ b) (with_number ns m)
-with-apart ns m apart = by (has_number ns m) refl
-  where
-    by : (b : Bool) → has_number ns m ≡ b → PairsByRecursion (λ a b. a ≢ b) (if b then ns else ns ++ m ∷ [])
-    by true e = apart
-    by false e = pairs-with ns m apart e
+all-old : (ms ns : List ℕ) (n : ℕ) → Contains ns n → Contains (fold with_number ns ms) n
+all-old ms ns n =
+    gathered (λ xs. Contains xs n) ms (λ ks k here out there. Contains-append_left ks (k ∷ []) n there) ns
 
-with-length : (ns : List ℕ) (m : ℕ) → length ns ≤ length (with_number ns m)
-with-length ns m = by (has_number ns m)
-  where
-    by : (b : Bool) → length ns ≤ length (if b then ns else ns ++ m ∷ [])
-    by true = omega arith
-    by false = let more = length-append ns (m ∷ []) in omega (arith, more)
-
--- so where many are put behind them
-
-pub all-old : (ms ns : List ℕ) (n : ℕ) → Contains ns n → Contains (fold with_number ns ms) n
-all-old [] ns n there = there
-all-old (m ∷ ms) ns n there = all-old ms (with_number ns m) n (with-old ns m n there)
-
-pub all-new : (ms ns : List ℕ) (n : ℕ) → Contains ms n → Contains (fold with_number ns ms) n
+all-new : (ms ns : List ℕ) (n : ℕ) → Contains ms n → Contains (fold with_number ns ms) n
 all-new [] ns n never = absurd (nothing_in n never)
 all-new (m ∷ ms) ns n there =
     elim (Contains-cases m n ms there) [
@@ -126,29 +96,41 @@ all-new (m ∷ ms) ns n there =
       | inr rest ↦ all-new ms (with_number ns m) n rest
     ]
 
-pub all-only : (P : ℕ → Type 0) (ms ns : List ℕ) → ((n : ℕ) → Contains ns n → P n) → ((n : ℕ) → Contains ms n → P n)
+-- and nothing else is among them
+all-only : (P : ℕ → Type 0) (ms ns : List ℕ) → ((n : ℕ) → Contains ns n → P n) → ((n : ℕ) → Contains ms n → P n)
     → (n : ℕ) → Contains (fold with_number ns ms) n → P n
-all-only P [] ns old new n there = old n there
-all-only P (m ∷ ms) ns old new n there =
-    all-only P ms (with_number ns m) (with-only P ns m old (new m (Contains-here m ms)))
-    (λ k here. new k (Contains-there m k ms here)) n there
+all-only P ms ns old new = gathered (λ xs. (n : ℕ) → Contains xs n → P n) ms more ns old
+  where
+    more : (ks : List ℕ) (k : ℕ) → Contains ms k → has_number ks k ≡ false → ((n : ℕ) → Contains ks n → P n)
+        → (n : ℕ) → Contains (ks ++ k ∷ []) n → P n
+    more ks k here out facts n there =
+        elim (Contains-push_cases ks k n there) [ inl was ↦ facts n was | inr same ↦ subst P same (new k here) ]
 
-pub all-place : (ms ns : List ℕ) (k n : ℕ) → slice_get ns k ≡ Some n
-    → slice_get (fold with_number ns ms) k ≡ Some n
-all-place [] ns k n is = is
-all-place (m ∷ ms) ns k n is = all-place ms (with_number ns m) k n (with-place ns m k n is)
-
-pub all-apart : (ms ns : List ℕ) → PairsByRecursion (λ a b. a ≢ b) ns
+all-apart : (ms ns : List ℕ) → PairsByRecursion (λ a b. a ≢ b) ns
     → PairsByRecursion (λ a b. a ≢ b) (fold with_number ns ms)
-all-apart [] ns apart = apart
-all-apart (m ∷ ms) ns apart = all-apart ms (with_number ns m) (with-apart ns m apart)
+all-apart ms = gathered (λ xs. PairsByRecursion (λ a b. a ≢ b) xs) ms (λ ks k here out apart. pairs-with ks k apart out)
 
-pub all-length : (ms ns : List ℕ) → length ns ≤ length (fold with_number ns ms)
-all-length [] ns = omega arith
-all-length (m ∷ ms) ns =
-    let one = with-length ns m in
-    let rest = all-length ms (with_number ns m) in
-    omega (arith, one, rest)
+-- they stand behind those that were there
+all-behind : (ms ns : List ℕ) → (rest : List ℕ) × (fold with_number ns ms ≡ ns ++ rest)
+all-behind ms ns =
+    gathered (λ xs. (rest : List ℕ) × (xs ≡ ns ++ rest)) ms
+    (λ ks k here out so. (so.0 ++ k ∷ [], ap (λ xs. xs ++ k ∷ []) so.1 ∙ append_assoc ns so.0 (k ∷ []))) ns
+    ([], sym (append-nil ns))
+
+all-length : (ms ns : List ℕ) → length ns ≤ length (fold with_number ns ms)
+all-length ms ns =
+    let all = all-behind ms ns in
+    let many = ap length all.1 ∙ length-append ns all.0 in
+    omega (arith, many)
+
+-- so what stands at a place stays there
+all-place : (ms ns : List ℕ) (k : ℕ) → k < length ns → slice_get (fold with_number ns ms) k ≡ slice_get ns k
+all-place ms ns k less = ap (λ xs. slice_get xs k) (all-behind ms ns).1 ∙ front ns (all-behind ms ns).0 k less
+  where
+    front : (xs ys : List ℕ) (j : ℕ) → j < length xs → slice_get (xs ++ ys) j ≡ slice_get xs j
+    front [] ys j less = absurd (omega (arith, less))
+    front (x ∷ xs) ys zero less = refl
+    front (x ∷ xs) ys (suc j) less = front xs ys j (omega (arith, less))
 
 -- Loops
 
@@ -253,11 +235,7 @@ module _ (t : Topology Config) (sound : IsSoundGraph t) where
   -- a fact that goes down from each provider to those right under it holds of all that is reached
   least : (P : ℕ → Type 0) → ((y p : ℕ) → P y → IsUnder y p → P p) → (k y : ℕ) → P y → (z : ℕ)
       → Contains (below_within k t y) z → P z
-  least P down zero y fact z there =
-      elim (Contains-cases y z [] there) [
-        | inl same ↦ subst P same fact
-        | inr never ↦ absurd (nothing_in z never)
-      ]
+  least P down zero y fact z there = subst P (alone y z there) fact
   least P down (suc k) y fact z there =
       elim (Contains-cases y z _ there) [
         | inl same ↦ subst P same fact
@@ -332,41 +310,34 @@ module _ (t : Topology Config) (sound : IsSoundGraph t) where
     pub reached-begin : IsReached t prov (prov ∷ []) 0
     reached-begin = record {
       sound_so_far = λ p there.
-          elim (Contains-cases prov p [] there) [
-            | inl same ↦ subst (λ n. Contains (below t n) prov) same (below_self (length t.geoms) t prov)
-            | inr never ↦ absurd (nothing_in p never)
-          ];
+          subst (λ n. Contains (below t n) prov) (alone prov p there) (below_self (length t.geoms) t prov);
       first = Contains-here prov [];
       closed = λ k p less. absurd (omega (arith, less));
       apart = (tt, tt);
       among = λ p there.
-          elim (Contains-cases prov p [] there) [
-            | inl same ↦ subst (λ n. Contains (prov ∷ map (λ (x : Provider). x.number) t.providers) n) same
-                (Contains-here prov (map (λ (x : Provider). x.number) t.providers))
-            | inr never ↦ absurd (nothing_in p never)
-          ];
+          subst (λ n. Contains (prov ∷ map (λ (x : Provider). x.number) t.providers) n) (alone prov p there)
+          (Contains-here prov (map (λ (x : Provider). x.number) t.providers));
       far = omega arith;
     }
 
     pub reached-on : (above : List ℕ) (next found : ℕ) → IsReached t prov above next → slice_get above next ≡ Some found
         → IsReached t prov (fold with_number above (users_of t found)) (next + 1)
     reached-on above next found is at =
-        let here : Contains above found = slot-there above next found at in
+        let here : Contains above found = slot-contained above next found at in
+        let within : next < length above = slice_get_within above next found at in
         record {
           sound_so_far =
               all-only (λ p. Contains (below t p) prov) (users_of t found) above is.sound_so_far
               (λ y user. below-more found y prov (users-under found y user) (is.sound_so_far found here));
           first = all-old (users_of t found) above prov is.first;
           closed = λ k p less place y user.
+              let inside : k < length above = omega (arith, less, within) in
+              let old : slice_get above k ≡ Some p = sym (all-place (users_of t found) above k inside) ∙ place in
               elim (cases_lt k next) [
-                | inl before ↦
-                    (let old : slice_get above k ≡ Some p = back k p before place in
-                    all-old (users_of t found) above y (is.closed k p before old y user))
+                | inl before ↦ all-old (users_of t found) above y (is.closed k p before old y user)
                 | inr past ↦
                     (let same : k ≡ next = omega (arith, less, past) in
-                    let one : Some p ≡ Some found =
-                    sym place ∙ ap (slice_get (fold with_number above (users_of t found))) same
-                    ∙ all-place (users_of t found) above next found at in
+                    let one : Some p ≡ Some found = sym old ∙ ap (slice_get above) same ∙ at in
                     let is_found : p ≡ found = cc in
                     all-new (users_of t found) above y (subst (λ n. Contains (users_of t n) y) is_found user))
               ];
@@ -379,21 +350,9 @@ module _ (t : Topology Config) (sound : IsSoundGraph t) where
               (provider-number y (users-under found y user)));
           far =
               let longer = all-length (users_of t found) above in
-              let less : next < length above = slot-within above next found at in
-              omega (arith, longer, less);
+              omega (arith, longer, within);
         }
       where
-        slot-there : (xs : List ℕ) (i x : ℕ) → slice_get xs i ≡ Some x → Contains xs x
-        slot-there [] i x never = absurd (cc)
-        slot-there (y ∷ ys) zero x e =
-            let same : y ≡ x = cc in subst (λ n. Contains (y ∷ ys) n) same (Contains-here y ys)
-        slot-there (y ∷ ys) (suc i) x e = Contains-there y x ys (slot-there ys i x e)
-
-        slot-within : (xs : List ℕ) (i x : ℕ) → slice_get xs i ≡ Some x → i < length xs
-        slot-within [] i x never = absurd (cc)
-        slot-within (y ∷ ys) zero x e = omega arith
-        slot-within (y ∷ ys) (suc i) x e = let rest = slot-within ys i x e in omega (arith, rest)
-
         -- a provider that is right above one is there
         provider-number : (y : ℕ) → IsUnder y found
             → Contains (map (λ (x : Provider). x.number) t.providers) y
@@ -403,45 +362,21 @@ module _ (t : Topology Config) (sound : IsSoundGraph t) where
             (Contains-map (λ (z : Provider). z.number) t.providers under.provider
             (find-Contains (λ (z : Provider). z.number == y) t.providers under.provider under.found))
 
-        -- an earlier place had something, and has it still
-        filled : (xs : List ℕ) (j i x : ℕ) → j < i → slice_get xs i ≡ Some x → (n : ℕ) × (slice_get xs j ≡ Some n)
-        filled [] j i x less never = absurd (cc)
-        filled (y ∷ ys) zero i x less e = (y, refl)
-        filled (y ∷ ys) (suc j) zero x less e = absurd (omega (arith, less))
-        filled (y ∷ ys) (suc j) (suc i) x less e = filled ys j i x (omega (arith, less)) e
-
-        back : (k p : ℕ) → k < next → slice_get (fold with_number above (users_of t found)) k ≡ Some p
-            → slice_get above k ≡ Some p
-        back k p before place =
-            let f = filled above k next found before at in
-            let same : Some f.0 ≡ Some p = sym (all-place (users_of t found) above k f.0 f.1) ∙ place in
-            let one : f.0 ≡ p = cc in
-            f.1 ∙ ap (λ n. Some n) one
-
     -- at the end they are all below which it is
     pub reached-end : (above : List ℕ) (next : ℕ) → IsReached t prov above next → length above ≤ next → (p : ℕ)
         → has_number above p ≡ is_below t prov p
     reached-end above next is past p = by (has_number above p) (is_below t prov p) refl refl
       where
-        place-of : (xs : List ℕ) (x : ℕ) → Contains xs x → (k : ℕ) × ((k < length xs) × (slice_get xs k ≡ Some x))
-        place-of [] x never = absurd (nothing_in x never)
-        place-of (y ∷ ys) x there =
-            elim (Contains-cases y x ys there) [
-              | inl same ↦ (0, (omega arith, ap (λ n. Some n) same))
-              | inr rest ↦
-                  (let r = place-of ys x rest in
-                  let less = r.1.0 in (suc r.0, (omega (arith, less), r.1.1)))
-            ]
-
         -- none that isn't among them leads down to one that is
         apart : (y m : ℕ) → has_number above y ≡ false → IsUnder y m → has_number above m ≡ false
         apart y m out under =
             false_from_ne_true (has_number above m)
             (λ inside.
-            let place = place-of above m (contained-has above m inside) in
-            let less = place.1.0 in
+            let place = contained-has above m inside in
+            let less = place.1 in
             let there : Contains above y =
-            is.closed place.0 m (omega (arith, less, past)) place.1.1 y (under-users m y under) in
+            is.closed place.0 m (omega (arith, less, past))
+            (slice_get_read above (length above) place.0 m refl less (sym place.2)) y (under-users m y under) in
             let never : true ≡ false = sym (contains-has above y there) ∙ out in cc)
 
         by : (a b : Bool) → has_number above p ≡ a → is_below t prov p ≡ b → a ≡ b
@@ -456,3 +391,79 @@ module _ (t : Topology Config) (sound : IsSoundGraph t) where
             least (λ n. has_number above n ≡ false) (λ y m out under. apart y m out under) (length t.geoms) p e prov
             (contained-has (below t p) prov f) in
             let never : true ≡ false = sym (contains-has above prov is.first) ∙ out in absurd (cc)
+
+-- Whether a bio goes to one of some providers, by the first that does
+
+-- where the first that passes is none, none passes
+pub none-passes : (test : BioOf Held → Bool) (bios : List (BioOf Held)) → first_passing test bios 0 ≡ None
+    → false ≡ list_any test bios
+none-passes test [] none = refl
+none-passes test (x ∷ xs) none =
+    elim (cases_Bool (test x)) [
+      | inl e ↦
+          (let never : Some x.number ≡ None = rw (le-leb 0 x.number (omega arith), e) at none in absurd (cc))
+      | inr e ↦
+          (let later : first_passing test xs 0 ≡ None = rw (le-leb 0 x.number (omega arith), e) at none in
+          rw e (none-passes test xs later))
+    ]
+
+-- where there is a first, one does
+one-passes : (test : BioOf Held → Bool) (bios : List (BioOf Held)) (b : ℕ) → first_passing test bios 0 ≡ Some b
+    → true ≡ list_any test bios
+one-passes test [] b never = absurd (cc)
+one-passes test (x ∷ xs) b one =
+    elim (cases_Bool (test x)) [
+      | inl e ↦ rw e refl
+      | inr e ↦
+          (let later : first_passing test xs 0 ≡ Some b = rw (le-leb 0 x.number (omega arith), e) at one in
+          rw e (one-passes test xs b later))
+    ]
+
+-- a walk over the bios that came to one, the first from a number on
+module _ {t : BioTableView} (order : AreInOrder t) (low : ℕ) {b : ℕ} (first : bio_from t.bios low ≡ Some b) where
+  -- its number isn't below that, and is below that of the next new one
+  pub walk-between : (low ≤ b) × (b < t.next)
+  walk-between =
+      let there = reached_there (λ p. true) low b t.bios (table_rises t order) first in
+      (reached_above (λ p. true) low b t.bios first, number_below t order b there.0 there.1)
+
+  -- where it passes, one does
+  pub walk-passes : (test : BioOf Held → Bool) → first_passing test t.bios low ≡ first_passing test t.bios 0
+      → passes test t.bios b ≡ true → true ≡ list_any test t.bios
+  walk-passes test so_far hits =
+      one-passes test t.bios b (sym so_far ∙ walk_hits test low b t.bios (table_rises t order) first hits)
+
+  -- where it doesn't, the first that passes is behind it
+  pub walk-fails : (test : BioOf Held → Bool) → first_passing test t.bios low ≡ first_passing test t.bios 0
+      → passes test t.bios b ≡ false → (n : ℕ) → n ≡ b
+      → first_passing test t.bios (n + 1) ≡ first_passing test t.bios 0
+  walk-fails test so_far fails n is =
+      ap (λ m. first_passing test t.bios (m + 1)) is
+      ∙ walk_goes_on test low b t.bios (table_rises t order) first fails ∙ so_far
+
+-- those that are reached upwards are those below which the provider is
+module _ (t : Topology Config) (prov : ℕ) (above : List ℕ)
+    (reached : (p : ℕ) → has_number above p ≡ is_below t prov p) where
+  -- so for the bios
+  pub asked-is : (log : ℕ → Option (List ℕ)) (bios : List (BioOf Held))
+      → list_any (λ (x : BioOf Held). has_number above x.target) bios
+      ≡ list_any (λ (x : Bio). is_below t prov x.target) (shown_bios log bios)
+  asked-is log [] = refl
+  asked-is log (x ∷ xs) = λ i. reached x.target i || asked-is log xs i
+
+  -- and for the taste
+  pub tasted-is : (o : Option Taste)
+      → option_map_or (λ (s : Taste). has_number above s.provider) o false
+      ≡ option_map_or (λ (s : Taste). is_below t prov s.provider) o false
+  tasted-is None = refl
+  tasted-is (Some s) = reached s.provider
+
+-- so whether growth is busy
+pub busy-is : (s : State) (prov : ℕ) (above : List ℕ)
+    → ((p : ℕ) → has_number above p ≡ is_below s.topo.topology prov p) → (a b : Bool)
+    → a ≡ list_any (λ (x : BioOf Held). has_number above x.target) s.traffic.bios
+    → b ≡ option_map_or (λ (x : Taste). has_number above x.provider) s.taste false
+    → (actors : List (List LineCommand)) (log : List Entry) → (a || b) ≡ is_growth_busy (world actors log s) prov
+busy-is s prov above reached a b asked tasted actors log =
+    λ i. (asked ∙ asked-is s.topo.topology prov above reached (delivered_at log) s.traffic.bios) i
+    || (tasted ∙ tasted-is s.topo.topology prov above reached s.taste) i

@@ -25,7 +25,7 @@ pub fn grow(
     offer: &Offer,
 ) -> Result<GeomId, NoMemory>
     requires kept { Holds state.old }
-    requires stands { All (CanStandOn state.old.topo.topology) below.now }
+    requires can_stand { All (CanStandOn state.old.topo.topology) below.now }
     requires size { is_provider_size offer.now.size offer.now.sector ≡ true }
     requires free { is_name_taken state.old.topo.topology offer.now.name ≡ false }
     ensures number { IfOk result (λ id. id ≡ state.old.topo.topology.next_geom) }
@@ -50,10 +50,10 @@ pub fn make(
     below: &[ProvId],
     offer: &Offer,
 ) -> Result<(), NoMemory>
-    requires firm { Stands state.old }
+    requires stands { Stands state.old }
     requires kind { is_granted_kind geom.kind ≡ false }
     requires no_disk { disk_of geom.config ≡ None }
-    requires stands { All (CanStandOn state.old.topo.topology) below.now }
+    requires can_stand { All (CanStandOn state.old.topo.topology) below.now }
     requires size { is_provider_size offer.now.size offer.now.sector ≡ true }
     requires free { is_name_taken state.old.topo.topology offer.now.name ≡ false }
     ensures made { OnOk result (IsBuilt state.old state.new geom below.now offer.now) }

@@ -1,10 +1,4 @@
-pub mod Grants
-pub mod Coming
-pub mod Places
 pub mod Holding
-pub mod Actives
-pub mod Going
 pub mod Settling
 pub mod Stepping
-pub mod Opening
 pub mod Admitting

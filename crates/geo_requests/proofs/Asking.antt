@@ -31,8 +31,7 @@ use Rattle.geo_state.specs.Holds.{Holds}
 use Rattle.geo_state.specs.Steps.{Does, SameWorld}
 use Rattle.geo_requests.specs.declared.gate.Gate.{Gate}
 use Rattle.geo_requests.specs.Asked.{LetsThrough, mark_bytes, mark_sector, media_sizes, provider_attached, refusal_by}
-use Rattle.geo_requests.proofs.Serving.{world_moved}
-use Rattle.geo_requests.proofs.Parting.{same_moved}
+use Rattle.geo_requests.proofs.Against.{world_moved, same_moved}
 use Rattle.geo_model.specs.Words.{same_name}
 use Rattle.geo_laws_graph.proofs.Members.{find-Contains, at_contained}
 use Rattle.geo_laws_graph.proofs.Numbered.{each_found}

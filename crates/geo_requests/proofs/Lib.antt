@@ -1,15 +1,7 @@
-pub mod Errored
-pub mod Cuts
 pub mod Ways
-pub mod Descent
 pub mod Against
 pub mod Started
-pub mod Serving
-pub mod Parting
-pub mod Noting
-pub mod Going
 pub mod Asking
-pub mod Rising
 pub mod Returned
 -- handed on to the crates above: how geoms are made
 pub use Rattle.geo_taste.proofs.Adding

@@ -1,7 +1,7 @@
 use Rattle.std.proofs.Common.{◌∙◌, sym, arith}
 use Rattle.geo_state.proofs.Walks.{walk_ends}
 use Rattle.geo_commands.specs.Above.{has_number}
-use Rattle.geo_commands.proofs.Asked.{none-passes, walk-between, walk-fails, walk-passes}
+use Rattle.geo_commands.proofs.Reaching.{none-passes, walk-between, walk-fails, walk-passes}
 use Rattle.geo_commands.proofs.above.is_asked.Goals as goal
 
 -- the bio that was met goes to one of them, so one does

@@ -2,7 +2,7 @@ use Rattle.std.specs.Prelude.{true, false}
 use Rattle.std.specs.Option.{option_map_or}
 use Rattle.std.proofs.Common.{refl, sym, ◌∙◌}
 use Rattle.geo_commands.specs.Above.{has_number}
-use Rattle.geo_commands.proofs.Asked.{busy-is}
+use Rattle.geo_commands.proofs.Reaching.{busy-is}
 use Rattle.geo_commands.proofs.above.is_busy.Goals as goal
 
 -- Either way: a bio that goes to one of them is enough, and where none does the taste decides

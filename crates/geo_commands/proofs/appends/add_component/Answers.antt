@@ -6,7 +6,7 @@ use Rattle.geo_model.specs.World.{Config}
 use Rattle.geo_access.specs.Access.{consumers_below}
 use Rattle.geo_state.specs.declared.state.State.{State}
 use Rattle.geo_commands.proofs.Grown.{roomy-graph}
-use Rattle.geo_commands.proofs.Reserved.{reserved_able, reserved_firm, reserved_same, reserved_told}
+use Rattle.geo_commands.proofs.Appending.{reserved_able, reserved_firm, reserved_same, reserved_told}
 use Rattle.geo_commands.proofs.appends.add_component.Goals as goal
 
 pub add_with_room-requires-clause-stands : goal.add_with_room-requires-clause-stands

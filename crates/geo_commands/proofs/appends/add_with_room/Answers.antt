@@ -14,37 +14,29 @@ returns-in-Some-clause-does g c = λ able actors log. record {
 -- the consumer joined, no test is against its size, and room was reserved for all notes
 pub grow_provider-requires : goal.grow_provider-requires
 grow_provider-requires g c =
-    let may = able_grows c.args.state.now c.requires.stands c.args.growing.now
-    c.args.below.now c.requires.able c.join_component.new.state c.join_component.ensures.rest
+    let may = able_grows c.args.state.now c.requires.stands c.args.growing.now c.args.below.now c.requires.able
     (λ actors log. sym c.in_default.is ∙ c.in_ok-errno.ensures.answer c.requires.able actors log)
-    (c.in_ok-errno.ensures.joined c.in_default.is) c.in_ok-config.config (c.in_ok-config.ensures c.requires.able)
-    c.larger_size-size.result (c.larger_size-size.ensures c.requires.able) c.requires.room in
-    record {
-      stands = may.stands;
-      lives = may.lives;
-      sectors = may.sectors;
-      grows = may.grows;
-      made = may.made;
-      counted = may.counted;
-      room = may.room;
-    }
+    c.join_component.new.state c.join_component.ensures.rest (c.in_ok-errno.ensures.joined c.in_default.is)
+    c.in_ok-config.config (c.in_ok-config.ensures c.requires.able) c.larger_size-size.result
+    (c.larger_size-size.ensures c.requires.able) c.requires.room in
+    assumption (c.requires, may)
 
 -- the consumer joined, the configuration has its place and the provider its size: that is the append
 pub returns-clause-does : goal.returns-clause-does
 returns-clause-does g c = λ able.
     able_told c.args.state.now c.requires.stands c.args.growing.now c.args.below.now able
-    c.join_component.new.state c.join_component.ensures.rest
     (λ actors log. sym c.in_default.is ∙ c.in_ok-errno.ensures.answer able actors log)
-    (c.in_ok-errno.ensures.joined c.in_default.is) c.in_ok-config.config (c.in_ok-config.ensures able)
+    c.join_component.new.state c.join_component.ensures.rest (c.in_ok-errno.ensures.joined c.in_default.is)
+    c.in_ok-config.config (c.in_ok-config.ensures able)
     c.larger_size-size.result (c.larger_size-size.ensures able) c.grow_provider.new.topo c.grow_provider.new.queue
     c.grow_provider.ensures
 
 -- each note was announced in the room that was reserved, and counts are those with the consumer
 pub returns-clause-kept : goal.returns-clause-kept
 returns-clause-kept g c =
-    able_kept c.args.state.now c.requires.stands c.args.growing.now c.args.below.now
-    c.requires.able c.join_component.new.state c.join_component.ensures.rest
+    able_kept c.args.state.now c.requires.stands c.args.growing.now c.args.below.now c.requires.able
     (λ actors log. sym c.in_default.is ∙ c.in_ok-errno.ensures.answer c.requires.able actors log)
-    (c.in_ok-errno.ensures.joined c.in_default.is) c.in_ok-config.config (c.in_ok-config.ensures c.requires.able)
+    c.join_component.new.state c.join_component.ensures.rest (c.in_ok-errno.ensures.joined c.in_default.is)
+    c.in_ok-config.config (c.in_ok-config.ensures c.requires.able)
     c.larger_size-size.result (c.larger_size-size.ensures c.requires.able) c.grow_provider.new.topo
     c.grow_provider.new.queue c.grow_provider.ensures c.requires.room

@@ -1,5 +1,5 @@
 use Rattle.std.proofs.Common.{◌∙◌, sym}
-use Rattle.geo_commands.proofs.Answering.{append-able, append-bound, append-done, append-refused, append-stopped, asked}
+use Rattle.geo_commands.proofs.Appending.{append-able, append-bound, append-done, append-refused, append-stopped, asked}
 use Rattle.geo_commands.proofs.appends.append.Goals as goal
 
 pub returns-in-Some-2-clause-does : goal.returns-in-Some-2-clause-does

@@ -2,7 +2,7 @@ use Rattle.std.specs.Prelude.{option_map}
 use Rattle.std.specs.Option.{option_copied}
 use Rattle.std.proofs.Common.{ap, ◌∙◌, arith}
 use Rattle.geo_mesh.specs.Cells.{provider_seen}
-use Rattle.geo_commands.proofs.Summed.{offer_there, sum_fits, sum_is}
+use Rattle.geo_commands.proofs.Appending.{offer_there, sum_fits, sum_is}
 use Rattle.geo_commands.proofs.appends.larger_size.Goals as goal
 
 -- the concat was found with its provider, so that is there

@@ -2,7 +2,7 @@ use Rattle.std.specs.Prelude.{option_map}
 use Rattle.std.specs.Option.{option_copied}
 use Rattle.std.proofs.Common.{ap, ◌∙◌}
 use Rattle.geo_mesh.specs.Cells.{geom_seen}
-use Rattle.geo_commands.proofs.Ableness.{able-found, able-grows, all-longer}
+use Rattle.geo_commands.proofs.Appending.{able-found, able-grows, all-longer}
 use Rattle.geo_commands.proofs.appends.longer.Goals as goal
 
 pub unreachable-requires : goal.unreachable-requires

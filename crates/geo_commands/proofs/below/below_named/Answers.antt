@@ -1,6 +1,6 @@
 use Rattle.std.proofs.Common.{sym, ◌∙◌}
 use Rattle.geo_mesh.specs.Cells.{provider_seen}
-use Rattle.geo_commands.proofs.Joining.{geom_lives, no_rank}
+use Rattle.geo_commands.proofs.Assembled.{geom_lives, no_rank}
 use Rattle.geo_commands.proofs.below.below_named.Goals as goal
 
 -- the geom of a provider lives, and a geom that lives has a rank

@@ -1,5 +1,5 @@
 use Rattle.std.proofs.Common.{sym, ◌∙◌, true, false}
-use Rattle.geo_commands.proofs.Deciding.{close_decided}
+use Rattle.geo_commands.proofs.Doing.{close_decided}
 use Rattle.geo_commands.proofs.decisions.close_decision.Goals as goal
 
 pub returns-then-is_closed : goal.returns-then-is_closed

@@ -1,7 +1,7 @@
 use Rattle.std.proofs.Common.{sym, subst}
 use Rattle.geo_state.specs.World.{world}
 use Rattle.geo_commands.specs.Decisions.{IsDecided}
-use Rattle.geo_commands.proofs.Deciding.{no_decision, open_decided}
+use Rattle.geo_commands.proofs.Doing.{no_decision, open_decided}
 use Rattle.geo_commands.proofs.decisions.decide.Goals as goal
 
 -- what refuses the open is what the model answers to it

@@ -1,5 +1,5 @@
 use Rattle.std.proofs.Common.{◌∙◌, None}
-use Rattle.geo_commands.proofs.Deciding.{closed_at}
+use Rattle.geo_commands.proofs.Doing.{closed_at}
 use Rattle.geo_commands.proofs.decisions.is_closed.Goals as goal
 
 -- requests out through a consumer are counted where it is kept, and the model counts as many

@@ -1,6 +1,6 @@
 use Rattle.std.proofs.Common.{ap, ◌∙◌}
 use Rattle.geo_commands.specs.Decisions.{owed_by}
-use Rattle.geo_commands.proofs.Deciding.{owes_after}
+use Rattle.geo_commands.proofs.Doing.{owes_after}
 use Rattle.geo_commands.proofs.decisions.owed_after.Goals as goal
 
 -- an open that nothing refuses owes one place more, a close that is answered ok one fewer

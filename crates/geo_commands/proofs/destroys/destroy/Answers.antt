@@ -1,6 +1,6 @@
 use Rattle.std.proofs.Common.{sym, ◌∙◌}
 use Rattle.geo_state.specs.declared.state.State.{State}
-use Rattle.geo_commands.proofs.Withered.{destroy-busy, destroy-done, found-lives, number-of}
+use Rattle.geo_commands.proofs.Finding.{destroy-busy, destroy-done, found-lives, number-of}
 use Rattle.geo_commands.proofs.destroys.destroy.Goals as goal
 
 -- the geom is the first of the name that stands, and a provider of it has a count

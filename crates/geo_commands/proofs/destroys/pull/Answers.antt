@@ -1,8 +1,10 @@
 use Rattle.std.proofs.Common.{sym, ◌∙◌}
 use Rattle.geo_state.specs.declared.state.State.{State}
-use Rattle.geo_commands.proofs.Finding.{disk-read, disk-unread}
-use Rattle.geo_commands.proofs.Withered.{found-lives, none-of, number-of, pull-absent, pull-done, pull-unknown}
+use Rattle.geo_commands.proofs.Finding.{disk-read, disk-unread, found-lives, number-of, pull-absent, pull-done, pull-unknown}
 use Rattle.geo_commands.proofs.destroys.pull.Goals as goal
+use Rattle.geo_base.proofs.Options.{none-mapped}
+use Rattle.geo_model.specs.Topology.{Geom}
+use Rattle.geo_model.specs.World.{Config}
 
 pub returns-in_default-clause-does : goal.returns-in_default-clause-does
 returns-in_default-clause-does c = λ log actors.
@@ -16,7 +18,8 @@ returns-in_default-standing_geom-clause-does c = λ log actors.
     let s : State = c.args.state.now in
     let named = disk-read s c.args.name.now c.deref.ensures.value c.disk_named.ensures c.in-Some.is in
     pull-absent s s c.args.line c.refused-in_default-standing_geom.result actors log c.args.name.now _
-    (named.found actors log) (none-of _ (sym c.in_default-standing_geom.is ∙ c.standing_geom.ensures))
+    (named.found actors log)
+    (none-mapped (λ (g : Geom Config). g.number) _ (sym c.standing_geom.ensures ∙ c.in_default-standing_geom.is))
     c.refused-in_default-standing_geom.ensures
 
 pub wither_geom-requires-clause-lives : goal.wither_geom-requires-clause-lives

@@ -1,4 +1,4 @@
-use Rattle.geo_commands.proofs.Withered.{orphan-room, withered-kept, withered-world}
+use Rattle.geo_commands.proofs.Finding.{orphan-room, withered-kept, withered-world}
 use Rattle.geo_commands.proofs.destroys.wither_geom.Goals as goal
 
 -- the queue keeps a place free for the Orphan of each provider without an error

@@ -1,4 +1,4 @@
-use Rattle.geo_commands.proofs.Printing.{next_geom}
+use Rattle.geo_commands.proofs.Walking.{next_geom}
 use Rattle.geo_commands.proofs.geoms.geom_from.Goals as goal
 
 pub returns : goal.returns

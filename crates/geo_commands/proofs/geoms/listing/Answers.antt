@@ -1,4 +1,4 @@
-use Rattle.geo_commands.proofs.Printing.{listing_of}
+use Rattle.geo_commands.proofs.Walking.{listing_of}
 use Rattle.geo_commands.proofs.geoms.listing.Goals as goal
 
 pub returns : goal.returns

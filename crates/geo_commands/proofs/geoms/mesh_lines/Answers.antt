@@ -3,7 +3,7 @@ use Rattle.geo_model.specs.Topology.{Geom}
 use Rattle.geo_model.specs.World.{Config}
 use Rattle.geo_access.specs.Access.{granted_by}
 use Rattle.geo_commands.specs.Lines.{geom_line, is_listed}
-use Rattle.geo_commands.proofs.Printing.{print_begin}
+use Rattle.geo_commands.proofs.Walking.{print_begin}
 use Rattle.geo_commands.proofs.geoms.mesh_lines.Goals as goal
 
 pub loop-geom-init : goal.loop-geom-init

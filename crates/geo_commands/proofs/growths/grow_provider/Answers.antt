@@ -1,4 +1,4 @@
-use Rattle.geo_commands.proofs.Larger.{is-larger, larger-is}
+use Rattle.geo_commands.proofs.Lengthened.{is-larger, larger-is}
 use Rattle.geo_commands.proofs.growths.grow_provider.Goals as goal
 
 -- the mesh with both changes is the larger one, and each note and the Resize took a place of the queue

@@ -2,7 +2,7 @@ use Rattle.std.proofs.Common.{◌≡◌, sym, ◌∙◌}
 use Rattle.geo_model.specs.GeomCommands.{stand}
 use Rattle.geo_state.specs.World.{world}
 use Rattle.geo_commands.specs.Disks.{item_at}
-use Rattle.geo_commands.proofs.Commanded.{insert-done, insert-refused, insert-unknown}
+use Rattle.geo_commands.proofs.Made.{insert-done, insert-refused, insert-unknown}
 use Rattle.geo_commands.proofs.Finding.{disk-read, disk-unread, none-absent, seat-fact, seat-refusal}
 use Rattle.geo_commands.proofs.inserts.insert.Goals as goal
 

@@ -17,8 +17,8 @@ make-requires-clause-no_disk c =
     ap disk_of c.assembly_config-config.ensures ∙ assembly-diskless c.args.assembly _ _
 
 -- providers that nothing is against are there, carry no error and aren't too deep
-pub make-requires-clause-stands : goal.make-requires-clause-stands
-make-requires-clause-stands c =
+pub make-requires-clause-can_stand : goal.make-requires-clause-can_stand
+make-requires-clause-can_stand c =
     subst (All (CanStandOn c.args.state.now.topo.topology)) (sym (c.deref.ensures.value ∙ c.in_ok-over.ensures))
     c.requires.can.stands
 

@@ -5,5 +5,5 @@ use Rattle.geo_commands.proofs.makes.make.Goals as goal
 pub returns-clause-kept : goal.returns-clause-kept
 returns-clause-kept c =
     grown-kept c.args.state.now c.grow.new.state c.args.geom c.args.below.now c.args.offer.now
-    c.in_ok-grow.ensures.grown c.requires.firm c.requires.kind c.requires.stands
-    c.requires.no_disk
+    c.in_ok-grow.ensures.grown c.requires.stands c.requires.kind
+    c.requires.can_stand c.requires.no_disk

@@ -1,5 +1,5 @@
 use Rattle.std.proofs.Common.{◌∙◌}
-use Rattle.geo_commands.proofs.Naming.{found_number}
+use Rattle.geo_commands.proofs.Walking.{found_number}
 use Rattle.geo_commands.proofs.names.found_provider.Goals as goal
 
 pub returns : goal.returns

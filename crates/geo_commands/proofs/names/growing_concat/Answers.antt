@@ -2,7 +2,7 @@ use Rattle.std.proofs.Common.{sym}
 use Rattle.geo_base.specs.declared.kind.Kind.TheVariants as kinds
 use Rattle.geo_model.specs.Append.{is_growing}
 use Rattle.geo_commands.specs.Names.{can_grow}
-use Rattle.geo_commands.proofs.Naming.{cannot_grow, find_begin, find_on, offers_agree}
+use Rattle.geo_commands.proofs.Walking.{cannot_grow, find_begin, find_on, offers_agree}
 use Rattle.geo_commands.proofs.names.growing_concat.Goals as goal
 
 -- at first all geoms of the name are left, and those that can grow are the growing concats of the name

@@ -1,4 +1,4 @@
-use Rattle.geo_commands.proofs.Naming.{next_named}
+use Rattle.geo_commands.proofs.Walking.{next_named}
 use Rattle.geo_commands.proofs.names.named_from.Goals as goal
 
 pub returns : goal.returns

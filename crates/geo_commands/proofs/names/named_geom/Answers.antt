@@ -1,7 +1,7 @@
 use Rattle.geo_model.specs.Words.{is_kind, same_name}
 use Rattle.std.specs.Prelude.{not, ◌&&◌}
 use Rattle.geo_commands.specs.Names.{stands}
-use Rattle.geo_commands.proofs.Naming.{find_begin, stands_agree}
+use Rattle.geo_commands.proofs.Walking.{find_begin, stands_agree}
 use Rattle.geo_commands.proofs.names.named_geom.Goals as goal
 
 pub loop-id-init : goal.loop-id-init

@@ -1,6 +1,6 @@
 use Rattle.std.proofs.Common.{Some, ap, sym, ◌∙◌}
 use Rattle.geo_model.specs.World.{Nop}
-use Rattle.geo_commands.proofs.Nopping.{below-of, below-sectors, nop-found, nop-free, nop-made, nop-named, nop-sized, nop-stands}
+use Rattle.geo_commands.proofs.Made.{below-of, below-sectors, nop-found, nop-free, nop-made, nop-named, nop-sized, nop-stands}
 use Rattle.geo_commands.proofs.nops.nop.Goals as goal
 
 -- the provider below was found in a firm world, so it has a sector size
@@ -18,8 +18,8 @@ unreachable-requires c =
     c.in_default-nop_refusal.is c.in_default-name.is
 
 -- Each that make asks: no test is against the nop, so what is below can carry it, its size fits, its name is free
-pub make-requires-clause-stands : goal.make-requires-clause-stands
-make-requires-clause-stands c =
+pub make-requires-clause-can_stand : goal.make-requires-clause-can_stand
+make-requires-clause-can_stand c =
     let found = nop-found c.args.state.now.topo.topology c.args.prov.now (sym c.in-Some.is ∙ c.below_named.ensures)
     c.with_tail.result c.with_tail.ensures c.ok-name.ensures.value in
     nop-stands c.args.state.now c.requires.stands.firm found c.args.offset c.args.size c.nop_refusal.ensures

@@ -2,7 +2,7 @@ use Rattle.std.specs.Prelude.{map}
 use Rattle.geo_model.specs.Topology.{Consumer, consumers_of}
 use Rattle.geo_access.specs.Access.{granted_by}
 use Rattle.geo_commands.specs.Lines.{cons_line}
-use Rattle.geo_commands.proofs.Printing.{print_begin, cons_on, attached-there}
+use Rattle.geo_commands.proofs.Walking.{print_begin, cons_on, attached-there}
 use Rattle.geo_commands.proofs.parts.cons_lines.Goals as goal
 
 pub loop-id-init : goal.loop-id-init

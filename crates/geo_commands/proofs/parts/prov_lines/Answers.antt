@@ -2,7 +2,7 @@ use Rattle.std.specs.Prelude.{map}
 use Rattle.geo_model.specs.Topology.{Provider, providers_of}
 use Rattle.geo_access.specs.Access.{granted_by}
 use Rattle.geo_commands.specs.Lines.{prov_line}
-use Rattle.geo_commands.proofs.Printing.{print_begin, prov_on}
+use Rattle.geo_commands.proofs.Walking.{print_begin, prov_on}
 use Rattle.geo_commands.proofs.parts.prov_lines.Goals as goal
 
 pub loop-id-init : goal.loop-id-init

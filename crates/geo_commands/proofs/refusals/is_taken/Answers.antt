@@ -1,5 +1,5 @@
 use Rattle.std.proofs.Common.{sym, ◌∙◌}
-use Rattle.geo_commands.proofs.Joining.{not_taken}
+use Rattle.geo_commands.proofs.Assembled.{not_taken}
 use Rattle.geo_commands.proofs.refusals.is_taken.Goals as goal
 
 -- all providers have names, so none is called by bytes that aren't one

@@ -1,6 +1,6 @@
 use Rattle.std.proofs.Common.{ap, ◌∙◌}
 use Rattle.geo_model.specs.Words.{first_error}
-use Rattle.geo_commands.proofs.Joining.{tests_are}
+use Rattle.geo_commands.proofs.Assembled.{tests_are}
 use Rattle.geo_commands.proofs.refusals.joined_refusal.Goals as goal
 
 -- what is kept of each provider is what the model's tests read of it

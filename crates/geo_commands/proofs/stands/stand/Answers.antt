@@ -1,6 +1,6 @@
 use Rattle.std.proofs.Common.{refl}
 use Rattle.std.proofs.lemmas.Option.{slice_get_read}
-use Rattle.geo_commands.proofs.Standing.{disk-size, seat-free, stood-kept, stood-told}
+use Rattle.geo_commands.proofs.Grown.{disk-size, seat-free, stood-kept, stood-told}
 use Rattle.geo_commands.proofs.stands.stand.Goals as goal
 
 -- a firm world has disks of sizes that a provider may have

@@ -2,7 +2,7 @@
 use Rattle.std.proofs.Common.{◌≡◌, ◌-◌}
 use Rattle.geo_model.specs.GeomCommands.{is_in_use}
 use Rattle.geo_access.specs.Access.{granted_by}
-use Rattle.geo_commands.proofs.Using.{used_left}
+use Rattle.geo_commands.proofs.Walking.{used_left}
 use Rattle.geo_commands.proofs.uses.is_in_use.Given as goal
 
 abbrev pub invariant-loop-id : goal.invariant-loop-id

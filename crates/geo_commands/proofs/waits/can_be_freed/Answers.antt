@@ -1,4 +1,4 @@
-use Rattle.geo_commands.proofs.Waiting.{freed_reaped, freed_washed}
+use Rattle.geo_commands.proofs.Doing.{freed_reaped, freed_washed}
 use Rattle.geo_commands.proofs.waits.can_be_freed.Goals as goal
 
 -- Either way: a handle that is ready is one that the world reaps, and where none is the wash decides

@@ -1,6 +1,6 @@
 use Rattle.std.specs.Prelude.{◌||◌}
 use Rattle.std.proofs.Common.{sym, ap, ◌∙◌}
-use Rattle.geo_commands.proofs.Waiting.{unsettled}
+use Rattle.geo_commands.proofs.Doing.{unsettled}
 use Rattle.geo_commands.proofs.waits.is_unsettled.Goals as goal
 
 -- nothing is under way, so it hangs on what can be freed

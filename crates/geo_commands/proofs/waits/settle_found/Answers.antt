@@ -1,5 +1,5 @@
 use Rattle.std.proofs.Common.{sym, ◌∙◌, true, false}
-use Rattle.geo_commands.proofs.Waiting.{settle_waits}
+use Rattle.geo_commands.proofs.Doing.{settle_waits}
 use Rattle.geo_commands.proofs.waits.settle_found.Goals as goal
 
 pub returns-then-is_unsettled : goal.returns-then-is_unsettled

@@ -1,5 +1,5 @@
 use Rattle.std.proofs.Common.{sym, ◌∙◌, Some, None}
-use Rattle.geo_commands.proofs.Waiting.{sync_waits}
+use Rattle.geo_commands.proofs.Doing.{sync_waits}
 use Rattle.geo_commands.proofs.waits.sync_found.Goals as goal
 
 -- the first bio of the actor's lines by the table is the first of the world

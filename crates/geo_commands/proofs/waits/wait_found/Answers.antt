@@ -1,7 +1,7 @@
 use Rattle.std.proofs.Common.{sym, ◌∙◌, ap}
 use Rattle.geo_model.specs.Step.{waits_for}
 use Rattle.geo_state.specs.World.{world}
-use Rattle.geo_commands.proofs.Waiting.{no_wait}
+use Rattle.geo_commands.proofs.Doing.{no_wait}
 use Rattle.geo_commands.proofs.waits.wait_found.Goals as goal
 
 pub returns-in-Sync : goal.returns-in-Sync

@@ -1,6 +1,4 @@
-use Rattle.geo_opens.proofs.Going.{written-room}
-use Rattle.geo_opens.proofs.Stepping.{step-placed, step-holder, step-idle, close-made, close-kept}
-use Rattle.geo_state.proofs.KeptLemmas.{kept_with_handles}
+use Rattle.geo_opens.proofs.Stepping.{written-room, step-placed, step-holder, step-idle, close-made, close-kept}
 use Rattle.geo_opens.proofs.closes.forget_held.Goals as goal
 
 -- for each condition: consumers are attached, this one is DEV's and idle, and a place is kept for each written provider
@@ -16,7 +14,7 @@ give_back-requires-clause-idle g c =
     step-idle c.args.state.now c.requires.stands c.args.id c.args.cons c.requires.idle
 
 pub give_back-requires-clause-room : goal.give_back-requires-clause-room
-give_back-requires-clause-room g c = written-room c.args.state.now c.requires.stands.kept
+give_back-requires-clause-room g c = written-room c.args.state.now c.requires.stands
 
 -- no other handle has the number or the consumer, so forgetting both is the model's close, with what falls by it
 pub returns-clause-made : goal.returns-clause-made
@@ -29,4 +27,3 @@ pub returns-clause-kept : goal.returns-clause-kept
 returns-clause-kept g c =
     close-kept c.args.state.now c.requires.stands c.args.id c.args.cons c.requires.idle
     c.give_back.new.topo c.give_back.new.queue c.remove.new.self c.give_back.ensures.gone c.remove.ensures.removed
-    kept_with_handles

@@ -1,5 +1,4 @@
 use Rattle.geo_opens.proofs.Stepping.{forget-made, forget-kept}
-use Rattle.geo_state.proofs.KeptLemmas.{kept_with_handles}
 use Rattle.geo_opens.proofs.closes.forget_reaped.Goals as goal
 
 -- a handle without a consumer holds nothing, so nothing falls and the handle alone goes
@@ -11,4 +10,4 @@ returns-clause-made c =
 pub returns-clause-kept : goal.returns-clause-kept
 returns-clause-kept c =
     forget-kept c.args.state.now c.requires.stands c.args.id c.requires.reaped c.remove.new.self
-    c.remove.ensures.removed kept_with_handles
+    c.remove.ensures.removed

@@ -1,20 +1,14 @@
-use Rattle.std.proofs.Common.{ap, ◌∙◌}
-use Rattle.geo_mesh.specs.Topo.{with_consumer}
-use Rattle.geo_opens.proofs.Coming.{made_free, made_gone}
+use Rattle.geo_opens.proofs.Holding.{made_free, made_gone}
 use Rattle.geo_opens.proofs.holders.use_number.Goals as goal
 
 pub destroy_consumer-requires : goal.destroy_consumer-requires
 destroy_consumer-requires g c =
-    made_free c.args.topo.now c.new_consumer.new.self c.in_ok-cons.ensures.sound
-    (c.in_ok-cons.ensures.added
-    ∙ ap (λ n. record (with_consumer c.args.topo.now n) { room = c.new_consumer.new.self.room }) c.new.ensures)
-    c.in_ok-cons.cons c.in_ok-cons.ensures.number
+    made_free c.args.topo.now c.new_consumer.new.self c.in_ok-cons.ensures.sound c.new.result
+    c.in_ok-cons.ensures.added c.new.ensures c.in_ok-cons.cons c.in_ok-cons.ensures.number
 
 -- a consumer made and destroyed at once leaves only its number used up
 pub returns-clause-used : goal.returns-clause-used
 returns-clause-used g c =
-    made_gone c.args.topo.now c.new_consumer.new.self c.in_ok-cons.ensures.sound
-    (c.in_ok-cons.ensures.added
-    ∙ ap (λ n. record (with_consumer c.args.topo.now n) { room = c.new_consumer.new.self.room }) c.new.ensures)
-    c.in_ok-cons.cons c.in_ok-cons.ensures.number c.requires.counted c.requires.unknown c.destroy_consumer.new.self
-    c.destroy_consumer.ensures
+    made_gone c.args.topo.now c.new_consumer.new.self c.in_ok-cons.ensures.sound c.new.result
+    c.in_ok-cons.ensures.added c.new.ensures c.in_ok-cons.cons c.in_ok-cons.ensures.number
+    c.requires.counted c.requires.unknown c.destroy_consumer.new.self c.destroy_consumer.ensures

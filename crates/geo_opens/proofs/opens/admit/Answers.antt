@@ -1,7 +1,6 @@
 use Rattle.std.proofs.Common.{sym, ◌∙◌}
 use Rattle.geo_opens.proofs.Settling.{roomed-firm}
-use Rattle.geo_opens.proofs.Opening.{found-there}
-use Rattle.geo_opens.proofs.Admitting.{free-found, free-name, free-allowed, made-then, same-then}
+use Rattle.geo_opens.proofs.Admitting.{found-there, free-found, free-name, free-allowed, made-then, same-then}
 use Rattle.geo_opens.proofs.opens.admit.Goals as goal
 
 -- nothing refuses the open, so its provider is found

@@ -5,11 +5,9 @@ use Rattle.geo_state.specs.World.{world}
 use Rattle.geo_handles.specs.Handles.{holding_handle}
 use Rattle.geo_state.proofs.FirmLemmas.{firm-order}
 use Rattle.geo_opens.proofs.Settling.{roomed-kept}
-use Rattle.geo_opens.proofs.Opening.{nobodys-next}
+use Rattle.geo_opens.proofs.Admitting.{nobodys-next, next-unknown, mesh-roomed, admit-made, admit-kept}
 use Rattle.geo_opens.proofs.Stepping.{step-placed}
-use Rattle.geo_opens.proofs.Admitting.{next-unknown, mesh-roomed, admit-made, admit-kept}
 use Rattle.geo_state.specs.declared.state.State.{State}
-use Rattle.geo_state.proofs.KeptLemmas.{kept_with_handles}
 use Rattle.geo_opens.proofs.opens.open_at.Goals as goal
 
 pub take_in-requires-clause-placed : goal.take_in-requires-clause-placed
@@ -25,7 +23,7 @@ take_in-requires-clause-unknown g c =
 pub open-requires-clause-nobodys : goal.open-requires-clause-nobodys
 open-requires-clause-nobodys g c =
     ap (holding_handle c.args.state.now.handles.handles) c.in_ok-cons.ensures.number
-    ∙ nobodys-next c.args.state.now c.requires.stands.kept c.requires.stands.firm.0 c.requires.stands.firm.1
+    ∙ nobodys-next c.args.state.now c.requires.stands
 
 pub returns-in_err-cons-clause-kept : goal.returns-in_err-cons-clause-kept
 returns-in_err-cons-clause-kept g c =
@@ -46,7 +44,7 @@ pub returns-clause-kept : goal.returns-clause-kept
 returns-clause-kept g c =
     admit-kept c.args.state.now c.requires.stands c.args.actor c.args.name.now
     c.args.prov c.args.grant c.requires.room c.take_in.new.topo c.take_in.new.queue c.open.new.self
-    c.in_ok-cons.ensures.came c.in_ok-cons.cons c.in_ok-cons.ensures.number c.open.ensures.opened kept_with_handles
+    c.in_ok-cons.ensures.came c.in_ok-cons.cons c.in_ok-cons.ensures.number c.open.ensures.opened
 
 -- in a sound and steady world no taste made DEV
 pub take_in-requires-clause-made : goal.take_in-requires-clause-made

@@ -1,6 +1,5 @@
 use Rattle.std.proofs.Common.{sym, ◌∙◌}
-use Rattle.geo_opens.proofs.Opening.{found-there, counts-refuse, refusal-told, none-told}
-use Rattle.geo_opens.proofs.Admitting.{free-of}
+use Rattle.geo_opens.proofs.Admitting.{found-there, counts-refuse, refusal-told, none-told, free-of}
 use Rattle.geo_opens.proofs.opens.open_refusal.Goals as goal
 
 pub could_grant-requires-clause-lives : goal.could_grant-requires-clause-lives

@@ -1,6 +1,5 @@
-use Rattle.geo_opens.proofs.Coming.{dev_stands}
+use Rattle.geo_opens.proofs.Holding.{dev_stands}
 use Rattle.geo_opens.proofs.Admitting.{next-unknown, refuse-kept}
-use Rattle.geo_state.proofs.KeptLemmas.{kept_with_handles}
 use Rattle.geo_opens.proofs.opens.refuse.Goals as goal
 
 pub use_number-requires-clause-unknown : goal.use_number-requires-clause-unknown
@@ -13,5 +12,5 @@ use_number-requires-clause-dev c = dev_stands c.args.state.now.topo.topology c.f
 -- a number that is used up is no part of what is kept
 pub returns-clause-kept : goal.returns-clause-kept
 returns-clause-kept c =
-    refuse-kept c.args.state.now c.requires.kept kept_with_handles c.use_number.new.topo c.use_number.result
+    refuse-kept c.args.state.now c.requires.kept c.use_number.new.topo c.use_number.result
     c.use_number.ensures.used c.use_number.ensures.same

@@ -1,9 +1,7 @@
 use Rattle.std.specs.Prelude.{IsSome}
 use Rattle.std.proofs.Common.{sym, subst}
 use Rattle.geo_handles.specs.Handles.{HandlesView, handle_at}
-use Rattle.geo_opens.proofs.Going.{written-room}
-use Rattle.geo_opens.proofs.Stepping.{step-placed, step-holder, step-idle, step-there, reap-made, reap-kept}
-use Rattle.geo_state.proofs.KeptLemmas.{kept_with_handles}
+use Rattle.geo_opens.proofs.Stepping.{written-room, step-placed, step-holder, step-idle, step-there, reap-made, reap-kept}
 use Rattle.geo_opens.proofs.reaps.let_go.Goals as goal
 
 -- the handle stays when it has no consumer any more
@@ -25,7 +23,7 @@ give_back-requires-clause-idle g c =
     step-idle c.args.state.now c.requires.stands c.args.id c.args.cons c.requires.idle
 
 pub give_back-requires-clause-room : goal.give_back-requires-clause-room
-give_back-requires-clause-room g c = written-room c.args.state.now c.requires.stands.kept
+give_back-requires-clause-room g c = written-room c.args.state.now c.requires.stands
 
 -- no other handle has the consumer, so letting it go is the model's reap, with what falls by it
 pub returns-clause-made : goal.returns-clause-made
@@ -38,4 +36,4 @@ pub returns-clause-kept : goal.returns-clause-kept
 returns-clause-kept g c =
     reap-kept c.args.state.now c.requires.stands c.args.id c.args.cons c.requires.idle
     c.give_back.new.topo c.give_back.new.queue c.set_ready.new.self c.give_back.ensures.gone
-    c.release.new.self c.release.ensures.released c.set_ready.ensures kept_with_handles
+    c.release.new.self c.release.ensures.released c.set_ready.ensures

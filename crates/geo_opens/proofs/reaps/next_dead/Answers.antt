@@ -1,6 +1,6 @@
 use Rattle.std.specs.Prelude.{[]}
 use Rattle.std.proofs.Common.{sym, ◌∙◌}
-use Rattle.geo_opens.proofs.Actives.{none-to-reap}
+use Rattle.geo_opens.proofs.Settling.{none-to-reap}
 use Rattle.geo_opens.proofs.reaps.next_dead.Goals as goal
 
 -- a Reap is due, so a handle is noted as ready

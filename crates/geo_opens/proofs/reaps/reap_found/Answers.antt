@@ -1,4 +1,4 @@
-use Rattle.geo_opens.proofs.Actives.{some-to-reap, none-to-reap}
+use Rattle.geo_opens.proofs.Settling.{some-to-reap, none-to-reap}
 use Rattle.std.proofs.Common.{sym, ◌∙◌}
 use Rattle.geo_opens.proofs.reaps.reap_found.Goals as goal
 

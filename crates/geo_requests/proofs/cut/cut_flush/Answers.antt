@@ -3,7 +3,7 @@ use Rattle.geo_bio.specs.Rows.{as_bio}
 use Rattle.geo_mesh.specs.Cells.{provider_seen}
 use Rattle.geo_class.proofs.TargetLemmas.{flushes_go_through}
 use Rattle.geo_requests.specs.Ways.{through}
-use Rattle.geo_requests.proofs.Cuts.{cut_of}
+use Rattle.geo_requests.proofs.Ways.{cut_of}
 use Rattle.geo_requests.proofs.cut.cut_flush.Goals as goal
 
 -- a FLUSH goes once through each component, in their order, and each consumer to the provider that it is attached to

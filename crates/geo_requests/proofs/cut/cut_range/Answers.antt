@@ -4,7 +4,7 @@ use Rattle.geo_mesh.specs.Cells.{provider_seen}
 use Rattle.geo_class.specs.Targets.{consumers_for}
 use Rattle.geo_class.proofs.TargetLemmas.{pieces_go_through}
 use Rattle.geo_requests.specs.Ways.{through}
-use Rattle.geo_requests.proofs.Cuts.{cut_of}
+use Rattle.geo_requests.proofs.Ways.{cut_of}
 use Rattle.geo_requests.proofs.cut.cut_range.Goals as goal
 
 -- a consumer fills the place of each piece, so the pieces with their consumers' providers are the model's

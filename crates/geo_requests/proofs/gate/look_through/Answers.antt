@@ -1,5 +1,5 @@
 use Rattle.std.proofs.Common.{arith}
-use Rattle.geo_requests.proofs.Errored.{wide_sector}
+use Rattle.geo_requests.proofs.Ways.{wide_sector}
 use Rattle.geo_requests.proofs.gate.look_through.Goals as goal
 
 -- a provider of a sound graph has sectors of at least 512 bytes

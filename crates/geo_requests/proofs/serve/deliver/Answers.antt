@@ -1,5 +1,5 @@
 use Rattle.std.proofs.Common.{sym}
-use Rattle.geo_requests.proofs.Serving.{delivers_at, deliver_has_disk, deliver_requires, delivery_made, delivery_logged, some_disk}
+use Rattle.geo_requests.proofs.Against.{delivers_at, deliver_has_disk, deliver_requires, delivery_made, delivery_logged, some_disk}
 use Rattle.geo_requests.proofs.serve.deliver.Goals as goal
 
 -- in a firm world a bio that a seat has is at its disk, and alone there

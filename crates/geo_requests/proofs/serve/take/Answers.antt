@@ -1,6 +1,6 @@
 use Rattle.std.proofs.Common.{ap, length}
 use Rattle.geo_bio.specs.BioTable.{BioTableView}
-use Rattle.geo_requests.proofs.Serving.{taken_bio, take_sent, take_goes, take_free, makes_taken, logged_taken}
+use Rattle.geo_requests.proofs.Against.{taken_bio, take_sent, take_goes, take_free, makes_taken, logged_taken}
 use Rattle.geo_requests.proofs.serve.take.Goals as goal
 
 -- for each condition: nothing is against the Take, so the bio is Sent, to this disk, at which nothing is

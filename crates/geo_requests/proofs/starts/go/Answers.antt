@@ -7,8 +7,7 @@ use Rattle.geo_model.specs.Bios.{Bounces, Fails, Sends, Splits, Passes}
 use Rattle.geo_bio.specs.BioTable.{has_phase}
 use Rattle.geo_state.specs.declared.state.State.{State}
 use Rattle.geo_requests.specs.Started.{HasStarted}
-use Rattle.geo_requests.proofs.Going.{went_at_once, went_by, split_well, pass_well, fails_there, fails_counted, passes_there, passes_counted}
-use Rattle.geo_requests.proofs.Parting.{bounced_started, failed_started, sent_started}
+use Rattle.geo_requests.proofs.Started.{went_at_once, went_by, split_well, pass_well, fails_there, fails_counted, passes_there, passes_counted, bounced_started, failed_started, sent_started}
 use Rattle.geo_requests.proofs.starts.go.Goals as goal
 
 -- for each way: the way that was found is the model's, and so is what the bio did

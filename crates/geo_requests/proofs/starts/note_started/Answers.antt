@@ -3,7 +3,7 @@ use Rattle.geo_model.specs.World.{Config}
 use Rattle.geo_mesh.specs.Topo.{TopoView}
 use Rattle.geo_state.specs.declared.state.State.{State}
 use Rattle.geo_state.specs.Holds.{Holds}
-use Rattle.geo_requests.proofs.Noting.{noted_holds}
+use Rattle.geo_requests.proofs.Started.{noted_holds}
 use Rattle.geo_requests.proofs.starts.note_started.Goals as goal
 
 -- how many requests a geom has started is seen by nothing that is kept

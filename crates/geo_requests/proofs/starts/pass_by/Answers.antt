@@ -2,7 +2,7 @@ use Rattle.std.proofs.Common.{sym, subst}
 use Rattle.geo_model.specs.Topology.{Topology}
 use Rattle.geo_model.specs.World.{Config}
 use Rattle.geo_requests.specs.Ways.{CanCount}
-use Rattle.geo_requests.proofs.Parting.{passed_there}
+use Rattle.geo_requests.proofs.Started.{passed_there}
 use Rattle.geo_requests.proofs.starts.pass_by.Goals as goal
 
 -- a split leaves the graph, so one more request can be counted still

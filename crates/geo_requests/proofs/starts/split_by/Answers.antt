@@ -1,7 +1,8 @@
 use Rattle.std.proofs.Common.{ap, length}
 use Rattle.geo_base.proofs.Options.{on_error}
 use Rattle.geo_state.specs.Steps.{SameWorld}
-use Rattle.geo_requests.proofs.Parting.{split_there, same_moved}
+use Rattle.geo_requests.proofs.Against.{same_moved}
+use Rattle.geo_requests.proofs.Started.{split_there}
 use Rattle.geo_requests.proofs.starts.split_by.Goals as goal
 
 -- the bios and their next number are as before, and nothing else is part of the world

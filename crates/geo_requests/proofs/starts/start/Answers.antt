@@ -4,8 +4,7 @@ use Rattle.geo_model.specs.Bios.{Way, way_of}
 use Rattle.geo_model.specs.World.{bio_among}
 use Rattle.geo_bio.specs.Rows.{as_bio}
 use Rattle.geo_requests.specs.Ways.{IsModelWay}
-use Rattle.geo_requests.proofs.Going.{start_made, start_logged}
-use Rattle.geo_requests.proofs.Started.{can_go_down}
+use Rattle.geo_requests.proofs.Started.{start_made, start_logged, can_go_down}
 use Rattle.geo_requests.proofs.Ways.{way_plain}
 use Rattle.geo_requests.proofs.starts.start.Goals as goal
 

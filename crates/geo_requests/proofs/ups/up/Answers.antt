@@ -1,9 +1,8 @@
 use Rattle.std.proofs.Common.{length, sym, ◌∙◌}
 use Rattle.geo_base.proofs.Options.{on_error}
 use Rattle.geo_state.specs.Steps.{SameWorld}
-use Rattle.geo_requests.proofs.Parting.{same_moved}
-use Rattle.geo_requests.proofs.Returned.{no_read}
-use Rattle.geo_requests.proofs.Rising.{came, rise_made, rise_logged}
+use Rattle.geo_requests.proofs.Against.{same_moved}
+use Rattle.geo_requests.proofs.Returned.{no_read, came, rise_made, rise_logged}
 use Rattle.geo_requests.proofs.ups.up.Goals as goal
 
 pub hand_back-requires-clause-taste : goal.hand_back-requires-clause-taste

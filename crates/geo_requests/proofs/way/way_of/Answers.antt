@@ -4,8 +4,7 @@ use Rattle.geo_model.specs.Bios.{Way}
 use Rattle.geo_bio.specs.Rows.{as_bio}
 use Rattle.geo_mesh.specs.Cells.{geom_seen, provider_seen}
 use Rattle.geo_requests.specs.Ways.{IsModelWay}
-use Rattle.geo_requests.proofs.Errored.{errored_found, errored_nowhere}
-use Rattle.geo_requests.proofs.Ways.{way_errored, way_nowhere, way_bare, way_there}
+use Rattle.geo_requests.proofs.Ways.{errored_found, errored_nowhere, way_errored, way_nowhere, way_bare, way_there}
 use Rattle.geo_requests.proofs.way.way_of.Goals as goal
 
 -- there is no provider of that number, so none that carries an error, and the bio bounces
