@@ -1,23 +1,15 @@
 -- What is answered to a step.
-use Rattle.std.specs.Prelude.{◌≡◌, ℕ, ◌+◌, ◌<◌, ◌≤◌, Bool, true, false, ◌&&◌, List, [], ◌∷◌, ◌++◌, length, Option, Some, None, Result, Ok, Err, IsOk, IsErrAnd, is_ok, is_none, IfOk, if◌then◌else◌}
+use Rattle.std.specs.Prelude.{◌≡◌, ℕ, ◌+◌, ◌<◌, ◌≤◌, Bool, true, false, ◌&&◌, List, [], ◌∷◌, ◌++◌, length, Option, Some, None, Result, Ok, Err, IsOk, IsErrAnd, is_ok, is_none, if◌then◌else◌}
 use Rattle.std.proofs.Common.{refl, sym, ◌∙◌, ap, subst, arith}
-use Rattle.geo_base.specs.declared.block.NoMemory.{NoMemory}
 use Rattle.geo_base.specs.declared.limits.TheConstants.{MAX_LOG_ENTRIES}
 use Rattle.geo_model.specs.declared.command.Command.{Command}
-use Rattle.geo_model.specs.declared.command.Command.TheVariants as commands
 use Rattle.geo_model.specs.declared.command.LineCommand.{LineCommand}
 use Rattle.geo_model.specs.declared.step.Entry.{Entry}
 use Rattle.geo_model.specs.declared.step.Found.{Found}
 use Rattle.geo_model.specs.declared.step.Outcome.{Outcome}
-use Rattle.geo_model.specs.declared.step.Outcome.TheVariants as outcomes
-use Rattle.geo_model.specs.declared.step.Reply.TheVariants as replies
 use Rattle.geo_model.specs.declared.step.Step.{Step}
-use Rattle.geo_model.specs.declared.step.Step.TheVariants as steps
 use Rattle.geo_model.specs.World.{World}
-use Rattle.geo_model.specs.Fitting.{Firm}
 use Rattle.geo_model.specs.History.{next_command}
-use Rattle.geo_model.specs.declared.listing.GeomLine.{GeomLine}
-use Rattle.geo_model.specs.Listing.{listing}
 use Rattle.geo_model.specs.Step.{Answer, step}
 use Rattle.geo_model.specs.Log.{owed, is_full}
 use Rattle.geo_commands.specs.Owed.{is_answered_ok, is_close, is_open}
@@ -26,17 +18,23 @@ use Rattle.geo_state.specs.Steps.{against}
 use Rattle.geo_state.specs.World.{world}
 use Rattle.geo_commands.specs.declared.decisions.Decision.{Decision}
 use Rattle.geo_core.specs.declared.refusal.ApplyRefusal.{ApplyRefusal}
-use Rattle.geo_core.specs.declared.refusal.ApplyRefusal.TheVariants as refusals
 use Rattle.geo_core.specs.declared.running.Running.{Running}
 use Rattle.geo_core.specs.declared.twin.Spare.{Spare}
-use Rattle.geo_core.specs.Goes.{IsAdmitted, IsOwedAfter, HasRoomFor, PaysOff}
-use Rattle.geo_core.specs.Left.{left_of}
+use Rattle.geo_core.specs.Goes.{IsAdmitted, IsOwedAfter, HasRoomFor, PaysOff, IsReady}
 use Rattle.geo_core.specs.Mesh.{MeshView, world_of, entry_of, Made, Refuses, Applies, Advances, IsSure}
 use Rattle.geo_core.specs.Moves.{IsFound}
-use Rattle.geo_core.specs.Running.{seen, IsMesh}
+use Rattle.geo_core.specs.Running.{seen, IsMesh, world_now}
 use Rattle.geo_core.specs.Twins.{HasOutcome, EndsWith}
-use Rattle.geo_core.proofs.Meshes.{mesh_firm}
+use Rattle.geo_core.proofs.Meshes.{Reads, seen_firm}
 use Rattle.geo_core.proofs.Admits.{found_at, found_some, found_none, full_is, full_not}
+use Rattle.geo_log.specs.Room.{Room}
+use Rattle.geo_state.specs.declared.state.State.{State}
+use Rattle.geo_core.specs.Places.{IsRoomAnswer}
+use Rattle.geo_model.specs.declared.command.Command.TheVariants as commands
+use Rattle.geo_model.specs.declared.step.Outcome.TheVariants as outcomes
+use Rattle.geo_model.specs.declared.step.Reply.TheVariants as replies
+use Rattle.geo_model.specs.declared.step.Step.TheVariants as steps
+use Rattle.geo_core.specs.declared.refusal.ApplyRefusal.TheVariants as refusals
 
 -- what an enabled step leads to
 pub record Leads (w : World) (seat : ℕ) (st : Step) : Type 0 where
@@ -54,9 +52,6 @@ leads w seat st ok = leads_by w seat st (step w seat st) refl ok
 module _ (r : Running) (is : IsMesh r) (seat : ℕ) (st : Step) where
   abbrev w : World
   w = world_of (seen r)
-
-  firm : Firm w
-  firm = subst Firm is.world (mesh_firm r is)
 
   -- what is found against a step is what its world answers
   pub found_in_world : (f : Option Found)
@@ -132,14 +127,14 @@ sure_pays r is seat (steps.Deliver b got) sure =
     let v : World = world_of (seen r) in
     let st : Step = steps.Deliver b got in
     let to = leads v seat st sure in
-    let changes = owed_changes v seat st to.after to.outcome (firm r is seat st) to.does in
+    let changes = owed_changes v seat st to.after to.outcome (seen_firm r is) to.does in
     record { after = to.after; outcome = to.outcome; does = to.does; less = omega (arith, changes) }
 sure_pays r is seat (steps.Go actor) closes =
     let v : World = world_of (seen r) in
     let c : LineCommand = closes.command in
     let out : Outcome = outcomes.Replied c.line replies.Ok in
     let st : Step = steps.Go actor in
-    let changes = owed_changes v seat st closes.after out (firm r is seat st) closes.is_ok in
+    let changes = owed_changes v seat st closes.after out (seen_firm r is) closes.is_ok in
     let answered = closes_pay c closes.name closes.is_close in
     let paid : ◌≡◌ {A = ℕ} (if is_answered_ok is_close (next_command v actor) out then 1 else 0) 1 =
     ap (λ (o : Option LineCommand). count (is_answered_ok is_close o out)) closes.is_next
@@ -200,15 +195,76 @@ enabled_by (Ok made) f e = rw (← e) refl
 enabled_by (Err found) f e = rw (← e) refl
 
 -- a step is enabled where nothing is against it
-pub enabled_is : (r : Running) → IsMesh r → (seat : ℕ) (st : Step) (f : Option Found)
-    → IsFound r.plan.commands r.left r.state seat st f → is_none f ≡ is_ok (step (world_of (seen r)) seat st)
-enabled_is r is seat st f found = enabled_by (step (world_of (seen r)) seat st) f (found_in_world r is seat st f found)
+pub enabled_is : {r : Running} {v : MeshView} → Reads r v → (seat : ℕ) (st : Step) (f : Option Found)
+    → IsFound r.plan.commands r.left r.state seat st f → is_none f ≡ is_ok (step (world_of v) seat st)
+enabled_is {r} {v} it seat st f found =
+    enabled_by (step (world_of v) seat st) f
+    (subst (λ (m : MeshView). against (step (world_of m) seat st) ≡ f) it.same (found_in_world r it.is seat st f found))
 
--- the mesh as it is printed
-pub listed : (r : Running) → IsMesh r → (result : Result (List GeomLine) NoMemory)
-    → IfOk result (λ lines. (actors : List (List LineCommand)) (log : List Entry)
-    → lines ≡ listing (world actors log r.state))
-    → IfOk result (λ lines. lines ≡ listing (world_of (seen r)))
-listed r is (Ok lines) told =
-    told (left_of r.plan.commands r.left) r.log.items ∙ ap (λ (v : World). listing v) is.world
-listed r is (Err e) told = tt
+-- A step that is admitted, and one that is refused its place.
+
+-- the same mesh with more room in its log
+
+roomy : (r : Running) → IsMesh r → (spare : ℕ) → r.log.spare ≤ spare
+    → IsMesh (record r { log = record { items = r.log.items; spare = spare } })
+roomy r is spare more = record {
+  plan = is.plan;
+  facts = is.facts;
+  lawful = is.lawful;
+  left = is.left;
+  world = is.world;
+  holds = is.holds;
+  bytes = is.bytes;
+  room = let room : owed (world_now r) ≤ r.log.spare = is.room in omega (arith, room, more);
+}
+
+module _ (r : Running) (is : IsMesh r) (s : State) (l : Room Entry) (state_is : s ≡ r.state)
+    (items_are : l.items ≡ r.log.items) where
+  -- with the state and the log that it has
+  abbrev pub other : Running
+  other = record r { state = s; log = l }
+
+  pub other_mesh : r.log.spare ≤ l.spare → IsMesh other
+  other_mesh more =
+      subst (λ (t : State). IsMesh (record r { state = t; log = l })) (sym state_is)
+      (subst (λ (xs : List Entry). IsMesh (record r { log = record { items = xs; spare = l.spare } })) (sym items_are)
+      (roomy r is l.spare more))
+
+  pub other_seen : seen other ≡ seen r
+  other_seen =
+      ap (λ (xs : List Entry). let v : MeshView = record { plan = r.plan; facts = r.facts.items; log = xs } in v)
+      items_are
+
+module _ (r : Running) (is : IsMesh r) (s : State) (l : Room Entry) (state_is : s ≡ r.state)
+    (items_are : l.items ≡ r.log.items) (seat : ℕ) (st : Step) (d : Option Decision) (n : ℕ)
+    {f : Option Found} (none : f ≡ None) (looked : IsFound r.plan.commands r.left r.state seat st f)
+    (ready : IsReady r.plan.commands r.left r.state st d) (owes : IsOwedAfter (world_of (seen r)) st n) where
+  abbrev now : Running
+  now = record r { state = s; log = l }
+
+  -- nothing was found against the step
+  found : IsFound r.plan.commands r.left r.state seat st None
+  found = subst (λ (o : Option Found). IsFound r.plan.commands r.left r.state seat st o) none looked
+
+  seen_now : seen now ≡ seen r
+  seen_now = other_seen r is s l state_is items_are
+
+  -- the step is admitted where it has its place
+  pub other_admitted : (n + 1 ≤ l.spare) × (length r.log.items + 1 + n ≤ MAX_LOG_ENTRIES) → IsAdmitted now seat st d
+  other_admitted place = record {
+    found = subst (λ (t : State). IsFound r.plan.commands r.left t seat st None) (sym state_is) found;
+    ready = subst (λ (t : State). IsReady r.plan.commands r.left t st d) (sym state_is) ready;
+    place = subst (λ (v : MeshView). is_full v.log (world_of v) seat st ≡ false) (sym seen_now)
+        (placed r is seat st n found owes place.1);
+    room = λ after outcome does.
+        roomed r is seat st n l.spare owes place.0 after outcome
+        (subst (λ (v : MeshView). step (world_of v) seat st ≡ Ok (after, outcome)) seen_now does);
+  }
+
+  -- and is refused where it hasn't, or where memory is wanting
+  pub other_refused : (refusal : ApplyRefusal) → IsRoomAnswer (Err refusal) (length r.log.items) n l.spare
+      → Refuses refusal (seen r) (seen now) seat st
+  other_refused (refusals.NotEnabled f) is_placed = absurd is_placed
+  other_refused refusals.LogFull over = (full r is seat st n found owes over, seen_now)
+  other_refused refusals.NoMemory fits =
+      (enabled r is seat st found, placed r is seat st n found owes fits, seen_now)

@@ -54,13 +54,6 @@ here [] actor place c at own = absurd (let no : ⊥ = cc in no)
 here (x ∷ xs) actor zero c at own = let same : x ≡ c = cc in rw (same, own) refl
 here (x ∷ xs) actor (suc place) c at own = here xs actor place c at own
 
--- another's is passed over
-pub passed : (commands : List LineCommand) (actor place : ℕ) (c : LineCommand) → slice_get commands place ≡ Some c
-    → (c.actor == actor) ≡ false → commands_from commands actor (suc place) ≡ commands_from commands actor place
-passed [] actor place c at other = absurd (let no : ⊥ = cc in no)
-passed (x ∷ xs) actor zero c at other = let same : x ≡ c = cc in rw (same, other) refl
-passed (x ∷ xs) actor (suc place) c at other = passed xs actor place c at other
-
 -- behind all there is none
 nothing : (commands : List LineCommand) (actor place : ℕ) → slice_get commands place ≡ None
     → commands_from commands actor place ≡ []
@@ -68,11 +61,6 @@ nothing [] actor zero at = refl
 nothing [] actor (suc place) at = refl
 nothing (x ∷ xs) actor zero at = absurd (let no : ⊥ = cc in no)
 nothing (x ∷ xs) actor (suc place) at = nothing xs actor place at
-
--- behind all stands nothing
-pub past : {X : Type 0} (xs : List X) → slice_get xs (length xs) ≡ None
-past [] = refl
-past (x ∷ xs) = past xs
 
 -- what an actor has left, and what comes after its next command
 
@@ -113,43 +101,39 @@ module _ (plan : Plan) (places : List ℕ) (next : AreNext plan places) (actor :
       → slice_get plan.commands place ≡ Some c → next_command_of left ≡ Ok c
   a_command place c at has = ap next_command_of (all_left place c at has)
 
+  -- one that has a next command has a place
+  pub has_place : IsOk (next_command_of left) → slice_get places actor ≡ None → ⊥
+  has_place some none = let e = no_actor none in let wrong : ⊥ = cc (e, some) in wrong
+
+  -- at which the command stands
+  command_there : (place : ℕ) → slice_get places actor ≡ Some place → IsOk (next_command_of left)
+      → (c : LineCommand) × (slice_get plan.commands place ≡ Some c)
+  command_there place at some = by (slice_get plan.commands place) refl where
+    by : (o : Option LineCommand) → slice_get plan.commands place ≡ o
+        → (c : LineCommand) × (slice_get plan.commands place ≡ Some c)
+    by None end = absurd (let e = no_command place at end in let wrong : ⊥ = cc (e, some) in wrong)
+    by (Some c) has = (c, has)
+
   -- the places after its next command is gone
   pub gone : (place after : ℕ) → slice_get places actor ≡ Some place → IsOk (next_command_of left)
       → commands_from plan.commands actor after ≡ commands_from plan.commands actor (place + 1)
       → left_of plan.commands (slice_set places actor after)
       ≡ slice_set (left_of plan.commands places) actor (rest_of left)
-  gone place after at some skips = by (slice_get plan.commands place) refl where
-    by : (o : Option LineCommand) → slice_get plan.commands place ≡ o
-        → left_of plan.commands (slice_set places actor after)
-        ≡ slice_set (left_of plan.commands places) actor (rest_of left)
-    by None end =
-        absurd (let no : IsOk (next_command_of left) = some in let e = no_command place at end in
-        let wrong : ⊥ = cc (e, no) in wrong)
-    by (Some c) has =
-        let whole = all_left place c at has in
-        let one : place + 1 ≡ suc place = add-one place in
-        set-from plan.commands 0 places actor actor after (omega arith)
-        ∙ ap (λ (rest : List LineCommand). slice_set (left_of plan.commands places) actor rest)
-        (skips ∙ ap (commands_from plan.commands actor) one ∙ sym (ap rest_of whole))
+  gone place after at some skips =
+      let found = command_there place at some in
+      let whole = all_left place found.0 at found.1 in
+      let one : place + 1 ≡ suc place = add-one place in
+      set-from plan.commands 0 places actor actor after (omega arith)
+      ∙ ap (λ (rest : List LineCommand). slice_set (left_of plan.commands places) actor rest)
+      (skips ∙ ap (commands_from plan.commands actor) one ∙ sym (ap rest_of whole))
 
   -- there is one more command at the place
   pub inside_place : (place : ℕ) → slice_get places actor ≡ Some place → IsOk (next_command_of left)
       → place + 1 ≤ length plan.commands
-  inside_place place at some = by (slice_get plan.commands place) refl where
-    by : (o : Option LineCommand) → slice_get plan.commands place ≡ o → place + 1 ≤ length plan.commands
-    by None end =
-        absurd (let no : IsOk (next_command_of left) = some in let e = no_command place at end in
-        let wrong : ⊥ = cc (e, no) in wrong)
-    by (Some c) has = let less = slice_get_within plan.commands place c has in omega (arith, less)
-
--- an actor that has a next command has a place
-pub has_place : (plan : Plan) (places : List ℕ) (actor : ℕ)
-    → IsOk (next_command_of (slice_get (left_of plan.commands places) actor)) → slice_get places actor ≡ None → ⊥
-has_place plan places actor some none =
-    let e : next_command_of (slice_get (left_of plan.commands places) actor) ≡ Err NoSuchActor =
-    ap next_command_of (get-from plan.commands 0 places actor actor (omega arith)
-    ∙ ap (option_map (commands_from plan.commands actor)) none) in
-    let wrong : ⊥ = cc (e, some) in wrong
+  inside_place place at some =
+      let found = command_there place at some in
+      let less = slice_get_within plan.commands place found.0 found.1 in
+      omega (arith, less)
 
 -- another place of one actor, which is that of its next command
 length-set : {X : Type 0} (xs : List X) (i : ℕ) (x : X) → length (slice_set xs i x) ≡ length xs

@@ -53,20 +53,7 @@ ok_to : (line : ℕ) (a : Answer) → is_ok_to line a ≡ true
     → (after : World) × (a ≡ Ok (after, outcomes.Replied line replies.Ok))
 ok_to line (Ok (after, outcomes.Replied to replies.Ok)) e =
     (after, ap (λ n. Ok (after, outcomes.Replied n replies.Ok)) (eqb-true to line e))
-ok_to line (Ok (after, outcomes.Replied to (replies.Refused errno))) e = absurd (let bad : ⊥ = cc in bad)
-ok_to line (Ok (after, outcomes.Replied to (replies.Bytes bytes))) e = absurd (let bad : ⊥ = cc in bad)
-ok_to line (Ok (after, outcomes.Replied to (replies.Listing lines))) e = absurd (let bad : ⊥ = cc in bad)
-ok_to line (Ok (after, outcomes.Accepted to bio)) e = absurd (let bad : ⊥ = cc in bad)
-ok_to line (Ok (after, outcomes.Reading bio)) e = absurd (let bad : ⊥ = cc in bad)
-ok_to line (Ok (after, outcomes.Ran)) e = absurd (let bad : ⊥ = cc in bad)
-ok_to line (Ok (after, outcomes.Split first count)) e = absurd (let bad : ⊥ = cc in bad)
-ok_to line (Ok (after, outcomes.Queued disk)) e = absurd (let bad : ⊥ = cc in bad)
-ok_to line (Ok (after, outcomes.Bounced)) e = absurd (let bad : ⊥ = cc in bad)
-ok_to line (Ok (after, outcomes.Asked request)) e = absurd (let bad : ⊥ = cc in bad)
-ok_to line (Ok (after, outcomes.Delivered)) e = absurd (let bad : ⊥ = cc in bad)
-ok_to line (Ok (after, outcomes.Gathered parent complete)) e = absurd (let bad : ⊥ = cc in bad)
-ok_to line (Ok (after, outcomes.TasteBack)) e = absurd (let bad : ⊥ = cc in bad)
-ok_to line (Err found) e = absurd (let bad : ⊥ = cc in bad)
+ok_to line _ e = absurd (let bad : ⊥ = cc in bad)
 
 -- a Go of a close that is answered ok
 closes_ok : (w : World) (seat actor : ℕ) → is_ok_close (next_command w actor) (step w seat (steps.Go actor)) ≡ true
@@ -103,8 +90,7 @@ told_made : (a : Answer) (full : Bool) (o : Outcome) → Ok o ≡ answer_by a fu
     → (after : World) × (a ≡ Ok (after, o)) × (full ≡ false)
 told_made (Ok made) false o e =
     let same : made.1 ≡ o = cc in (made.0, ap (λ n. Ok (made.0, n)) same, refl)
-told_made (Ok made) true o e = absurd (let bad : ⊥ = cc in bad)
-told_made (Err found) full o e = absurd (let bad : ⊥ = cc in bad)
+told_made _ _ o e = absurd (let bad : ⊥ = cc in bad)
 
 told_found : (a : Answer) (full : Bool) (found : Found) → Err (refusals.NotEnabled found) ≡ answer_by a full
     → a ≡ Err found
@@ -113,9 +99,8 @@ told_found (Ok made) true found e = absurd (let bad : ⊥ = cc in bad)
 told_found (Err other) full found e = let same : other ≡ found = cc in ap (λ f. Err f) same
 
 told_full : (a : Answer) (full : Bool) → Err refusals.LogFull ≡ answer_by a full → full ≡ true
-told_full (Ok made) false e = absurd (let bad : ⊥ = cc in bad)
 told_full (Ok made) true e = refl
-told_full (Err found) full e = absurd (let bad : ⊥ = cc in bad)
+told_full _ _ e = absurd (let bad : ⊥ = cc in bad)
 
 told_other : (a : Answer) (full : Bool) → Err refusals.NoMemory ≡ answer_by a full → ⊥
 told_other (Ok made) false e = let bad : ⊥ = cc in bad

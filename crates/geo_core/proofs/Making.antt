@@ -1,18 +1,20 @@
 -- A step is made, by its kind.
-use Rattle.std.specs.Prelude.{◌≡◌, ℕ, List, [], ◌∷◌, Option, Some, None, Result, ◌++◌, Ok, Err, IfOk, OnErr, slice_get}
+use Rattle.std.specs.Prelude.{◌≡◌, ℕ, List, [], ◌∷◌, Option, Some, None, Result, ◌++◌, Ok, Err, IfOk, IsOk, OnErr, slice_get, Bool, true, false, IsTrue}
+use Rattle.std.specs.Option.{option_map, option_map_or}
 use Rattle.std.proofs.Common.{refl, sym, subst}
+use Rattle.std.proofs.lemmas.Result.{IfOk-weaker}
 use Rattle.geo_base.specs.declared.block.NoMemory.{NoMemory}
 use Rattle.geo_model.specs.declared.command.LineCommand.{LineCommand}
 use Rattle.geo_model.specs.declared.step.Entry.{Entry}
 use Rattle.geo_model.specs.declared.step.Found.{Found}
 use Rattle.geo_model.specs.declared.step.Outcome.{Outcome}
+use Rattle.geo_model.specs.declared.step.Phase.{Phase}
 use Rattle.geo_model.specs.declared.step.Step.{Step}
-use Rattle.geo_model.specs.declared.step.Step.TheVariants as steps
-use Rattle.geo_model.specs.World.{World}
+use Rattle.geo_model.specs.World.{World, Bio, BioOf, bio_at, is_down, is_up, bio_among}
 use Rattle.geo_model.specs.Laws.{ClosesOk}
-use Rattle.geo_model.specs.Step.{step, go, go_of}
+use Rattle.geo_model.specs.Step.{Answer, step, go, go_of, start_of, deliver_of, up_of}
 use Rattle.geo_state.specs.declared.state.State.{State}
-use Rattle.geo_state.specs.Steps.{against, IsAgainst}
+use Rattle.geo_state.specs.Steps.{against, IsAgainst, Makes}
 use Rattle.geo_state.specs.World.{world, HasBytes}
 use Rattle.geo_commands.specs.declared.decisions.Decision.{Decision}
 use Rattle.geo_core.specs.declared.running.Running.{Running}
@@ -21,8 +23,17 @@ use Rattle.geo_core.specs.Left.{left_of, next_command_of}
 use Rattle.geo_core.specs.Mesh.{world_of, IsSure}
 use Rattle.geo_core.specs.Moves.{IsFound, IsTurn, IsDeliver, Turns, Moves}
 use Rattle.geo_core.specs.Running.{seen, world_now, IsMesh}
-use Rattle.geo_core.proofs.Going.{moved}
-use Rattle.geo_core.proofs.Meshes.{longer_bytes}
+use Rattle.geo_core.proofs.Admits.{moved}
+use Rattle.geo_core.proofs.Meshes.{longer_bytes, turned}
+use Rattle.geo_model.specs.declared.step.DeviceResult.{DeviceResult}
+use Rattle.geo_bio.specs.declared.bio.Held.{Held}
+use Rattle.geo_bio.specs.BioTable.{has_phase}
+use Rattle.geo_log.specs.Places.{delivered_at}
+use Rattle.geo_state.specs.Shown.{shown_bio}
+use Rattle.geo_state.specs.ShownLaws.{BiosAreOfWorld}
+use Rattle.geo_state.proofs.StepLemmas.{world_shows_bios}
+use Rattle.geo_model.specs.declared.step.Step.TheVariants as steps
+use Rattle.geo_model.specs.declared.step.Found.TheVariants as found
 
 -- a step that isn't a Go
 
@@ -43,11 +54,6 @@ pub turn_sure : (w : World) (seat : ℕ) (st : Step) → IsNoGo st → IsSure w 
 turn_sure w seat (steps.Go actor) other sure = absurd (other actor refl)
 turn_sure w seat (steps.Deliver b got) other sure = tt
 turn_sure w seat st other sure = sure
-
--- it leaves the commands
-pub turn_moves : (commands : List LineCommand) (log : List Entry) (left : List ℕ) (old new : State) (seat : ℕ)
-    (st : Step) (o : Outcome) → Turns log old new seat st o → Moves commands log left left old new seat st o
-turn_moves commands log left old new seat st o turns e same = turns (left_of commands left) e same
 
 -- a Go
 
@@ -89,16 +95,20 @@ pub go_moves : (commands : List LineCommand) (log : List Entry) (left rest : Lis
     → IfOk result (λ o.
     go (world (left_of commands left) log old) actor ≡ Ok (world (left_of commands rest) log new, o))
     → IfOk result (λ o. Moves commands log left rest old new seat st o)
-go_moves commands log left rest old new seat actor st (Ok o) is bytes made =
-    subst (λ (x : Step). Moves commands log left rest old new seat x o) (sym is)
-    (moved commands log left rest old new seat actor o bytes made)
-go_moves commands log left rest old new seat actor st (Err e) is bytes made = tt
+go_moves commands log left rest old new seat actor st result is bytes made =
+    IfOk-weaker result
+    (λ o. go (world (left_of commands left) log old) actor ≡ Ok (world (left_of commands rest) log new, o))
+    (λ o. Moves commands log left rest old new seat st o)
+    (λ o did. subst (λ (x : Step). Moves commands log left rest old new seat x o) (sym is)
+    (moved commands log left rest old new seat actor o bytes did)) made
 
+-- a step that isn't a Go leaves the commands
 pub turn_result : (commands : List LineCommand) (log : List Entry) (left : List ℕ) (old new : State) (seat : ℕ)
     (st : Step) (result : Result Outcome NoMemory) → IfOk result (λ o. Turns log old new seat st o)
     → IfOk result (λ o. Moves commands log left left old new seat st o)
-turn_result commands log left old new seat st (Ok o) turns = turn_moves commands log left old new seat st o turns
-turn_result commands log left old new seat st (Err e) turns = tt
+turn_result commands log left old new seat st result turns =
+    IfOk-weaker result (λ o. Turns log old new seat st o) (λ o. Moves commands log left left old new seat st o)
+    (λ o did e same. did (left_of commands left) e same) turns
 
 pub more_bytes : (log : List Entry) (s : State) (result : Result Outcome NoMemory) → HasBytes log s
     → IfOk result (λ o. (e : Entry) → HasBytes (log ++ e ∷ []) s)
@@ -117,3 +127,97 @@ module _ (commands : List LineCommand) (left : List ℕ) (s : State) {st : Step}
   ready_go ready =
       subst (λ (o : Option Decision). IsReady commands left s (steps.Go actor) o) decided
       (subst (λ (x : Step). IsReady commands left s x d) is ready)
+
+-- Steps that aren't commands: what is against them, and where they lead.
+
+-- What each step does
+
+-- a step does what the one does that a match shows it to be
+pub turns_by : (log : List Entry) (old new : State) (seat : ℕ) (o : Outcome) {st it : Step} → st ≡ it
+    → HasBytes log new → Makes (λ w. step w seat it) log old new o → Turns log old new seat st o
+turns_by log old new seat o {it = it} is bytes makes =
+    subst (λ (x : Step). Turns log old new seat x o) (sym is)
+    (λ actors e same. turned (λ w. step w seat it) log old new o makes bytes actors e)
+
+-- what is answered to a step that isn't a Deliver
+pub record IsTurned (log : List Entry) (old new : State) (seat : ℕ) (st : Step) (result : Result Outcome NoMemory)
+    : Type 0 where
+  pub made : IfOk result (λ o. Turns log old new seat st o)
+  pub logged : IfOk result (λ o. (e : Entry) → HasBytes (log ++ e ∷ []) new)
+  pub bytes : OnErr result (HasBytes log new)
+  pub sure : IsDeliver st → IsOk result
+
+-- by what comes of a call
+pub step_turned : (log : List Entry) (old new : State) (seat : ℕ) (result : Result Outcome NoMemory) {st it : Step}
+    → st ≡ it → (IsDeliver it → ⊥) → HasBytes log new → IfOk result (λ o. Makes (λ w. step w seat it) log old new o)
+    → IsTurned log old new seat st result
+step_turned log old new seat result {st} {it} is other bytes makes = record {
+  made = IfOk-weaker result (λ o. Makes (λ w. step w seat it) log old new o) (λ o. Turns log old new seat st o)
+      (λ o made. turns_by log old new seat o is bytes made) makes;
+  logged = more_bytes log new result bytes;
+  bytes = all_bytes log new result bytes;
+  sure = λ deliver. absurd (other (subst IsDeliver is deliver));
+}
+
+-- a Deliver, whose entry comes next
+pub turns_deliver : (log : List Entry) (old new : State) (seat b : ℕ) (got : DeviceResult) (o : Outcome)
+    → ((e : Entry) → e.step ≡ steps.Deliver b got → (actors : List (List LineCommand))
+    → deliver_of (world actors log old) seat got (bio_at (world actors log old) b)
+    ≡ Ok (world actors (log ++ e ∷ []) new, o))
+    → Turns log old new seat (steps.Deliver b got) o
+unfolding step
+turns_deliver log old new seat b got o makes actors e same = makes e same actors
+
+-- What is against each of them
+
+module _ (s : State) (seat : ℕ) where
+  -- where nothing is against a step, nothing is against the one that a match shows it to be
+  pub none_by : {st it : Step} → st ≡ it → IsAgainst (λ w. step w seat st) s None
+      → IsAgainst (λ w. step w seat it) s None
+  none_by is none = subst (λ (x : Step). IsAgainst (λ w. step w seat x) s None) is none
+
+  -- a bio that can start is Down, and one that can go up is Up
+
+  -- what is found of a bio in the world is what the table has
+  at_world : (b : ℕ) → bio_at (world [] [] s) b ≡ option_map (shown_bio (delivered_at [])) (bio_among s.traffic.bios b)
+  at_world b =
+      let shows : BiosAreOfWorld (delivered_at []) s.traffic.bios (world [] [] s) =
+      world_shows_bios (delivered_at []) s.traffic.bios (world [] [] s) refl in
+      shows.finds b
+
+  -- where another phase, and no bio, is against a step, the bio is in the phase
+  in_phase : (test : Phase → Bool) (answer : Option Bio → Answer) → (against (answer None) ≡ None → ⊥)
+      → ((x : Bio) → test x.phase ≡ false → against (answer (Some x)) ≡ None → ⊥) → (o : Option (BioOf Held))
+      → against (answer (option_map (shown_bio (delivered_at [])) o)) ≡ None
+      → IsTrue (option_map_or (λ (x : BioOf Held). test x.phase) o false)
+  in_phase test answer never other None none = absurd (never none)
+  in_phase test answer never other (Some x) none = by (test x.phase) refl where
+    by : (b : Bool) → test x.phase ≡ b → test x.phase ≡ true
+    by true e = e
+    by false e = absurd (other (shown_bio (delivered_at []) x) e none)
+
+  pub is_down_now : (b : ℕ) → IsAgainst (λ w. step w seat (steps.Start b)) s None
+      → IsTrue (has_phase is_down s.traffic.bios b)
+  unfolding step
+  is_down_now b is =
+      let first : List (List LineCommand) = [] in
+      let none : against (start_of (world [] [] s) (bio_at (world [] [] s) b)) ≡ None = is first [] in
+      in_phase is_down (start_of (world [] [] s)) (λ e. let no : ⊥ = cc e in no)
+      (λ x other e.
+      let is_found : against (start_of (world [] [] s) (Some x)) ≡ Some (found.InPhase x.phase) = rw other refl in
+      let no : ⊥ = cc (is_found, e) in no)
+      (bio_among s.traffic.bios b)
+      (subst (λ (x : Option Bio). against (start_of (world [] [] s) x) ≡ None) (at_world b) none)
+
+  pub is_up_now : (b : ℕ) → IsAgainst (λ w. step w seat (steps.Up b)) s None
+      → IsTrue (has_phase is_up s.traffic.bios b)
+  unfolding step
+  is_up_now b is =
+      let first : List (List LineCommand) = [] in
+      let none : against (up_of (world [] [] s) (bio_at (world [] [] s) b)) ≡ None = is first [] in
+      in_phase is_up (up_of (world [] [] s)) (λ e. let no : ⊥ = cc e in no)
+      (λ x other e.
+      let is_found : against (up_of (world [] [] s) (Some x)) ≡ Some (found.InPhase x.phase) = rw other refl in
+      let no : ⊥ = cc (is_found, e) in no)
+      (bio_among s.traffic.bios b)
+      (subst (λ (x : Option Bio). against (up_of (world [] [] s) x) ≡ None) (at_world b) none)

@@ -32,13 +32,17 @@ use Rattle.geo_core.specs.declared.running.Running.{Running}
 use Rattle.geo_commands.specs.Decisions.{places_owed}
 use Rattle.geo_core.specs.Goes.{HasRoomFor}
 use Rattle.geo_core.specs.Left.{left_at, left_of, AreNext}
-use Rattle.geo_core.specs.Mesh.{opened, world_of, entry_of, IsHistory, Made}
+use Rattle.geo_core.specs.Mesh.{MeshView, opened, world_of, entry_of, IsHistory, Made}
 use Rattle.geo_core.specs.Moves.{Moves}
 use Rattle.geo_core.specs.Running.{seen, world_now, IsMesh}
 
--- the world for which a mesh stands is firm
+-- the world of a mesh's log is firm
+pub seen_firm : (r : Running) → IsMesh r → Firm (world_of (seen r))
+seen_firm r is = firm_after r.plan r.facts.items is.plan is.facts r.log.items
+
+-- and so is the world for which the mesh stands
 pub mesh_firm : (r : Running) → IsMesh r → Firm (world_now r)
-mesh_firm r is = subst Firm (sym is.world) (firm_after r.plan r.facts.items is.plan is.facts r.log.items)
+mesh_firm r is = subst Firm (sym is.world) (seen_firm r is)
 
 -- so its state, which keeps what it has to keep, stands for a firm world
 pub mesh_stands : (r : Running) → IsMesh r → Stands r.state
@@ -67,12 +71,25 @@ mesh_history r is = record {
   keeps = legal_logs_complete_requests.all r.plan r.facts.items is.plan is.facts r.log.items is.lawful.0;
 }
 
+-- so does one that is kept elsewhere
+pub kept_history : {r : Running} {v : MeshView} → seen r ≡ v → IsMesh r → IsHistory v
+kept_history {r} view is = subst IsHistory view (mesh_history r is)
+
+-- a mesh that is read, and what is seen of it
+pub record Reads (r : Running) (v : MeshView) : Type 0 where
+  pub is : IsMesh r
+  pub same : seen r ≡ v
+
+-- as it was read where it is kept
+pub reads : {r kept : Running} {v : MeshView} → r ≡ kept → seen kept ≡ v → IsMesh kept → Reads r v
+reads is view mesh = record { is = subst IsMesh (sym is) mesh; same = ap seen is ∙ view }
+
 -- there are as many actors as the plan names
-pub mesh_actors : (r : Running) → IsMesh r → length r.plan.actors ≡ length (world_of (seen r)).actors
-mesh_actors r is =
-    sym is.left.each ∙ sym (length-enumerate_from 0 r.left)
+pub mesh_actors : {r : Running} {v : MeshView} → Reads r v → length r.plan.actors ≡ length (world_of v).actors
+mesh_actors {r} {v} it =
+    sym it.is.left.each ∙ sym (length-enumerate_from 0 r.left)
     ∙ sym (length-map (enumerate_from 0 r.left) (left_at r.plan.commands))
-    ∙ ap (λ (w : World). length w.actors) is.world
+    ∙ ap (λ (w : World). length w.actors) (it.is.world ∙ ap (λ (m : MeshView). world_of m) it.same)
 
 -- what is owed is what the state tells
 pub owed_shown : (actors : List (List LineCommand)) (log : List Entry) (s : State)

@@ -51,11 +51,7 @@ pub fn places_after(running: &Running, step: &Step, decision: &Option<Decision>)
         },
         Step::Take { .. } => now + 1,
         Step::Deliver { .. } => now.saturating_sub(1),
-        Step::Event => now,
-        Step::Judge => now,
-        Step::Reap => now,
-        Step::Wash => now,
-        Step::Start { .. } => now,
-        Step::Up { .. } => now,
+        // Each other step begins to owe no place, and pays none.
+        _ => now,
     }
 }

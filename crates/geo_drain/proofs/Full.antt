@@ -9,7 +9,7 @@ use Rattle.geo_model.specs.Order.{Rest, is_at_rest}
 use Rattle.geo_model.specs.FixedOrder.{StepOrder}
 use Rattle.geo_model.specs.Laws.{Lowers, NoneBusy, OrderEnds, OrderGoesOn}
 use Rattle.geo_laws_disks.proofs.Legal.{firm_after}
-use Rattle.geo_laws_owed.proofs.Full.{full_logs_are_long}
+use Rattle.geo_core.proofs.FullLogs.{full_logs_are_long}
 use Rattle.geo_core.specs.Mesh.{IsHistory, MeshView, world_of}
 use Rattle.geo_drain.specs.Drain.{RanFull}
 

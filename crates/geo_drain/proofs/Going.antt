@@ -29,8 +29,7 @@ use Rattle.geo_serve.specs.Drives.{DriveView}
 use Rattle.geo_serve.specs.Served.{AreServed}
 use Rattle.geo_laws_disks.specs.DriveLaws.{AreTaken}
 use Rattle.geo_laws_disks.proofs.Drives.{all_served_answered, all_served_none, all_served_quiet}
-use Rattle.geo_laws_disks.proofs.Requests.{request_last, taken_more}
-use Rattle.geo_laws_disks.proofs.Splits.{each_more, none_in}
+use Rattle.geo_laws_disks.proofs.Requests.{each_more, none_in, request_last, taken_more}
 use Rattle.geo_core.specs.Mesh.{IsHistory, Made, MeshView, entry_of, opened, with_entry, world_of}
 use Rattle.geo_drain.specs.Drain.{DrivesFit, with_entries}
 use Rattle.geo_drain.specs.Running.{IsRunning}

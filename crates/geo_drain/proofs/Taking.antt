@@ -24,7 +24,7 @@ use Rattle.geo_laws_disks.proofs.Takes.{takes_are_servable}
 use Rattle.geo_core.specs.Mesh.{IsHistory, Made, MeshView, bytes_read, bytes_read_by, entry_of, opened, world_of}
 use Rattle.geo_drain.specs.Drain.{DrivesFit}
 use Rattle.geo_drain.specs.Turns.{AnswersRequest, EndsWithRequest}
-use Rattle.geo_laws_disks.proofs.Opened.{DriveAt, drive_at, opening_disks}
+use Rattle.geo_laws_disks.proofs.Drives.{DriveAt, drive_at, opening_disks}
 
 -- the request of a Take, which the drive of its disk can serve, in room of as many bytes as the bio reads, and whose
 -- answers can be delivered

@@ -1,10 +1,13 @@
 -- How the heads of disks, and what waits for them, follow one entry of the log.
+use Rattle.geo_base.proofs.FindLists.{find-Contains}
+use Rattle.geo_base.proofs.MemberLists.{at_contained, Contains-filter, Contains-map}
 use Rattle.std.specs.Prelude.{◌≡◌, ◌≢◌, ℕ, zero, suc, ◌+◌, ◌<◌, ◌≤◌, ◌==◌, nat_lt, Bool, true, false, not, ◌&&◌, List, [], ◌∷◌, ◌++◌, find, filter, map, Option, Some, None, Ok, IsTrue, MatchOption, slice_get, slice_set, if◌then◌else◌}
 use Rattle.std.specs.List.{AllByRecursion, range_with_len}
-use Rattle.std.proofs.Common.{refl, sym, ◌∙◌, ap, subst, arith}
-use Rattle.std.proofs.lemmas.Bool.{eq-eqb, ne_eqb, ltb-true}
+use Rattle.std.proofs.Common.{append-nil, refl, sym, ◌∙◌, ap, subst, arith, inl, inr}
+use Rattle.std.proofs.lemmas.Bool.{eq-eqb, ne_eqb, ltb-true, cases_Bool, and_parts}
 use Rattle.std.proofs.lemmas.List.Elements.{recursion_from_All}
 use Rattle.std.proofs.lemmas.List.Sums.{fold-append}
+use Rattle.std.proofs.lemmas.List.Folds.{list_all-append}
 use Rattle.geo_model.specs.declared.step.Entry.{Entry}
 use Rattle.geo_model.specs.declared.step.Outcome.{Outcome}
 use Rattle.geo_model.specs.declared.step.Outcome.TheVariants as outcomes
@@ -84,30 +87,23 @@ change_one f g R i n same gives new changes = by (slice_get (map f (range_with_l
 -- none of these has a number that isn't below
 none_above : (b : ℕ) (front back : List Waiting) → are_below b (front ++ back) ≡ true
     → AllByRecursion (λ (x : Waiting). b ≤ x.bio) back → back ≡ []
-none_above b [] [] below above = refl
-none_above b [] (x ∷ back) below above = by (nat_lt x.bio b) refl
-  where
-    by : (c : Bool) → nat_lt x.bio b ≡ c → x ∷ back ≡ []
-    by true e = absurd (let less = ltb-true x.bio b e in omega (arith, less, above.0))
-    by false e = absurd (let no : false ≡ true = rw e at below in let bad : ⊥ = cc in bad)
-none_above b (x ∷ front) back below above = none_above b front back (by (nat_lt x.bio b) refl) above
-  where
-    by : (c : Bool) → nat_lt x.bio b ≡ c → are_below b (front ++ back) ≡ true
-    by true e = rw e at below
-    by false e = absurd (let no : false ≡ true = rw e at below in let bad : ⊥ = cc in bad)
+none_above b front [] below above = refl
+none_above b front (x ∷ back) below above =
+    let parts = and_parts (are_below b front) (are_below b (x ∷ back))
+    (sym (list_all-append (λ y. nat_lt y.bio b) front (x ∷ back)) ∙ below) in
+    let less = ltb-true x.bio b (and_parts (nat_lt x.bio b) (are_below b back) parts.1).0 in
+    absurd (omega (arith, less, above.0))
 
 -- those that have a smaller number aren't it
 not_it : (b : ℕ) (x : Waiting) (xs : List Waiting) → are_below b xs ≡ true
     → AllByRecursion (λ (y : Waiting). y.bio ≡ b → y ≡ x) (xs ++ x ∷ [])
 not_it b x [] below = ((λ e. refl), tt)
-not_it b x (y ∷ ys) below = by (nat_lt y.bio b) refl (not_it b x ys)
-  where
-    by : (c : Bool) → nat_lt y.bio b ≡ c
-        → (are_below b ys ≡ true → AllByRecursion (λ (z : Waiting). z.bio ≡ b → z ≡ x) (ys ++ x ∷ []))
-        → AllByRecursion (λ (z : Waiting). z.bio ≡ b → z ≡ x) (y ∷ ys ++ x ∷ [])
-    by true e rest =
-        ((λ same. absurd (let less = ltb-true y.bio b e in omega (arith, less, same))), rest (rw e at below))
-    by false e rest = absurd (let no : false ≡ true = rw e at below in let bad : ⊥ = cc in bad)
+not_it b x (y ∷ ys) below =
+    elim (cases_Bool (nat_lt y.bio b)) [
+      | inl e ↦
+          ((λ same. absurd (let less = ltb-true y.bio b e in omega (arith, less, same))), not_it b x ys (rw e at below))
+      | inr e ↦ absurd (let no : false ≡ true = rw e at below in let bad : ⊥ = cc in bad)
+    ]
 
 -- what comes behind all, where what waits then has one of its number
 comes_behind : (b : ℕ) (before after : List Waiting) (x : Waiting) → OneMore b before after
@@ -117,7 +113,7 @@ comes_behind b before after x more below number here =
     let none : more.back ≡ [] =
     none_above b more.front more.back (subst (λ (xs : List Waiting). are_below b xs ≡ true) more.was below)
     (recursion_from_All (λ (z : Waiting). b ≤ z.bio) more.back more.above) in
-    let all : before ≡ more.front = more.was ∙ ap (λ ys. more.front ++ ys) none ∙ append_nil more.front in
+    let all : before ≡ more.front = more.was ∙ ap (λ ys. more.front ++ ys) none ∙ append-nil more.front in
     let last : after ≡ before ++ more.one ∷ [] =
     more.is ∙ ap (λ ys. more.front ++ more.one ∷ ys) none ∙ ap (λ ys. ys ++ more.one ∷ []) (sym all) in
     let it : x ≡ more.one =
@@ -125,32 +121,15 @@ comes_behind b before after x more below number here =
     (subst (AllByRecursion (λ (z : Waiting). z.bio ≡ b → z ≡ more.one)) (sym last) (not_it b more.one before below))
     number in
     last ∙ ap (λ y. before ++ y ∷ []) (sym it)
-  where
-    append_nil : (xs : List Waiting) → xs ++ [] ≡ xs
-    append_nil [] = refl
-    append_nil (y ∷ ys) = ap (λ zs. y ∷ zs) (append_nil ys)
 
 -- what holds of all that waits holds of a bio that does
 pub of_waiting : (w : World) (disk : ℕ) (test : Bio → Bool) (y : Bio) (P : Waiting → Type 0) (xs : List Bio)
     → find test xs ≡ Some y → is_sent_to w disk y ≡ true
     → AllByRecursion P (map (waiting_of w) (filter (is_sent_to w disk) xs)) → P (waiting_of w y)
-of_waiting w disk test y P [] found sent all = absurd (let bad : ⊥ = cc in bad)
-of_waiting w disk test y P (x ∷ xs) found sent all =
-    by (test x) (is_sent_to w disk x) refl refl (of_waiting w disk test y P xs)
-  where
-    by : (b c : Bool) → test x ≡ b → is_sent_to w disk x ≡ c
-        → (find test xs ≡ Some y → is_sent_to w disk y ≡ true
-        → AllByRecursion P (map (waiting_of w) (filter (is_sent_to w disk) xs)) → P (waiting_of w y))
-        → P (waiting_of w y)
-    by true c e f rest =
-        let it : x ≡ y = let is : Some x ≡ Some y = rw e at found in cc in
-        let here : is_sent_to w disk x ≡ true = subst (λ (z : Bio). is_sent_to w disk z ≡ true) (sym it) sent in
-        let kept : AllByRecursion P (map (waiting_of w) (x ∷ filter (is_sent_to w disk) xs)) = rw here at all in
-        subst (λ (z : Bio). P (waiting_of w z)) it kept.0
-    by false true e f rest =
-        let kept : AllByRecursion P (map (waiting_of w) (x ∷ filter (is_sent_to w disk) xs)) = rw f at all in
-        rest (rw e at found) sent kept.1
-    by false false e f rest = rest (rw e at found) sent (rw f at all)
+of_waiting w disk test y P xs found sent all =
+    at_contained P (map (waiting_of w) (filter (is_sent_to w disk) xs)) (waiting_of w y) all
+    (Contains-map (waiting_of w) (filter (is_sent_to w disk) xs) y
+    (Contains-filter (is_sent_to w disk) xs y (find-Contains test xs y found) sent))
 
 -- One entry
 

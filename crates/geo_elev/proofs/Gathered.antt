@@ -1,17 +1,19 @@
 -- The heads of disks, and what waits for them, gathered anew.
-use Rattle.std.specs.Prelude.{◌≡◌, ℕ, zero, suc, ◌+◌, ◌<◌, ◌≤◌, nat_le, Bool, true, false, not, ◌&&◌, List, [], ◌∷◌, ◌++◌, find, filter, map, length, Option, Some, None, option_map, slice_set, if◌then◌else◌}
-use Rattle.std.specs.List.{range_with_len}
-use Rattle.std.proofs.Common.{refl, sym, ◌∙◌, ap, subst, arith}
-use Rattle.std.proofs.lemmas.Bool.{eq-eqb, ne_eqb, leb-true}
+use Rattle.geo_base.proofs.MemberLists.{Contains-map}
+use Rattle.std.specs.Prelude.{◌≡◌, ℕ, zero, suc, ◌+◌, ◌<◌, ◌≤◌, nat_le, Bool, true, false, not, ◌&&◌, List, [], ◌∷◌, ◌++◌, find, filter, map, length, Option, Some, None, option_map, slice_set, if◌then◌else◌, nat_lt, ◌/◌, ◌==◌}
+use Rattle.std.specs.List.{range_with_len, AllByRecursion}
+use Rattle.std.proofs.Common.{append-nil, refl, sym, ◌∙◌, ap, subst, arith, inl, inr}
+use Rattle.std.proofs.lemmas.Bool.{eq-eqb, ne_eqb, leb-true, cases_Bool, leb-false, lt-ltb, le-ltb, ltb-true, eqb-true}
 use Rattle.std.proofs.lemmas.List.Sums.{fold-append}
+use Rattle.std.proofs.lemmas.List.Elements.{All-contains}
+use Rattle.geo_base.proofs.FindLists.{found_passes}
 use Rattle.geo_model.specs.declared.step.Entry.{Entry}
 use Rattle.geo_model.specs.declared.step.Outcome.{Outcome}
-use Rattle.geo_model.specs.declared.step.Outcome.TheVariants as outcomes
 use Rattle.geo_model.specs.declared.step.Request.{Request}
 use Rattle.geo_model.specs.Words.{is_flush}
-use Rattle.geo_model.specs.World.{World, Bio, bio_at}
+use Rattle.geo_model.specs.World.{World, Bio, bio_at, is_sent}
 use Rattle.geo_model.specs.Fitting.{Firm}
-use Rattle.geo_headline.specs.Sweep.{Waiting, waiting_of, is_sent_to, head_after, head_of}
+use Rattle.geo_headline.specs.Sweep.{Waiting, waiting_of, is_sent_to, head_after, head_of, waiting_for}
 use Rattle.geo_laws_graph.proofs.Lists.{Rise, rise-from, found_itself}
 use Rattle.geo_laws_graph.proofs.Members.{find-Contains}
 use Rattle.geo_laws_disks.proofs.Legal.{firm_after}
@@ -22,9 +24,143 @@ use Rattle.geo_elev.specs.Disks.{ChangesOne, HeadMoves, Queues}
 use Rattle.geo_elev.specs.Heads.{disk_head, disk_heads, no_head}
 use Rattle.geo_elev.specs.Following.{place_of}
 use Rattle.geo_elev.specs.Gathering.{numbered_below, waiting_below, bare_head, bare_heads, head_below, heads_below, PutsAtSpot}
-use Rattle.geo_elev.proofs.Following.{all_same, change_one}
-use Rattle.geo_elev.proofs.Spots.{spot_says, no_spot_says}
-use Rattle.geo_elev.proofs.Walking.{none_below, below_more, all_below, one_more, gathered_below, found_passes}
+use Rattle.geo_elev.proofs.Following.{all_same, change_one, of_waiting}
+use Rattle.geo_model.specs.Bios.{disk_at, sector_at}
+use Rattle.geo_model.specs.declared.step.Outcome.TheVariants as outcomes
+
+-- What waits for a disk, gathered by a walk over the bios in order of numbers.
+
+-- those whose numbers rise
+abbrev Rising : ℕ → List Bio → ℕ → Type 0
+Rising low xs high = Rise low (map (λ (x : Bio). x.number) xs) high
+
+-- none is below 0
+pub none_below : (xs : List Bio) → numbered_below 0 xs ≡ []
+none_below [] = refl
+none_below (x ∷ xs) = rw (le-ltb x.number 0 (omega arith)) (none_below xs)
+
+-- nor below the first
+high_none : (n low high : ℕ) (xs : List Bio) → Rising low xs high → n ≤ low → numbered_below n xs ≡ []
+high_none n low high [] rise most = refl
+high_none n low high (x ∷ xs) rise most =
+    rw (le-ltb x.number n (omega (arith, rise.0, most)))
+    (high_none n (x.number + 1) high xs rise.2 (omega (arith, rise.0, most)))
+
+-- up to the next one
+pub below_more : (from low high : ℕ) (y : Bio) (xs : List Bio) → Rising low xs high
+    → find (λ x. nat_le from x.number) xs ≡ Some y → numbered_below (y.number + 1) xs ≡ numbered_below from xs ++ y ∷ []
+below_more from low high y [] rise found = absurd (let bad : ⊥ = cc in bad)
+below_more from low high y (x ∷ xs) rise found =
+    elim (cases_Bool (nat_le from x.number)) [
+      | inl e ↦
+          let it : x ≡ y = let is : Some x ≡ Some y = rw e at found in cc in
+          let high_enough : from ≤ x.number = leb-true from x.number e in
+          let last : numbered_below (x.number + 1) (x ∷ xs) ≡ x ∷ [] =
+          rw (lt-ltb x.number (x.number + 1) (omega arith))
+          (ap (λ zs. x ∷ zs) (high_none (x.number + 1) (x.number + 1) high xs rise.2 (omega arith))) in
+          let none : numbered_below from (x ∷ xs) ≡ [] =
+          rw (le-ltb x.number from high_enough)
+          (high_none from (x.number + 1) high xs rise.2 (omega (arith, high_enough))) in
+          subst (λ (z : Bio). numbered_below (z.number + 1) (x ∷ xs) ≡ numbered_below from (x ∷ xs) ++ z ∷ []) it
+          (last ∙ ap (λ zs. zs ++ x ∷ []) (sym none))
+      | inr e ↦
+          let found_later : find (λ z. nat_le from z.number) xs ≡ Some y = rw e at found in
+          let less : x.number < from = leb-false from x.number e in
+          let later : from ≤ y.number =
+          leb-true from y.number (found_passes (λ (z : Bio). nat_le from z.number) xs y found_later) in
+          rw (lt-ltb x.number (y.number + 1) (omega (arith, less, later)), lt-ltb x.number from less)
+          (ap (λ zs. x ∷ zs) (below_more from (x.number + 1) high y xs rise.2 found_later))
+    ]
+
+-- where there is no next one, these are all
+pub all_below : (from : ℕ) (xs : List Bio) → find (λ x. nat_le from x.number) xs ≡ None → numbered_below from xs ≡ xs
+all_below from [] none = refl
+all_below from (x ∷ xs) none =
+    elim (cases_Bool (nat_le from x.number)) [
+      | inl e ↦ absurd (let no : Some x ≡ None = rw e at none in let bad : ⊥ = cc in bad)
+      | inr e ↦
+          rw (lt-ltb x.number from (leb-false from x.number e)) (ap (λ zs. x ∷ zs) (all_below from xs (rw e at none)))
+    ]
+
+module _ (w : World) (disk : ℕ) where
+  -- one bio more, that waits for the disk or not
+  pub one_more : (y : Bio) (c : Bool) → is_sent_to w disk y ≡ c → (xs : List Bio)
+      → map (waiting_of w) (filter (is_sent_to w disk) (xs ++ y ∷ []))
+      ≡ map (waiting_of w) (filter (is_sent_to w disk) xs) ++ (if c then waiting_of w y ∷ [] else [])
+  one_more y true e [] = rw e refl
+  one_more y false e [] = rw e refl
+  one_more y c e (x ∷ xs) =
+      let rest = one_more y c e xs in
+      elim (cases_Bool (is_sent_to w disk x)) [
+        | inl f ↦ rw f (ap (λ zs. waiting_of w x ∷ zs) rest)
+        | inr f ↦ rw f rest
+      ]
+
+  -- all that were gathered have smaller numbers
+  pub gathered_below : (from b : ℕ) (xs : List Bio) → from ≤ b
+      → are_below b (map (waiting_of w) (filter (is_sent_to w disk) (numbered_below from xs))) ≡ true
+  gathered_below from b [] most = refl
+  gathered_below from b (x ∷ xs) most =
+      by (nat_lt x.number from) (is_sent_to w disk x) refl refl (gathered_below from b xs most)
+    where
+      by : (c d : Bool) → nat_lt x.number from ≡ c → is_sent_to w disk x ≡ d
+          → are_below b (map (waiting_of w) (filter (is_sent_to w disk) (numbered_below from xs))) ≡ true
+          → are_below b (map (waiting_of w) (filter (is_sent_to w disk) (numbered_below from (x ∷ xs)))) ≡ true
+      by true true e f rest =
+          let less = ltb-true x.number from e in
+          rw (e, f, lt-ltb x.number b (omega (arith, less, most))) rest
+      by true false e f rest = rw (e, f) rest
+      by false d e f rest = rw e rest
+
+-- The spot of a bio is what waits for its disk.
+
+module _ (w : World) (y : Bio) where
+  -- what a spot says
+  abbrev pub Says : Spot → Type 0
+  Says spot =
+      ((d : ℕ) → is_sent_to w d y ≡ (spot.disk == d)) × (waiting_of w y ≡ one_at y.number (place_of spot))
+
+  -- the spot of the bio on a disk
+  abbrev spot_on : ℕ → Spot
+  spot_on d = record { disk = d; cmd = y.cmd; first = y.offset / sector_at w.topology y.target }
+
+  -- a bio with a spot waits for its disk alone
+  pub spot_says : (spot : Spot) → spot_in w.topology y ≡ Some spot → Says spot
+  spot_says spot is = by (is_sent y.phase) (disk_at w.topology y.target) refl refl
+    where
+      by : (c : Bool) (o : Option ℕ) → is_sent y.phase ≡ c → disk_at w.topology y.target ≡ o → Says spot
+      by true (Some d) e f =
+          let it : spot_on d ≡ spot = let so : Some (spot_on d) ≡ Some spot = rw (e, f) at is in cc in
+          subst Says it ((λ k. rw (e, f) refl), refl)
+      by true None e f = absurd (let no : None ≡ Some spot = rw (e, f) at is in let bad : ⊥ = cc in bad)
+      by false o e f = absurd (let no : None ≡ Some spot = rw e at is in let bad : ⊥ = cc in bad)
+
+  -- a bio without one waits for none
+  pub no_spot_says : spot_in w.topology y ≡ None → (d : ℕ) → is_sent_to w d y ≡ false
+  no_spot_says is k = by (is_sent y.phase) (disk_at w.topology y.target) refl refl
+    where
+      by : (c : Bool) (o : Option ℕ) → is_sent y.phase ≡ c → disk_at w.topology y.target ≡ o
+          → is_sent_to w k y ≡ false
+      by true (Some d) e f =
+          absurd (let no : Some (spot_on d) ≡ None = rw (e, f) at is in let bad : ⊥ = cc in bad)
+      by true None e f = rw (e, f) refl
+      by false o e f = rw e refl
+
+-- so what holds of all that waits for the disk holds of it
+pub spot_waits : (w : World) (b : ℕ) (spot : Spot) → spot_of w b ≡ Some spot → (P : Waiting → Type 0)
+    → AllByRecursion P (waiting_for w spot.disk) → P (one_at b (place_of spot))
+spot_waits w b spot is P all = by (bio_at w b) refl
+  where
+    by : (o : Option Bio) → bio_at w b ≡ o → P (one_at b (place_of spot))
+    by None e = absurd (let no : None ≡ Some spot = rw e at is in let bad : ⊥ = cc in bad)
+    by (Some y) e =
+        let here : spot_in w.topology y ≡ Some spot = rw e at is in
+        let says : Says w y spot = spot_says w y spot here in
+        let number : y.number ≡ b =
+        eqb-true y.number b (found_passes (λ (x : Bio). x.number == b) w.bios y e) in
+        subst P (says.1 ∙ ap (λ k. one_at k (place_of spot)) number)
+        (of_waiting w spot.disk (λ (x : Bio). x.number == b) y P w.bios e
+        (says.0 spot.disk ∙ eq-eqb spot.disk spot.disk refl) all)
 
 -- Forgetting
 
@@ -133,7 +269,7 @@ module _ (m : MeshView) (history : IsHistory m) where
     pub not_before : from ≤ b
     not_before =
         subst (λ (k : ℕ). from ≤ k) found.2
-        (leb-true from y.number (found_passes (λ (x : Bio). nat_le from x.number) y w.bios found.1))
+        (leb-true from y.number (found_passes (λ (x : Bio). nat_le from x.number) w.bios y found.1))
 
     -- it is the bio of its number
     here : bio_at w b ≡ Some y
@@ -145,23 +281,10 @@ module _ (m : MeshView) (history : IsHistory m) where
     -- its number was given out
     pub was_given : b < w.next_bio
     was_given =
-        subst (λ (k : ℕ). k < w.next_bio) found.2 (within 0 w.bios rising found.1)
-      where
-        within : (low : ℕ) (xs : List Bio) → Rise low (map (λ (x : Bio). x.number) xs) w.next_bio
-            → find (λ x. nat_le from x.number) xs ≡ Some y → y.number < w.next_bio
-        within low [] rise is = absurd (let bad : ⊥ = cc in bad)
-        within low (x ∷ xs) rise is = by (nat_le from x.number) refl (within (x.number + 1) xs rise.2)
-          where
-            by : (c : Bool) → nat_le from x.number ≡ c
-                → (find (λ z. nat_le from z.number) xs ≡ Some y → y.number < w.next_bio) → y.number < w.next_bio
-            by true e rest =
-                let it : x ≡ y = let so : Some x ≡ Some y = rw e at is in cc in
-                subst (λ (z : Bio). z.number < w.next_bio) it rise.1
-            by false e rest = rest (rw e at is)
-
-    append_nil : (xs : List Waiting) → xs ++ [] ≡ xs
-    append_nil [] = refl
-    append_nil (x ∷ xs) = ap (λ zs. x ∷ zs) (append_nil xs)
+        subst (λ (k : ℕ). k < w.next_bio) found.2
+        (All-contains (λ n. n < w.next_bio) (map (λ (x : Bio). x.number) w.bios) y.number firm.bios.numbers.1
+        (Contains-map (λ (x : Bio). x.number) w.bios y
+        (find-Contains (λ (x : Bio). nat_le from x.number) w.bios y found.1)))
 
     -- what was gathered then
     then_waits : (disk : ℕ) (c : Bool) → is_sent_to w disk y ≡ c
@@ -176,7 +299,7 @@ module _ (m : MeshView) (history : IsHistory m) where
         → head_below w log from disk ≡ head_below w log (b + 1) disk
     not_there log disk e =
         ap (λ (xs : List Waiting). record { head = head_of log disk; waiting = xs })
-        (sym (then_waits disk false e ∙ append_nil (waiting_below w from disk)))
+        (sym (then_waits disk false e ∙ append-nil (waiting_below w from disk)))
 
     -- the bio is put in
     pub walk_goes_on : (log : List Entry) (n : ℕ) (new : List DiskHead)

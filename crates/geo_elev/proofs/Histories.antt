@@ -1,35 +1,36 @@
 -- How the heads of disks, and what waits for them, follow the log of a mesh.
-use Rattle.std.specs.Prelude.{◌≡◌, ℕ, zero, suc, ◌+◌, ◌<◌, ◌≤◌, ◌==◌, Bool, true, false, List, [], ◌∷◌, ◌++◌, Result, Ok, Err, Some, IfOk, IsOkAnd, IsTrue, drop, get_or, length, slice_get, take}
-use Rattle.std.specs.List.{AllByRecursion}
+use Rattle.std.specs.Prelude.{◌≡◌, ℕ, suc, ◌+◌, ◌==◌, Bool, true, false, List, [], ◌∷◌, ◌++◌, Result, Ok, Err, Some, IfOk, IsOkAnd, IsTrue, drop, length, slice_get, take, filter, map, zip, OnErr}
+use Rattle.std.specs.List.{AllByRecursion, AllZip, range_with_len}
 use Rattle.std.proofs.Common.{refl, sym, ◌∙◌, ap, subst, arith}
-use Rattle.std.proofs.lemmas.List.{drop_all}
+use Rattle.std.proofs.lemmas.List.{drop_all, length-map}
 use Rattle.std.proofs.lemmas.Bool.{eqb-true}
 use Rattle.std.proofs.lemmas.List.FromFn.{length-map-range_with_len}
 use Rattle.std.proofs.Math.Seq.{take-append_seam}
+use Rattle.std.proofs.lemmas.Slice.Zip.{AllZip-long, length-zip}
+use Rattle.geo_base.proofs.PlaceLists.{parted, take_one}
 use Rattle.geo_model.specs.declared.step.Entry.{Entry}
 use Rattle.geo_model.specs.declared.step.Outcome.{Outcome}
-use Rattle.geo_model.specs.declared.step.Outcome.TheVariants as outcomes
 use Rattle.geo_model.specs.declared.step.Request.{Request}
-use Rattle.geo_model.specs.World.{World}
+use Rattle.geo_model.specs.World.{World, Bio, HeaderDisk}
 use Rattle.geo_model.specs.Step.{Answer, step}
 use Rattle.geo_model.specs.Log.{IsPrefixOf, Legal, after_entry, world_after, replay}
 use Rattle.geo_model.specs.Fitting.{Firm}
 use Rattle.geo_model.proofs.LogLemmas.{replay-append, Legal-back}
-use Rattle.geo_laws_disks.proofs.Legal.{firm_after}
-use Rattle.geo_headline.specs.Sweep.{waiting_for, head_of, head_after}
+use Rattle.geo_laws_disks.proofs.Legal.{firm_after, opening_none}
+use Rattle.geo_headline.specs.Sweep.{waiting_for, head_of, head_after, Waiting, is_sent_to, waiting_of}
 use Rattle.geo_laws_sweep.specs.SweepLaws.{is_queued, is_asked}
 use Rattle.geo_drain.specs.Meshes.{MeshView, IsHistory, opened, world_of, spot_of}
 use Rattle.geo_elev.specs.declared.disks.DiskHead.{DiskHead}
 use Rattle.geo_elev.specs.Lists.{one_at}
-use Rattle.geo_elev.specs.Heads.{AreHeads, HeadsView, disk_head, disk_heads}
+use Rattle.geo_elev.specs.Heads.{AreHeads, HeadsView, disk_head, disk_heads, no_head, no_heads}
 use Rattle.geo_elev.specs.Following.{ComesAfter, Followed, Starts, TakesIfFollowed, heads_at, is_quiet, place_of}
 use Rattle.geo_elev.proofs.Following.{all_stay, asked_then, queued_then}
-use Rattle.geo_elev.proofs.Spots.{spot_waits}
-
--- what holds where all went well, by what does
-pub if_ok : {A E : Type 0} (P Q : A → Type 0) (r : Result A E) → ((a : A) → P a → Q a) → IfOk r P → IfOk r Q
-if_ok P Q (Ok a) gives is = gives a is
-if_ok P Q (Err e) gives is = tt
+use Rattle.geo_elev.proofs.Gathered.{spot_waits}
+use Rattle.geo_model.specs.declared.command.DiskDecl.{DiskDecl}
+use Rattle.geo_model.specs.Opening.{disk_in_size}
+use Rattle.geo_model.specs.Plans.{IsFact}
+use Rattle.geo_laws_disks.proofs.Drives.{opening_disks}
+use Rattle.geo_model.specs.declared.step.Outcome.TheVariants as outcomes
 
 -- an answer that is made as the entry says
 made_so : (w : World) (o : Outcome) (a : Answer) → IsOkAnd a (λ made. made.1 ≡ o) → a ≡ Ok (world_after w a, o)
@@ -69,16 +70,7 @@ module _ (m : MeshView) (history : IsHistory m) (seen : List Entry) (e : Entry) 
           → heads_at (opened m) seen n ≡ heads_at (opened m) (seen ++ e ∷ []) n
       by (outcomes.Asked q) is wrong = absurd (let bad : ⊥ = cc in bad)
       by (outcomes.Queued d) is wrong = absurd (let bad : ⊥ = cc in bad)
-      by (outcomes.Replied line reply) is yes_quiet = stay (outcomes.Replied line reply) is (λ d. (refl, refl, refl))
-      by (outcomes.Accepted line bio) is yes_quiet = stay (outcomes.Accepted line bio) is (λ d. (refl, refl, refl))
-      by (outcomes.Reading bio) is yes_quiet = stay (outcomes.Reading bio) is (λ d. (refl, refl, refl))
-      by outcomes.Ran is yes_quiet = stay outcomes.Ran is (λ d. (refl, refl, refl))
-      by (outcomes.Split first count) is yes_quiet = stay (outcomes.Split first count) is (λ d. (refl, refl, refl))
-      by outcomes.Bounced is yes_quiet = stay outcomes.Bounced is (λ d. (refl, refl, refl))
-      by outcomes.Delivered is yes_quiet = stay outcomes.Delivered is (λ d. (refl, refl, refl))
-      by (outcomes.Gathered parent complete) is yes_quiet =
-          stay (outcomes.Gathered parent complete) is (λ d. (refl, refl, refl))
-      by outcomes.TasteBack is yes_quiet = stay outcomes.TasteBack is (λ d. (refl, refl, refl))
+      by o is yes_quiet = stay o is (λ d. (refl, refl, refl))
 
   -- a request that a disk was asked for
   pub take_then : (b : Bool) (q : Request) (new : List DiskHead) → e.outcome ≡ outcomes.Asked q
@@ -104,32 +96,19 @@ module _ (m : MeshView) (history : IsHistory m) (seen : List Entry) (e : Entry) 
           ap (replay (opened m)) (comes.split ∙ ap (λ (es : List Entry). seen ++ e ∷ es) (comes.last last))
           ∙ replay-append (opened m) seen (e ∷ [])
 
+-- where a result tells of the heads as they stood, and from that the entry was followed, it was
+pub if_followed : {E : Type 0} (m : MeshView) (e : Entry) (is_last : Bool) (old new : List DiskHead)
+    (r : Result Bool E) (Says : List DiskHead → Bool → Type 0)
+    → ((seen : List Entry) (n : ℕ) (b : Bool) → ComesAfter m.log seen e is_last → Says (heads_at (opened m) seen n) b
+    → Followed b (opened m) seen e n new)
+    → IfOk r (λ b. Says old b)
+    → IfOk r (λ b. (seen : List Entry) (n : ℕ) → ComesAfter m.log seen e is_last → old ≡ heads_at (opened m) seen n
+    → Followed b (opened m) seen e n new)
+if_followed m e is_last old new (Ok b) Says follows says =
+    λ seen n comes same. follows seen n b comes (subst (λ (ds : List DiskHead). Says ds b) same says)
+if_followed m e is_last old new (Err none) Says follows says = tt
+
 -- From an entry on
-
--- the entry at a place, with what is before and behind it
-split_at : {X : Type 0} (k : ℕ) (xs : List X) (x : X) → slice_get xs k ≡ Some x → xs ≡ take k xs ++ x ∷ drop (suc k) xs
-split_at k [] x here = absurd (let bad : ⊥ = cc in bad)
-split_at zero (y ∷ ys) x here = ap (λ z. z ∷ ys) (let it : y ≡ x = cc in it)
-split_at (suc k) (y ∷ ys) x here = ap (λ zs. y ∷ zs) (split_at k ys x here)
-
-take_then_one : {X : Type 0} (k : ℕ) (xs : List X) (x : X) → slice_get xs k ≡ Some x
-    → take (suc k) xs ≡ take k xs ++ x ∷ []
-take_then_one k [] x here = absurd (let bad : ⊥ = cc in bad)
-take_then_one zero (y ∷ ys) x here = ap (λ z. z ∷ []) (let it : y ≡ x = cc in it)
-take_then_one (suc k) (y ∷ ys) x here = ap (λ zs. y ∷ zs) (take_then_one k ys x here)
-
--- all of them
-pub take_all : {X : Type 0} (k : ℕ) (xs : List X) → length xs ≤ k → take k xs ≡ xs
-take_all zero [] most = refl
-take_all zero (x ∷ xs) most = absurd (omega (arith, most))
-take_all (suc k) [] most = refl
-take_all (suc k) (x ∷ xs) most = ap (λ zs. x ∷ zs) (take_all k xs (omega (arith, most)))
-
--- what stands within a list
-pub there : {X : Type 0} (k : ℕ) (xs : List X) (x : X) → k < length xs → get_or xs k x ≡ x → slice_get xs k ≡ Some x
-there k [] x within is = absurd (omega (arith, within))
-there zero (y ∷ ys) x within is = ap Some is
-there (suc k) (y ∷ ys) x within is = there k ys x (omega (arith, within)) is
 
 -- where it was followed, so is one entry more
 pub follows_on : (m : MeshView) (at n : ℕ) (e : Entry) (is_last : Bool) → slice_get m.log at ≡ Some e
@@ -140,7 +119,7 @@ pub follows_on : (m : MeshView) (at n : ℕ) (e : Entry) (is_last : Bool) → sl
 follows_on m at n e is_last here last old new b went follows was =
     let after : ComesAfter m.log (take at m.log) e is_last = record {
       later = drop (suc at) m.log;
-      split = split_at at m.log e here;
+      split = parted m.log at e here;
       last = λ is. drop_all (suc at) m.log
           (let end : at + 1 ≡ length m.log = eqb-true (at + 1) (length m.log) (sym last ∙ is) in omega (arith, end));
     } in
@@ -148,7 +127,7 @@ follows_on m at n e is_last here last old new b went follows was =
     subst (λ (c : Bool). Followed c (opened m) (take at m.log) e n new) went (follows (take at m.log) n after was) in
     let next : suc at ≡ at + 1 = omega arith in
     did ∙ ap (λ (es : List Entry). heads_at (opened m) es n)
-    (sym (take_then_one at m.log e here) ∙ ap (λ k. take k m.log) next)
+    (sym (take_one m.log at e here) ∙ ap (λ k. take k m.log) next)
 
 -- so the heads of the log noted so far become those of the whole log
 pub noted_then : (m : MeshView) (old : HeadsView) (ds : List DiskHead) (k : ℕ) → record { disks = ds; noted = k } ≡ old
@@ -184,3 +163,62 @@ noted_then m old ds k view (seen, begins, are) new gives n all = record {
 -- a list that is written over one of its length is there whole
 pub written_whole : {X : Type 0} (k : ℕ) (xs ys : List X) → length xs ≡ k → take k (xs ++ ys) ≡ xs
 written_whole k xs ys same = ap (λ (i : ℕ). take i (xs ++ ys)) (sym same) ∙ take-append_seam xs ys
+
+-- The heads of disks of which nothing is known are those of a mesh before its first entry.
+
+-- a disk with its head at the first sector
+abbrev at_first : List Waiting → DiskHead
+at_first waiting = record { head = 0; waiting = waiting }
+
+-- where there is no bio none waits for a disk
+none_waits : (w : World) (disk : ℕ) → w.bios ≡ [] → waiting_for w disk ≡ []
+none_waits w disk none = ap (λ (bs : List Bio). map (waiting_of w) (filter (is_sent_to w disk) bs)) none
+
+-- so of each disk nothing is known
+none_known : (w : World) → w.bios ≡ [] → (disks : List ℕ) → map no_head disks ≡ map (disk_head w []) disks
+none_known w none [] = refl
+none_known w none (d ∷ ds) =
+    ap (λ (waiting : List Waiting). at_first waiting ∷ map no_head ds) (sym (none_waits w d none))
+    ∙ ap (λ (rest : List DiskHead). at_first (waiting_for w d) ∷ rest) (none_known w none ds)
+
+-- before the first entry
+none_noted : (m : MeshView) (count : ℕ) → count ≡ length (opened m).disks → AreHeads (opened m) [] (no_heads count)
+none_noted m count is = record {
+  noted = refl;
+  disks = ap (λ n. map no_head (range_with_len 0 n)) is
+      ∙ none_known (opened m) (opening_none m.plan m.facts) (range_with_len 0 (length (opened m).disks));
+}
+
+-- the header has one disk for each of the plan
+header_length : (decls : List DiskDecl) (facts : List (ℕ × ℕ)) → AllZip IsFact decls facts
+    → length decls ≡ length (map disk_in_size (zip decls facts))
+header_length decls facts fit =
+    let mapped = length-map (zip decls facts) disk_in_size in
+    let zipped = length-zip decls facts in
+    let same = AllZip-long IsFact decls facts fit in
+    omega (arith, mapped, zipped, same)
+
+-- so new heads, one for each disk of the plan, are those of the mesh before its first entry
+pub new_heads : (m : MeshView) → IsHistory m → (count : ℕ) → count ≡ length m.plan.disks
+    → AreHeads (opened m) [] (no_heads count)
+new_heads m history count is =
+    none_noted m count
+    (is ∙ header_length m.plan.disks m.facts history.facts
+    ∙ ap (λ (ds : List HeaderDisk). length ds) (sym (opening_disks m.plan m.facts)))
+
+-- and heads that forgot all are those of the mesh before its first entry
+pub forgotten : (m : MeshView) (old new : HeadsView)
+    → ((seen : List Entry) × IsPrefixOf seen m.log × AreHeads (opened m) seen old)
+    → new ≡ no_heads (length old.disks) → AreHeads (opened m) [] new
+forgotten m old new (seen, begins, are) is =
+    subst (λ (h : HeadsView). AreHeads (opened m) [] h) (sym is)
+    (none_noted m (length old.disks)
+    (ap (λ (ds : List DiskHead). length ds) are.disks
+    ∙ length-map-range_with_len (disk_head (replay (opened m) seen) seen) 0 (length (opened m).disks)))
+
+-- where a note failed
+pub forgotten_then : {T E : Type 0} (r : Result T E) (m : MeshView) (old new : HeadsView)
+    → ((seen : List Entry) × IsPrefixOf seen m.log × AreHeads (opened m) seen old)
+    → OnErr r (new ≡ no_heads (length old.disks)) → OnErr r (AreHeads (opened m) [] new)
+forgotten_then (Ok x) m old new part is = tt
+forgotten_then (Err e) m old new part is = forgotten m old new part is

@@ -5,26 +5,19 @@ use Rattle.std.specs.Ordering.{nat_cmp}
 use Rattle.std.specs.BTreeMap.{is_at}
 use Rattle.std.specs.BTreeSet.{insert_key}
 use Rattle.std.specs.Set.{remove_key}
-use Rattle.std.proofs.Common.{append-nil, append_assoc, length-append, refl, sym, ◌∙◌, ap, subst, arith}
-use Rattle.std.proofs.lemmas.Bool.{and_parts, eqb-true, lt-ltb, ltb-true, not-true}
+use Rattle.std.proofs.Common.{append-nil, append_assoc, length-append, refl, sym, ◌∙◌, ap, subst, arith, inl, inr}
+use Rattle.std.proofs.lemmas.Bool.{and_parts, eqb-true, lt-ltb, ltb-true, not-true, cases_Bool}
 use Rattle.std.proofs.lemmas.List.Elements.{filter-append}
 use Rattle.std.proofs.lemmas.List.Folds.{list_all-append}
 use Rattle.std.proofs.lemmas.Nat.{mod-mul-add}
 use Rattle.geo_headline.specs.Sweep.{Waiting, before_flush, candidates, next_of}
 use Rattle.geo_elev.specs.declared.lists.Place.{Place}
 use Rattle.geo_elev.specs.Lists.{AreLists, HasKeys, IsNextKey, Rises, all_waiting, are_below, at_key, has_no_flush, is_kept, is_none_of, joins, key_of, listed, waiting_at, waiting_in, without}
-use Rattle.geo_elev.proofs.Candidates.{absent_stays, candidates_joined, front_at, gone, has_bio, joined, kept, next_at, one_less, wider, without_rises}
-use Rattle.geo_elev.proofs.Keys.{next_ahead, next_least}
-use Rattle.geo_elev.proofs.Listed.{among_listed, at_own, listed_below, listed_keys, listed_less, listed_more, listed_open, none_listed, open_listed}
+use Rattle.geo_elev.proofs.Candidates.{absent_stays, candidates_joined, front_at, gone, has_bio, joined, kept, next_at, one_less, wider, without_rises, next_ahead, next_least, among_listed, at_own, listed_below, listed_keys, listed_less, listed_more, listed_open, none_listed, open_listed}
 
 -- What went well
 
 -- by what holds where it does
-pub then_ok : {T E A B : Type 0} (r : Result T E) → OnOk r A → (A → B) → OnOk r B
-then_ok (Ok x) is gives = gives is
-then_ok (Err e) is gives = tt
-
--- so by two
 pub both_ok : {T E A B C : Type 0} (r : Result T E) → OnOk r A → OnOk r B → (A → B → C) → OnOk r C
 both_ok (Ok x) is also gives = gives is also
 both_ok (Err e) is also gives = tt
@@ -72,13 +65,12 @@ without_behind : (bio low : ℕ) (xs ys : List Waiting) → Rises low (xs ++ ys)
     → without bio ys ≡ ys
 without_behind bio low [] ys rise has = absurd (let bad : ⊥ = cc in bad)
 without_behind bio low (x ∷ xs) ys rise has =
-    by (x.bio == bio) refl (without_behind bio (x.bio + 1) xs ys rise.2)
-  where
-    by : (b : Bool) → (x.bio == bio) ≡ b → (has_bio bio xs ≡ true → without bio ys ≡ ys) → without bio ys ≡ ys
-    by true e rest =
-        let same = eqb-true x.bio bio e in
-        absent_stays bio (x.bio + 1) ys (rises_back (x.bio + 1) xs ys rise.2) (omega (arith, same))
-    by false e rest = rest (sym (ap (λ (c : Bool). c || has_bio bio xs) e) ∙ has)
+    elim (cases_Bool (x.bio == bio)) [
+      | inl e ↦
+          let same = eqb-true x.bio bio e in
+          absent_stays bio (x.bio + 1) ys (rises_back (x.bio + 1) xs ys rise.2) (omega (arith, same))
+      | inr e ↦ without_behind bio (x.bio + 1) xs ys rise.2 (sym (ap (λ (c : Bool). c || has_bio bio xs) e) ∙ has)
+    ]
 
 -- all are below a greater number too
 below_wider : (a b : ℕ) (xs : List Waiting) → a ≤ b → are_below a xs ≡ true → are_below b xs ≡ true
@@ -98,16 +90,14 @@ below_joined b xs y below less =
 -- and with one less
 below_without : (b bio : ℕ) (xs : List Waiting) → are_below b xs ≡ true → are_below b (without bio xs) ≡ true
 below_without b bio [] below = refl
-below_without b bio (x ∷ xs) below = by (x.bio == bio) refl (below_without b bio xs both.1)
-  where
-    both : (nat_lt x.bio b ≡ true) × (are_below b xs ≡ true)
-    both = and_parts (nat_lt x.bio b) (are_below b xs) below
-
-    by : (c : Bool) → (x.bio == bio) ≡ c → are_below b (without bio xs) ≡ true
-        → are_below b (without bio (x ∷ xs)) ≡ true
-    by true e rest = ap (are_below b) (gone bio x xs e) ∙ rest
-    by false e rest =
-        ap (are_below b) (kept bio x xs e) ∙ ap (λ (c : Bool). c && are_below b (without bio xs)) both.0 ∙ rest
+below_without b bio (x ∷ xs) below =
+    let both = and_parts (nat_lt x.bio b) (are_below b xs) below in
+    let rest = below_without b bio xs both.1 in
+    elim (cases_Bool (x.bio == bio)) [
+      | inl e ↦ ap (are_below b) (gone bio x xs e) ∙ rest
+      | inr e ↦
+          ap (are_below b) (kept bio x xs e) ∙ ap (λ (c : Bool). c && are_below b (without bio xs)) both.0 ∙ rest
+    ]
 
 -- What may be taken next of a list in two parts
 
@@ -183,39 +173,40 @@ rise_joined low (x ∷ xs) y rise high small below =
     let less = ltb-true x.bio y.bio both.0 in
     (rise.0, rise.1, rise_joined (x.bio + 1) xs y rise.2 (omega (arith, less)) small both.1)
 
--- the lists, where they have one more
+-- one more waits behind all, and the lists have it
+pub record Put (keys more : List ℕ) (flush now : Bool) (later es : List (ℕ × Place)) (y : Waiting) : Type 0 where
+  pub put : all_waiting more now es ≡ all_waiting keys flush later ++ y ∷ []
+  pub lists : AreLists more now es y.bio
+
 lists_put : (keys more : List ℕ) (flush now : Bool) (later es : List (ℕ × Place)) (last : ℕ) (y : Waiting)
     → AreLists keys flush later last → y.bio < 2 ^ 64 → are_below y.bio (all_waiting keys flush later) ≡ true
     → all_waiting more now es ≡ all_waiting keys flush later ++ y ∷ []
     → joined (joins (all_waiting keys flush later) y.flush) (listed flush keys) y ≡ listed now more
-    → AreLists more now es y.bio
-lists_put keys more flush now later es last y are small below put next = record {
-  rises = subst (Rises 0) (sym put) (rise_joined 0 ws y are.rises (omega arith) small below);
-  next = ap candidates put ∙ candidates_joined ws y ∙ ap (λ xs. joined (joins ws y.flush) xs y) are.next ∙ next;
-  below = ap (are_below (y.bio + 1)) put
-      ∙ below_joined (y.bio + 1) ws y (below_wider y.bio (y.bio + 1) ws (omega arith) below) (omega arith);
-}
-  where
-    ws : List Waiting
-    ws = all_waiting keys flush later
+    → Put keys more flush now later es y
+lists_put keys more flush now later es last y are small below put next =
+    let ws = all_waiting keys flush later in
+    record {
+      put = put;
+      lists = record {
+        rises = subst (Rises 0) (sym put) (rise_joined 0 ws y are.rises (omega arith) small below);
+        next = ap candidates put ∙ candidates_joined ws y ∙ ap (λ xs. joined (joins ws y.flush) xs y) are.next
+            ∙ next;
+        below = ap (are_below (y.bio + 1)) put
+            ∙ below_joined (y.bio + 1) ws y (below_wider y.bio (y.bio + 1) ws (omega arith) below) (omega arith);
+      };
+    }
 
 -- one that may be taken next
-pub record PutNext (keys more : List ℕ) (flush : Bool) (later : List (ℕ × Place)) (y : Waiting) : Type 0 where
-  pub put : all_waiting more y.flush later ≡ all_waiting keys flush later ++ y ∷ []
-  pub lists : AreLists more y.flush later y.bio
-
 pub put_next : (keys : List ℕ) (flush : Bool) (later : List (ℕ × Place)) (last : ℕ) (y : Waiting)
     → AreLists keys flush later last → y.bio < 2 ^ 64 → are_below y.bio (all_waiting keys flush later) ≡ true
     → joins (all_waiting keys flush later) y.flush ≡ true
-    → PutNext keys (insert_key nat_cmp keys (key_of y)) flush later y
+    → Put keys (insert_key nat_cmp keys (key_of y)) flush y.flush later later y
 put_next keys flush (e ∷ later) last y are small below is_next =
     absurd (let no : false ≡ true = joins_later keys flush (e ∷ later) last y.flush are refl ∙ is_next in
     let bad : ⊥ = cc in bad)
-put_next keys flush [] last y are small below is_next = record {
-  put = put;
-  lists = lists_put keys (insert_key nat_cmp keys (key_of y)) flush y.flush [] [] last y are small below put
-      (ap (λ (b : Bool). joined b (listed flush keys) y) is_next ∙ sym more);
-}
+put_next keys flush [] last y are small below is_next =
+    lists_put keys (insert_key nat_cmp keys (key_of y)) flush y.flush [] [] last y are small below put
+    (ap (λ (b : Bool). joined b (listed flush keys) y) is_next ∙ sym more)
   where
     -- both are FLUSHes, or neither is, or nothing waits
     same : (ks : List ℕ) → joins (all_waiting ks flush []) y.flush ≡ true → listed y.flush ks ≡ listed flush ks
@@ -247,24 +238,15 @@ put_next keys flush [] last y are small below is_next = record {
         ∙ ap (λ (xs : List Waiting). xs ++ y ∷ []) (sym (append-nil (listed flush keys)))
 
 -- one that comes behind
-pub record PutLater (keys : List ℕ) (flush : Bool) (later es : List (ℕ × Place)) (y : Waiting) : Type 0 where
-  pub put : all_waiting keys flush es ≡ all_waiting keys flush later ++ y ∷ []
-  pub lists : AreLists keys flush es y.bio
-
 pub put_later : (keys : List ℕ) (flush : Bool) (later es : List (ℕ × Place)) (last : ℕ) (y : Waiting)
     → AreLists keys flush later last → y.bio < 2 ^ 64 → are_below y.bio (all_waiting keys flush later) ≡ true
     → joins (all_waiting keys flush later) y.flush ≡ false → waiting_in es ≡ waiting_in later ++ y ∷ []
-    → PutLater keys flush later es y
-put_later keys flush later es last y are small below not_next is = record {
-  put = put;
-  lists = lists_put keys keys flush flush later es last y are small below put
-      (ap (λ (b : Bool). joined b (listed flush keys) y) not_next);
-}
-  where
-    put : all_waiting keys flush es ≡ all_waiting keys flush later ++ y ∷ []
-    put =
-        ap (λ (xs : List Waiting). listed flush keys ++ xs) is
-        ∙ sym (append_assoc (listed flush keys) (waiting_in later) (y ∷ []))
+    → Put keys keys flush flush later es y
+put_later keys flush later es last y are small below not_next is =
+    lists_put keys keys flush flush later es last y are small below
+    (ap (λ (xs : List Waiting). listed flush keys ++ xs) is
+    ∙ sym (append_assoc (listed flush keys) (waiting_in later) (y ∷ [])))
+    (ap (λ (b : Bool). joined b (listed flush keys) y) not_next)
 
 -- One that came behind may be taken next
 
@@ -299,105 +281,64 @@ keys_next keys later some end =
 
 -- One less
 
-module _ (keys : List ℕ) (flush : Bool) (later : List (ℕ × Place)) (last bio first : ℕ)
-    (are : AreLists keys flush later last) (small : bio < 2 ^ 64)
-    (is : is_kept (first * 2 ^ 64 + bio) keys ≡ true) where
-  -- the keys that are left
-  abbrev left : List ℕ
-  left = remove_key (is_at (nat_cmp (first * 2 ^ 64 + bio))) keys
+-- where none is left there is no key
+no_keys : (keys : List ℕ) → is_none_of keys ≡ true → keys ≡ []
+no_keys [] none = refl
+no_keys (k ∷ ks) none = absurd (let bad : ⊥ = cc in bad)
 
-  number : (first * 2 ^ 64 + bio) % 2 ^ 64 ≡ bio
-  number = mod-mul-add first (2 ^ 64) bio small
+-- a key that was there was taken
+module _ (keys new : List ℕ) (flush : Bool) (later : List (ℕ × Place)) (last bio first : ℕ)
+    (are : AreLists keys flush later last) (small : bio < 2 ^ 64) {n : ℕ} (key : n ≡ first * 2 ^ 64 + bio)
+    (took : new ≡ remove_key (is_at (nat_cmp n)) keys) {b : Bool} (was : b ≡ is_kept n keys) (yes : b ≡ true) where
+  number : n % 2 ^ 64 ≡ bio
+  number = ap (λ (k : ℕ). k % 2 ^ 64) key ∙ mod-mul-add first (2 ^ 64) bio small
 
   rise : Rises 0 (listed flush keys)
   rise = rises_front 0 (listed flush keys) (waiting_in later) are.rises
 
   has : has_bio bio (listed flush keys) ≡ true
   has =
-      subst (λ (n : ℕ). has_bio n (listed flush keys) ≡ true) number
-      (among_listed flush (first * 2 ^ 64 + bio) 0 keys rise is)
+      subst (λ (k : ℕ). has_bio k (listed flush keys) ≡ true) number
+      (among_listed flush n 0 keys rise (sym was ∙ yes))
 
-  less : listed flush left ≡ without bio (listed flush keys)
+  less : listed flush new ≡ without bio (listed flush keys)
   less =
-      listed_less flush (first * 2 ^ 64 + bio) 0 keys rise is
-      ∙ ap (λ (n : ℕ). without n (listed flush keys)) number
+      ap (listed flush) took ∙ listed_less flush n 0 keys rise (sym was ∙ yes)
+      ∙ ap (λ (k : ℕ). without k (listed flush keys)) number
 
   -- the others wait
-  pub taken_waits : all_waiting left flush later ≡ without bio (all_waiting keys flush later)
-  taken_waits =
+  pub take_waits : all_waiting new flush later ≡ without bio (all_waiting keys flush later)
+  take_waits =
       ap (λ (xs : List Waiting). xs ++ waiting_in later) less
       ∙ ap (λ (xs : List Waiting). without bio (listed flush keys) ++ xs)
       (sym (without_behind bio 0 (listed flush keys) (waiting_in later) are.rises has))
       ∙ sym (filter-append (λ (x : Waiting). not (x.bio == bio)) (listed flush keys) (waiting_in later))
 
   -- their numbers rise
-  pub taken_rises : Rises 0 (all_waiting left flush later)
-  taken_rises =
-      subst (Rises 0) (sym taken_waits) (without_rises bio 0 (all_waiting keys flush later) are.rises)
-
-  -- and none is greater than the last
-  pub taken_below : are_below (last + 1) (all_waiting left flush later) ≡ true
-  taken_below =
-      ap (are_below (last + 1)) taken_waits ∙ below_without (last + 1) bio (all_waiting keys flush later) are.below
+  take_rises : Rises 0 (all_waiting new flush later)
+  take_rises = subst (Rises 0) (sym take_waits) (without_rises bio 0 (all_waiting keys flush later) are.rises)
 
   -- where some are left that may be taken next, the lists are kept
-  pub lists_taken : is_none_of left ≡ false → AreLists left flush later last
-  lists_taken some = record {
-    rises = taken_rises;
-    next = ap candidates taken_waits
+  pub take_lists : is_none_of new ≡ false → AreLists new flush later last
+  take_lists some = record {
+    rises = take_rises;
+    next = ap candidates take_waits
         ∙ one_less bio 0 (all_waiting keys flush later) are.rises
         (ap (has_bio bio) are.next ∙ has)
         (ap (λ (xs : List Waiting). is_none_of (without bio xs)) are.next
-        ∙ sym (ap is_none_of less) ∙ none_listed flush left ∙ some)
+        ∙ sym (ap is_none_of less) ∙ none_listed flush new ∙ some)
         ∙ ap (without bio) are.next ∙ sym less;
-    below = taken_below;
+    below = ap (are_below (last + 1)) take_waits
+        ∙ below_without (last + 1) bio (all_waiting keys flush later) are.below;
   }
 
--- where none is left there is no key
-pub no_keys : (keys : List ℕ) → is_none_of keys ≡ true → keys ≡ []
-no_keys [] none = refl
-no_keys (k ∷ ks) none = absurd (let bad : ⊥ = cc in bad)
-
--- What a key that was taken leaves, by what its call tells
-
-module _ (keys new : List ℕ) (flush : Bool) (later : List (ℕ × Place)) (last bio first : ℕ)
-    (are : AreLists keys flush later last) (small : bio < 2 ^ 64) {n : ℕ} (key : n ≡ first * 2 ^ 64 + bio)
-    (took : new ≡ remove_key (is_at (nat_cmp n)) keys) {b : Bool} (was : b ≡ is_kept n keys) (yes : b ≡ true) where
-  -- its key was there
-  had : is_kept (first * 2 ^ 64 + bio) keys ≡ true
-  had = ap (λ (k : ℕ). is_kept k keys) (sym key) ∙ sym was ∙ yes
-
-  -- and is gone
-  goes : new ≡ remove_key (is_at (nat_cmp (first * 2 ^ 64 + bio))) keys
-  goes = took ∙ ap (λ (k : ℕ). remove_key (is_at (nat_cmp k)) keys) key
-
-  -- the others wait
-  pub take_waits : all_waiting new flush later ≡ without bio (all_waiting keys flush later)
-  take_waits =
-      ap (λ (ks : List ℕ). all_waiting ks flush later) goes ∙ taken_waits keys flush later last bio first are small had
-
-  -- where some keys are left the lists are kept
-  pub take_lists : is_none_of new ≡ false → AreLists new flush later last
-  take_lists some =
-      subst (λ (ks : List ℕ). AreLists ks flush later last) (sym goes)
-      (lists_taken keys flush later last bio first are small had (ap is_none_of (sym goes) ∙ some))
-
+  -- where no key is left the later ones rise, and are all that waits
   module _ (none : is_none_of new ≡ true) where
-    -- no key is left
-    empty : remove_key (is_at (nat_cmp (first * 2 ^ 64 + bio))) keys ≡ []
-    empty = sym goes ∙ no_keys new none
-
-    -- the later ones rise
     pub rest_rises : Rises 0 (all_waiting [] flush later)
-    rest_rises =
-        subst (λ (ks : List ℕ). Rises 0 (all_waiting ks flush later)) empty
-        (taken_rises keys flush later last bio first are small had)
+    rest_rises = subst (λ (ks : List ℕ). Rises 0 (all_waiting ks flush later)) (no_keys new none) take_rises
 
-    -- and are all that waits
     pub rest_waits : all_waiting [] flush later ≡ without bio (all_waiting keys flush later)
-    rest_waits =
-        sym (ap (λ (ks : List ℕ). all_waiting ks flush later) empty)
-        ∙ taken_waits keys flush later last bio first are small had
+    rest_waits = sym (ap (λ (ks : List ℕ). all_waiting ks flush later) (no_keys new none)) ∙ take_waits
 
 -- Whether all have smaller numbers
 

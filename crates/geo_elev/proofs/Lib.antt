@@ -1,12 +1,6 @@
 pub mod Candidates
-pub mod Keys
-pub mod Listed
 pub mod Kept
 pub mod Following
-pub mod Walking
-pub mod Spots
 pub mod Histories
 pub mod Gathered
 pub mod Nexts
-pub mod Parts
-pub mod Forgetting

@@ -1,15 +1,15 @@
 -- The Take that is next by what is kept is the next one of the mesh, and it can be made.
-use Rattle.std.specs.Prelude.{◌≡◌, ℕ, zero, suc, ◌+◌, Bool, true, List, ◌∷◌, length, map, Option, Some, None, option_map, if◌then◌else◌}
+use Rattle.std.specs.Prelude.{◌≡◌, ℕ, zero, suc, ◌+◌, Bool, true, List, ◌∷◌, length, map, Option, Some, None, option_map, if◌then◌else◌, [], ◌++◌}
 use Rattle.std.specs.List.{enumerate_from, range_with_len}
+use Rattle.std.specs.Option.{option_or}
 use Rattle.std.proofs.Common.{refl, sym, ◌∙◌, ap, subst}
 use Rattle.geo_model.specs.declared.step.Entry.{Entry}
 use Rattle.geo_model.specs.declared.step.Step.{Step}
-use Rattle.geo_model.specs.declared.step.Step.TheVariants as steps
 use Rattle.geo_model.specs.Laws.{NoneBusy}
 use Rattle.geo_model.specs.Step.{is_enabled}
 use Rattle.geo_model.specs.Words.{first_some}
 use Rattle.geo_model.specs.World.{World, HeaderDisk}
-use Rattle.geo_headline.specs.Sweep.{Waiting, candidates, enabled_one, first_take, head_of, next_of, next_take, waiting_for}
+use Rattle.geo_headline.specs.Sweep.{Waiting, candidates, enabled_one, first_take, head_of, next_of, next_take, waiting_for, pick_sweep}
 use Rattle.geo_laws_disks.proofs.Inside.{disks_are_asked}
 use Rattle.geo_laws_disks.proofs.Legal.{firm_after}
 use Rattle.geo_laws_sweep.proofs.ElevatorFacts.{next_holds}
@@ -18,6 +18,8 @@ use Rattle.geo_drain.proofs.Waiting.{waiting_can_be_taken}
 use Rattle.geo_drain.specs.Meshes.{MeshView, IsHistory, opened, world_of}
 use Rattle.geo_elev.specs.declared.disks.DiskHead.{DiskHead}
 use Rattle.geo_elev.specs.Heads.{AreHeads, HeadsView, disk_head, first_by, take_by}
+use Rattle.geo_elev.specs.Due.{before_takes, behind_takes, steps_before, steps_behind}
+use Rattle.geo_model.specs.declared.step.Step.TheVariants as steps
 
 -- at each disk
 takes_same : (w : World) (log : List Entry) (low n : ℕ)
@@ -71,3 +73,40 @@ first_given m history idle =
 pub next_given : (m : MeshView) → IsHistory m → NoneBusy (world_of m) → (h : HeadsView) → AreHeads (opened m) m.log h
     → first_by h ≡ enabled_one (world_of m) (first_take (world_of m) m.log)
 next_given m history idle h are = first_is m history h are ∙ sym (first_given m history idle)
+
+-- The elevator order by its parts: what comes before a Take, the Take, and what comes behind.
+
+-- the first of three
+or_or : (a b c : Option Step) → option_or a (option_or b c) ≡ option_or (option_or a b) c
+or_or None b c = refl
+or_or (Some s) b c = refl
+
+-- the first of two rows
+first_of : (xs ys : List (Option Step)) → first_some (xs ++ ys) ≡ option_or (first_some xs) (first_some ys)
+first_of [] ys = refl
+first_of (x ∷ xs) ys = ap (option_or x) (first_of xs ys) ∙ or_or x (first_some xs) (first_some ys)
+
+module _ (w : World) (log : List Entry) where
+  -- the Take
+  abbrev the_take : Option Step
+  the_take = enabled_one w (first_take w log)
+
+  parts : pick_sweep w log ≡ option_or (before_takes w) (option_or the_take (behind_takes w))
+  unfolding pick_sweep before_takes behind_takes
+  parts = first_of (steps_before w) (the_take ∷ steps_behind w)
+
+  -- what comes before a Take is due
+  pub due_before : (s : Step) → Some s ≡ before_takes w → Some s ≡ pick_sweep w log
+  due_before s is = sym (parts ∙ ap (λ o. option_or o (option_or the_take (behind_takes w))) (sym is))
+
+  module _ (none : None ≡ before_takes w) where
+    later : pick_sweep w log ≡ option_or the_take (behind_takes w)
+    later = parts ∙ ap (λ o. option_or o (option_or the_take (behind_takes w))) (sym none)
+
+    -- else the Take
+    pub due_take : (s : Step) → Some s ≡ the_take → Some s ≡ pick_sweep w log
+    due_take s is = sym (later ∙ ap (λ o. option_or o (behind_takes w)) (sym is))
+
+    -- else what comes behind
+    pub due_behind : (o : Option Step) → None ≡ the_take → o ≡ behind_takes w → o ≡ pick_sweep w log
+    due_behind o no_take is = is ∙ sym (later ∙ ap (λ t. option_or t (behind_takes w)) (sym no_take))

@@ -1,21 +1,29 @@
 -- An answer that a seat can deliver, it can deliver after a step of another seat.
-use Rattle.std.specs.Prelude.{◌≡◌, ℕ, ◌==◌, Bool, true, false, Option, Some, None, is_ok, IsTrue}
-use Rattle.std.proofs.Common.{refl, sym, subst}
-use Rattle.std.proofs.lemmas.Bool.{eq-eqb}
+use Rattle.std.proofs.Common.{◌≡◌, ℕ, ◌==◌, Bool, true, false, Option, Some, None, is_ok, IsTrue, refl, sym, subst, eq-eqb, ◌∙◌, ap, if◌then◌else◌}
 use Rattle.geo_model.specs.declared.step.DeviceResult.{DeviceResult}
 use Rattle.geo_model.specs.declared.step.Found.{Found}
 use Rattle.geo_model.specs.declared.step.Found.TheVariants as found
 use Rattle.geo_model.specs.declared.step.Phase.TheVariants as phases
 use Rattle.geo_model.specs.declared.step.Step.TheVariants as steps
-use Rattle.geo_model.specs.World.{World, Bio, bio_at}
 use Rattle.geo_model.specs.Bios.{deliver, fits_bio, is_fitting, sector_of_bio}
 use Rattle.geo_model.specs.Step.{deliver_found, deliver_of, is_enabled, step, unless_found}
+use Rattle.geo_model.specs.World.{World, Bio, bio_at}
 use Rattle.geo_laws_graph.proofs.Members.{find-Contains}
-use Rattle.geo_laws_disks.specs.TakenLaws.{DeliversStayEnabled}
-use Rattle.geo_laws_disks.proofs.Held.{can_be_delivered}
 use Rattle.geo_laws_requests.proofs.Named.{own_phase}
-use Rattle.geo_laws_disks.proofs.Still.{stands_still}
-use Rattle.geo_laws_disks.proofs.TakenStands.{sector_stays}
+use Rattle.geo_laws_disks.specs.TakenLaws.{DeliversStayEnabled}
+use Rattle.geo_laws_disks.proofs.TakenStands.{stands_still, sector_stays}
+
+-- a Deliver that fits is enabled for the seat that is at the bio
+pub can_be_delivered : (w : World) (seat b : ℕ) (x : Bio) (got : DeviceResult) → bio_at w b ≡ Some x
+    → x.phase ≡ phases.Busy seat → IsTrue (is_fitting w x got) → IsTrue (is_enabled w seat (steps.Deliver b got))
+unfolding step
+can_be_delivered w seat b x got at busy fits =
+    ap (λ z. is_ok (deliver_of w seat got z)) at
+    ∙ ap (λ p. is_ok (unless_found (deliver_found w seat x got p) (deliver w x got))) busy
+    ∙ ap (λ c. is_ok (unless_found
+    (if c then (if is_fitting w x got then None else Some found.Unfit) else Some (found.OtherSeat seat))
+    (deliver w x got))) (eq-eqb seat seat refl)
+    ∙ ap (λ c. is_ok (unless_found (if c then None else Some found.Unfit) (deliver w x got))) fits
 
 -- a bio that its seat can deliver with an answer
 record CanAnswer (w : World) (seat b : ℕ) (got : DeviceResult) : Type 0 where

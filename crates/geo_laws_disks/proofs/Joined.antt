@@ -1,28 +1,356 @@
--- What a disk holds after a log in two parts.
-use Rattle.std.specs.Prelude.{◌≡◌, ℕ, Bool, true, false, List, [], ◌∷◌, ◌++◌, IsSome, option_and_then}
-use Rattle.std.proofs.Common.{refl, sym, ◌∙◌, ap, subst}
-use Rattle.std.proofs.lemmas.Bool.{eq-eqb}
-use Rattle.std.proofs.lemmas.List.{append_assoc}
+-- What a log delivers of a disk tells what the disk holds, fails and is asked along it, and what read bytes tell of it.
+use Rattle.std.proofs.Common.{◌≡◌, ℕ, ◌+◌, ◌==◌, Bool, true, false, cond, ◌&&◌, List, [], ◌∷◌, ◌++◌, flat_map, fold, map, count_by, Option, Some, None, option_and_then, refl, sym, ◌∙◌, ap, arith, IsSome, IfSome, subst, eq-eqb, eqb-true, append-nil, append_assoc}
+use Rattle.std.proofs.lemmas.List.Elements.{filter_map-append}
 use Rattle.std.proofs.lemmas.List.Sums.{fold-append}
-use Rattle.geo_laws_disks.proofs.Requests.{request_same}
+use Rattle.std.specs.List.{AllByRecursion, cons_option}
+use Rattle.std.specs.Option.{option_map_or, option_to_list}
+use Rattle.geo_disk.specs.declared.calls.DiskCall.{DiskCall}
 use Rattle.geo_model.specs.declared.step.DeviceResult.{DeviceResult}
+use Rattle.geo_model.specs.declared.step.DeviceResult.TheVariants as devices
 use Rattle.geo_model.specs.declared.step.Entry.{Entry}
+use Rattle.geo_model.specs.declared.step.Request.{Request}
 use Rattle.geo_model.specs.declared.step.Step.{Step}
 use Rattle.geo_model.specs.declared.step.Step.TheVariants as steps
-use Rattle.geo_model.specs.World.{Plan}
-use Rattle.geo_model.specs.Plans.{IsPlan, FactsFit}
+use Rattle.geo_model.specs.Contents.{after_answer, after_step, contents, AreTrue, ReadsWhatIsHeld, bytes_at}
+use Rattle.geo_model.specs.FixedOrder.{delivered_in}
+use Rattle.geo_model.specs.Log.{IsSplitBy, Legal, moments, replay}
 use Rattle.geo_model.specs.Opening.{opening}
-use Rattle.geo_model.specs.Log.{Legal, moments, replay}
-use Rattle.geo_model.specs.Results.{device_answer_of, device_answer_in, entries_of, is_deliver_of, is_take_of, request_in, request_of}
-use Rattle.geo_model.specs.Contents.{after_answer, after_step, contents}
+use Rattle.geo_model.specs.Plans.{IsPlan, FactsFit}
+use Rattle.geo_model.specs.Results.{request_of, device_answer_of, device_answer_in, entries_of, is_deliver_of, is_take_of, request_in}
+use Rattle.geo_model.specs.World.{Plan}
 use Rattle.geo_model.proofs.LogLemmas.{Legal-front}
+use Rattle.geo_serve.specs.Serve.{is_failed, TellsWhatIsHeld}
+use Rattle.geo_headline.specs.Outside.{call_for, call_in, call_served, calls_logged, failures_of, is_failed_answer, is_of_disk}
+use Rattle.geo_laws_graph.proofs.Members.{Has, has}
 use Rattle.geo_laws_graph.proofs.Numbered.{find-pushed}
-use Rattle.geo_laws_requests.proofs.Legal.{opened_firm}
-use Rattle.geo_laws_requests.specs.Ledger.{Ledger}
 use Rattle.geo_laws_requests.proofs.Along.{ledger_along}
 use Rattle.geo_laws_requests.proofs.Complete.{entries_back}
+use Rattle.geo_laws_requests.proofs.Legal.{opened_firm}
 use Rattle.geo_laws_requests.proofs.Opened.{opened_ledger}
+use Rattle.geo_laws_requests.specs.Ledger.{Ledger}
+use Rattle.geo_laws_disks.specs.Deliveries.{AreTold, Delivery, after_delivery, deliveries, deliveries_by, delivery_in, delivery_of, held_by}
 use Rattle.geo_laws_disks.specs.DiskLaws.{contents_from, ContentsFollow, ContentsJoin, DeliversFollowTakes}
+use Rattle.geo_laws_disks.proofs.Requests.{request_same, none_in}
+
+-- the call of a delivery
+abbrev pub call_delivered : Delivery → DiskCall
+call_delivered d = call_served d.request d.got
+
+-- What a log does is what it delivers
+
+module _ {S : Type 0} (asked : ℕ → Option Request) (disk : ℕ) (f : S → Step → S) (g : S → Delivery → S)
+    (same : (now : S) (s : Step) → f now s ≡ option_map_or (g now) (delivery_in asked disk s) now) where
+  -- where each step does what its delivery does, entries do what their deliveries do
+  folded : (now : S) (es : List Entry)
+      → fold (λ x (e : Entry). f x e.step) now es ≡ fold g now (deliveries_by asked disk es)
+  folded now [] = refl
+  folded now (e ∷ es) =
+      ap (λ x. fold (λ y (z : Entry). f y z.step) x es) (same now e.step)
+      ∙ folded (option_map_or (g now) (delivery_in asked disk e.step) now) es ∙ by (delivery_in asked disk e.step)
+    where
+      by : (o : Option Delivery)
+          → fold g (option_map_or (g now) o now) (deliveries_by asked disk es)
+          ≡ fold g now (cons_option o (deliveries_by asked disk es))
+      by None = refl
+      by (Some d) = refl
+
+-- what a step makes of a disk
+step_delivers : (log : List Entry) (size disk : ℕ) (held : List (List ℕ)) (s : Step)
+    → after_step log size disk held s
+    ≡ option_map_or (λ d. after_delivery size held d) (delivery_in (request_of log) disk s) held
+step_delivers log size disk held (steps.Deliver b got) = by (request_of log b)
+  where
+    by : (o : Option Request)
+        → after_answer size disk got held o
+        ≡ option_map_or (λ d. after_delivery size held d) (delivery_of disk got o) held
+    by None = refl
+    by (Some q) = grind arith
+step_delivers log size disk held s = refl
+
+-- what entries of a log make of it
+contents_later : (log : List Entry) (size disk : ℕ) (held : List (List ℕ)) (es : List Entry)
+    → contents_from log size held es disk ≡ held_by size held (deliveries_by (request_of log) disk es)
+contents_later log size disk held es =
+    folded (request_of log) disk (after_step log size disk) (after_delivery size) (step_delivers log size disk) held es
+
+-- after a log
+pub contents_by : (log : List Entry) (size disk : ℕ) (held : List (List ℕ))
+    → contents size held log disk ≡ held_by size held (deliveries log disk)
+unfolding contents
+contents_by log size disk held = contents_later log size disk held log
+
+-- a step delivers a failure of a disk
+fails_step : (asked : ℕ → Option Request) (disk n : ℕ) (s : Step)
+    → n + cond (is_failed_answer s && is_of_disk disk (option_and_then asked (delivered_in s))) 1 0
+    ≡ option_map_or (λ d. n + cond (is_failed d.got) 1 0) (delivery_in asked disk s) n
+fails_step asked disk n (steps.Deliver b got) = by got (asked b)
+  where
+    by : (g : DeviceResult) (o : Option Request)
+        → n + cond (is_failed_answer (steps.Deliver b g) && is_of_disk disk o) 1 0
+        ≡ option_map_or (λ (d : Delivery). n + cond (is_failed d.got) 1 0) (delivery_of disk g o) n
+    by (devices.Failed done) (Some q) = grind arith
+    by g None = grind arith
+    by g (Some q) = grind arith
+fails_step asked disk n s = omega arith
+
+-- as many failures
+pub failures_by : (log : List Entry) (disk : ℕ)
+    → failures_of log disk ≡ count_by (λ d. is_failed d.got) (deliveries log disk)
+failures_by log disk =
+    folded (request_of log) disk
+    (λ n s. n + cond (is_failed_answer s && is_of_disk disk (option_and_then (request_of log) (delivered_in s))) 1 0)
+    (λ n d. n + cond (is_failed d.got) 1 0) (fails_step (request_of log) disk) 0 log
+
+-- a step answers the call that it delivers
+calls_step : (log : List Entry) (disk : ℕ) (s : Step)
+    → call_in log disk s ≡ map call_delivered (option_to_list (delivery_in (request_of log) disk s))
+calls_step log disk (steps.Deliver b got) = by (request_of log b)
+  where
+    by : (o : Option Request) → call_for disk got o ≡ map call_delivered (option_to_list (delivery_of disk got o))
+    by None = refl
+    by (Some q) = grind arith
+calls_step log disk s = refl
+
+-- the calls of a log are those that it delivers
+pub calls_by : (log : List Entry) (disk : ℕ) → calls_logged log disk ≡ map call_delivered (deliveries log disk)
+calls_by log disk = go log
+  where
+    go : (es : List Entry)
+        → flat_map (λ (e : Entry). call_in log disk e.step) es
+        ≡ map call_delivered (deliveries_by (request_of log) disk es)
+    go [] = refl
+    go (e ∷ es) =
+        ap (λ cs. cs ++ flat_map (λ (x : Entry). call_in log disk x.step) es) (calls_step log disk e.step)
+        ∙ ap (λ cs. map call_delivered (option_to_list (delivery_in (request_of log) disk e.step)) ++ cs) (go es)
+        ∙ by (delivery_in (request_of log) disk e.step)
+      where
+        by : (o : Option Delivery)
+            → map call_delivered (option_to_list o) ++ map call_delivered (deliveries_by (request_of log) disk es)
+            ≡ map call_delivered (cons_option o (deliveries_by (request_of log) disk es))
+        by None = refl
+        by (Some d) = refl
+
+-- Two parts
+
+pub held_by_both : (size : ℕ) (held : List (List ℕ)) (ds es : List Delivery)
+    → held_by size held (ds ++ es) ≡ held_by size (held_by size held ds) es
+held_by_both size held ds es = fold-append (after_delivery size) held ds es
+
+-- where both parts tell what the disk held, both together do, and the other way
+pub told_by_both : (size : ℕ) (held : List (List ℕ)) (ds es : List Delivery) → AreTold size held ds
+    → AreTold size (held_by size held ds) es → AreTold size held (ds ++ es)
+told_by_both size held [] es first second = second
+told_by_both size held (d ∷ ds) es first second =
+    (first.0, told_by_both size (after_delivery size held d) ds es first.1 second)
+
+-- The requests of deliveries
+
+-- where steps deliver the same by two tables, so do entries
+pub deliver_same : (asked table : ℕ → Option Request) (disk : ℕ) (Q : Step → Type 0)
+    → ((s : Step) → Q s → delivery_in asked disk s ≡ delivery_in table disk s) → (es : List Entry)
+    → AllByRecursion (λ (e : Entry). Q e.step) es → deliveries_by asked disk es ≡ deliveries_by table disk es
+deliver_same asked table disk Q same [] all = refl
+deliver_same asked table disk Q same (e ∷ es) all =
+    ap (λ o. cons_option o (deliveries_by asked disk es)) (same e.step all.0)
+    ∙ ap (λ ds. cons_option (delivery_in table disk e.step) ds) (deliver_same asked table disk Q same es all.1)
+
+-- the request of a bio stands in these entries, and in a table
+pub record IsAsked (table : ℕ → Option Request) (earlier : List Entry) (b : ℕ) : Type 0 where
+  pub request : Request
+  pub before : request_of earlier b ≡ Some request
+  pub known : table b ≡ Some request
+
+-- each Deliver has its request before it
+abbrev pub InOrder : (ℕ → Option Request) → List Entry → Type 0
+InOrder table es =
+    (earlier : List Entry) (e : Entry) (b : ℕ) (got : DeviceResult) → IsSplitBy es earlier e
+    → e.step ≡ steps.Deliver b got → IsAsked table earlier b
+
+-- what holds of each entry that splits a list holds of all
+each_by_splits : (P : Entry → Type 0) (es : List Entry)
+    → ((earlier : List Entry) (e : Entry) → IsSplitBy es earlier e → P e) → AllByRecursion P es
+each_by_splits P [] each = tt
+each_by_splits P (e ∷ es) each = (
+  each [] e (es, refl),
+  each_by_splits P es (λ earlier x split. each (e ∷ earlier) x (split.0, ap (λ (l : List Entry). e ∷ l) split.1)),
+)
+
+-- so the entries deliver what the table says
+pub deliveries_in_order : (table : ℕ → Option Request) (disk : ℕ) (es : List Entry) → InOrder table es
+    → deliveries es disk ≡ deliveries_by table disk es
+deliveries_in_order table disk es order =
+    deliver_same (request_of es) table disk (λ s. delivery_in (request_of es) disk s ≡ delivery_in table disk s)
+    (λ s same. same) es
+    (each_by_splits (λ e. delivery_in (request_of es) disk e.step ≡ delivery_in table disk e.step) es
+    (λ earlier e split. at earlier e split e.step refl))
+  where
+    at : (earlier : List Entry) (e : Entry) → IsSplitBy es earlier e → (s : Step) → e.step ≡ s
+        → delivery_in (request_of es) disk s ≡ delivery_in table disk s
+    at earlier e split (steps.Deliver b got) is =
+        let its : IsAsked table earlier b = order earlier e b got split is in
+        ap (λ o. delivery_of disk got o)
+        (ap (λ (l : List Entry). request_of l b) split.1
+        ∙ request_same earlier (e ∷ split.0) b (subst (λ (o : Option Request). IsSome o) (sym its.before) refl)
+        ∙ its.before ∙ sym its.known)
+    at earlier e split s is = refl
+
+-- a beginning is in order too
+pub order_in_front : (table : ℕ → Option Request) (xs ys : List Entry) → InOrder table (xs ++ ys) → InOrder table xs
+order_in_front table xs ys order earlier e b got split is =
+    order earlier e b got
+    (split.0 ++ ys, ap (λ (l : List Entry). l ++ ys) split.1 ∙ append_assoc earlier (e ∷ split.0) ys) is
+
+-- Bytes that were read
+
+module _ (table : ℕ → Option Request) (size disk : ℕ) (held : List (List ℕ)) where
+  -- what the disk holds after entries, by the table
+  abbrev holds : List Entry → List (List ℕ)
+  holds es = held_by size held (deliveries_by table disk es)
+
+  -- it is what their log says
+  pub holds_contents : (es : List Entry) → InOrder table es → contents size held es disk ≡ holds es
+  holds_contents es order =
+      contents_by es size disk held ∙ ap (λ ds. held_by size held ds) (deliveries_in_order table disk es order)
+
+  -- with one entry more
+  holds_more : (es : List Entry) (e : Entry)
+      → holds (es ++ e ∷ [])
+      ≡ option_map_or (λ d. after_delivery size (holds es) d) (delivery_in table disk e.step) (holds es)
+  holds_more es e =
+      ap (λ ds. held_by size held ds) (filter_map-append (λ (x : Entry). delivery_in table disk x.step) es (e ∷ []))
+      ∙ fold-append (after_delivery size) held (deliveries_by table disk es) (deliveries_by table disk (e ∷ []))
+      ∙ by (delivery_in table disk e.step)
+    where
+      by : (o : Option Delivery)
+          → fold (after_delivery size) (holds es) (cons_option o [])
+          ≡ option_map_or (λ d. after_delivery size (holds es) d) o (holds es)
+      by None = refl
+      by (Some d) = refl
+
+  -- a Deliver of bytes tells what the disk held exactly if its delivery does
+  reads_tell : (front : List Entry) (now : List (List ℕ)) (s : Step)
+      → ((b : ℕ) (got : DeviceResult) → s ≡ steps.Deliver b got → IsAsked table front b)
+      → contents size held front disk ≡ now → ReadsWhatIsHeld size held front disk s
+      → (d : Delivery) → delivery_in table disk s ≡ Some d → TellsWhatIsHeld d.request d.got now
+  reads_tell front now (steps.Deliver b got) asked same reads d is =
+      by got reads (it.request.disk == disk) refl (rw it.known at is)
+    where
+      it : IsAsked table front b
+      it = asked b got refl
+
+      at : (g : DeviceResult) → ReadsWhatIsHeld size held front disk (steps.Deliver b g) → it.request.disk ≡ disk
+          → TellsWhatIsHeld it.request g now
+      at (devices.Bytes bytes) reads own =
+          let tells : it.request.disk ≡ disk → bytes ≡ bytes_at (contents size held front disk) it.request =
+          subst (λ o. IfSome o (λ q. q.disk ≡ disk → bytes ≡ bytes_at (contents size held front disk) q)) it.before
+          reads in
+          tells own ∙ ap (λ h. bytes_at h it.request) same
+      at g reads own = tt
+
+      by : (g : DeviceResult) → ReadsWhatIsHeld size held front disk (steps.Deliver b g)
+          → (c : Bool) → (it.request.disk == disk) ≡ c → delivery_of disk g (Some it.request) ≡ Some d
+          → TellsWhatIsHeld d.request d.got now
+      by g reads true own is =
+          let made : Some (record { request = it.request; got = g }) ≡ Some d = rw own at is in
+          let one : record { request = it.request; got = g } ≡ d = cc in
+          subst (λ (x : Delivery). TellsWhatIsHeld x.request x.got now) one
+          (at g reads (eqb-true it.request.disk disk own))
+      by g reads false own is = absurd (let bad : None ≡ Some d = rw own at is in (let wrong : ⊥ = cc in wrong))
+  reads_tell front now s asked same reads d is = absurd (let bad : ⊥ = cc in bad)
+
+  tells_read : (front : List Entry) (now : List (List ℕ)) (s : Step)
+      → ((b : ℕ) (got : DeviceResult) → s ≡ steps.Deliver b got → IsAsked table front b)
+      → contents size held front disk ≡ now
+      → ((d : Delivery) → delivery_in table disk s ≡ Some d → TellsWhatIsHeld d.request d.got now)
+      → ReadsWhatIsHeld size held front disk s
+  tells_read front now (steps.Deliver b (devices.Bytes bytes)) asked same tells =
+      let it : IsAsked table front b = asked b (devices.Bytes bytes) refl in
+      subst (λ o. IfSome o (λ q. q.disk ≡ disk → bytes ≡ bytes_at (contents size held front disk) q)) (sym it.before)
+      (λ own.
+      tells (record { request = it.request; got = devices.Bytes bytes })
+      (rw it.known (rw (eq-eqb it.request.disk disk own) refl))
+      ∙ ap (λ h. bytes_at h it.request) (sym same))
+  tells_read front now s asked same tells = tt
+
+  -- the entry behind a front has its request in the front
+  asked_next : (front : List Entry) (e : Entry) (es : List Entry) → InOrder table (front ++ e ∷ es)
+      → (b : ℕ) (got : DeviceResult) → e.step ≡ steps.Deliver b got → IsAsked table front b
+  asked_next front e es order b got is = order front e b got (es, refl) is
+
+  -- the order of a front with one entry more, and the rest
+  order_on : (front : List Entry) (e : Entry) (es : List Entry) → InOrder table (front ++ e ∷ es)
+      → InOrder table ((front ++ e ∷ []) ++ es)
+  order_on front e es order = subst (λ l. InOrder table l) (sym (append_assoc front (e ∷ []) es)) order
+
+  -- where the Delivers of bytes behind a front are true, their deliveries tell what the disk held
+  told_behind : (front es : List Entry) → InOrder table (front ++ es)
+      → ((earlier : List Entry) (e : Entry) → IsSplitBy es earlier e
+      → ReadsWhatIsHeld size held (front ++ earlier) disk e.step)
+      → AreTold size (holds front) (deliveries_by table disk es)
+  told_behind front [] order reads = tt
+  told_behind front (e ∷ es) order reads =
+      by (delivery_in table disk e.step) refl
+      (reads_tell front (holds front) e.step (asked_next front e es order)
+      (holds_contents front (order_in_front table front (e ∷ es) order))
+      (subst (λ l. ReadsWhatIsHeld size held l disk e.step) (append-nil front) (reads [] e (es, refl))))
+      (subst (λ h. AreTold size h (deliveries_by table disk es)) (holds_more front e)
+      (told_behind (front ++ e ∷ []) es (order_on front e es order) (λ earlier x split.
+      subst (λ l. ReadsWhatIsHeld size held l disk x.step) (sym (append_assoc front (e ∷ []) earlier))
+      (reads (e ∷ earlier) x (split.0, ap (λ (l : List Entry). e ∷ l) split.1)))))
+    where
+      by : (o : Option Delivery) → delivery_in table disk e.step ≡ o
+          → ((d : Delivery) → delivery_in table disk e.step ≡ Some d
+          → TellsWhatIsHeld d.request d.got (holds front))
+          → AreTold size
+          (option_map_or (λ d. after_delivery size (holds front) d) (delivery_in table disk e.step) (holds front))
+          (deliveries_by table disk es)
+          → AreTold size (holds front) (deliveries_by table disk (e ∷ es))
+      by None is here rest = rw is (rw is at rest)
+      by (Some d) is here rest = rw is (here d is, rw is at rest)
+
+  -- and the other way
+  true_behind : (front es : List Entry) → InOrder table (front ++ es)
+      → AreTold size (holds front) (deliveries_by table disk es)
+      → (earlier : List Entry) (e : Entry) → IsSplitBy es earlier e
+      → ReadsWhatIsHeld size held (front ++ earlier) disk e.step
+  true_behind front [] order told earlier e split = absurd (none_in earlier e split.0 split.1)
+  true_behind front (x ∷ es) order told [] e split =
+      let same : x ≡ e = cc in
+      subst (λ (y : Entry). ReadsWhatIsHeld size held (front ++ []) disk y.step) same
+      (subst (λ l. ReadsWhatIsHeld size held l disk x.step) (sym (append-nil front))
+      (tells_read front (holds front) x.step (asked_next front x es order)
+      (holds_contents front (order_in_front table front (x ∷ es) order))
+      (λ d is. (rw is at told).0)))
+  true_behind front (x ∷ es) order told (y ∷ earlier) e split =
+      let whole : x ∷ es ≡ y ∷ (earlier ++ e ∷ split.0) = split.1 in
+      let same : x ≡ y = cc in
+      let rest : es ≡ earlier ++ e ∷ split.0 = cc in
+      subst (λ (z : Entry). ReadsWhatIsHeld size held (front ++ z ∷ earlier) disk e.step) same
+      (subst (λ l. ReadsWhatIsHeld size held l disk e.step) (append_assoc front (x ∷ []) earlier)
+      (true_behind (front ++ x ∷ []) es (order_on front x es order)
+      (subst (λ h. AreTold size h (deliveries_by table disk es)) (sym (holds_more front x))
+      (by (delivery_in table disk x.step) refl told)) earlier e (split.0, rest)))
+    where
+      by : (o : Option Delivery) → delivery_in table disk x.step ≡ o
+          → AreTold size (holds front) (cons_option (delivery_in table disk x.step) (deliveries_by table disk es))
+          → AreTold size
+          (option_map_or (λ d. after_delivery size (holds front) d) (delivery_in table disk x.step) (holds front))
+          (deliveries_by table disk es)
+      by None is told = rw is (rw is at told)
+      by (Some d) is told = rw is (rw is at told).1
+
+  -- of all entries
+  pub told_by_true : (es : List Entry) → InOrder table es → AreTrue size held es disk
+      → AreTold size held (deliveries_by table disk es)
+  unfolding AreTrue
+  told_by_true es order reads = told_behind [] es order reads
+
+  pub true_by_told : (es : List Entry) → InOrder table es → AreTold size held (deliveries_by table disk es)
+      → AreTrue size held es disk
+  unfolding AreTrue
+  true_by_told es order told = true_behind [] es order told
+
+-- Along legal logs
 
 -- in a legal log each bio that was answered was taken
 answered_taken : (plan : Plan) (facts : List (ℕ × ℕ)) → IsPlan plan → FactsFit plan facts → (log : List Entry)
@@ -52,45 +380,6 @@ answer_there b got (x ∷ front) e back is = by (is_deliver_of b x.step) refl (a
     by true hit rest = rw hit (deliver_answers x.step b hit)
     by false hit rest = rw hit rest
 
--- what a step makes, by two logs that have the same request of each bio that it delivers
-same_step : (xs ys : List Entry) (size disk : ℕ) (held : List (List ℕ)) (s : Step)
-    → ((b : ℕ) (got : DeviceResult) → s ≡ steps.Deliver b got → request_of ys b ≡ request_of xs b)
-    → after_step ys size disk held s ≡ after_step xs size disk held s
-same_step xs ys size disk held (steps.Deliver b got) same =
-    ap (λ o. after_answer size disk got held o) (same b got refl)
-same_step xs ys size disk held s same = refl
-
-module _ (xs ys : List Entry) (size disk : ℕ)
-    (taken : (b : ℕ) → IsSome (device_answer_of xs b) → IsSome (request_of xs b)) where
-  -- what the entries behind a front make is the same by the longer log
-  same_from : (front es : List Entry) (held : List (List ℕ)) → xs ≡ front ++ es
-      → contents_from (xs ++ ys) size held es disk ≡ contents_from xs size held es disk
-  same_from front [] held split = refl
-  same_from front (e ∷ es) held split =
-      ap (λ h. contents_from (xs ++ ys) size h es disk)
-      (same_step xs (xs ++ ys) size disk held e.step
-      (λ b got is. request_same xs ys b
-      (taken b (subst (λ l. IsSome (device_answer_of l b)) (sym split) (answer_there b got front e es is)))))
-      ∙ same_from (front ++ e ∷ []) es (after_step xs size disk held e.step)
-      (split ∙ sym (append_assoc front (e ∷ []) es))
-
-  -- so two parts join
-  joined : (held : List (List ℕ))
-      → contents size held (xs ++ ys) disk ≡ contents_from (xs ++ ys) size (contents size held xs disk) ys disk
-  unfolding contents
-  joined held =
-      fold-append (λ (sectors : List (List ℕ)) (e : Entry). after_step (xs ++ ys) size disk sectors e.step) held xs ys
-      ∙ ap (λ h. contents_from (xs ++ ys) size h ys disk) (same_from [] xs held refl)
-
--- in each legal log
-contents_join : ContentsJoin
-contents_join plan facts is fit log legal earlier later size disk held split =
-    subst (λ l. contents size held l disk ≡ contents_from l size (contents size held earlier disk) later disk)
-    (sym split)
-    (joined earlier later size disk
-    (λ b some. answered_taken plan facts is fit earlier
-    (Legal-front (opening plan facts) earlier later (subst (Legal (opening plan facts)) split legal)) b some) held)
-
 -- with an entry that isn't the Take of a bio its request is what it was
 request_before : (es : List Entry) (e : Entry) (b : ℕ) → is_take_of b e.step ≡ false
     → request_of (es ++ e ∷ []) b ≡ request_of es b
@@ -106,6 +395,32 @@ delivers_follow plan facts is fit log legal earlier e b got split step =
     (answered_taken plan facts is fit (earlier ++ e ∷ [])
     (Legal-front (opening plan facts) (earlier ++ e ∷ []) split.0 (subst (Legal (opening plan facts)) whole legal)) b
     (answer_there b got earlier e [] step))
+
+-- each Deliver of a legal log has its request before it
+pub log_in_order : (plan : Plan) (facts : List (ℕ × ℕ)) → IsPlan plan → FactsFit plan facts → (log : List Entry)
+    → Legal (opening plan facts) log → InOrder (request_of log) log
+log_in_order plan facts is fit log legal earlier e b got split step =
+    let some = delivers_follow plan facts is fit log legal earlier e b got split step in
+    let its : Has (request_of earlier b) = has (request_of earlier b) some in
+    record {
+      request = its.item;
+      before = its.is;
+      known = ap (λ (l : List Entry). request_of l b) split.1 ∙ request_same earlier (e ∷ split.0) b some ∙ its.is;
+    }
+
+-- so two parts join
+contents_join : ContentsJoin
+contents_join plan facts is fit log legal earlier later size disk held split =
+    contents_by log size disk held
+    ∙ ap (λ l. held_by size held (deliveries_by (request_of log) disk l)) split
+    ∙ ap (λ ds. held_by size held ds)
+    (filter_map-append (λ (e : Entry). delivery_in (request_of log) disk e.step) earlier later)
+    ∙ held_by_both size held (deliveries_by (request_of log) disk earlier) (deliveries_by (request_of log) disk later)
+    ∙ ap (λ h. held_by size h (deliveries_by (request_of log) disk later))
+    (sym (holds_contents (request_of log) size disk held earlier
+    (order_in_front (request_of log) earlier later
+    (subst (λ l. InOrder (request_of log) l) split (log_in_order plan facts is fit log legal)))))
+    ∙ sym (contents_later log size disk (contents size held earlier disk) later)
 
 -- both
 pub contents_follow : ContentsFollow

@@ -1,8 +1,6 @@
 pub mod ElevatorFacts
 pub mod Sweeping
 pub mod SweepRest
-pub mod Outcomes
 pub mod SentBios
-pub mod Looks
 pub mod WaitingFacts
 pub mod Places

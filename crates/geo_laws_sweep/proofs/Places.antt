@@ -1,10 +1,7 @@
 -- Along a log in the elevator order the place at which a disk takes its requests falls at most once where none comes,
 -- and none is taken before a FLUSH that waits for longer.
-use Rattle.std.specs.Prelude.{◌≡◌, ℕ, ◌+◌, ◌≤◌, ◌<◌, ◌==◌, Bool, true, false, List, [], ◌∷◌, ◌++◌, filter, find, map, length, Option, Some, None, Ok, All, Contains, IsSome, IsTrue, if◌then◌else◌}
+use Rattle.std.proofs.Common.{◌≡◌, ℕ, ◌+◌, ◌≤◌, ◌==◌, Bool, true, false, List, [], ◌∷◌, ◌++◌, filter, find, map, length, Option, Some, None, Ok, All, Contains, IsSome, IsTrue, if◌then◌else◌, inl, inr, refl, sym, ◌∙◌, ap, subst, arith, eq-eqb, append_assoc}
 use Rattle.std.specs.List.{AllByRecursion, range_with_len}
-use Rattle.std.proofs.Common.{inl, inr, refl, sym, ◌∙◌, ap, subst, arith}
-use Rattle.std.proofs.lemmas.Bool.{eq-eqb}
-use Rattle.std.proofs.lemmas.List.{append_assoc}
 use Rattle.std.proofs.lemmas.List.Elements.{All-from_recursion, recursion_from_All}
 use Rattle.std.proofs.lemmas.List.Sums.{fold-append}
 use Rattle.geo_base.proofs.AllLists.{all_weaker}
@@ -30,13 +27,13 @@ use Rattle.geo_laws_graph.proofs.Numbered.{unique}
 use Rattle.geo_laws_steps.proofs.Logs.{firm_after}
 use Rattle.geo_laws_requests.proofs.Along.{entry_made}
 use Rattle.geo_laws_rest.proofs.Picking.{from_some, given}
-use Rattle.geo_headline.specs.Sweep.{Waiting, waiting_of, is_sent_to, waiting_for, before_flush, candidates, next_of, head_after, head_of, next_take, first_take, enabled_one, pick_sweep, sweep_order}
 use Rattle.geo_laws_sweep.specs.SweepLaws.{WaitingChanges, Asks, is_queued, is_asked, places_asked, breaks_run, FallsOnce, NonePassesFlush, SweepsKeepPlaces}
 use Rattle.geo_laws_sweep.specs.Elevator.{AreAhead, Shrinks, TakesFrom}
+use Rattle.geo_headline.specs.Sweep.{Waiting, waiting_of, is_sent_to, waiting_for, before_flush, candidates, next_of, head_after, head_of, next_take, first_take, enabled_one, pick_sweep, sweep_order}
+use Rattle.geo_laws_sweep.proofs.SentBios.{all_high}
 use Rattle.geo_laws_sweep.proofs.ElevatorFacts.{among_candidates, next_holds, takes_fall_once}
-use Rattle.geo_laws_sweep.proofs.Looks.{is_other}
+use Rattle.geo_laws_sweep.proofs.WaitingFacts.{is_other, steps_change_waiting, takes_ask_waiting}
 use Rattle.geo_laws_sweep.proofs.Sweeping.{one_of, first_holds}
-use Rattle.geo_laws_sweep.proofs.WaitingFacts.{steps_change_waiting, takes_ask_waiting}
 
 -- Numbers of what waits
 
@@ -44,33 +41,18 @@ use Rattle.geo_laws_sweep.proofs.WaitingFacts.{steps_change_waiting, takes_ask_w
 abbrev RisesFrom : ℕ → List Waiting → ℕ → Type 0
 RisesFrom low xs high = Rise low (map (λ (z : Waiting). z.bio) xs) high
 
--- one more bio, that waits for the disk or not
-rise_step : (w : World) (disk low high : ℕ) (x : Bio) (xs : List Bio) (b : Bool) → is_sent_to w disk x ≡ b
-    → low ≤ x.number → x.number < high
-    → RisesFrom (x.number + 1) (map (waiting_of w) (filter (is_sent_to w disk) xs)) high
-    → RisesFrom low (map (waiting_of w) (filter (is_sent_to w disk) (x ∷ xs))) high
-rise_step w disk low high x xs true e above below rest = rw e (above, below, rest)
-rise_step w disk low high x xs false e above below rest =
-    rw e (rise-wider (x.number + 1) low high high
-    (map (λ (z : Waiting). z.bio) (map (waiting_of w) (filter (is_sent_to w disk) xs))) (omega (arith, above))
-    (omega arith) rest)
-
--- so for the whole list
+-- so do those of what waits
 waiting_rises : (w : World) (disk low high : ℕ) (xs : List Bio) → Rise low (map (λ (x : Bio). x.number) xs) high
     → RisesFrom low (map (waiting_of w) (filter (is_sent_to w disk) xs)) high
 waiting_rises w disk low high [] rise = tt
 waiting_rises w disk low high (x ∷ xs) rise =
-    rise_step w disk low high x xs (is_sent_to w disk x) refl rise.0 rise.1
-    (waiting_rises w disk (x.number + 1) high xs rise.2)
-
--- where numbers rise from one on, none is lower
-all_high : (n low high : ℕ) (xs : List Waiting) → RisesFrom low xs high → n ≤ low
-    → AllByRecursion (λ (z : Waiting). n ≤ z.bio) xs
-all_high n low high [] rise most = tt
-all_high n low high (x ∷ xs) rise most = (
-  omega (arith, most, rise.0),
-  all_high n (x.bio + 1) high xs rise.2 (omega (arith, most, rise.0)),
-)
+    by (is_sent_to w disk x) refl (waiting_rises w disk (x.number + 1) high xs rise.2)
+  where
+    by : (b : Bool) → is_sent_to w disk x ≡ b
+        → RisesFrom (x.number + 1) (map (waiting_of w) (filter (is_sent_to w disk) xs)) high
+        → RisesFrom low (map (waiting_of w) (filter (is_sent_to w disk) (x ∷ xs))) high
+    by true e rest = rw e (rise.0, rise.1, rest)
+    by false e rest = rw e (rise-wider (x.number + 1) low high high _ (omega (arith, rise.0)) (omega arith) rest)
 
 -- None passes a FLUSH
 
@@ -84,7 +66,7 @@ first_none : (low high : ℕ) (x : Waiting) (xs : List Waiting) → RisesFrom lo
 first_none low high x xs rise = (
   λ e. omega arith,
   all_weaker (λ (z : Waiting). x.bio ≤ z.bio) (λ (z : Waiting). z.flush ≡ true → x.bio ≤ z.bio) (λ z most e. most) xs
-      (all_high x.bio (x.bio + 1) high xs rise.2 (omega arith)),
+      (all_high (λ (z : Waiting). z.bio) x.bio (x.bio + 1) high xs rise.2 (omega arith)),
 )
 
 -- behind one that is no FLUSH
@@ -95,61 +77,47 @@ behind_none x xs zs other facts =
     (λ z fact. ((λ e. (let no : false ≡ true = sym other ∙ e in absurd (let bad : ⊥ = cc in bad))), fact)) zs facts
 
 -- those that stand before the first FLUSH
-front_step : (low high : ℕ) (x : Waiting) (xs : List Waiting) (b : Bool) → x.flush ≡ b → RisesFrom low (x ∷ xs) high
-    → AllByRecursion (NoneEarlier xs) (before_flush xs)
-    → AllByRecursion (NoneEarlier (x ∷ xs)) (before_flush (x ∷ xs))
-front_step low high x xs true e rise rest =
-    subst (AllByRecursion (NoneEarlier (x ∷ xs)))
-    (sym (ap (λ (b : Bool). if b then [] else x ∷ before_flush xs) e)) tt
-front_step low high x xs false e rise rest =
-    subst (AllByRecursion (NoneEarlier (x ∷ xs)))
-    (sym (ap (λ (b : Bool). if b then [] else x ∷ before_flush xs) e))
-    (first_none low high x xs rise, behind_none x xs (before_flush xs) e rest)
-
--- so of the whole list
 front_none : (low high : ℕ) (xs : List Waiting) → RisesFrom low xs high
     → AllByRecursion (NoneEarlier xs) (before_flush xs)
 front_none low high [] rise = tt
-front_none low high (x ∷ xs) rise =
-    front_step low high x xs x.flush refl rise (front_none (x.bio + 1) high xs rise.2)
+front_none low high (x ∷ xs) rise = by x.flush refl (front_none (x.bio + 1) high xs rise.2)
+  where
+    by : (b : Bool) → x.flush ≡ b → AllByRecursion (NoneEarlier xs) (before_flush xs)
+        → AllByRecursion (NoneEarlier (x ∷ xs)) (if b then [] else x ∷ before_flush xs)
+    by true e rest = tt
+    by false e rest = (first_none low high x xs rise, behind_none x xs (before_flush xs) e rest)
 
 -- so the candidates
-candidates_by : (low high : ℕ) (x : Waiting) (xs : List Waiting) (b : Bool) → x.flush ≡ b
-    → RisesFrom low (x ∷ xs) high → AllByRecursion (NoneEarlier (x ∷ xs)) (candidates (x ∷ xs))
-candidates_by low high x xs true e rise =
-    subst (AllByRecursion (NoneEarlier (x ∷ xs)))
-    (sym (ap (λ (b : Bool). if b then x ∷ [] else x ∷ before_flush xs) e)) (first_none low high x xs rise, tt)
-candidates_by low high x xs false e rise =
-    subst (AllByRecursion (NoneEarlier (x ∷ xs)))
-    (sym (ap (λ (b : Bool). if b then x ∷ [] else x ∷ before_flush xs) e))
-    (first_none low high x xs rise, behind_none x xs (before_flush xs) e (front_none (x.bio + 1) high xs rise.2))
-
--- so of what waits
 candidates_none : (low high : ℕ) (xs : List Waiting) → RisesFrom low xs high
     → AllByRecursion (NoneEarlier xs) (candidates xs)
 candidates_none low high [] rise = tt
-candidates_none low high (x ∷ xs) rise = candidates_by low high x xs x.flush refl rise
+candidates_none low high (x ∷ xs) rise = by x.flush refl
+  where
+    by : (b : Bool) → x.flush ≡ b
+        → AllByRecursion (NoneEarlier (x ∷ xs)) (if b then x ∷ [] else x ∷ before_flush xs)
+    by true e = (first_none low high x xs rise, tt)
+    by false e = (
+      first_none low high x xs rise,
+      behind_none x xs (before_flush xs) e (front_none (x.bio + 1) high xs rise.2),
+    )
 
 -- What shrinks
-
--- one more that waits, by whether it goes and whether it is a FLUSH
-shrink_step : (n h : ℕ) (x : Waiting) (xs : List Waiting) (b c : Bool) → (x.bio == n) ≡ b → x.flush ≡ c
-    → (b ≡ true → x.flush ≡ false)
-    → (AreAhead h (before_flush xs) → AreAhead h (before_flush (filter (is_other n) xs)))
-    → AreAhead h (before_flush (x ∷ xs)) → AreAhead h (before_flush (filter (is_other n) (x ∷ xs)))
-shrink_step n h x xs true c e f so rest ahead =
-    let other = so refl in
-    let both : AreAhead h (x ∷ before_flush xs) = rw other at ahead in rw e (rest both.1)
-shrink_step n h x xs false true e f so rest ahead = rw (e, f) tt
-shrink_step n h x xs false false e f so rest ahead =
-    let both : AreAhead h (x ∷ before_flush xs) = rw f at ahead in rw (e, f) (both.0, rest both.1)
 
 -- where one goes that is no FLUSH
 shrinks : (n : ℕ) (xs : List Waiting) → AllByRecursion (λ (y : Waiting). (y.bio == n) ≡ true → y.flush ≡ false) xs
     → Shrinks xs (filter (is_other n) xs)
 shrinks n [] so h ahead = tt
-shrinks n (x ∷ xs) so h ahead =
-    shrink_step n h x xs (x.bio == n) x.flush refl refl so.0 (shrinks n xs so.1 h) ahead
+shrinks n (x ∷ xs) so h ahead = by (x.bio == n) x.flush refl refl (shrinks n xs so.1 h)
+  where
+    front : x.flush ≡ false → AreAhead h (x ∷ before_flush xs)
+    front f = rw f at ahead
+
+    by : (b c : Bool) → (x.bio == n) ≡ b → x.flush ≡ c
+        → (AreAhead h (before_flush xs) → AreAhead h (before_flush (filter (is_other n) xs)))
+        → AreAhead h (before_flush (filter (is_other n) (x ∷ xs)))
+    by true c e f rest = rw e (rest (front (so.0 e)).1)
+    by false true e f rest = rw (e, f) tt
+    by false false e f rest = rw (e, f) ((front f).0, rest (front f).1)
 
 -- The Take that is due
 
@@ -321,23 +289,7 @@ module _ (w : World) (firm : Firm w) (log : List Entry) (e : Entry) (disk : ℕ)
       asked_by q is (q.disk == disk) (is_flush q.cmd) refl refl quiet run rest
   entry_by (outcomes.Queued d) is quiet run rest =
       passed_over (outcomes.Queued d) is quiet refl (places_asked disk run) rest
-  entry_by (outcomes.Replied line reply) is quiet run rest =
-      passed_over (outcomes.Replied line reply) is refl refl (places_asked disk run) rest
-  entry_by (outcomes.Accepted line bio) is quiet run rest =
-      passed_over (outcomes.Accepted line bio) is refl refl (places_asked disk run) rest
-  entry_by (outcomes.Reading bio) is quiet run rest =
-      passed_over (outcomes.Reading bio) is refl refl (places_asked disk run) rest
-  entry_by outcomes.Ran is quiet run rest = passed_over outcomes.Ran is refl refl (places_asked disk run) rest
-  entry_by (outcomes.Split first count) is quiet run rest =
-      passed_over (outcomes.Split first count) is refl refl (places_asked disk run) rest
-  entry_by outcomes.Bounced is quiet run rest =
-      passed_over outcomes.Bounced is refl refl (places_asked disk run) rest
-  entry_by outcomes.Delivered is quiet run rest =
-      passed_over outcomes.Delivered is refl refl (places_asked disk run) rest
-  entry_by (outcomes.Gathered parent complete) is quiet run rest =
-      passed_over (outcomes.Gathered parent complete) is refl refl (places_asked disk run) rest
-  entry_by outcomes.TasteBack is quiet run rest =
-      passed_over outcomes.TasteBack is refl refl (places_asked disk run) rest
+  entry_by o is quiet run rest = passed_over o is refl refl (places_asked disk run) rest
 
 -- Along a log
 

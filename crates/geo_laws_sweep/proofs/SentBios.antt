@@ -1,30 +1,37 @@
--- The bios that are Sent, along a step: a Start that queues brings one, a Take takes one, and each other step leaves
--- them.
-use Rattle.std.specs.Prelude.{◌≡◌, ℕ, ◌+◌, ◌≤◌, ◌==◌, Bool, true, false, not, List, [], ◌∷◌, ◌++◌, filter, map, find, Option, Some, None, Ok, Contains, IsSomeAnd, IsTrue, if◌then◌else◌}
+-- The bios that are Sent, along a step: a Start that queues to a disk brings one, a Take, which alone asks one, takes
+-- one, and each other step leaves them.
+use Rattle.std.specs.Prelude.{⊤}
+use Rattle.std.proofs.Common.{◌≡◌, ℕ, Bool, true, false, Ok, Err, refl, ◌+◌, ◌≤◌, ◌==◌, not, List, [], ◌∷◌, ◌++◌, filter, map, find, Option, Some, None, Contains, IsSomeAnd, IsTrue, if◌then◌else◌, inl, inr, sym, ◌∙◌, ap, subst, arith, eqb-true}
 use Rattle.std.specs.List.{AllByRecursion}
 use Rattle.std.specs.Option.{option_map_or}
-use Rattle.std.proofs.Common.{inl, inr, refl, sym, ◌∙◌, ap, subst, arith}
-use Rattle.std.proofs.lemmas.Bool.{eqb-true}
 use Rattle.std.proofs.lemmas.List.Elements.{All-contains}
-use Rattle.geo_base.proofs.AllLists.{all_weaker}
+use Rattle.geo_base.proofs.AllLists.{all_kept, all_weaker}
+use Rattle.geo_model.specs.declared.class.Judged.{Judged}
+use Rattle.geo_model.specs.declared.class.Judged.TheVariants.{Read}
+use Rattle.geo_model.specs.declared.command.Command.{Command}
 use Rattle.geo_model.specs.declared.step.BioResult.{BioResult}
 use Rattle.geo_model.specs.declared.step.DeviceResult.{DeviceResult}
 use Rattle.geo_model.specs.declared.step.Outcome.{Outcome}
+use Rattle.geo_model.specs.declared.step.Outcome.TheVariants as outcomes
 use Rattle.geo_model.specs.declared.step.Owner.{Owner}
 use Rattle.geo_model.specs.declared.step.Owner.TheVariants as owners
 use Rattle.geo_model.specs.declared.step.Phase.{Phase}
 use Rattle.geo_model.specs.declared.step.Phase.TheVariants as phases
 use Rattle.geo_model.specs.declared.step.Step.{Step}
 use Rattle.geo_model.specs.declared.step.Step.TheVariants as steps
+use Rattle.geo_model.specs.World.{World, Bio, Config, bio_at, change_number, children_of, is_sent, is_up, is_done, is_waiting, is_child_of}
+use Rattle.geo_model.specs.Bios.{up_to, PieceTarget, piece_child, up_with, deliver, result_of_device, complete_parent, is_complete, joined_result, child_results}
+use Rattle.geo_model.specs.Tasting.{Judging, judged_world}
+use Rattle.geo_model.specs.Commands.{do_command}
+use Rattle.geo_model.specs.Step.{Answer, with_commands, step}
 use Rattle.geo_model.specs.Topology.{Topology}
 use Rattle.geo_model.specs.Graph.{AreNumbers}
-use Rattle.geo_model.specs.World.{World, Config, Bio, bio_at, change_number, children_of, is_sent, is_up, is_done, is_waiting, is_child_of}
-use Rattle.geo_model.specs.Bios.{PieceTarget, piece_child, up_with, up_to, deliver, result_of_device, complete_parent, is_complete, joined_result, child_results}
-use Rattle.geo_model.specs.Step.{step}
 use Rattle.geo_model.specs.SoundBios.{IsFamilyInOrder}
 use Rattle.geo_model.specs.Fitting.{Firm}
+use Rattle.geo_model.proofs.CommandWalk.{any_graph_by}
+use Rattle.geo_model.proofs.StepWalk.{step_by}
 use Rattle.geo_laws_graph.proofs.Lists.{Rise, all-changed, none_outside, unhit}
-use Rattle.geo_laws_graph.proofs.Members.{All-from_contained, Contains-cases, Contains-filter, filter-Contains, find-Contains, nothing_in}
+use Rattle.geo_laws_graph.proofs.Members.{at_contained, All-from_contained, Contains-filter, find-Contains}
 use Rattle.geo_laws_graph.proofs.Numbered.{filter-pushed, number_found, unique}
 use Rattle.geo_laws_life.proofs.Found.{found-with}
 use Rattle.geo_laws_counts.proofs.LimitFacts.{all_true}
@@ -32,7 +39,74 @@ use Rattle.geo_laws_bios.proofs.Turning.{found_there}
 use Rattle.geo_laws_requests.specs.Arrivals.{StayOrArrive}
 use Rattle.geo_laws_requests.proofs.Arrivals.{made_known}
 use Rattle.geo_laws_requests.proofs.Named.{DeliversIt, delivers_it, RisesIt, rises_it}
-use Rattle.geo_laws_sweep.proofs.Outcomes.{starts_or_takes}
+
+-- whether an outcome queues to a disk or asks one
+abbrev pub is_to_disk : Outcome → Bool
+is_to_disk (outcomes.Queued disk) = true
+is_to_disk (outcomes.Asked request) = true
+is_to_disk _ = false
+
+-- what was made neither queues nor asks
+abbrev Quiet : World × Outcome → Type 0
+Quiet made = is_to_disk made.1 ≡ false
+
+-- Commands
+
+-- each command
+commanded : (w : World) (line actor : ℕ) (c : Command) → Quiet (do_command w line actor c)
+commanded w line actor =
+    any_graph_by w line actor (λ c made. Quiet made) (λ c q e. refl) (λ c q. refl)
+    (record {
+      waits = λ c is. refl;
+      lists = refl;
+      opens = λ name prov grant p is. refl;
+      closes = λ name h is. refl;
+      accepts = λ c h a is. refl;
+    })
+
+-- Steps
+
+-- where a step was made it neither queues nor asks
+abbrev After : Answer → Type 0
+After (Ok made) = Quiet made
+After (Err found) = ⊤
+
+-- a judging
+judging_quiet : (w : World) (x : Judging) (j : Judged) → Quiet (judged_world w x j)
+judging_quiet w x (Read sector) = refl
+judging_quiet w x j = refl
+
+-- an Up, by the owner
+owner_quiet : (w : World) (x : Bio) (o : Owner) → Quiet (up_to w x o)
+owner_quiet w x (owners.Line handle line) = refl
+owner_quiet w x o = refl
+
+-- whether the step starts a bio or takes one
+abbrev pub starts_or_takes : Step → Bool
+starts_or_takes (steps.Start b) = true
+starts_or_takes (steps.Take disk b) = true
+starts_or_takes s = false
+
+-- each step that is neither
+others_quiet : (w : World) (seat : ℕ) (s : Step) → starts_or_takes s ≡ false → After (step w seat s)
+others_quiet w seat =
+    step_by w seat (λ s a. starts_or_takes s ≡ false → After a) (record {
+      refuses = λ s f other. tt;
+      goes = λ actor c rest is other. commanded (with_commands w actor rest) c.line actor c.command;
+      runs = λ e rest is other. refl;
+      judges = λ s x j is other. judging_quiet w x j;
+      reaps = λ h c is other. refl;
+      washes = λ work is other. refl;
+      starts = λ b x way is other. absurd (let no : ⊥ = cc in no);
+      takes = λ disk b x is other. absurd (let no : ⊥ = cc in no);
+      delivers = λ b got x is other. refl;
+      rises = λ b x o is other. owner_quiet w x o;
+    })
+
+-- so it neither queues nor asks
+pub others_not_to_disk : (w v : World) (seat : ℕ) (s : Step) (o : Outcome) → starts_or_takes s ≡ false
+    → step w seat s ≡ Ok (v, o) → is_to_disk o ≡ false
+others_not_to_disk w v seat s o other made = rw made at (others_quiet w seat s other)
 
 -- the bios that are Sent
 abbrev pub sent_in : List Bio → List Bio
@@ -44,51 +118,25 @@ NotSentAt n bios = AllByRecursion (λ (x : Bio). (x.number == n) ≡ true → is
 
 -- Lists of bios
 
--- one more bio, that is changed or stays
-changed_step : (n : ℕ) (change : Bio → Bio) (x : Bio) (xs : List Bio) (b : Bool) → (x.number == n) ≡ b
-    → is_sent (change x).phase ≡ false → (b ≡ true → is_sent x.phase ≡ false)
-    → sent_in (change_number n change xs) ≡ sent_in xs
-    → sent_in (change_number n change (x ∷ xs)) ≡ sent_in (x ∷ xs)
-changed_step n change x xs true e after before rest = let was = before refl in rw (e, after, was) rest
-changed_step n change x xs false e after before rest = rw (e, rest) refl
-
 -- where one changes that wasn't Sent and isn't, the same are Sent
 pub changed_same : (n : ℕ) (change : Bio → Bio) → ((x : Bio) → is_sent (change x).phase ≡ false) → (xs : List Bio)
     → NotSentAt n xs → sent_in (change_number n change xs) ≡ sent_in xs
 changed_same n change after [] before = refl
 changed_same n change after (x ∷ xs) before =
-    changed_step n change x xs (x.number == n) refl (after x) before.0 (changed_same n change after xs before.1)
-
--- one more bio, that is kept or goes
-kept_step : (keep : Bio → Bool) (x : Bio) (xs : List Bio) (b c : Bool) → is_sent x.phase ≡ b → keep x ≡ c
-    → (is_sent x.phase ≡ true → keep x ≡ true) → sent_in (filter keep xs) ≡ sent_in xs
-    → sent_in (filter keep (x ∷ xs)) ≡ sent_in (x ∷ xs)
-kept_step keep x xs true true e f so rest = rw (f, e, rest) refl
-kept_step keep x xs true false e f so rest = let stays : keep x ≡ true = so e in absurd (let no : ⊥ = cc in no)
-kept_step keep x xs false true e f so rest = rw (f, e) rest
-kept_step keep x xs false false e f so rest = rw (f, e) rest
+    grind (arith, after x, before.0, changed_same n change after xs before.1)
 
 -- where none goes that is Sent, the same are Sent
 pub kept_same : (keep : Bio → Bool) (xs : List Bio)
     → AllByRecursion (λ (x : Bio). is_sent x.phase ≡ true → keep x ≡ true) xs
     → sent_in (filter keep xs) ≡ sent_in xs
 kept_same keep [] so = refl
-kept_same keep (x ∷ xs) so = kept_step keep x xs (is_sent x.phase) (keep x) refl refl so.0 (kept_same keep xs so.1)
-
--- one that is Sent doesn't have the number
-passes_by : (n : ℕ) (x : Bio) (b : Bool) → (x.number == n) ≡ b → (b ≡ true → is_sent x.phase ≡ false)
-    → is_sent x.phase ≡ true → not (x.number == n) ≡ true
-passes_by n x true e so sent = let quiet : is_sent x.phase ≡ false = so refl in absurd (let no : ⊥ = cc in no)
-passes_by n x false e so sent = rw e refl
+kept_same keep (x ∷ xs) so = grind (arith, so.0, kept_same keep xs so.1)
 
 -- where those of a number go, none of which is Sent
 pub gone_same : (n : ℕ) (xs : List Bio) → NotSentAt n xs
     → sent_in (filter (λ (x : Bio). not (x.number == n)) xs) ≡ sent_in xs
-gone_same n xs before =
-    kept_same (λ (x : Bio). not (x.number == n)) xs
-    (all_weaker (λ (x : Bio). (x.number == n) ≡ true → is_sent x.phase ≡ false)
-    (λ (x : Bio). is_sent x.phase ≡ true → not (x.number == n) ≡ true)
-    (λ x so. passes_by n x (x.number == n) refl so) xs before)
+gone_same n [] before = refl
+gone_same n (x ∷ xs) before = grind (arith, before.0, gone_same n xs before.1)
 
 -- a bio that is found and isn't Sent is the only one of its number
 pub found_not_sent : (next n : ℕ) (xs : List Bio) (x : Bio) → AreNumbers (map (λ (y : Bio). y.number) xs) next
@@ -109,12 +157,8 @@ no_child_sent t next x (item ∷ items) = no_child_sent t next x items
 
 -- one that passes a test which Sent doesn't, isn't Sent
 pub not_sent : (test : Phase → Bool) → test phases.Sent ≡ false → (p : Phase) → test p ≡ true → is_sent p ≡ false
-not_sent test out phases.Down e = refl
 not_sent test out phases.Sent e = absurd (let no : ⊥ = cc in no)
-not_sent test out (phases.Busy seat) e = refl
-not_sent test out phases.Waiting e = refl
-not_sent test out phases.Up e = refl
-not_sent test out phases.Done e = refl
+not_sent test out p e = refl
 
 -- Steps that send and take none
 
@@ -262,24 +306,13 @@ sent_front n one y ys zs true e low o = rw e (record {
 sent_front n one y ys zs false e low o = rw e o
 
 -- where numbers rise from one on, none is lower
-above_low : (low high : ℕ) (xs : List Bio) (y : Bio) → Rise low (map (λ (x : Bio). x.number) xs) high → Contains xs y
-    → low ≤ y.number
-above_low low high [] y rise here = absurd (nothing_in y here)
-above_low low high (x ∷ xs) y rise here =
-    elim (Contains-cases x y xs here) [
-      | inl same ↦ (let e : x.number ≡ y.number = ap (λ (z : Bio). z.number) same in omega (arith, rise.0, e))
-      | inr rest ↦
-          (let above = above_low (x.number + 1) high xs y rise.2 rest in omega (arith, rise.0, above))
-    ]
-
--- what is Sent of those with greater numbers
-high_sent : (low high n : ℕ) (xs : List Bio) → Rise low (map (λ (x : Bio). x.number) xs) high → n ≤ low
-    → AllByRecursion (λ (y : Bio). n ≤ y.number) (sent_in xs)
-high_sent low high n xs rise most =
-    All-from_contained (λ (y : Bio). n ≤ y.number) (sent_in xs) (λ y here.
-    let among = filter-Contains (λ (x : Bio). is_sent x.phase) xs y here in
-    let above = above_low low high xs y rise among.0 in
-    omega (arith, most, above))
+pub all_high : {X : Type 0} (number : X → ℕ) (n low high : ℕ) (xs : List X) → Rise low (map number xs) high → n ≤ low
+    → AllByRecursion (λ (x : X). n ≤ number x) xs
+all_high number n low high [] rise most = tt
+all_high number n low high (x ∷ xs) rise most = (
+  omega (arith, most, rise.0),
+  all_high number n (number x + 1) high xs rise.2 (omega (arith, most, rise.0)),
+)
 
 module _ (n high : ℕ) (x : Bio) (quiet : is_sent x.phase ≡ false) where
   -- one more bio, by whether it is the one
@@ -302,13 +335,16 @@ module _ (n high : ℕ) (x : Bio) (quiet : is_sent x.phase ≡ false) where
         was = rw not_yet refl;
         is = rw (e, others) (ap (λ (z : Bio). as_sent z ∷ sent_in ys) same);
         below = tt;
-        above = high_sent (y.number + 1) high n ys rise.2 (omega (arith, number));
+        above =
+            all_kept (λ (z : Bio). n ≤ z.number) (λ (z : Bio). is_sent z.phase) ys
+            (all_high (λ (z : Bio). z.number) n (y.number + 1) high ys rise.2 (omega (arith, number)));
       }
   queued_step low y ys rise false e found rest =
       let there : find (λ (z : Bio). z.number == n) ys ≡ Some x = rw e at found in
       let number : x.number ≡ n = number_found (λ (z : Bio). z.number) ys n x there in
       let above : y.number + 1 ≤ x.number =
-      above_low (y.number + 1) high ys x rise.2
+      at_contained (λ (z : Bio). y.number + 1 ≤ z.number) ys x
+      (all_high (λ (z : Bio). z.number) (y.number + 1) (y.number + 1) high ys rise.2 (omega arith))
       (find-Contains (λ (z : Bio). z.number == n) ys x there) in
       rw e (sent_front n (as_sent x) y ys (change_number n as_sent ys) (is_sent y.phase) refl
       (omega (arith, number, above)) (rest there))
@@ -321,21 +357,9 @@ module _ (n high : ℕ) (x : Bio) (quiet : is_sent x.phase ≡ false) where
   queued_in low (y ∷ ys) rise found =
       queued_step low y ys rise (y.number == n) refl found (queued_in (y.number + 1) ys rise.2)
 
--- one more bio, that is taken or stays
-taken_step : (n seat : ℕ) (x : Bio) (xs : List Bio) (b c : Bool) → (x.number == n) ≡ b → is_sent x.phase ≡ c
-    → sent_in (change_number n (λ y. record y { phase = phases.Busy seat }) xs)
-    ≡ filter (λ (y : Bio). not (y.number == n)) (sent_in xs)
-    → sent_in (change_number n (λ y. record y { phase = phases.Busy seat }) (x ∷ xs))
-    ≡ filter (λ (y : Bio). not (y.number == n)) (sent_in (x ∷ xs))
-taken_step n seat x xs true true e f rest = rw (e, f, e) rest
-taken_step n seat x xs true false e f rest = rw (e, f) rest
-taken_step n seat x xs false true e f rest = rw (e, f, e, rest) refl
-taken_step n seat x xs false false e f rest = rw (e, f) rest
-
 -- where one is taken, it alone isn't Sent any more
 pub taken_in_list : (n seat : ℕ) (xs : List Bio)
     → sent_in (change_number n (λ y. record y { phase = phases.Busy seat }) xs)
     ≡ filter (λ (y : Bio). not (y.number == n)) (sent_in xs)
 taken_in_list n seat [] = refl
-taken_in_list n seat (x ∷ xs) =
-    taken_step n seat x xs (x.number == n) (is_sent x.phase) refl refl (taken_in_list n seat xs)
+taken_in_list n seat (x ∷ xs) = grind (arith, taken_in_list n seat xs)

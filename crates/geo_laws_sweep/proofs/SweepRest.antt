@@ -1,40 +1,28 @@
 -- At rest the elevator order gives no step.
-use Rattle.std.specs.Prelude.{◌≡◌, ℕ, true, List, [], ◌∷◌, length, map, Option, None}
-use Rattle.std.proofs.Common.{refl}
-use Rattle.std.proofs.lemmas.Bool.{eqb-true, and_parts}
+use Rattle.std.proofs.Common.{ap, arith, ◌≡◌, ℕ, true, List, [], ◌∷◌, length, map, None, refl, eqb-true}
+use Rattle.std.proofs.lemmas.Bool.{and_parts}
 use Rattle.std.proofs.lemmas.List.{nil_from_length}
-use Rattle.geo_model.specs.declared.step.Step.{Step}
+use Rattle.std.specs.List.{range_with_len}
+use Rattle.geo_base.proofs.Options.{is_nothing}
+use Rattle.geo_model.specs.declared.step.Entry.{Entry}
 use Rattle.geo_model.specs.declared.step.Step.TheVariants as steps
 use Rattle.geo_model.specs.Words.{first_some}
 use Rattle.geo_model.specs.World.{World, is_up, is_down}
 use Rattle.geo_model.specs.Freeing.{reap_work, wash_work}
-use Rattle.geo_model.specs.declared.step.Entry.{Entry}
 use Rattle.geo_model.specs.Order.{is_at_rest}
-use Rattle.std.specs.List.{range_with_len}
-use Rattle.geo_base.proofs.Options.{is_nothing}
 use Rattle.geo_model.proofs.RestLemmas.{none-ready, all-none, no-bio, no-judge, no-event, no-reap, no-wash, no-go}
-use Rattle.geo_headline.specs.Sweep.{pick_sweep, next_take, first_take, enabled_one}
 use Rattle.geo_laws_sweep.specs.SweepLaws.{SweepEnds}
+use Rattle.geo_headline.specs.Sweep.{pick_sweep, next_take, first_take, enabled_one}
 
 -- no disk has a Take
-none-first : (a : Option Step) (rest : List (Option Step)) → a ≡ None → first_some rest ≡ None
-    → first_some (a ∷ rest) ≡ None
-none-first a rest e so = rw e so
-
--- so of all disks
 no-takes : (w : World) (log : List Entry) (disks : List ℕ) → w.bios ≡ []
     → first_some (map (next_take w log) disks) ≡ None
 no-takes w log [] e = refl
-no-takes w log (d ∷ ds) e =
-    none-first (next_take w log d) (map (next_take w log) ds) (rw e refl) (no-takes w log ds e)
-
--- where there is no step, none is enabled
-one-none : (w : World) (o : Option Step) → o ≡ None → enabled_one w o ≡ None
-one-none w o e = rw e refl
+no-takes w log (d ∷ ds) e = grind (arith, e, no-takes w log ds e)
 
 -- without bios there is no Take
 no-take : (w : World) (log : List Entry) → w.bios ≡ [] → enabled_one w (first_take w log) ≡ None
-no-take w log e = one-none w (first_take w log) (no-takes w log (range_with_len 0 (length w.disks)) e)
+no-take w log e = ap (enabled_one w) (no-takes w log (range_with_len 0 (length w.disks)) e)
 
 -- so at rest there is no step
 pub sweep_ends : SweepEnds

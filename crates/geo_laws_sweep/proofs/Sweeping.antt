@@ -1,12 +1,12 @@
 -- Where a legal log leads without a Busy bio, and not to rest, the elevator order gives an enabled step that lowers the
 -- measure.
-use Rattle.std.specs.Prelude.{◌≡◌, ℕ, zero, suc, ◌+◌, ◌<◌, ◌≤◌, ◌==◌, nat_le, Bool, true, false, ◌||◌, List, [], ◌∷◌, length, map, filter, Option, Some, None, Contains, IsSome, IsSomeAnd, IfSome, IsTrue, All, option_and_then, slice_get}
+use Rattle.std.proofs.Common.{rules, ◌≡◌, ℕ, zero, suc, ◌+◌, ◌<◌, ◌≤◌, ◌==◌, Bool, true, false, ◌||◌, List, [], ◌∷◌, length, map, filter, Option, Some, None, Contains, IsSome, IsSomeAnd, IfSome, IsTrue, All, option_and_then, slice_get, refl, subst, arith, eqb-true, eq-eqb}
 use Rattle.std.specs.List.{AllByRecursion, range_with_len}
 use Rattle.std.specs.Option.{option_map_or, option_or}
-use Rattle.std.proofs.Common.{refl, sym, ◌∙◌, subst, arith}
 use Rattle.std.proofs.lemmas.Option.{slice_get_within}
-use Rattle.std.proofs.lemmas.Bool.{eqb-true, eq-eqb, leb-true, leb-false, and_parts}
+use Rattle.std.proofs.lemmas.Bool.{and_parts}
 use Rattle.std.proofs.lemmas.List.Elements.{All-contains}
+use Rattle.std.proofs.lemmas.Grind.{common_steps}
 use Rattle.geo_base.proofs.FindLists.{none_passes}
 use Rattle.geo_model.specs.declared.step.Entry.{Entry}
 use Rattle.geo_model.specs.declared.step.Step.{Step}
@@ -28,11 +28,11 @@ use Rattle.geo_laws_graph.proofs.Lists.{found_itself}
 use Rattle.geo_laws_graph.proofs.Members.{All-from_contained, Contains-filter, Contains-map, filter-Contains, find-Contains, map-Contains, has, nothing_in}
 use Rattle.geo_laws_life.proofs.Found.{found-with}
 use Rattle.geo_laws_steps.proofs.Logs.{firm_after}
-use Rattle.geo_headline.specs.Sweep.{Waiting, waiting_of, is_sent_to, waiting_for, candidates, next_of, head_of, next_take, first_take, enabled_one, pick_sweep}
 use Rattle.geo_laws_sweep.specs.SweepLaws.{SweepGoesOn}
-use Rattle.geo_laws_sweep.proofs.ElevatorFacts.{some_is_next, next_holds}
 use Rattle.geo_laws_rest.proofs.Moving.{no_bios, free_by}
 use Rattle.geo_laws_rest.proofs.Picking.{IsGood, first_of, from_some, from_none, given, withheld, take_by, no_taste, no_events_by, judge_not, event_not, reap_not, wash_not, earliest_none, at_rest, good, goes_up, starts, tried, late, goes}
+use Rattle.geo_headline.specs.Sweep.{Waiting, waiting_of, is_sent_to, waiting_for, candidates, next_of, head_of, next_take, first_take, enabled_one, pick_sweep}
+use Rattle.geo_laws_sweep.proofs.ElevatorFacts.{some_is_next, next_holds}
 
 -- The first of some
 
@@ -49,43 +49,20 @@ first_holds P f so [] s e = absurd (let no : ⊥ = cc in no)
 first_holds P f so (d ∷ ds) s e = one_of P (f d) (first_some (map f ds)) (so d) (first_holds P f so ds) s e
 
 -- where there is none, each is none
-none_of : (f : ℕ → Option Step) (d : ℕ) (ds : List ℕ) (o : Option Step) → f d ≡ o
-    → option_or o (first_some (map f ds)) ≡ None
-    → (first_some (map f ds) ≡ None → AllByRecursion (λ (k : ℕ). f k ≡ None) ds)
-    → AllByRecursion (λ (k : ℕ). f k ≡ None) (d ∷ ds)
-none_of f d ds None is e rest = (is, rest e)
-none_of f d ds (Some s) is e rest = absurd (let no : ⊥ = cc in no)
-
--- so for all disks
 first_none : (f : ℕ → Option Step) (ds : List ℕ) → first_some (map f ds) ≡ None
     → AllByRecursion (λ (d : ℕ). f d ≡ None) ds
 first_none f [] e = tt
-first_none f (d ∷ ds) e = none_of f d ds (f d) refl e (first_none f ds)
+first_none f (d ∷ ds) e = (grind (arith, e), first_none f ds (grind (arith, e)))
 
--- Numbers of disks
-
--- what holds of a range holds of each number in it, by whether it is the first
-range_step : (P : ℕ → Type 0) (a d : ℕ) (b : Bool) → nat_le (a + 1) d ≡ b → P a → a ≤ d → (a + 1 ≤ d → P d) → P d
-range_step P a d true e here low rest = rest (leb-true (a + 1) d e)
-range_step P a d false e here low rest =
-    let less = leb-false (a + 1) d e in
-    let same : a ≡ d = omega (arith, low, less) in
-    subst P same here
-
--- so for the whole range
+-- what holds of a range holds of each number in it
 range_at : (P : ℕ → Type 0) (a n d : ℕ) → AllByRecursion P (range_with_len a n) → a ≤ d → d < a + n → P d
 range_at P a zero d all low high = absurd (omega (arith, low, high))
-range_at P a (suc n) d all low high =
-    range_step P a d (nat_le (a + 1) d) refl all.0 low (λ more.
-    range_at P (a + 1) n d all.1 more (omega (arith, high)))
+range_at P a (suc n) d all low high = search (rules, all, range_at P (a + 1) n d all.1)
 
 -- where nothing is next, nothing waits
 none_is_next : (head : ℕ) (xs : List Waiting) → next_of head (candidates xs) ≡ None → xs ≡ []
 none_is_next head [] e = refl
-none_is_next head (x ∷ xs) e =
-    let some = has (next_of head (candidates (x ∷ xs))) (some_is_next head x xs) in
-    let both : Some some.item ≡ None = sym some.is ∙ e in
-    absurd (let no : ⊥ = cc in no)
+none_is_next head (x ∷ xs) e = grind (arith, e, some_is_next head x xs, common_steps)
 
 -- What waits for a disk
 
@@ -160,23 +137,21 @@ module _ (w : World) (firm : Firm w) where
       rw (sent_by log none x here (is_sent x.phase) refl) refl)
 
   module _ (idle : NoneBusy w) where
-    -- what waits for a disk is taken by it, by the disk of the bio
-    at_its : (disk : ℕ) (x : Bio) → Contains w.bios x → is_sent x.phase ≡ true → (o : Option ℕ) → disk_of_bio w x ≡ o
-        → option_map_or (λ d. d == disk) o false ≡ true → is_enabled w 0 (steps.Take disk x.number) ≡ true
-    at_its disk x here sent None at is = absurd (let no : ⊥ = cc in no)
-    at_its disk x here sent (Some d) at is =
-        let same : d ≡ disk = eqb-true d disk is in
-        let found : bio_at w x.number ≡ Some x =
-        found_itself (λ (y : Bio). y.number) w.next_bio w.bios x firm.bios.numbers here in
-        subst (λ (n : ℕ). is_enabled w 0 (steps.Take n x.number) ≡ true) same
-        (take_by w firm x found sent (Some d) at (free_by w firm idle d (busy_bio w d) refl))
-
-    -- so what waits for a disk
+    -- what waits for a disk is taken by it
     sent_to : (disk : ℕ) (x : Bio) → Contains w.bios x → is_sent_to w disk x ≡ true
         → is_enabled w 0 (steps.Take disk x.number) ≡ true
     sent_to disk x here is =
         let both = and_parts (is_sent x.phase) (option_map_or (λ d. d == disk) (disk_of_bio w x) false) is in
-        at_its disk x here both.0 (disk_of_bio w x) refl both.1
+        by both.0 (disk_of_bio w x) refl both.1
+      where
+        by : is_sent x.phase ≡ true → (o : Option ℕ) → disk_of_bio w x ≡ o
+            → option_map_or (λ d. d == disk) o false ≡ true → is_enabled w 0 (steps.Take disk x.number) ≡ true
+        by sent None at same = absurd (let no : ⊥ = cc in no)
+        by sent (Some d) at same =
+            let found : bio_at w x.number ≡ Some x =
+            found_itself (λ (y : Bio). y.number) w.next_bio w.bios x firm.bios.numbers here in
+            subst (λ (n : ℕ). is_enabled w 0 (steps.Take n x.number) ≡ true) (eqb-true d disk same)
+            (take_by w firm x found sent (Some d) at (free_by w firm idle d (busy_bio w d) refl))
 
     -- so all that waits
     abbrev CanBeTaken : ℕ → Waiting → Type 0

@@ -1,8 +1,7 @@
--- What waits for a disk, step by step; and what a Take asks for.
-use Rattle.std.specs.Prelude.{◌≡◌, ℕ, ◌≤◌, ◌==◌, Bool, true, false, List, ◌∷◌, ◌++◌, filter, filter_map, map, Some, None, Ok, Contains, IsTrue}
-use Rattle.std.specs.List.{enumerate_from}
-use Rattle.std.proofs.Common.{refl, sym, ◌∙◌, ap, subst, append-nil}
-use Rattle.std.proofs.lemmas.Bool.{eqb-true, eq-eqb}
+-- What a disk sees of a bio in a graph, and so what waits for it, step by step; and what a Take asks for.
+use Rattle.std.proofs.Common.{arith, ◌≡◌, ℕ, ◌/◌, ◌==◌, Bool, true, false, not, List, [], ◌∷◌, filter, filter_map, map, Option, Some, None, Ok, Contains, if◌then◌else◌, refl, sym, ◌∙◌, ap, subst, ◌≤◌, ◌++◌, IsTrue, append-nil, eqb-true, eq-eqb}
+use Rattle.std.specs.List.{AllByRecursion, enumerate_from}
+use Rattle.std.specs.Option.{option_map_or}
 use Rattle.std.proofs.lemmas.List.Elements.{All-from_recursion, filter-append, filter_map-append}
 use Rattle.geo_base.specs.declared.errno.Errno.TheVariants.{EIO}
 use Rattle.geo_model.specs.declared.step.BioResult.TheVariants as results
@@ -11,21 +10,149 @@ use Rattle.geo_model.specs.declared.step.Outcome.TheVariants as outcomes
 use Rattle.geo_model.specs.declared.step.Phase.TheVariants as phases
 use Rattle.geo_model.specs.declared.step.Step.{Step}
 use Rattle.geo_model.specs.declared.step.Step.TheVariants as steps
-use Rattle.geo_model.specs.Topology.{Topology, note_started}
-use Rattle.geo_model.specs.World.{World, Config, Bio, bio_at, change_number, is_sent}
-use Rattle.geo_model.specs.Bios.{PieceTarget, Way, Bounces, Fails, Sends, Splits, Passes, piece_child, up_with, start_by, way_of, take_bio, request_of_bio, disk_of_bio, disk_at}
+use Rattle.geo_model.specs.Words.{is_flush}
+use Rattle.geo_model.specs.Topology.{Topology, geom_at, provider_at, note_started}
+use Rattle.geo_model.specs.World.{World, Config, Bio, is_sent, bio_at, change_number}
+use Rattle.geo_model.specs.Place.{disk_of}
+use Rattle.geo_model.specs.Bios.{disk_at, sector_at, PieceTarget, Way, Bounces, Fails, Sends, Splits, Passes, piece_child, up_with, start_by, way_of, take_bio, request_of_bio, disk_of_bio}
 use Rattle.geo_model.specs.Step.{step}
+use Rattle.geo_model.specs.Log.{world_after}
 use Rattle.geo_model.specs.Fitting.{Firm}
+use Rattle.geo_laws_graph.proofs.Members.{All-from_contained, filter-Contains, at_contained, Contains-filter, Contains-map, find-Contains}
+use Rattle.geo_laws_life.proofs.Found.{FoundWith, found-with}
+use Rattle.geo_laws_maps.specs.Ways.{GoesDown, Used}
+use Rattle.geo_laws_maps.proofs.Opened.{used-down}
+use Rattle.geo_laws_steps.specs.WayLaws.{IsSameGeom, IsSameProvider, KeepsWays}
+use Rattle.geo_laws_steps.proofs.Steps.{steps_keep_used}
 use Rattle.geo_laws_graph.proofs.Lists.{rise-from}
-use Rattle.geo_laws_graph.proofs.Members.{All-from_contained, at_contained, Contains-filter, Contains-map, filter-Contains, find-Contains}
 use Rattle.geo_laws_graph.proofs.Numbered.{number_found, unique}
 use Rattle.geo_laws_bios.proofs.Turning.{sent_disk}
 use Rattle.geo_laws_requests.proofs.Named.{StartsIt, starts_it, TakesIt, takes_it}
-use Rattle.geo_headline.specs.Sweep.{Waiting, waiting_of, is_sent_to, waiting_for}
 use Rattle.geo_laws_sweep.specs.SweepLaws.{is_queued, is_asked, OneMore, StepsChangeWaiting, Asks, TakesAskWaiting}
-use Rattle.geo_laws_sweep.proofs.Outcomes.{is_to_disk, starts_or_takes, others_not_to_disk}
-use Rattle.geo_laws_sweep.proofs.SentBios.{sent_in, NotSentAt, OneSent, as_sent, changed_same, found_not_sent, no_child_sent, queued_in, sent_same, taken_in_list}
-use Rattle.geo_laws_sweep.proofs.Looks.{look, look_number, waiting_seen, kept_looks, is_other_bio, is_other, gone_looks, all_looks, looks_stay}
+use Rattle.geo_headline.specs.Sweep.{Waiting, waiting_of, is_sent_to, waiting_for}
+use Rattle.geo_laws_sweep.proofs.SentBios.{sent_in, NotSentAt, OneSent, as_sent, changed_same, found_not_sent, no_child_sent, queued_in, sent_same, taken_in_list, is_to_disk, starts_or_takes, others_not_to_disk}
+
+-- whether a disk is the one that is found
+abbrev is_disk : ℕ → Option ℕ → Bool
+is_disk disk o = option_map_or (λ d. d == disk) o false
+
+-- a bio as its disk sees it, with sectors of so many bytes
+abbrev seen_in : ℕ → Bio → Waiting
+seen_in sector x = record { bio = x.number; flush = is_flush x.cmd; first = x.offset / sector }
+
+-- what a disk sees of a bio, by the disk to which that goes
+abbrev look_by : ℕ → Option ℕ → ℕ → Bio → Option Waiting
+look_by disk o sector x = if is_disk disk o then Some (seen_in sector x) else None
+
+-- in a graph
+abbrev look : Topology Config → ℕ → Bio → Option Waiting
+look t disk x = look_by disk (disk_at t x.target) (sector_at t x.target) x
+
+-- it has the bio's number
+look_number : (t : Topology Config) (disk : ℕ) (x : Bio) (z : Waiting) → look t disk x ≡ Some z → z.bio ≡ x.number
+look_number t disk x z is = grind (arith, is)
+
+-- Lists
+
+-- what waits is what the disk sees of the bios that are Sent
+seen_by : (w : World) (disk : ℕ) (xs : List Bio)
+    → map (waiting_of w) (filter (is_sent_to w disk) xs) ≡ filter_map (look w.topology disk) (sent_in xs)
+seen_by w disk [] = refl
+seen_by w disk (x ∷ xs) = grind (arith, seen_by w disk xs)
+
+-- so in a mesh
+waiting_seen : (w : World) (disk : ℕ) → waiting_for w disk ≡ filter_map (look w.topology disk) (sent_in w.bios)
+waiting_seen w disk = seen_by w disk w.bios
+
+-- two looks that agree on each item of a list
+looks_agree : (f g : Bio → Option Waiting) (xs : List Bio) → AllByRecursion (λ (x : Bio). f x ≡ g x) xs
+    → filter_map f xs ≡ filter_map g xs
+looks_agree f g [] same = refl
+looks_agree f g (x ∷ xs) same = rw (same.0, looks_agree f g xs same.1) refl
+
+-- where of those that go nothing is seen, the same is seen
+kept_looks : (f : Bio → Option Waiting) (keep : Bio → Bool) (xs : List Bio)
+    → AllByRecursion (λ (x : Bio). keep x ≡ false → f x ≡ None) xs → filter_map f (filter keep xs) ≡ filter_map f xs
+kept_looks f keep [] so = refl
+kept_looks f keep (x ∷ xs) so = grind (arith, so.0, kept_looks f keep xs so.1)
+
+-- whether a bio and what waits have another number
+abbrev is_other_bio : ℕ → Bio → Bool
+is_other_bio n y = not (y.number == n)
+
+-- whether what waits has another number
+abbrev pub is_other : ℕ → Waiting → Bool
+is_other n z = not (z.bio == n)
+
+-- where the bio of a number goes, so does what was seen of it
+gone_looks : (f : Bio → Option Waiting) → ((x : Bio) (z : Waiting) → f x ≡ Some z → z.bio ≡ x.number) → (n : ℕ)
+    (xs : List Bio)
+    → filter_map f (filter (is_other_bio n) xs) ≡ filter (is_other n) (filter_map f xs)
+gone_looks f so n [] = refl
+gone_looks f so n (x ∷ xs) = grind (arith, so x, gone_looks f so n xs)
+
+-- a fact of what is seen of each item
+all_looks : (f : Bio → Option Waiting) (P : Bio → Type 0) (Q : Waiting → Type 0)
+    → ((x : Bio) (z : Waiting) → f x ≡ Some z → P x → Q z) → (xs : List Bio) → AllByRecursion P xs
+    → AllByRecursion Q (filter_map f xs)
+all_looks f P Q so [] facts = tt
+all_looks f P Q so (x ∷ xs) facts = by (f x) refl (all_looks f P Q so xs facts.1)
+  where
+    by : (o : Option Waiting) → f x ≡ o → AllByRecursion Q (filter_map f xs)
+        → AllByRecursion Q (filter_map f (x ∷ xs))
+    by None e rest = rw e rest
+    by (Some z) e rest = rw e (so x z e facts.0, rest)
+
+-- Along a step
+
+module _ (w : World) (firm : Firm w) (v : World) (keeps : KeepsWays (Used w) w.topology v.topology) (x : Bio)
+    (here : Contains w.bios x) where
+  -- the target of a bio is used
+  used : Used w x.target
+  used = record { bio = x; stands = here; under = record { over = []; way = refl } }
+
+  -- so it stands with its geom
+  down : GoesDown w.topology (Used w) x.target
+  down = used-down w firm x.target used
+
+  -- also then
+  provider : FoundWith (provider_at v.topology x.target) (IsSameProvider down.provider)
+  provider =
+      found-with (provider_at v.topology x.target) (IsSameProvider down.provider)
+      (keeps.provider x.target down.provider used down.found)
+
+  -- and its geom does
+  geom : FoundWith (geom_at v.topology down.provider.geom) (IsSameGeom down.geom)
+  geom =
+      found-with (geom_at v.topology down.provider.geom) (IsSameGeom down.geom)
+      (keeps.geom x.target down.provider down.geom used down.found down.of)
+
+  -- at the same disk
+  disk_same : disk_at v.topology x.target ≡ disk_at w.topology x.target
+  disk_same = rw (provider.is, provider.fact.geom, geom.is, down.found, down.of) (ap disk_of geom.fact.config)
+
+  -- with the same sectors
+  sector_same : sector_at v.topology x.target ≡ sector_at w.topology x.target
+  sector_same = rw (provider.is, down.found) provider.fact.sector
+
+  -- so a disk sees the same of it
+  look_same : (disk : ℕ) → look v.topology disk x ≡ look w.topology disk x
+  look_same disk = rw (disk_same, sector_same) refl
+
+-- each step leaves what disks see of the bios that are Sent
+looks_stay : (w v : World) (seat : ℕ) (s : Step) (o : Outcome) (disk : ℕ) → Firm w → step w seat s ≡ Ok (v, o)
+    → filter_map (look v.topology disk) (sent_in w.bios) ≡ filter_map (look w.topology disk) (sent_in w.bios)
+looks_stay w v seat s o disk firm made =
+    let keeps : KeepsWays (Used w) w.topology v.topology =
+    subst (λ a. KeepsWays (Used w) w.topology (world_after w a).topology) made (steps_keep_used.ways w seat s firm) in
+    looks_agree (look v.topology disk) (look w.topology disk) (sent_in w.bios)
+    (All-from_contained (λ (x : Bio). look v.topology disk x ≡ look w.topology disk x) (sent_in w.bios) (λ x here.
+    look_same w firm v keeps x (filter-Contains (λ (y : Bio). is_sent y.phase) w.bios x here).0 disk))
+
+-- an outcome that neither queues nor asks doesn't queue
+quiet_queues : (disk : ℕ) (p : Outcome) → is_to_disk p ≡ false → IsTrue (is_queued disk p) → ⊥
+quiet_queues disk (outcomes.Queued d) none queued = let no : ⊥ = cc in no
+quiet_queues disk _ none queued = let no : ⊥ = cc in no
 
 -- A Start
 
@@ -159,25 +286,17 @@ module _ (w v : World) (firm : Firm w) (seat b : ℕ) (o : Outcome) (made : step
           number = its_number;
           below = All-from_recursion (λ (x : Waiting). x.bio ≤ b) (seen_of one.front)
               (all_looks (look w.topology disk) (λ (y : Bio). y.number ≤ started.number)
-              (λ (x : Waiting). x.bio ≤ b) (λ y z is low.
-              subst (λ (n : ℕ). n ≤ b) (sym (look_number w.topology disk y z is))
-              (subst (λ (n : ℕ). y.number ≤ n) its_number low)) one.front one.below);
+              (λ (x : Waiting). x.bio ≤ b)
+              (λ y z is low. omega (arith, look_number w.topology disk y z is, its_number, low)) one.front one.below);
           above = All-from_recursion (λ (x : Waiting). b ≤ x.bio) (seen_of one.back)
               (all_looks (look w.topology disk) (λ (y : Bio). started.number ≤ y.number)
-              (λ (x : Waiting). b ≤ x.bio) (λ y z is high.
-              subst (λ (n : ℕ). b ≤ n) (sym (look_number w.topology disk y z is))
-              (subst (λ (n : ℕ). n ≤ y.number) its_number high)) one.back one.above);
+              (λ (x : Waiting). b ≤ x.bio)
+              (λ y z is high. omega (arith, look_number w.topology disk y z is, its_number, high)) one.back one.above);
         }
 
     -- a Start that queues to the disk
     queued_by : Starts → IsTrue (is_queued disk o) → OneMore b (waiting_for w disk) (waiting_for v disk)
-    queued_by (Stays same none) queued = absurd (quiet_queues o none queued)
-      where
-        -- an outcome that is neither
-        quiet_queues : (p : Outcome) → is_to_disk p ≡ false → IsTrue (is_queued disk p) → ⊥
-        quiet_queues (outcomes.Queued d) none queued = let no : ⊥ = cc in no
-        quiet_queues (outcomes.Asked q) none queued = let no : ⊥ = cc in no
-        quiet_queues _ none queued = let no : ⊥ = cc in no
+    queued_by (Stays same none) queued = absurd (quiet_queues disk o none queued)
     queued_by (Comes d to at graph one) queued =
         one_waits d at (subst (λ (p : Outcome). IsTrue (is_queued disk p)) to queued) graph one
 
@@ -239,13 +358,6 @@ module _ (w v : World) (firm : Firm w) (seat other b : ℕ) (o : Outcome)
         ap (λ (y : Bio). disk_at w.topology y.target) only ∙ taking.can.disk_is in
         rw goes (rw apart refl)
 
-    -- by whether it has the number
-    unseen : (x : Bio) (c : Bool) → (x.number == b) ≡ c → Contains w.bios x → (other == disk) ≡ false
-        → is_other_bio b x ≡ false → look w.topology disk x ≡ None
-    unseen x true hit here apart goes = not_seen_by x hit here apart
-    unseen x false hit here apart goes =
-        let stays : is_other_bio b x ≡ true = rw hit refl in absurd (let no : ⊥ = cc in no)
-
     -- so for it the same waits
     take_stays : (other == disk) ≡ false → waiting_for v disk ≡ waiting_for w disk
     take_stays apart =
@@ -255,8 +367,8 @@ module _ (w v : World) (firm : Firm w) (seat other b : ℕ) (o : Outcome)
         ∙ sym (gone_looks (look w.topology disk) (look_number w.topology disk) b (sent_in w.bios))
         ∙ kept_looks (look w.topology disk) (is_other_bio b) (sent_in w.bios)
         (All-from_contained (λ (x : Bio). is_other_bio b x ≡ false → look w.topology disk x ≡ None) (sent_in w.bios)
-        (λ x here.
-        unseen x (x.number == b) refl (filter-Contains (λ (y : Bio). is_sent y.phase) w.bios x here).0 apart))
+        (λ x here gone.
+        not_seen_by x (grind (arith, gone)) (filter-Contains (λ (y : Bio). is_sent y.phase) w.bios x here).0 apart))
         ∙ sym (waiting_seen w disk)
 
   -- it waited for its disk
@@ -300,12 +412,7 @@ module _ (w v : World) (firm : Firm w) (seat disk : ℕ) (o : Outcome) where
 
   -- only a Start queues to the disk
   not_queued : (s : Step) → starts_or_takes s ≡ false → step w seat s ≡ Ok (v, o) → IsTrue (is_queued disk o) → ⊥
-  not_queued s other made = quiet_queues o (others_not_to_disk w v seat s o other made)
-    where
-      -- an outcome that is neither
-      quiet_queues : (p : Outcome) → is_to_disk p ≡ false → IsTrue (is_queued disk p) → ⊥
-      quiet_queues (outcomes.Queued d) none queued = let no : ⊥ = cc in no
-      quiet_queues _ none queued = let no : ⊥ = cc in no
+  not_queued s other made = quiet_queues disk o (others_not_to_disk w v seat s o other made)
 
   -- so by the step
   by_start : (s : Step) → step w seat s ≡ Ok (v, o) → IsTrue (is_queued disk o) → (b : ℕ) × (s ≡ steps.Start b)

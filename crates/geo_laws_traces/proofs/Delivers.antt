@@ -1,9 +1,7 @@
 -- Each Deliver of bytes in a legal log has some, and no more than a request can ask for.
-use Rattle.std.specs.Prelude.{◌≡◌, ℕ, ◌≤◌, false, List, [], ◌∷◌, ◌==◌, length, Option, Some, None, IsOkAnd, Contains}
+use Rattle.std.proofs.Common.{◌≡◌, ℕ, ◌≤◌, false, List, [], ◌∷◌, ◌==◌, length, Option, Some, None, IsOkAnd, Contains, refl, arith}
 use Rattle.std.specs.List.{AllByRecursion}
-use Rattle.std.proofs.Common.{refl, arith}
 use Rattle.std.proofs.lemmas.List.Elements.{All-from_recursion, All-contains}
-use Rattle.geo_model.proofs.BioLemmas.{read_moves}
 use Rattle.geo_base.specs.declared.limits.TheConstants.{MAX_REQUEST_BYTES}
 use Rattle.geo_model.specs.declared.step.DeviceResult.TheVariants as devices
 use Rattle.geo_model.specs.declared.step.Entry.{Entry}
@@ -19,6 +17,7 @@ use Rattle.geo_model.specs.SoundBios.{IsBioInOrder, IsRangeInside}
 use Rattle.geo_model.specs.Step.{unless_found, deliver_found, deliver_of, step}
 use Rattle.geo_model.specs.Log.{Legal, after_entry}
 use Rattle.geo_model.specs.Fitting.{Firm}
+use Rattle.geo_model.proofs.BioLemmas.{read_moves}
 use Rattle.geo_laws_graph.proofs.Members.{find-Contains}
 use Rattle.geo_laws_life.proofs.Found.{found-with}
 use Rattle.geo_laws_bios.proofs.Phases.{can_deliver, fitting_result}

@@ -2,13 +2,9 @@ pub mod MadeAgain
 pub mod YesMeans
 pub mod Lines
 pub mod Words
-pub mod Runs
 pub mod Steps
-pub mod StepsTold
 pub mod Sizes
-pub mod Unmarked
 pub mod Written
 pub mod Told
 pub mod Delivers
 pub mod Owes
-pub mod Legal

@@ -1,24 +1,28 @@
--- The lines of texts that end with a line feed, and where a text is cut before its first line that begins with `%`.
-use Rattle.std.specs.Prelude.{◌≡◌, ℕ, ◌≤◌, ◌==◌, Bool, true, false, ◌&&◌, List, [], ◌∷◌, ◌++◌, length, All, if◌then◌else◌}
-use Rattle.std.specs.List.{onto_first, join_with_byte}
-use Rattle.std.proofs.Common.{refl, sym, ◌∙◌, ap, arith}
-use Rattle.std.proofs.lemmas.Bool.{eqb-true, and_parts}
-use Rattle.std.proofs.lemmas.List.{append_assoc, append-nil}
-use Rattle.std.proofs.lemmas.List.Splits.{slice_split-cons_yes, slice_split-cons_no, slice_split_at, join_with_byte-slice_split}
-use Rattle.geo_model.specs.Script.{lines_of, drop_empty_end}
+-- The lines of texts that end with a line feed, and where a text is cut before its first line that begins with `%`;
+-- no line of a script does.
+use Rattle.std.proofs.Common.{length-append, ◌≡◌, ℕ, ◌≤◌, ◌==◌, Bool, true, false, ◌&&◌, List, [], ◌∷◌, ◌++◌, length, All, if◌then◌else◌, refl, sym, ◌∙◌, ap, arith, eqb-true, append_assoc, append-nil, ◌+◌, fold, position, Option, Some, None, Result, Ok, Err, subst, get_or}
+use Rattle.std.specs.List.{onto_first, join_with_byte, enumerate_from, list_all, slice_split}
+use Rattle.std.proofs.lemmas.Bool.{and_parts, false≢true}
+use Rattle.std.proofs.lemmas.List.Splits.{length-slice_split, slice_split_at, join_with_byte-slice_split}
+use Rattle.std.proofs.lemmas.List.Quantifiers.{position-Some}
+use Rattle.std.proofs.lemmas.List.Sums.{fold-append}
+use Rattle.std.proofs.lemmas.Slice.Eq.{bytes_eq-Decides}
+use Rattle.geo_base.proofs.PlaceLists.{numbered_both}
+use Rattle.geo_base.specs.Name.{is_short_name, is_word_byte}
+use Rattle.geo_model.specs.declared.command.Cause.{Cause}
+use Rattle.geo_model.specs.declared.command.Cause.TheVariants as causes
+use Rattle.geo_model.specs.Script.{lines_of, drop_empty_end, ◌>>=◌, Words, Fault, actor_line, line_tests, words_line, words_of, empty_plan, next_line, at_line, script, IsScript}
+use Rattle.geo_model.specs.Plans.{IsPlan}
+use Rattle.geo_model.specs.Words.{same_name, unless, first_error}
+use Rattle.geo_model.specs.World.{Plan}
+use Rattle.geo_script.proofs.PlanLaw.{scripts-are-plans}
 use Rattle.geo_headline.specs.Traces.{ended_script, front_from, back_from, parts_of, joined_parts}
 
 -- Parts
 
 -- there is a first part
 pub some_part : (text : List ℕ) → 1 ≤ length (parts_of text)
-some_part [] = omega arith
-some_part (b ∷ bs) = by (b == 10) (parts_of bs)
-  where
-    by : (t : Bool) (parts : List (List ℕ)) → 1 ≤ length (if t then [] ∷ parts else onto_first b parts)
-    by true parts = omega arith
-    by false [] = omega arith
-    by false (part ∷ parts) = omega arith
+some_part text = let more = length-slice_split (λ b. b == 10) text in omega (arith, more)
 
 -- a line that ends with a line feed is a part
 pub first_part : (line rest : List ℕ) → All (λ b. (b == 10) ≡ false) line
@@ -34,19 +38,8 @@ onto_both b (part ∷ parts) more some = refl
 -- parts on both sides of a line feed
 parts_both : (text rest : List ℕ) → parts_of (text ++ 10 ∷ rest) ≡ parts_of text ++ parts_of rest
 parts_both [] rest = refl
-parts_both (b ∷ bs) rest = by (b == 10) refl (parts_both bs rest)
-  where
-    by : (t : Bool) → (b == 10) ≡ t → parts_of (bs ++ 10 ∷ rest) ≡ parts_of bs ++ parts_of rest
-        → parts_of (b ∷ bs ++ 10 ∷ rest) ≡ parts_of (b ∷ bs) ++ parts_of rest
-    by true e both =
-        slice_split-cons_yes (λ x. x == 10) b (bs ++ 10 ∷ rest) e
-        ∙ ap (λ (ps : List (List ℕ)). [] ∷ ps) both
-        ∙ ap (λ ps. ps ++ parts_of rest) (sym (slice_split-cons_yes (λ x. x == 10) b bs e))
-    by false e both =
-        slice_split-cons_no (λ x. x == 10) b (bs ++ 10 ∷ rest) e
-        ∙ ap (onto_first b) both
-        ∙ onto_both b (parts_of bs) (parts_of rest) (some_part bs)
-        ∙ ap (λ ps. ps ++ parts_of rest) (sym (slice_split-cons_no (λ x. x == 10) b bs e))
+parts_both (b ∷ bs) rest =
+    grind (arith, parts_both bs rest, onto_both b (parts_of bs) (parts_of rest) (some_part bs))
 
 -- parts are joined as texts are
 pub joined : (parts : List (List ℕ)) → joined_parts parts ≡ join_with_byte 10 parts
@@ -72,11 +65,8 @@ ends_kept : (lines parts : List (List ℕ)) → 1 ≤ length parts
     → drop_empty_end (lines ++ parts) ≡ lines ++ drop_empty_end parts
 ends_kept [] parts some = refl
 ends_kept (line ∷ lines) parts some =
-    end_kept line (lines ++ parts) (more lines parts some) ∙ ap (λ ps. line ∷ ps) (ends_kept lines parts some)
-  where
-    more : (lines parts : List (List ℕ)) → 1 ≤ length parts → 1 ≤ length (lines ++ parts)
-    more [] parts some = some
-    more (line ∷ lines) parts some = omega arith
+    let more = length-append lines parts in
+    end_kept line (lines ++ parts) (omega (arith, more, some)) ∙ ap (λ ps. line ∷ ps) (ends_kept lines parts some)
 
 -- a text is empty, or ends with a line feed
 pub data IsEnded (text : List ℕ) : Type 0 where
@@ -155,11 +145,7 @@ ended_script_lines (b ∷ bs) = by (begins_behind (b == 10) bs) refl
 
 -- and a line begins behind it
 pub ended_script_ends : (start : Bool) (b : ℕ) (bs : List ℕ) → begins_behind start (ended_script (b ∷ bs)) ≡ true
-ended_script_ends start b [] = by (b == 10) refl
-  where
-    by : (t : Bool) → (b == 10) ≡ t → begins_behind start (if t then b ∷ [] else b ∷ 10 ∷ []) ≡ true
-    by true e = e
-    by false e = refl
+ended_script_ends start b [] = grind arith
 ended_script_ends start b (c ∷ cs) = ended_script_ends (b == 10) c cs
 
 -- the same of any script
@@ -172,13 +158,7 @@ script_ends (b ∷ bs) = ended_script_ends true b bs
 -- a text is what stands before its first line that begins with `%`, and what stands from there on
 pub cut : (start : Bool) (text : List ℕ) → text ≡ front_from start text ++ back_from start text
 cut start [] = refl
-cut start (b ∷ bs) = by (start && (b == 37)) (cut (b == 10) bs)
-  where
-    by : (t : Bool) → bs ≡ front_from (b == 10) bs ++ back_from (b == 10) bs
-        → b ∷ bs
-        ≡ (if t then [] else b ∷ front_from (b == 10) bs) ++ (if t then b ∷ bs else back_from (b == 10) bs)
-    by true e = refl
-    by false e = ap (λ xs. b ∷ xs) e
+cut start (b ∷ bs) = grind (arith, cut (b == 10) bs)
 
 -- a text from a mark on begins with it, and the line begins behind what stands before
 pub record IsMarkedBehind (start : Bool) (front : List ℕ) (first : ℕ) : Type 0 where
@@ -201,28 +181,122 @@ marked_behind start (b ∷ bs) first rest e =
         record { mark = sym same ∙ eqb-true b 37 both.1; begins = both.0 }
     by false t e more = let is = more e in record { mark = is.mark; begins = is.begins }
 
--- a text without a mark stands before one
-pub front_kept : (start : Bool) (text rest : List ℕ) → back_from start text ≡ [] → begins_behind start text ≡ true
-    → front_from start (text ++ 37 ∷ rest) ≡ text
-front_kept start [] rest none begins = rw begins refl
-front_kept start (b ∷ bs) rest none begins =
-    by (start && (b == 37)) none (λ inner. front_kept (b == 10) bs rest inner begins)
-  where
-    by : (t : Bool) → (if t then b ∷ bs else back_from (b == 10) bs) ≡ []
-        → (back_from (b == 10) bs ≡ [] → front_from (b == 10) (bs ++ 37 ∷ rest) ≡ bs)
-        → (if t then [] else b ∷ front_from (b == 10) (bs ++ 37 ∷ rest)) ≡ b ∷ bs
-    by true e more = absurd (let bad : ⊥ = cc in bad)
-    by false e more = ap (λ xs. b ∷ xs) (more e)
+-- a text without a mark stands before one, and the mark with what follows behind it
+pub mark_kept : (start : Bool) (text rest : List ℕ) → back_from start text ≡ [] → begins_behind start text ≡ true
+    → (front_from start (text ++ 37 ∷ rest) ≡ text) × (back_from start (text ++ 37 ∷ rest) ≡ 37 ∷ rest)
+mark_kept start [] rest none begins = rw begins (refl, refl)
+mark_kept start (b ∷ bs) rest none begins =
+    let both = mark_kept (b == 10) bs rest (grind (arith, none)) begins in
+    (grind (arith, none, both.0), grind (arith, none, both.1))
 
--- and the mark with what follows stands behind it
-pub back_kept : (start : Bool) (text rest : List ℕ) → back_from start text ≡ [] → begins_behind start text ≡ true
-    → back_from start (text ++ 37 ∷ rest) ≡ 37 ∷ rest
-back_kept start [] rest none begins = rw begins refl
-back_kept start (b ∷ bs) rest none begins =
-    by (start && (b == 37)) none (λ inner. back_kept (b == 10) bs rest inner begins)
+-- An actor
+
+-- no short name begins with the mark
+no_short_name : (word : List ℕ) → is_short_name (37 ∷ word) ≡ true → ⊥
+no_short_name word e =
+    false≢true ((and_parts _ (list_all is_word_byte (37 ∷ word)) e).1)
+
+-- so no actor has such a name
+no_actor : (plan : Plan) (word : List ℕ) → IsPlan plan → position (same_name (37 ∷ word)) plan.actors ≡ None
+no_actor plan word is = by (position (same_name (37 ∷ word)) plan.actors) refl
   where
-    by : (t : Bool) → (if t then b ∷ bs else back_from (b == 10) bs) ≡ []
-        → (back_from (b == 10) bs ≡ [] → back_from (b == 10) (bs ++ 37 ∷ rest) ≡ 37 ∷ rest)
-        → (if t then b ∷ (bs ++ 37 ∷ rest) else back_from (b == 10) (bs ++ 37 ∷ rest)) ≡ 37 ∷ rest
-    by true e more = absurd (let bad : ⊥ = cc in bad)
-    by false e more = more e
+    by : (o : Option ℕ) → position (same_name (37 ∷ word)) plan.actors ≡ o → o ≡ None
+    by None e = refl
+    by (Some actor) e =
+        let found = position-Some (same_name (37 ∷ word)) plan.actors actor [] e in
+        let named : 37 ∷ word ≡ get_or plan.actors actor [] =
+        (bytes_eq-Decides (37 ∷ word) (get_or plan.actors actor [])).0 found.1 in
+        let short : is_short_name (get_or plan.actors actor []) ≡ true = (is.actors actor [] found.0).short in
+        absurd (no_short_name word (ap is_short_name named ∙ short))
+
+-- A line
+
+-- a first word that begins with the mark is read by nothing
+first_refused : (plan : Plan) (n : ℕ) (parts : Words) → IsPlan plan
+    → words_line plan n (onto_first 37 parts) ≡ Err causes.Actor
+first_refused plan n [] is = ap (λ o. actor_line plan n o []) (no_actor plan [] is)
+first_refused plan n (word ∷ words) is = ap (λ o. actor_line plan n o words) (no_actor plan word is)
+
+-- so the line has a fault
+record IsRefused (r : Result Plan Fault) : Type 0 where
+  fault : Fault
+  is : r ≡ Err fault
+
+line_refused : (plan : Plan) (n : ℕ) (line : List ℕ) → IsPlan plan → IsRefused (next_line (Ok plan) (n, 37 ∷ line))
+line_refused plan n line is =
+    by (first_error (line_tests n (37 ∷ line)))
+  where
+    by : (o : Option Cause) → IsRefused (at_line n (unless o (words_of (37 ∷ line)) >>= words_line plan n))
+    by None = record {
+      fault = record { line = n; cause = causes.Actor };
+      is = ap (at_line n) (first_refused plan n (words_of line) is);
+    }
+    by (Some cause) = record { fault = record { line = n; cause = cause }; is = refl }
+
+-- Texts
+
+-- a fault stays
+fault_stays : (fault : Fault) (items : List (ℕ × List ℕ)) → fold next_line (Err fault) items ≡ Err fault
+fault_stays fault [] = refl
+fault_stays fault (item ∷ items) = fault_stays fault items
+
+-- a text that begins with the mark has a line that does
+record BeginsMarked (lines : List (List ℕ)) : Type 0 where
+  line : List ℕ
+  more : List (List ℕ)
+  is : lines ≡ (37 ∷ line) ∷ more
+
+begins_marked : (text : List ℕ) → BeginsMarked (lines_of (37 ∷ text))
+begins_marked text = by (slice_split (λ b. b == 10) text)
+  where
+    by : (parts : List (List ℕ)) → BeginsMarked (drop_empty_end (onto_first 37 parts))
+    by [] = record { line = []; more = []; is = refl }
+    by (part ∷ parts) = record { line = part; more = drop_empty_end parts; is = refl }
+
+-- what was read before the marked line is a plan, so that the line has a fault
+lines_refused : (lines : List (List ℕ)) → BeginsMarked lines → (n : ℕ) (r : Result Plan Fault)
+    → ((plan : Plan) → r ≡ Ok plan → IsPlan plan) → IsRefused (fold next_line r (enumerate_from n lines))
+lines_refused lines begins n r plans =
+    subst (λ (ls : List (List ℕ)). IsRefused (fold next_line r (enumerate_from n ls))) (sym begins.is) (by r plans)
+  where
+    by : (r : Result Plan Fault) → ((plan : Plan) → r ≡ Ok plan → IsPlan plan)
+        → IsRefused (fold next_line (next_line r (n, 37 ∷ begins.line)) (enumerate_from (n + 1) begins.more))
+    by (Err fault) plans = record { fault = fault; is = fault_stays fault (enumerate_from (n + 1) begins.more) }
+    by (Ok plan) plans =
+        let refused = line_refused plan n begins.line (plans plan refl) in
+        record {
+          fault = refused.fault;
+          is =
+              ap (λ r. fold next_line r (enumerate_from (n + 1) begins.more)) refused.is
+              ∙ fault_stays refused.fault (enumerate_from (n + 1) begins.more);
+        }
+
+-- a text with a marked line is no script
+text_refused : (front rest : List ℕ) → IsEnded front → IsRefused (script (front ++ 37 ∷ rest))
+unfolding script
+text_refused front rest is_ended =
+    let refused = lines_refused (lines_of (37 ∷ rest)) (begins_marked rest) (1 + length (lines_of front)) (script front)
+    (λ plan is. scripts-are-plans front plan is) in
+    record {
+      fault = refused.fault;
+      is =
+          ap (λ ls. fold next_line (Ok empty_plan) (enumerate_from 1 ls)) (lines_both front (37 ∷ rest) is_ended)
+          ∙ ap (λ xs. fold next_line (Ok empty_plan) xs) (numbered_both 1 (lines_of front) (lines_of (37 ∷ rest)))
+          ∙ fold-append next_line (Ok empty_plan) (enumerate_from 1 (lines_of front))
+          (enumerate_from (1 + length (lines_of front)) (lines_of (37 ∷ rest)))
+          ∙ refused.is;
+    }
+
+-- so no line of a script begins with the mark
+pub unmarked : (text : List ℕ) (plan : Plan) → IsScript text plan → back_from true text ≡ []
+unmarked text plan is = by (back_from true text) refl
+  where
+    by : (back : List ℕ) → back_from true text ≡ back → back ≡ []
+    by [] e = refl
+    by (b ∷ rest) e =
+        let marked = marked_behind true text b rest e in
+        let whole : text ≡ front_from true text ++ 37 ∷ rest =
+        cut true text ∙ ap (λ xs. front_from true text ++ xs) (e ∙ ap (λ x. x ∷ rest) marked.mark) in
+        let refused = text_refused (front_from true text) rest (as_ended (front_from true text) marked.begins) in
+        let wrong : Ok plan ≡ Err refused.fault = sym is ∙ ap script whole ∙ refused.is in
+        absurd (let bad : ⊥ = cc in bad)

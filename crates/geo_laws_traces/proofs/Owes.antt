@@ -1,8 +1,5 @@
 -- A step begins to owe one place of the log at most, so that a log owes no more places than it has entries.
-use Rattle.std.specs.Prelude.{◌≡◌, ℕ, ◌+◌, ◌≤◌, List, [], ◌∷◌, length, Ok, Err}
-use Rattle.std.proofs.Common.{refl, arith}
-use Rattle.geo_laws_owed.proofs.Full.{begins_one}
-use Rattle.geo_model.proofs.OpeningLemmas.{opening_owes}
+use Rattle.std.proofs.Common.{◌≡◌, ℕ, ◌+◌, ◌≤◌, List, [], ◌∷◌, length, Ok, Err, refl, arith}
 use Rattle.geo_model.specs.declared.step.Entry.{Entry}
 use Rattle.geo_model.specs.declared.step.Step.{Step}
 use Rattle.geo_model.specs.World.{World}
@@ -10,10 +7,13 @@ use Rattle.geo_model.specs.Step.{Answer, step}
 use Rattle.geo_model.specs.Log.{replay, world_after, after_entry, owed}
 use Rattle.geo_model.specs.Opening.{opening}
 use Rattle.geo_model.specs.Fitting.{Firm}
+use Rattle.geo_model.proofs.OpeningLemmas.{opening_owes}
+use Rattle.geo_laws_owed.proofs.Full.{begins_one}
 use Rattle.geo_laws_steps.proofs.Stepped.{steps_stay_firm}
 use Rattle.geo_laws_steps.proofs.Logs.{opened_firm}
 use Rattle.geo_laws_owed.proofs.OwedSteps.{owed_changes}
 use Rattle.geo_laws_traces.specs.TraceLaws.{OwesOneMore, OwesFew}
+pub use Rattle.geo_laws_steps.proofs.Logs.{firm_after}
 
 -- whatever it answers
 owes_by : (w : World) (seat : ℕ) (s : Step) → Firm w → (a : Answer) → step w seat s ≡ a

@@ -1,9 +1,7 @@
 -- The lines of the sizes of disks: those that are written are read, and the other way round.
-use Rattle.std.specs.Prelude.{◌≡◌, ℕ, ◌+◌, ◌*◌, ◌^◌, ◌<◌, ◌≤◌, ◌==◌, nat_le, Bool, true, false, ◌&&◌, List, [], ◌∷◌, ◌++◌, length, flat_map, zip, Result, Ok, Err, codes, decimal, if◌then◌else◌}
+use Rattle.std.proofs.Common.{◌≡◌, ℕ, ◌+◌, ◌*◌, ◌^◌, ◌<◌, ◌≤◌, ◌==◌, nat_le, Bool, true, false, ◌&&◌, List, [], ◌∷◌, ◌++◌, length, flat_map, zip, Result, Ok, Err, codes, decimal, if◌then◌else◌, refl, sym, ◌∙◌, ap, arith, subst, rules, inl, inr, leb-true, le-leb, append_assoc}
 use Rattle.std.specs.List.{AllByRecursion, AllZip}
-use Rattle.std.proofs.Common.{refl, sym, ◌∙◌, ap, arith, subst, rules, inl, inr}
-use Rattle.std.proofs.lemmas.Bool.{and_parts, and_from, leb-true, le-leb}
-use Rattle.std.proofs.lemmas.List.{append_assoc}
+use Rattle.std.proofs.lemmas.Bool.{and_parts, and_from}
 use Rattle.std.proofs.lemmas.List.Elements.{All-from_recursion}
 use Rattle.geo_base.specs.Sectors.{IsSectorSize}
 use Rattle.geo_base.specs.declared.limits.TheConstants.{MAX_IMAGE_BYTES}
@@ -16,8 +14,7 @@ use Rattle.geo_model.specs.Script.{◌>>=◌, Words, at_end, by_word, words_of}
 use Rattle.geo_headline.specs.Outside.{is_shelf}
 use Rattle.geo_headline.specs.Traces.{size_line, size_words, size_of_line, Reading, then_read, line_says, Sized, add_fact, read_sizes, parts_of, joined_parts}
 use Rattle.geo_laws_traces.proofs.Lines.{some_part, first_part}
-use Rattle.geo_laws_traces.proofs.Words.{AreWords, line_of, words_back, line_back, number_word, number_unended, ranged_back, ranged_tells, at_end_tells, then_tells, by_word_tells}
-use Rattle.geo_laws_traces.proofs.Runs.{IsUnended, line_unended}
+use Rattle.geo_laws_traces.proofs.Words.{AreWords, line_of, words_back, line_back, number_word, number_unended, ranged_back, AreRead, number_tells, by_word_tells, IsUnended, line_unended}
 
 -- One line
 
@@ -66,21 +63,14 @@ record IsSize (sector : ℕ) (words : Words) (sectors : ℕ) : Type 0 where
   fits : IsDiskSize sector sectors
 
 -- behind `% disk`
-number_tells : (sector : ℕ) (words : Words) (sectors : ℕ) → size_words sector words ≡ Ok sectors
+disk_tells : (sector : ℕ) (words : Words) (sectors : ℕ) → size_words sector words ≡ Ok sectors
     → IsSize sector (codes "%" ∷ codes "disk" ∷ words) sectors
-number_tells sector words sectors e =
-    let first = then_tells _ (λ n. at_end n.0 n.1) sectors e in
-    let n = ranged_tells (fits_disk sector) words first.value first.read in
-    let last = at_end_tells first.value.0 first.value.1 sectors first.rest in
-    let both = and_parts (nat_le 1 first.value.0) (nat_le (first.value.0 * sector) MAX_IMAGE_BYTES) n.passes in
-    subst (λ (x : ℕ). IsSize sector (codes "%" ∷ codes "disk" ∷ words) x) last.same
-    (record {
-      stands = ap (λ (ws : Words). codes "%" ∷ codes "disk" ∷ ws)
-          (n.stands ∙ ap (λ ws. decimal first.value.0 ∷ ws) last.none);
-      fits = record {
-        some = leb-true 1 first.value.0 both.0;
-        limited = leb-true (first.value.0 * sector) MAX_IMAGE_BYTES both.1;
-      };
+disk_tells sector =
+    number_tells (λ ws n. IsSize sector (codes "%" ∷ ws) n) (codes "disk") (fits_disk sector) (λ n. n) (λ n fits passes.
+    let both = and_parts (nat_le 1 n) (nat_le (n * sector) MAX_IMAGE_BYTES) passes in
+    record {
+      stands = refl;
+      fits = record { some = leb-true 1 n both.0; limited = leb-true (n * sector) MAX_IMAGE_BYTES both.1 };
     })
 
 -- a line that is read as a size
@@ -90,7 +80,7 @@ size_tells sector line sectors e =
     by_word_tells (IsSize sector) ((codes "%", by_word ((codes "disk", size_words sector) ∷ [])) ∷ []) (
       λ words found is.
           by_word_tells (λ ws n. IsSize sector (codes "%" ∷ ws) n) ((codes "disk", size_words sector) ∷ [])
-          (number_tells sector, tt) words found is,
+          (disk_tells sector, tt) words found is,
       tt,
     )
     (words_of line) sectors e
@@ -204,24 +194,14 @@ sizes_back n (d ∷ ds) (fact ∷ facts) text decls fit =
 -- Read
 
 -- what is read, and then what the rest gives
-pub record AreFound {A B : Type 0} (first : Reading A) (next : A → Reading B) (found : B) : Type 0 where
-  pub value : A
-  pub read : first ≡ Ok value
-  pub rest : next value ≡ Ok found
-
 pub read_tells : {A B : Type 0} (first : Reading A) (next : A → Reading B) (found : B)
-    → then_read first next ≡ Ok found → AreFound first next found
+    → then_read first next ≡ Ok found → AreRead first next found
 read_tells (Ok value) next found e = record { value = value; read = refl; rest = e }
 read_tells (Err n) next found e = absurd (let bad : ⊥ = cc in bad)
 
 -- what a line says, and then what the rest gives
-pub record IsSaid {A B : Type 0} (said : Result A Cause) (next : A → Reading B) (found : B) : Type 0 where
-  pub value : A
-  pub read : said ≡ Ok value
-  pub rest : next value ≡ Ok found
-
 pub line_tells : {A B : Type 0} (n : ℕ) (said : Result A Cause) (next : A → Reading B) (found : B)
-    → line_says n said next ≡ Ok found → IsSaid said next found
+    → line_says n said next ≡ Ok found → AreRead said next found
 line_tells n (Ok value) next found e = record { value = value; read = refl; rest = e }
 line_tells n (Err cause) next found e = absurd (let bad : ⊥ = cc in bad)
 
@@ -237,67 +217,58 @@ pub joined_more : (line : List ℕ) (parts : List (List ℕ)) → 1 ≤ length p
 joined_more line [] some = absurd (omega arith)
 joined_more line (part ∷ parts) some = refl
 
--- one more disk of the shelf
-shelf_told : (n : ℕ) (d : DiskDecl) (ds : List DiskDecl) (line : List ℕ) (parts : List (List ℕ)) (s : Sized)
-    → IsDiskDecl d → is_shelf d.kind ≡ true → 1 ≤ length parts
-    → line_says n (size_of_line d.sector line) (λ sectors.
-    then_read (read_sizes (n + 1) ds parts) (add_fact (d.sector, sectors))) ≡ Ok s
-    → ((t : Sized) → read_sizes (n + 1) ds parts ≡ Ok t → AreSizes ds parts t) → AreSizes (d ∷ ds) (line ∷ parts) s
-shelf_told n d ds line parts s decl shelf some e more =
-    let said = line_tells n (size_of_line d.sector line)
-    (λ sectors. then_read (read_sizes (n + 1) ds parts) (add_fact (d.sector, sectors))) s e in
-    let found = read_tells (read_sizes (n + 1) ds parts) (add_fact (d.sector, said.value)) s said.rest in
+-- one more disk, of so many sectors
+more_told : (n : ℕ) (d : DiskDecl) (ds : List DiskDecl) (sectors : ℕ) (parts all : List (List ℕ)) (s : Sized)
+    → then_read (read_sizes n ds parts) (add_fact (d.sector, sectors)) ≡ Ok s → IsFact d (d.sector, sectors)
+    → ((facts : List (ℕ × ℕ)) (text : List ℕ) → joined_parts parts ≡ sizes_before ds facts text
+    → joined_parts all ≡ sizes_before (d ∷ ds) ((d.sector, sectors) ∷ facts) text)
+    → ((t : Sized) → read_sizes n ds parts ≡ Ok t → AreSizes ds parts t) → AreSizes (d ∷ ds) all s
+more_told n d ds sectors parts all s e fact spelled more =
+    let found = read_tells (read_sizes n ds parts) (add_fact (d.sector, sectors)) s e in
     let t : Sized = found.value in
     let inner : AreSizes ds parts t = more t found.read in
-    let size = size_tells d.sector line said.value said.read in
-    let same : record t { facts = (d.sector, said.value) ∷ t.facts } ≡ s = let e = found.rest in cc in
-    subst (λ (x : Sized). AreSizes (d ∷ ds) (line ∷ parts) x) same
-    (record {
-      spelled =
-          joined_more line parts some
-          ∙ ap (λ xs. line ++ 10 ∷ xs) inner.spelled
-          ∙ ap (λ xs. xs ++ 10 ∷ sizes_before ds t.facts (joined_parts t.rest))
-          (sym (line_back line) ∙ ap line_of size.stands)
-          ∙ sym (shelf_before d (d.sector, said.value) ds t.facts (joined_parts t.rest) shelf);
-      fit = (
-        record {
-          sector = refl;
-          sectors = shelf_sectors d.kind d.sectors said.value shelf;
-          some = size.fits.some;
-          limited = size.fits.limited;
-        },
-        inner.fit,
-      );
+    let same : record t { facts = (d.sector, sectors) ∷ t.facts } ≡ s = let e = found.rest in cc in
+    subst (λ (x : Sized). AreSizes (d ∷ ds) all x) same (record {
+      spelled = spelled t.facts (joined_parts t.rest) inner.spelled;
+      fit = (fact, inner.fit);
       some = inner.some;
     })
 
--- one more in memory
+-- one of the shelf
+shelf_told : (n : ℕ) (d : DiskDecl) (ds : List DiskDecl) (line : List ℕ) (parts : List (List ℕ)) (s : Sized)
+    → is_shelf d.kind ≡ true → 1 ≤ length parts
+    → line_says n (size_of_line d.sector line) (λ sectors.
+    then_read (read_sizes (n + 1) ds parts) (add_fact (d.sector, sectors))) ≡ Ok s
+    → ((t : Sized) → read_sizes (n + 1) ds parts ≡ Ok t → AreSizes ds parts t) → AreSizes (d ∷ ds) (line ∷ parts) s
+shelf_told n d ds line parts s shelf some e =
+    let said = line_tells n (size_of_line d.sector line) _ s e in
+    let size = size_tells d.sector line said.value said.read in
+    more_told (n + 1) d ds said.value parts (line ∷ parts) s said.rest (record {
+      sector = refl;
+      sectors = shelf_sectors d.kind d.sectors said.value shelf;
+      some = size.fits.some;
+      limited = size.fits.limited;
+    })
+    (λ facts text inner.
+    joined_more line parts some ∙ ap (λ xs. line ++ 10 ∷ xs) inner
+    ∙ ap (λ xs. xs ++ 10 ∷ sizes_before ds facts text) (sym (line_back line) ∙ ap line_of size.stands)
+    ∙ sym (shelf_before d (d.sector, said.value) ds facts text shelf))
+
+-- one in memory
 memory_told : (n : ℕ) (d : DiskDecl) (ds : List DiskDecl) (parts : List (List ℕ)) (s : Sized)
     → IsDiskDecl d → is_shelf d.kind ≡ false
     → then_read (read_sizes n ds parts) (add_fact (d.sector, d.sectors)) ≡ Ok s
     → ((t : Sized) → read_sizes n ds parts ≡ Ok t → AreSizes ds parts t) → AreSizes (d ∷ ds) parts s
-memory_told n d ds parts s decl memory e more =
-    let found = read_tells (read_sizes n ds parts) (add_fact (d.sector, d.sectors)) s e in
-    let t : Sized = found.value in
-    let inner : AreSizes ds parts t = more t found.read in
+memory_told n d ds parts s decl memory e =
     let size : IsDiskSize d.sector d.sectors = memory_size d.kind d.sector d.sectors memory decl.sectors in
-    let same : record t { facts = (d.sector, d.sectors) ∷ t.facts } ≡ s = let e = found.rest in cc in
-    subst (λ (x : Sized). AreSizes (d ∷ ds) parts x) same
+    more_told n d ds d.sectors parts parts s e
     (record {
-      spelled =
-          inner.spelled
-          ∙ sym (memory_before d (d.sector, d.sectors) ds t.facts (joined_parts t.rest) memory);
-      fit = (
-        record {
-          sector = refl;
-          sectors = own_sectors d.kind d.sectors memory;
-          some = size.some;
-          limited = size.limited;
-        },
-        inner.fit,
-      );
-      some = inner.some;
+      sector = refl;
+      sectors = own_sectors d.kind d.sectors memory;
+      some = size.some;
+      limited = size.limited;
     })
+    (λ facts text inner. inner ∙ sym (memory_before d (d.sector, d.sectors) ds facts text memory))
   where
     own_sectors : (kind : DiskKind) (sectors : ℕ) → is_shelf kind ≡ false → HasPlanSectors kind sectors sectors
     own_sectors disk_kinds.Ram sectors memory = refl
@@ -310,14 +281,9 @@ sizes_tell n [] parts s decls some e =
     subst (λ (x : Sized). AreSizes [] parts x) same (record { spelled = refl; fit = tt; some = some })
 sizes_tell n (d ∷ ds) [] s decls some e = absurd (omega arith)
 sizes_tell n (d ∷ ds) (last ∷ []) s decls some e =
-    by (is_shelf d.kind) refl e (λ t is. sizes_tell n ds (last ∷ []) t decls.1 some is)
-  where
-    by : (t : Bool) → is_shelf d.kind ≡ t
-        → (if t then Err n else then_read (read_sizes n ds (last ∷ [])) (add_fact (d.sector, d.sectors))) ≡ Ok s
-        → ((u : Sized) → read_sizes n ds (last ∷ []) ≡ Ok u → AreSizes ds (last ∷ []) u)
-        → AreSizes (d ∷ ds) (last ∷ []) s
-    by true shelf e more = absurd (let bad : ⊥ = cc in bad)
-    by false memory e more = memory_told n d ds (last ∷ []) s decls.0 memory e more
+    let memory : is_shelf d.kind ≡ false = grind (arith, e) in
+    let rest : then_read (read_sizes n ds (last ∷ [])) (add_fact (d.sector, d.sectors)) ≡ Ok s = rw memory at e in
+    memory_told n d ds (last ∷ []) s decls.0 memory rest (λ t is. sizes_tell n ds (last ∷ []) t decls.1 some is)
 sizes_tell n (d ∷ ds) (line ∷ next ∷ parts) s decls some e =
     by (is_shelf d.kind) refl e
     (λ t is. sizes_tell (n + 1) ds (next ∷ parts) t decls.1 (omega arith) is)
@@ -331,5 +297,5 @@ sizes_tell n (d ∷ ds) (line ∷ next ∷ parts) s decls some e =
         → ((u : Sized) → read_sizes (n + 1) ds (next ∷ parts) ≡ Ok u → AreSizes ds (next ∷ parts) u)
         → ((u : Sized) → read_sizes n ds (line ∷ next ∷ parts) ≡ Ok u → AreSizes ds (line ∷ next ∷ parts) u)
         → AreSizes (d ∷ ds) (line ∷ next ∷ parts) s
-    by true shelf e behind same = shelf_told n d ds line (next ∷ parts) s decls.0 shelf (omega arith) e behind
+    by true shelf e behind same = shelf_told n d ds line (next ∷ parts) s shelf (omega arith) e behind
     by false memory e behind same = memory_told n d ds (line ∷ next ∷ parts) s decls.0 memory e same

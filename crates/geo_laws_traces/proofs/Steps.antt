@@ -1,19 +1,16 @@
--- The lines of steps: those that are written are read, and the other way round.
-use Rattle.std.specs.Prelude.{◌≡◌, ℕ, ◌^◌, ◌<◌, ◌≤◌, nat_lt, true, List, [], ◌∷◌, ◌++◌, length, Ok, codes, decimal}
+-- The lines of steps: those that are written are read, and what is read as a step was written as it, in the one way
+-- that there is.
+use Rattle.std.proofs.Common.{◌≡◌, ℕ, ◌^◌, ◌<◌, ◌≤◌, nat_lt, Bool, true, List, [], ◌∷◌, ◌++◌, length, Ok, codes, decimal, refl, sym, ◌∙◌, ap, arith, rules, lt-ltb, append_assoc, ltb-true}
 use Rattle.std.specs.List.{AllByRecursion}
-use Rattle.std.proofs.Common.{refl, sym, ◌∙◌, ap, arith, rules}
-use Rattle.std.proofs.lemmas.Bool.{lt-ltb}
-use Rattle.std.proofs.lemmas.List.{append_assoc}
 use Rattle.geo_base.specs.Runs.{runs_text}
 use Rattle.geo_model.specs.declared.step.DeviceResult.{DeviceResult}
 use Rattle.geo_model.specs.declared.step.DeviceResult.TheVariants as devices
 use Rattle.geo_model.specs.declared.step.Step.{Step}
 use Rattle.geo_model.specs.declared.step.Step.TheVariants as steps
-use Rattle.geo_model.specs.Script.{◌>>=◌, Words, any_number, at_end, by_word, words_of}
-use Rattle.geo_headline.specs.Traces.{answer_text, step_text, step_line, small_number, answer_table, step_table, seat_and_step, marked}
+use Rattle.geo_model.specs.Script.{◌>>=◌, Words, any_number, at_end, by_word, words_of, runs_words}
 use Rattle.geo_laws_traces.specs.TraceLaws.{IsWritable, IsWritableAnswer}
-use Rattle.geo_laws_traces.proofs.Words.{IsWord, AreWords, line_of, some_word, are_words, words_back, line_back, number_word, number_unended, ranged_back}
-use Rattle.geo_laws_traces.proofs.Runs.{IsUnended, runs_back, text_unended, line_unended}
+use Rattle.geo_headline.specs.Traces.{answer_text, step_text, step_line, small_number, answer_table, step_table, seat_and_step, marked, take_words, failed_words, bytes_words}
+use Rattle.geo_laws_traces.proofs.Words.{IsWord, AreWords, line_of, some_word, are_words, words_back, line_back, number_word, number_unended, ranged_back, ranged_tells, end_tells, number_tells, then_tells, EachRow, by_word_tells, pair_tells, IsUnended, runs_back, text_unended, line_unended, runs_tell}
 
 -- The words that are written
 
@@ -44,10 +41,6 @@ pub line_more : (word : List ℕ) (words : Words) → 1 ≤ length words → lin
 line_more word [] some = absurd (omega arith)
 line_more word (next ∷ words) some = refl
 
--- a text behind a space
-behind_space : (front back : List ℕ) → front ++ codes " " ++ back ≡ front ++ 32 ∷ back
-behind_space front back = append_assoc front (32 ∷ []) back
-
 -- an answer's text is the line of its words
 answer_spelled : (got : DeviceResult) → answer_text got ≡ line_of (answer_words got)
 answer_spelled devices.Done = refl
@@ -58,37 +51,30 @@ answer_spelled (devices.Bytes bytes) =
 
 -- an answer has a word
 some_answer : (got : DeviceResult) → 1 ≤ length (answer_words got)
-some_answer devices.Done = omega arith
-some_answer (devices.Failed done) = omega arith
 some_answer (devices.Bytes bytes) = omega arith
+some_answer got = omega arith
 
 -- a step's text is the line of its words
 step_spelled : (s : Step) → step_text s ≡ line_of (step_words s)
-step_spelled (steps.Take disk b) = ap (λ (xs : List ℕ). codes "take " ++ xs) (behind_space (decimal disk) (decimal b))
+step_spelled (steps.Take disk b) =
+    ap (λ (xs : List ℕ). codes "take " ++ xs) (append_assoc (decimal disk) (32 ∷ []) (decimal b))
 step_spelled (steps.Deliver b got) =
     ap (λ (xs : List ℕ). codes "deliver " ++ xs)
-    (behind_space (decimal b) (answer_text got)
+    (append_assoc (decimal b) (32 ∷ []) (answer_text got)
     ∙ ap (λ (xs : List ℕ). decimal b ++ 32 ∷ xs) (answer_spelled got)
     ∙ sym (line_more (decimal b) (answer_words got) (some_answer got)))
 step_spelled s = refl
 
 -- a step has a word
 some_step : (s : Step) → 1 ≤ length (step_words s)
-some_step (steps.Go actor) = omega arith
-some_step steps.Event = omega arith
-some_step steps.Judge = omega arith
-some_step steps.Reap = omega arith
-some_step steps.Wash = omega arith
-some_step (steps.Start b) = omega arith
-some_step (steps.Take disk b) = omega arith
-some_step (steps.Deliver b got) = omega arith
 some_step (steps.Up b) = omega arith
+some_step s = omega arith
 
 -- the line of a step is that of its words
 pub line_spelled : (item : ℕ × Step) → step_line item ≡ line_of (item_words item) ++ 10 ∷ []
 line_spelled item =
     ap (λ (xs : List ℕ). codes "% " ++ xs ++ 10 ∷ [])
-    (behind_space (decimal item.0) (step_text item.1)
+    (append_assoc (decimal item.0) (32 ∷ []) (step_text item.1)
     ∙ ap (λ (xs : List ℕ). decimal item.0 ++ 32 ∷ xs) (step_spelled item.1)
     ∙ sym (line_more (decimal item.0) (step_words item.1) (some_step item.1)))
 
@@ -190,3 +176,138 @@ item_back item fits =
 -- it has no line feed
 pub item_unended : (item : ℕ × Step) → IsWritableItem item → IsUnended (line_of (item_words item))
 item_unended item fits = line_unended (item_words item) (clean_item item fits).unended
+
+-- what the reader asks of a small number
+abbrev small : ℕ → Bool
+small n = nat_lt n (2 ^ 32)
+
+-- words are those of an answer
+record IsAnswer (words : Words) (got : DeviceResult) : Type 0 where
+  stands : words ≡ answer_words got
+  fits : IsWritableAnswer got
+
+abbrev TellsAnswer : Words → DeviceResult → Type 0
+TellsAnswer words got = AreWords words → IsAnswer words got
+
+-- words are those of a step
+record IsStep (words : Words) (s : Step) : Type 0 where
+  stands : words ≡ step_words s
+  fits : IsWritable s
+
+abbrev TellsStep : Words → Step → Type 0
+TellsStep words s = AreWords words → IsStep words s
+
+-- Answers
+
+failed_tells : (words : Words) (got : DeviceResult) → failed_words words ≡ Ok got
+    → TellsAnswer (codes "failed" ∷ words) got
+failed_tells =
+    number_tells TellsAnswer (codes "failed") small (λ n. devices.Failed n)
+    (λ n fits passes are. record { stands = refl; fits = ltb-true n (2 ^ 32) passes })
+
+bytes_tell : (words : Words) (got : DeviceResult) → bytes_words words ≡ Ok got
+    → TellsAnswer (codes "bytes" ∷ words) got
+bytes_tell words got e are =
+    let first = then_tells (runs_words words) (λ b. at_end (devices.Bytes b.0) b.1) got e in
+    let read = runs_tell words first.value are.1 first.read in
+    end_tells (λ ws x. IsAnswer (codes "bytes" ∷ words) x) (devices.Bytes first.value.0)
+    (record { stands = ap (λ (ws : Words). codes "bytes" ∷ ws) read.stands; fits = read.fits }) first.value.1 got
+    first.rest
+
+answer_rows : EachRow TellsAnswer answer_table
+answer_rows = (
+  end_tells (λ ws x. TellsAnswer (codes "done" ∷ ws) x) devices.Done (λ are. record { stands = refl; fits = tt }),
+  (failed_tells, (bytes_tell, tt)),
+)
+
+-- Steps
+
+-- a step without numbers
+bare_tells : (name : List ℕ) (value : Step) → IsStep (name ∷ []) value → (words : Words) (s : Step)
+    → at_end value words ≡ Ok s → TellsStep (name ∷ words) s
+bare_tells name value is = end_tells (λ ws x. TellsStep (name ∷ ws) x) value (λ are. is)
+
+take_tells : (words : Words) (s : Step) → take_words words ≡ Ok s → TellsStep (codes "take" ∷ words) s
+take_tells words s =
+    ranged_tells (λ ws. TellsStep (codes "take" ∷ ws) s) small
+    (λ d. any_number d.1 >>= λ b. at_end (steps.Take d.0 b.0) b.1) s
+    (λ disk rest fits passes.
+    number_tells (λ ws x. TellsStep (codes "take" ∷ ws) x) (decimal disk) (λ n. true) (λ b. steps.Take disk b)
+    (λ b below always are. record { stands = refl; fits = (ltb-true disk (2 ^ 32) passes, below) }) rest s)
+    words
+
+step_rows : EachRow TellsStep step_table
+step_rows = (
+  number_tells TellsStep (codes "go") small (λ n. steps.Go n)
+      (λ n fits passes are. record { stands = refl; fits = ltb-true n (2 ^ 32) passes }),
+  (
+    bare_tells (codes "event") steps.Event (record { stands = refl; fits = tt }),
+    (
+      bare_tells (codes "judge") steps.Judge (record { stands = refl; fits = tt }),
+      (
+        bare_tells (codes "reap") steps.Reap (record { stands = refl; fits = tt }),
+        (
+          bare_tells (codes "wash") steps.Wash (record { stands = refl; fits = tt }),
+          (
+            number_tells TellsStep (codes "start") (λ n. true) (λ b. steps.Start b)
+                (λ b fits always are. record { stands = refl; fits = fits }),
+            (
+              take_tells,
+              (
+                pair_tells TellsStep TellsAnswer (codes "deliver") (λ n. true) answer_table
+                    (λ b got. steps.Deliver b got) answer_rows
+                    (λ b rest got fits always told are.
+                    let is = told are.1.1 in
+                    record {
+                      stands = ap (λ (ws : Words). codes "deliver" ∷ decimal b ∷ ws) is.stands;
+                      fits = (fits, is.fits);
+                    }),
+                (
+                  number_tells TellsStep (codes "up") (λ n. true) (λ b. steps.Up b)
+                      (λ b fits always are. record { stands = refl; fits = fits }),
+                  tt,
+                ),
+              ),
+            ),
+          ),
+        ),
+      ),
+    ),
+  ),
+)
+
+-- Lines
+
+-- words are those of a seat and its step, behind the mark
+record IsItem (words : Words) (item : ℕ × Step) : Type 0 where
+  stands : words ≡ item_words item
+  fits : IsWritableItem item
+
+abbrev TellsItem : Words → ℕ × Step → Type 0
+TellsItem words item = AreWords words → IsItem words item
+
+seat_tells : (words : Words) (item : ℕ × Step) → seat_and_step words ≡ Ok item → TellsItem (codes "%" ∷ words) item
+seat_tells =
+    pair_tells TellsItem TellsStep (codes "%") small step_table (λ seat s. (seat, s)) step_rows
+    (λ seat rest s fits passes told are.
+    let is = told are.1.1 in
+    record {
+      stands = ap (λ (ws : Words). codes "%" ∷ decimal seat ∷ ws) is.stands;
+      fits = (ltb-true seat (2 ^ 32) passes, is.fits);
+    })
+
+-- a line that is read as a seat and its step is written for them
+pub record IsStepLine (line : List ℕ) (item : ℕ × Step) : Type 0 where
+  pub spelled : line ++ 10 ∷ [] ≡ step_line item
+  pub fits : IsWritableItem item
+
+pub item_tells : (line : List ℕ) (item : ℕ × Step) → marked seat_and_step line ≡ Ok item → IsStepLine line item
+item_tells line item e =
+    let is = by_word_tells TellsItem ((codes "%", seat_and_step) ∷ []) (seat_tells, tt) (words_of line) item e
+    (are_words line) in
+    record {
+      spelled =
+          ap (λ (xs : List ℕ). xs ++ 10 ∷ []) (sym (line_back line) ∙ ap line_of is.stands)
+          ∙ sym (line_spelled item);
+      fits = is.fits;
+    }

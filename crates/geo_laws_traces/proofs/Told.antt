@@ -1,8 +1,6 @@
 -- What is read as a trace was written as it, and fits its plan.
-use Rattle.std.specs.Prelude.{◌≡◌, ℕ, ◌+◌, ◌≤◌, Bool, true, false, List, [], ◌∷◌, ◌++◌, length, flat_map, All, Result, Ok, Err}
+use Rattle.std.proofs.Common.{◌≡◌, ℕ, ◌+◌, ◌≤◌, Bool, true, false, List, [], ◌∷◌, ◌++◌, length, flat_map, All, Result, Ok, Err, refl, sym, ◌∙◌, ap, arith, subst, if◌then◌else◌, append_assoc}
 use Rattle.std.specs.List.{AllByRecursion}
-use Rattle.std.proofs.Common.{refl, sym, ◌∙◌, ap, arith, subst, if◌then◌else◌}
-use Rattle.std.proofs.lemmas.List.{append_assoc}
 use Rattle.std.proofs.lemmas.List.Elements.{All-nil, All-cons, recursion_from_All}
 use Rattle.std.proofs.lemmas.Slice.Eq.{bytes_eq-Decides}
 use Rattle.geo_model.specs.declared.step.Step.{Step}
@@ -11,11 +9,10 @@ use Rattle.geo_model.specs.World.{Plan}
 use Rattle.geo_model.specs.Plans.{IsDiskDecl, FactsFit}
 use Rattle.geo_model.specs.Script.{Fault, lines_of, script}
 use Rattle.geo_script.proofs.PlanLaw.{scripts-are-plans}
-use Rattle.geo_headline.specs.Traces.{Trace, ReadTrace, step_line, report_mark, parts_of, joined_parts, script_part, marked_part, seat_and_step, marked, Reading, then_read, line_says, read_steps, Sized, read_sizes, told_line, read_behind, read_after, read_trace, IsTrace}
 use Rattle.geo_laws_traces.specs.TraceLaws.{AreWritable, FitsItsScript, ReadIsWritten, ReadFits}
+use Rattle.geo_headline.specs.Traces.{Trace, ReadTrace, step_line, report_mark, parts_of, joined_parts, script_part, marked_part, seat_and_step, marked, Reading, then_read, line_says, read_steps, Sized, read_sizes, told_line, read_behind, read_after, read_trace, IsTrace}
 use Rattle.geo_laws_traces.proofs.Lines.{some_part, joined_back, cut, marked_behind, ended_same}
-use Rattle.geo_laws_traces.proofs.Steps.{IsWritableItem}
-use Rattle.geo_laws_traces.proofs.StepsTold.{IsStepLine, item_tells}
+use Rattle.geo_laws_traces.proofs.Steps.{IsWritableItem, IsStepLine, item_tells}
 use Rattle.geo_laws_traces.proofs.Sizes.{sizes_before, AreSizes, sizes_tell, joined_more, read_tells, line_tells}
 use Rattle.geo_laws_traces.proofs.Written.{steps_before, report_part, marked_text, begins_marked, text_is}
 
@@ -44,10 +41,9 @@ step_told : (n : ℕ) (line : List ℕ) (parts : List (List ℕ)) (more : List (
     → ((rest : List (ℕ × Step) × List ℕ) → read_steps (n + 1) parts ≡ Ok rest → AreSteps parts rest)
     → AreSteps (line ∷ parts) more
 step_told n line parts more some e rest =
-    let said = line_tells n (marked seat_and_step line)
-    (λ item. then_read (read_steps (n + 1) parts) (λ rest. Ok (item ∷ rest.0, rest.1))) more e in
+    let said = line_tells n (marked seat_and_step line) _ more e in
     let item : ℕ × Step = said.value in
-    let found = read_tells (read_steps (n + 1) parts) (λ rest. Ok (item ∷ rest.0, rest.1)) more said.rest in
+    let found = read_tells (read_steps (n + 1) parts) _ more said.rest in
     let inner : AreSteps parts found.value = rest found.value found.read in
     let is : IsStepLine line item = item_tells line item said.read in
     let same : (item ∷ found.value.0, found.value.1) ≡ more = let e = found.rest in cc in
@@ -93,15 +89,10 @@ record IsBehind (plan : Plan) (parts : List (List ℕ)) (r : ReadTrace) : Type 0
 behind_tells : (n : ℕ) (plan : Plan) (parts : List (List ℕ)) (r : ReadTrace) → AllByRecursion IsDiskDecl plan.disks
     → 1 ≤ length parts → read_behind n plan parts ≡ Ok r → IsBehind plan parts r
 behind_tells n plan parts r decls some e =
-    let first = read_tells (read_sizes n plan.disks parts) (λ s.
-    then_read (read_steps s.line s.rest) (λ more.
-    Ok (record { trace = record { plan = plan; facts = s.facts; steps = more.0; report = more.1 }; line = s.line })))
-    r e in
+    let first = read_tells (read_sizes n plan.disks parts) _ r e in
     let s : Sized = first.value in
     let sizes : AreSizes plan.disks parts s = sizes_tell n plan.disks parts s decls some first.read in
-    let second = read_tells (read_steps s.line s.rest) (λ more.
-    Ok (record { trace = record { plan = plan; facts = s.facts; steps = more.0; report = more.1 }; line = s.line }))
-    r first.rest in
+    let second = read_tells (read_steps s.line s.rest) _ r first.rest in
     let more : List (ℕ × Step) × List ℕ = second.value in
     let steps : AreSteps s.rest more = steps_tell s.line s.rest more second.read in
     let same : record {

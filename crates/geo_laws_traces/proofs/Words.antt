@@ -1,19 +1,23 @@
--- The words of lines: what is written word by word is read so, and the other way round.
-use Rattle.std.specs.Prelude.{◌≡◌, ℕ, ◌+◌, ◌-◌, ◌*◌, ◌^◌, ◌<◌, ◌≤◌, ◌==◌, nat_lt, Bool, true, false, not, ◌&&◌, ◌||◌, List, [], ◌∷◌, ◌++◌, length, fold, Option, Some, None, Result, Ok, Err, decimal, if◌then◌else◌}
+-- The words of lines: what is written word by word is read so, and the other way round; so are runs at the end of a
+-- line. No line feed stands in them.
+use Rattle.std.proofs.Common.{◌≡◌, ℕ, ◌+◌, ◌-◌, ◌*◌, ◌^◌, ◌<◌, ◌≤◌, ◌==◌, nat_lt, Bool, true, false, not, ◌&&◌, ◌||◌, List, [], ◌∷◌, ◌++◌, length, fold, Option, Some, None, Result, Ok, Err, decimal, if◌then◌else◌, refl, sym, ◌∙◌, ap, arith, subst, rules, ltb-true, option_and_then}
 use Rattle.std.specs.List.{AllByRecursion, list_all, onto_first, join_with_byte}
 use Rattle.std.specs.Option.{option_map_or}
-use Rattle.std.proofs.Common.{refl, sym, ◌∙◌, ap, arith, subst, rules}
-use Rattle.std.proofs.lemmas.Bool.{and_parts, ltb-true}
+use Rattle.std.proofs.lemmas.Bool.{and_parts}
 use Rattle.std.proofs.lemmas.Bool.Decides.{nat_tests}
 use Rattle.std.proofs.lemmas.Fmt.{decimal-digits_value}
 use Rattle.std.proofs.lemmas.List.Elements.{All-from_recursion}
-use Rattle.std.proofs.lemmas.List.Splits.{slice_split_at, slice_split_none, join_with_byte-slice_split}
+use Rattle.std.proofs.lemmas.List.Splits.{length-slice_split, slice_split_at, slice_split_none, join_with_byte-slice_split}
 use Rattle.std.proofs.lemmas.Slice.Eq.{bytes_eq-Decides}
 use Rattle.std.proofs.lemmas.Str.Parse.{IsNumeralModel, numerals_by_fold}
+use Rattle.geo_base.specs.Runs.{ByteRun, runs_text, IsRuns}
 use Rattle.geo_model.specs.declared.command.Cause.{Cause}
 use Rattle.geo_model.specs.declared.command.Cause.TheVariants as causes
 use Rattle.geo_model.specs.Words.{same_name}
-use Rattle.geo_model.specs.Script.{◌>>=◌, Words, is_digit, is_decimal, value_of, number_of, in_range, ranged, at_end, beside, by_word, words_of}
+use Rattle.geo_model.specs.Script.{◌>>=◌, Words, is_digit, is_decimal, value_of, number_of, in_range, ranged, at_end, beside, by_word, words_of, hex_value, run_of, add_run, runs_in, fitting_bytes, found_or, runs_words}
+use Rattle.geo_model.specs.Plans.{IsRunsBytes}
+use Rattle.geo_script.proofs.FormLemmas.{runs_words-some}
+use Rattle.geo_script.proofs.RunsAgree.{runs-agree}
 use Rattle.geo_laws_texts.proofs.Numbers.{written_digits, number_read}
 
 -- Words
@@ -31,13 +35,7 @@ line_of words = join_with_byte 32 words
 
 -- there is a first word
 pub some_word : (line : List ℕ) → 1 ≤ length (words_of line)
-some_word [] = omega arith
-some_word (b ∷ bs) = by (b == 32) (words_of bs)
-  where
-    by : (t : Bool) (parts : List (List ℕ)) → 1 ≤ length (if t then [] ∷ parts else onto_first b parts)
-    by true parts = omega arith
-    by false [] = omega arith
-    by false (part ∷ parts) = omega arith
+some_word line = let more = length-slice_split (λ b. b == 32) line in omega (arith, more)
 
 -- the words of a line are such words
 pub are_words : (line : List ℕ) → AreWords (words_of line)
@@ -91,17 +89,13 @@ each_digit P so (b ∷ bs) all =
 
 -- a number is a word
 pub number_word : (n : ℕ) → n < 2 ^ 64 → IsWord (decimal n)
-number_word n fits = each_digit (λ b. (b == 32) ≡ false) (λ b e. no_space b e) (decimal n) (written_digits n fits)
-  where
-    no_space : (b : ℕ) → is_digit b ≡ true → (b == 32) ≡ false
-    no_space b e = grind (arith, nat_tests)
+number_word n fits =
+    each_digit (λ b. (b == 32) ≡ false) (λ b e. grind (arith, nat_tests)) (decimal n) (written_digits n fits)
 
 -- without a line feed
 pub number_unended : (n : ℕ) → n < 2 ^ 64 → AllByRecursion (λ b. (b == 10) ≡ false) (decimal n)
-number_unended n fits = each_digit (λ b. (b == 10) ≡ false) (λ b e. no_feed b e) (decimal n) (written_digits n fits)
-  where
-    no_feed : (b : ℕ) → is_digit b ≡ true → (b == 10) ≡ false
-    no_feed b e = grind (arith, nat_tests)
+number_unended n fits =
+    each_digit (λ b. (b == 10) ≡ false) (λ b e. grind (arith, nat_tests)) (decimal n) (written_digits n fits)
 
 -- a zero in front stands alone, by its test
 alone : (b n : ℕ) → (not (b == 48) || (n == 0)) ≡ true → b ≡ 48 → n ≡ 0
@@ -121,20 +115,20 @@ pub record IsWritten (word : List ℕ) (n : ℕ) : Type 0 where
   pub spelled : word ≡ decimal n
   pub fits : n < 2 ^ 64
 
+-- what is there by a test
+some_if : {A : Type 0} (t : Bool) (x y : A) → (if t then Some x else None) ≡ Some y → (t ≡ true) × (x ≡ y)
+some_if true x y e = (refl, cc)
+some_if false x y e = absurd (let bad : ⊥ = cc in bad)
+
 pub number_written : (word : List ℕ) (n : ℕ) → number_of word ≡ Some n → IsWritten word n
-number_written word n e = by (is_decimal word) refl (nat_lt (value_of word) (2 ^ 64)) refl e
-  where
-    by : (a : Bool) → is_decimal word ≡ a → (b : Bool) → nat_lt (value_of word) (2 ^ 64) ≡ b
-        → (if a && b then Some (value_of word) else None) ≡ Some n → IsWritten word n
-    by false is b small e = absurd (let bad : ⊥ = cc in bad)
-    by true is false small e = absurd (let bad : ⊥ = cc in bad)
-    by true is true small e =
-        let same : value_of word ≡ n = cc in
-        let below : value_of word < 2 ^ 64 = ltb-true (value_of word) (2 ^ 64) small in
-        record {
-          spelled = sym (written_so word is below) ∙ ap (λ k. decimal k) same;
-          fits = subst (λ (k : ℕ). k < 2 ^ 64) same below;
-        }
+number_written word n e =
+    let found = some_if (is_decimal word && nat_lt (value_of word) (2 ^ 64)) (value_of word) n e in
+    let tests = and_parts (is_decimal word) (nat_lt (value_of word) (2 ^ 64)) found.0 in
+    let below : value_of word < 2 ^ 64 = ltb-true (value_of word) (2 ^ 64) tests.1 in
+    record {
+      spelled = sym (written_so word tests.0 below) ∙ ap (λ k. decimal k) found.1;
+      fits = subst (λ (k : ℕ). k < 2 ^ 64) found.1 below;
+    }
 
 -- Readers
 
@@ -144,51 +138,45 @@ pub ranged_back : (test : ℕ → Bool) (n : ℕ) (words : Words) → n < 2 ^ 64
 ranged_back test n words fits passes =
     ap (in_range test words) (number_read n fits) ∙ ap (λ t. if t then Ok (n, words) else Err causes.Range) passes
 
--- a number that is read stands first, and is within its range
-pub record IsFirst (test : ℕ → Bool) (words : Words) (n : ℕ) (rest : Words) : Type 0 where
-  pub stands : words ≡ decimal n ∷ rest
-  pub fits : n < 2 ^ 64
-  pub passes : test n ≡ true
-
-pub ranged_tells : (test : ℕ → Bool) (words : Words) (found : ℕ × Words) → ranged test words ≡ Ok found
-    → IsFirst test words found.0 found.1
-ranged_tells test [] found e = absurd (let bad : ⊥ = cc in bad)
-ranged_tells test (word ∷ words) found e = by (number_of word) refl e
+-- what is so of words that begin with a number within its range, is so of words of which one is read
+pub ranged_tells : {B : Type 0} (P : Words → Type 0) (test : ℕ → Bool) (next : ℕ × Words → Result B Cause) (found : B)
+    → ((n : ℕ) (rest : Words) → n < 2 ^ 64 → test n ≡ true → next (n, rest) ≡ Ok found → P (decimal n ∷ rest))
+    → (words : Words) → (ranged test words >>= next) ≡ Ok found → P words
+ranged_tells P test next found so [] e = absurd (let bad : ⊥ = cc in bad)
+ranged_tells P test next found so (word ∷ words) e = by (number_of word) refl e
   where
-    tested : (n : ℕ) → IsWritten word n → (t : Bool) → test n ≡ t
-        → (if t then Ok (n, words) else Err causes.Range) ≡ Ok found → IsFirst test (word ∷ words) found.0 found.1
-    tested n is false passes e = absurd (let bad : ⊥ = cc in bad)
-    tested n is true passes e =
-        let same : (n, words) ≡ found = cc in
-        let here : IsFirst test (word ∷ words) n words =
-        record { stands = ap (λ w. w ∷ words) is.spelled; fits = is.fits; passes = passes } in
-        subst (λ (f : ℕ × Words). IsFirst test (word ∷ words) f.0 f.1) same here
-
-    by : (o : Option ℕ) → number_of word ≡ o → in_range test words o ≡ Ok found
-        → IsFirst test (word ∷ words) found.0 found.1
+    by : (o : Option ℕ) → number_of word ≡ o → (in_range test words o >>= next) ≡ Ok found → P (word ∷ words)
     by None is e = absurd (let bad : ⊥ = cc in bad)
-    by (Some n) is e = tested n (number_written word n is) (test n) refl e
+    by (Some n) is e =
+        let written = number_written word n is in
+        let passes : test n ≡ true = grind (arith, e) in
+        let rest : next (n, words) ≡ Ok found = rw passes at e in
+        subst (λ (w : List ℕ). P (w ∷ words)) (sym written.spelled) (so n words written.fits passes rest)
 
--- a value at the end of a line
-pub record IsLast {A : Type 0} (value : A) (words : Words) (found : A) : Type 0 where
-  pub none : words ≡ []
-  pub same : value ≡ found
+-- what is so of no words, is so of those that end with a value
+pub end_tells : {A : Type 0} (P : Words → A → Type 0) (value : A) → P [] value → (words : Words) (found : A)
+    → at_end value words ≡ Ok found → P words found
+end_tells P value here [] found e = subst (P []) (let same : value ≡ found = cc in same) here
+end_tells P value here (word ∷ words) found e = absurd (let bad : ⊥ = cc in bad)
 
-pub at_end_tells : {A : Type 0} (value : A) (words : Words) (found : A) → at_end value words ≡ Ok found
-    → IsLast value words found
-at_end_tells value [] found e = record { none = refl; same = cc }
-at_end_tells value (word ∷ words) found e = absurd (let bad : ⊥ = cc in bad)
+-- a word, and a number at the end
+pub number_tells : {A : Type 0} (P : Words → A → Type 0) (name : List ℕ) (test : ℕ → Bool) (make : ℕ → A)
+    → ((n : ℕ) → n < 2 ^ 64 → test n ≡ true → P (name ∷ decimal n ∷ []) (make n)) → (words : Words) (found : A)
+    → (ranged test words >>= λ n. at_end (make n.0) n.1) ≡ Ok found → P (name ∷ words) found
+number_tells P name test make so words found =
+    ranged_tells (λ ws. P (name ∷ ws) found) test (λ n. at_end (make n.0) n.1) found
+    (λ n rest fits passes. end_tells (λ ws x. P (name ∷ decimal n ∷ ws) x) (make n) (so n fits passes) rest found) words
 
 -- what is read, and then what the rest gives
-pub record AreRead {A B : Type 0} (first : Result A Cause) (then_read : A → Result B Cause) (found : B) : Type 0 where
+pub record AreRead {A B E F : Type 0} (first : Result A E) (next : A → Result B F) (found : B) : Type 0 where
   pub value : A
   pub read : first ≡ Ok value
-  pub rest : then_read value ≡ Ok found
+  pub rest : next value ≡ Ok found
 
-pub then_tells : {A B : Type 0} (first : Result A Cause) (then_read : A → Result B Cause) (found : B)
-    → (first >>= then_read) ≡ Ok found → AreRead first then_read found
-then_tells (Ok value) then_read found e = record { value = value; read = refl; rest = e }
-then_tells (Err cause) then_read found e = absurd (let bad : ⊥ = cc in bad)
+pub then_tells : {A B : Type 0} (first : Result A Cause) (next : A → Result B Cause) (found : B)
+    → (first >>= next) ≡ Ok found → AreRead first next found
+then_tells (Ok value) next found e = record { value = value; read = refl; rest = e }
+then_tells (Err cause) next found e = absurd (let bad : ⊥ = cc in bad)
 
 -- what holds of the words behind that of a row of a table
 abbrev pub EachRow : {A : Type 0} → (Words → A → Type 0) → List (List ℕ × (Words → Result A Cause)) → Type 0
@@ -217,3 +205,121 @@ by_word_tells {A = A} P table rows (word ∷ words) found e = walk table rows e
         → by_word table (word ∷ words) ≡ Ok found → P (word ∷ words) found
     walk [] rows e = absurd (let bad : ⊥ = cc in bad)
     walk (row ∷ table) rows e = named row table rows.0 (walk table rows.1) (same_name row.0 word) refl e
+
+-- a word, a number, and words that are read by the table
+pub pair_tells : {A B : Type 0} (P : Words → B → Type 0) (Q : Words → A → Type 0) (name : List ℕ) (test : ℕ → Bool)
+    (table : List (List ℕ × (Words → Result A Cause))) (make : ℕ → A → B) → EachRow Q table
+    → ((n : ℕ) (rest : Words) (x : A) → n < 2 ^ 64 → test n ≡ true → Q rest x → P (name ∷ decimal n ∷ rest) (make n x))
+    → (words : Words) (found : B)
+    → (ranged test words >>= λ n. by_word table n.1 >>= λ x. Ok (make n.0 x)) ≡ Ok found → P (name ∷ words) found
+pair_tells P Q name test table make rows so words found =
+    ranged_tells (λ ws. P (name ∷ ws) found) test (λ n. by_word table n.1 >>= λ x. Ok (make n.0 x)) found
+    (λ n rest fits passes e.
+    let more = then_tells (by_word table rest) (λ x. Ok (make n x)) found e in
+    let same : make n more.value ≡ found = let e = more.rest in cc in
+    subst (P (name ∷ decimal n ∷ rest)) same
+    (so n rest more.value fits passes (by_word_tells Q table rows rest more.value more.read))) words
+
+-- Runs
+
+-- the one text of some bytes is one of runs
+is_runs : (bytes : List ℕ) → IsRunsBytes bytes → IsRuns (runs_text bytes) bytes
+is_runs bytes are = record { spelled = refl; some_byte = are.some; not_long = are.not_long; are_bytes = are.each }
+
+-- the words of that text are read as the bytes
+pub runs_back : (bytes : List ℕ) → IsRunsBytes bytes → runs_words (words_of (runs_text bytes)) ≡ Ok (bytes, [])
+runs_back bytes are = runs_words-some (runs_text bytes) bytes (is_runs bytes are)
+
+-- words that are read as bytes are those of their text
+pub record IsRead (words : Words) (found : List ℕ × Words) : Type 0 where
+  pub stands : words ≡ words_of (runs_text found.0)
+  pub none : found.1 ≡ []
+  pub fits : IsRunsBytes found.0
+
+pub runs_tell : (words : Words) (found : List ℕ × Words) → AreWords words → runs_words words ≡ Ok found
+    → IsRead words found
+runs_tell [] found are e = absurd (let bad : ⊥ = cc in bad)
+runs_tell (word ∷ words) found are e = by (option_and_then fitting_bytes (runs_in (word ∷ words))) refl e
+  where
+    by : (o : Option (List ℕ)) → option_and_then fitting_bytes (runs_in (word ∷ words)) ≡ o
+        → found_or causes.Runs [] o ≡ Ok found → IsRead (word ∷ words) found
+    by None is e = absurd (let bad : ⊥ = cc in bad)
+    by (Some bytes) is e =
+        let same : (bytes, []) ≡ found = cc in
+        let back : words_of (line_of (word ∷ words)) ≡ word ∷ words = words_back word words are in
+        let told : IsRuns (line_of (word ∷ words)) bytes =
+        (runs-agree (line_of (word ∷ words)) bytes).0
+        (ap (λ (ws : Words). option_and_then fitting_bytes (runs_in ws)) back ∙ is) in
+        let here : IsRead (word ∷ words) (bytes, []) = record {
+          stands = sym back ∙ ap words_of told.spelled;
+          none = refl;
+          fits = record { some = told.some_byte; not_long = told.not_long; each = told.are_bytes };
+        } in
+        subst (λ (f : List ℕ × Words). IsRead (word ∷ words) f) same here
+
+-- Line feeds
+
+-- no byte of a text is a line feed
+abbrev pub IsUnended : List ℕ → Type 0
+IsUnended text = AllByRecursion (λ b. (b == 10) ≡ false) text
+
+-- so it is with two texts
+pub unended_both : (text rest : List ℕ) → IsUnended text → IsUnended rest → IsUnended (text ++ rest)
+unended_both [] rest first second = second
+unended_both (b ∷ bs) rest first second = (first.0, unended_both bs rest first.1 second)
+
+-- and with the line of such words
+pub line_unended : (words : Words) → AllByRecursion IsUnended words → IsUnended (line_of words)
+line_unended [] all = tt
+line_unended (word ∷ []) all = all.0
+line_unended (word ∷ next ∷ words) all =
+    unended_both word (32 ∷ line_of (next ∷ words)) all.0 (refl, line_unended (next ∷ words) all.1)
+
+-- a number has none
+pub digits_unended : (digits : List ℕ) → is_decimal digits ≡ true → IsUnended digits
+digits_unended [] is = tt
+digits_unended (b ∷ bs) is =
+    each_digit (λ b. (b == 10) ≡ false) (λ b e. grind (arith, nat_tests)) (b ∷ bs)
+    (and_parts (list_all is_digit (b ∷ bs)) _ is).0
+
+-- nor has a word that is read as a run
+run_unended : (word : List ℕ) (x : ByteRun) → run_of word ≡ Some x → IsUnended word
+run_unended (high ∷ low ∷ star ∷ digits) x e =
+    let run : ByteRun = record { byte = 16 * hex_value high + hex_value low; times = value_of digits } in
+    let tests = (some_if _ run x e).0 in
+    let one = and_parts (nat_lt (hex_value high) 16) _ tests in
+    let two = and_parts (nat_lt (hex_value low) 16) _ one.1 in
+    let three = and_parts (star == 42) _ two.1 in
+    let four = and_parts (is_decimal digits) _ three.1 in
+    (hex high one.0, (hex low two.0, (times star three.0, digits_unended digits four.0)))
+  where
+    hex : (b : ℕ) → nat_lt (hex_value b) 16 ≡ true → (b == 10) ≡ false
+    hex b e = grind (arith, nat_tests)
+
+    times : (b : ℕ) → (b == 42) ≡ true → (b == 10) ≡ false
+    times b e = grind (arith, nat_tests)
+run_unended word x e = absurd (let bad : ⊥ = cc in bad)
+
+-- nor have words that are read as runs
+runs_unended : (words : Words) (xs : List ByteRun) → runs_in words ≡ Some xs → AllByRecursion IsUnended words
+runs_unended [] xs e = tt
+runs_unended (word ∷ words) xs e =
+    by (run_of word) refl (runs_in words) e (λ ys is. runs_unended words ys is)
+  where
+    by : (o : Option ByteRun) → run_of word ≡ o → (more : Option (List ByteRun))
+        → option_and_then (λ x. option_and_then (add_run x) more) o ≡ Some xs
+        → ((ys : List ByteRun) → more ≡ Some ys → AllByRecursion IsUnended words)
+        → AllByRecursion IsUnended (word ∷ words)
+    by None is more e rest = absurd (let bad : ⊥ = cc in bad)
+    by (Some x) is None e rest = absurd (let bad : ⊥ = cc in bad)
+    by (Some x) is (Some ys) e rest = (run_unended word x is, rest ys refl)
+
+-- so the text of some bytes has none
+pub text_unended : (bytes : List ℕ) → IsRunsBytes bytes → AllByRecursion IsUnended (words_of (runs_text bytes))
+text_unended bytes are =
+    by (runs_in (words_of (runs_text bytes))) refl ((runs-agree (runs_text bytes) bytes).1 (is_runs bytes are))
+  where
+    by : (o : Option (List ByteRun)) → runs_in (words_of (runs_text bytes)) ≡ o
+        → option_and_then fitting_bytes o ≡ Some bytes → AllByRecursion IsUnended (words_of (runs_text bytes))
+    by None is e = absurd (let bad : ⊥ = cc in bad)
+    by (Some xs) is e = runs_unended (words_of (runs_text bytes)) xs is

@@ -1,8 +1,6 @@
 -- What is written as a trace is read as it.
-use Rattle.std.specs.Prelude.{◌≡◌, ℕ, ◌+◌, ◌≤◌, ◌==◌, Bool, true, false, List, [], ◌∷◌, ◌++◌, length, flat_map, fold, zip, Ok, codes, decimal, if◌then◌else◌}
+use Rattle.std.proofs.Common.{◌≡◌, ℕ, ◌+◌, ◌≤◌, ◌==◌, Bool, true, false, List, [], ◌∷◌, ◌++◌, length, flat_map, fold, zip, Ok, codes, decimal, if◌then◌else◌, refl, sym, ◌∙◌, ap, arith, append_assoc}
 use Rattle.std.specs.List.{AllByRecursion, AllZip, enumerate_from}
-use Rattle.std.proofs.Common.{refl, sym, ◌∙◌, ap, arith}
-use Rattle.std.proofs.lemmas.List.{append_assoc}
 use Rattle.std.proofs.lemmas.List.Elements.{All-from_recursion, recursion_from_All}
 use Rattle.std.proofs.lemmas.Slice.Eq.{bytes_eq-Decides}
 use Rattle.geo_model.specs.declared.command.DiskDecl.{DiskDecl}
@@ -12,14 +10,13 @@ use Rattle.geo_model.specs.Report.{end_line}
 use Rattle.geo_model.specs.Plans.{IsDiskDecl, IsFact}
 use Rattle.geo_model.specs.Script.{lines_of, empty_plan, next_line, script, IsScript}
 use Rattle.geo_script.proofs.PlanLaw.{scripts-are-plans}
+use Rattle.geo_laws_traces.specs.TraceLaws.{WrittenIsRead}
 use Rattle.geo_headline.specs.Outside.{is_shelf}
 use Rattle.geo_headline.specs.Traces.{Trace, ended_script, step_line, size_line, report_mark, trace_text, back_from, parts_of, joined_parts, script_part, marked_part, seat_and_step, marked, then_read, read_steps, told_line, read_behind, read_after, read_trace, IsTrace}
-use Rattle.geo_laws_traces.specs.TraceLaws.{WrittenIsRead}
-use Rattle.geo_laws_traces.proofs.Lines.{some_part, first_part, joined_back, script_ends, ended_script_lines, front_kept, back_kept}
+use Rattle.geo_laws_traces.proofs.Lines.{some_part, first_part, joined_back, script_ends, ended_script_lines, mark_kept, unmarked}
 use Rattle.geo_laws_traces.proofs.Words.{line_of}
 use Rattle.geo_laws_traces.proofs.Steps.{item_words, line_spelled, IsWritableItem, item_back, item_unended}
 use Rattle.geo_laws_traces.proofs.Sizes.{sizes_before, sizes_back}
-use Rattle.geo_laws_traces.proofs.Unmarked.{unmarked}
 
 -- Steps
 
@@ -174,9 +171,9 @@ written_is_read text t is fit fits =
     let whole : trace_text text t ≡ front ++ 37 ∷ begins.rest = text_is text t ∙ ap (λ xs. front ++ xs) begins.is in
     let read : IsScript front t.plan = same_script text ∙ is in
     let none : back_from true front ≡ [] = unmarked front t.plan read in
+    let kept = mark_kept true front begins.rest none (script_ends text) in
     let plan = scripts-are-plans text t.plan is in
     cut_read front (trace_text text t) begins.rest t whole begins.is
-    (ap script_part whole ∙ front_kept true front begins.rest none (script_ends text))
-    (ap marked_part whole ∙ back_kept true front begins.rest none (script_ends text))
+    (ap script_part whole ∙ kept.0) (ap marked_part whole ∙ kept.1)
     read (recursion_from_All IsDiskDecl t.plan.disks plan.disks) fit
     (recursion_from_All IsWritableItem t.steps fits)

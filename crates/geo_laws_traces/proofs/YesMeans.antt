@@ -1,21 +1,19 @@
 -- What a Yes means, and that it is said of the trace of a legal log that ends at rest.
-use Rattle.std.specs.Prelude.{◌≡◌, ℕ, ◌+◌, ◌≤◌, nat_lt, Bool, true, false, not, List, [], ◌∷◌, length, Some, None, Ok, Err, bytes_eq, if◌then◌else◌}
-use Rattle.std.proofs.Common.{refl, sym, ◌∙◌, ap, subst, arith}
-use Rattle.std.proofs.lemmas.Bool.{le-ltb, ltb-false}
+use Rattle.std.proofs.Common.{◌≡◌, ℕ, ◌+◌, ◌≤◌, nat_lt, Bool, true, false, not, List, [], ◌∷◌, length, Some, None, Ok, bytes_eq, if◌then◌else◌, refl, sym, ◌∙◌, ap, subst, arith, le-ltb, ltb-false}
 use Rattle.std.proofs.lemmas.List.{length-map}
 use Rattle.std.proofs.lemmas.Slice.Eq.{bytes_eq-Decides}
 use Rattle.geo_model.specs.declared.step.Entry.{Entry}
 use Rattle.geo_model.specs.declared.step.Step.{Step}
 use Rattle.geo_model.specs.World.{World}
 use Rattle.geo_model.specs.Opening.{opening}
-use Rattle.geo_model.specs.Step.{Answer, step}
-use Rattle.geo_model.specs.Log.{made, entry_by, replay, world_after}
+use Rattle.geo_model.specs.Step.{step}
+use Rattle.geo_model.specs.Log.{made, replay, world_after}
 use Rattle.geo_model.specs.Order.{Rest, is_at_rest}
 use Rattle.geo_model.specs.Report.{report}
-use Rattle.geo_headline.specs.declared.verified.Verified.TheVariants as found
+use Rattle.geo_laws_traces.specs.TraceLaws.{YesIsVerified, LegalIsVerified}
 use Rattle.geo_headline.specs.Traces.{Trace, ReadTrace, read_trace, steps_of}
 use Rattle.geo_headline.specs.Verifying.{verified, found_of, found_unless, found_read, opened_of, log_of, IsVerified}
-use Rattle.geo_laws_traces.specs.TraceLaws.{YesIsVerified, LegalIsVerified}
+use Rattle.geo_headline.specs.declared.verified.Verified.TheVariants as found
 use Rattle.geo_laws_traces.proofs.MadeAgain.{made_again}
 
 -- the answer to a text that was read
@@ -26,14 +24,7 @@ answer_is text r is = ap found_read is
 -- steps make no more entries than they are
 made_short : (w : World) (items : List (ℕ × Step)) → length (made w items) ≤ length items
 made_short w [] = omega arith
-made_short w (item ∷ items) =
-    by (step w item.0 item.1) (made (world_after w (step w item.0 item.1)) items)
-    (made_short (world_after w (step w item.0 item.1)) items)
-  where
-    by : (a : Answer) (rest : List Entry) → length rest ≤ length items
-        → length (entry_by item a rest) ≤ length (item ∷ items)
-    by (Ok answer) rest few = omega (arith, few)
-    by (Err found) rest few = omega arith
+made_short w (item ∷ items) = grind (arith, made_short (world_after w (step w item.0 item.1)) items)
 
 -- a whole log at rest with the same report finds a Yes
 finds_yes : (r : ReadTrace) → IsVerified r.trace → found_of r ≡ found.Yes
@@ -45,31 +36,28 @@ finds_yes r is =
     (bytes_eq-Decides (report r.trace.plan (opened_of r.trace) (log_of r.trace)) r.trace.report).1 is.same in
     rw (whole, rest, same) refl
 
--- and a Yes is found of no other
+-- what is found is a Yes where no step stops, at rest, with the same report
+yes_by : (stops rest same : Bool) (n : ℕ)
+    → found_unless (if stops then Some n else None)
+    (if not rest then found.NotAtRest else (if same then found.Yes else found.OtherReport)) ≡ found.Yes
+    → (stops ≡ false) × (rest ≡ true) × (same ≡ true)
+yes_by false true true n e = (refl, refl, refl)
+yes_by stops rest same n e = absurd (let bad : ⊥ = cc in bad)
+
+-- so a Yes is found of no other
 yes_found : (r : ReadTrace) → found_of r ≡ found.Yes → IsVerified r.trace
 yes_found r is =
-    by (nat_lt (length (log_of r.trace)) (length r.trace.steps)) refl
-    (is_at_rest (replay (opened_of r.trace) (log_of r.trace))) refl
-    (bytes_eq (report r.trace.plan (opened_of r.trace) (log_of r.trace)) r.trace.report) refl is
-  where
-    by : (stops : Bool) → nat_lt (length (log_of r.trace)) (length r.trace.steps) ≡ stops
-        → (rest : Bool) → is_at_rest (replay (opened_of r.trace) (log_of r.trace)) ≡ rest
-        → (same : Bool)
-        → bytes_eq (report r.trace.plan (opened_of r.trace) (log_of r.trace)) r.trace.report ≡ same
-        → found_unless (if stops then Some (r.line + length (log_of r.trace)) else None)
-        (if not rest then found.NotAtRest else (if same then found.Yes else found.OtherReport)) ≡ found.Yes
-        → IsVerified r.trace
-    by true stops rest at_rest same same_is e = absurd (let bad : ⊥ = cc in bad)
-    by false stops false at_rest same same_is e = absurd (let bad : ⊥ = cc in bad)
-    by false stops true at_rest false same_is e = absurd (let bad : ⊥ = cc in bad)
-    by false stops true at_rest true same_is e =
-        let long = ltb-false (length (log_of r.trace)) (length r.trace.steps) stops in
-        let short = made_short (opened_of r.trace) r.trace.steps in
-        record {
-          whole = omega (arith, long, short);
-          rest = at_rest;
-          same = (bytes_eq-Decides (report r.trace.plan (opened_of r.trace) (log_of r.trace)) r.trace.report).0 same_is;
-        }
+    let its_report : List ℕ = report r.trace.plan (opened_of r.trace) (log_of r.trace) in
+    let tests = yes_by (nat_lt (length (log_of r.trace)) (length r.trace.steps))
+    (is_at_rest (replay (opened_of r.trace) (log_of r.trace))) (bytes_eq its_report r.trace.report)
+    (r.line + length (log_of r.trace)) is in
+    let long = ltb-false (length (log_of r.trace)) (length r.trace.steps) tests.0 in
+    let short = made_short (opened_of r.trace) r.trace.steps in
+    record {
+      whole = omega (arith, long, short);
+      rest = tests.1;
+      same = (bytes_eq-Decides its_report r.trace.report).0 tests.2;
+    }
 
 pub yes_is_verified : YesIsVerified
 yes_is_verified text t is =

@@ -10,7 +10,7 @@ use Rattle.geo_elev.specs.Meshes.{IsHistory, MeshView, opened, world_of}
 use Rattle.geo_elev.specs.Drain as drain
 use Rattle.geo_laws_disks.proofs.Legal.{legal_logs_complete_requests}
 use Rattle.geo_laws_disks.proofs.Drives.{all_served_none}
-use Rattle.geo_laws_disks.proofs.Splits.{none_in}
+use Rattle.geo_laws_disks.proofs.Requests.{none_in}
 use Rattle.geo_run.specs.Drives.{DriveView, ServeAll}
 use Rattle.geo_run.specs.Rest.{Adds, RanFull}
 

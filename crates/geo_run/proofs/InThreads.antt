@@ -11,8 +11,8 @@ use Rattle.geo_headline.specs.Endings.{DueIsFull, Ending, IsWhole, LogRanFull}
 use Rattle.geo_headline.specs.Headline.{FollowsMode, IsGen}
 use Rattle.geo_serve.specs.Served.{AreServed, IsServedAt}
 use Rattle.geo_laws_disks.specs.DriveLaws.{AreTaken}
-use Rattle.geo_laws_disks.proofs.ServedBy.{parts_serve}
-use Rattle.geo_laws_disks.proofs.Splits.{none_in}
+use Rattle.geo_laws_disks.proofs.Seats.{parts_serve}
+use Rattle.geo_laws_disks.proofs.Requests.{none_in}
 use Rattle.geo_elev.specs.Meshes.{IsHistory, MeshView, opened, world_of}
 use Rattle.geo_elev.specs.Drain as drain
 use Rattle.geo_elev.specs.Drain.{with_entries}

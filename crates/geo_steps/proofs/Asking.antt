@@ -21,7 +21,7 @@ use Rattle.geo_serve.specs.Drives.{DriveView}
 use Rattle.geo_laws_disks.specs.DiskLaws.{AsksInside, LiesInside}
 use Rattle.geo_laws_disks.specs.DriveLaws.{HasSizes, IsServable}
 use Rattle.geo_laws_disks.proofs.Inside.{disks_are_asked}
-use Rattle.geo_laws_disks.proofs.Opened.{opening_disks}
+use Rattle.geo_laws_disks.proofs.Drives.{opening_disks}
 use Rattle.geo_laws_disks.proofs.Takes.{takes_are_servable}
 use Rattle.geo_lock.specs.Yard.{IsPassOf, YardView}
 use Rattle.geo_core.specs.declared.logged.MeshStart.{MeshStart}

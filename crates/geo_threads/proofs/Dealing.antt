@@ -1,10 +1,21 @@
--- Drives that are dealt to two workers, and gathered again.
-use Rattle.std.specs.Prelude.{◌≡◌, ℕ, ◌+◌, ◌≤◌, ◌%◌, ◌==◌, List, [], ◌∷◌, ◌++◌, drop, length, take, Option, Some, None, slice_get}
+-- Drives are dealt to two workers and gathered again: each has those of its disks, and all did what the log says.
+use Rattle.std.specs.Prelude.{◌≡◌, ℕ, ◌+◌, ◌≤◌, ◌%◌, ◌==◌, List, [], ◌∷◌, ◌++◌, drop, length, take, Option, Some, None, slice_get, ◌≢◌, zero, suc, ◌<◌, map, All, AllPairs, slice_index_or}
 use Rattle.std.specs.List.{AllZip, enumerate_from}
-use Rattle.std.proofs.Common.{ap, arith, refl, sym, ◌∙◌}
+use Rattle.std.specs.Option.{option_map}
+use Rattle.std.proofs.Common.{ap, arith, refl, sym, ◌∙◌, subst}
 use Rattle.std.proofs.lemmas.Bool.{eq-eqb, ne_eqb}
-use Rattle.std.proofs.lemmas.List.Elements.{filter-append}
+use Rattle.std.proofs.lemmas.List.Elements.{filter-append, All-filter}
+use Rattle.std.proofs.lemmas.List.{length-map, get_or-map}
+use Rattle.std.proofs.lemmas.List.FromFn.{get_or-enumerate_from, length-enumerate_from}
+use Rattle.std.proofs.lemmas.List.Kept.{AllPairs-filter}
+use Rattle.std.proofs.lemmas.Option.{slice_get-get_or, slice_get-map}
 use Rattle.geo_threads.specs.Deal.{dealt, drives_in, gathered_drives, merged, own_disks}
+use Rattle.geo_disk.specs.declared.drive.Drive.{Drive}
+use Rattle.geo_model.specs.declared.step.Entry.{Entry}
+use Rattle.geo_serve.specs.Drives.{DriveView}
+use Rattle.geo_serve.specs.Served.{AreServed, IsServed, IsServedAt}
+use Rattle.geo_work.specs.Drives.{HasDrives}
+use Rattle.geo_threads.specs.Left.{size_of}
 
 -- one more element comes with the next number
 enumerate_push : {X : Type 0} (n : ℕ) (xs : List X) (z : X)
@@ -121,3 +132,113 @@ pub none_left : {X : Type 0} (even odd : List (ℕ × X)) → None ≡ slice_get
 none_left [] [] first fewer = refl
 none_left [] (o ∷ odd) first fewer = absurd (omega (arith, fewer))
 none_left (e ∷ even) odd first fewer = absurd (let bad : ⊥ = cc in bad)
+
+-- The drives of a run: each worker has those of its disks, and all did what the log says.
+
+-- Facts
+
+module _ {X : Type 0} where
+  -- each element of an enumeration has its place
+  place_is : (xs : List X) (i : ℕ) (d : ℕ × X) → i < length (enumerate_from 0 xs)
+      → slice_index_or (enumerate_from 0 xs) i d ≡ (i, slice_index_or xs i d.1)
+  place_is xs i d lt =
+      get_or-enumerate_from 0 xs i d (let e = length-enumerate_from 0 xs in omega (arith, e, lt))
+      ∙ ap (λ k. (k, slice_index_or xs i d.1)) (omega arith)
+
+  -- no two have one place
+  apart_all : (xs : List X) → AllPairs (λ (x y : ℕ × X). x.0 ≢ y.0) (enumerate_from 0 xs)
+  apart_all xs i j d lt within same =
+      let one = ap (λ (x : ℕ × X). x.0) (place_is xs i d (omega (arith, lt, within))) in
+      let other = ap (λ (x : ℕ × X). x.0) (place_is xs j d within) in
+      omega (arith, lt, one, other, same)
+
+-- so no disk of a worker stands twice
+apart_mapped : {X : Type 0} (items : List (ℕ × X)) → AllPairs (λ (x y : ℕ × X). x.0 ≢ y.0) items
+    → AllPairs (λ a b. a ≢ b) (map (λ (x : ℕ × X). x.0) items)
+apart_mapped [] apart i j d lt within same = omega (arith, within)
+apart_mapped {X} (x ∷ xs) apart i j d lt within same =
+    let items = x ∷ xs in
+    let long = length-map items (λ (z : ℕ × X). z.0) in
+    let one = get_or-map (λ (z : ℕ × X). z.0) items i x d (omega (arith, lt, within, long)) in
+    let other = get_or-map (λ (z : ℕ × X). z.0) items j x d (omega (arith, within, long)) in
+    apart i j x lt (omega (arith, within, long)) (sym one ∙ same ∙ other)
+
+module _ {D : Type 0} (facts : List (ℕ × ℕ)) (seen : Drive D → DriveView) (drives : List (Drive D))
+    (fit : map size_of (map seen drives) ≡ facts) where
+  -- each disk has the size of its drive
+  sized : All (λ (x : ℕ × Drive D). slice_get facts x.0 ≡ Some ((seen x.1).sector, (seen x.1).count))
+      (enumerate_from 0 drives)
+  sized i d lt =
+      let within : i < length drives = (let e = length-enumerate_from 0 drives in omega (arith, e, lt)) in
+      let at : slice_get facts i
+      ≡ Some ((seen (slice_index_or drives i d.1)).sector, (seen (slice_index_or drives i d.1)).count) =
+      ap (λ (l : List (ℕ × ℕ)). slice_get l i) (sym fit)
+      ∙ slice_get-map size_of (map seen drives) i
+      ∙ ap (λ (o : Option DriveView). option_map size_of o)
+      (slice_get-map seen drives i ∙ ap (λ (o : Option (Drive D)). option_map seen o)
+      (slice_get-get_or drives i d.1 within)) in
+      subst (λ (x : ℕ × Drive D). slice_get facts x.0 ≡ Some ((seen x.1).sector, (seen x.1).count))
+      (sym (place_is drives i d lt)) at
+
+  -- a worker has the drives of its disks
+  pub dealt_fit : (worker : ℕ) → HasDrives facts seen (dealt worker drives)
+  dealt_fit worker = record {
+    apart = apart_mapped (dealt worker drives)
+        (AllPairs-filter (λ (x y : ℕ × Drive D). x.0 ≢ y.0) (λ (x : ℕ × Drive D). x.0 % 2 == worker)
+        (enumerate_from 0 drives) (apart_all drives));
+    sizes = All-filter (λ (x : ℕ × Drive D). x.0 % 2 == worker)
+        (λ (x : ℕ × Drive D). slice_get facts x.0 ≡ Some ((seen x.1).sector, (seen x.1).count))
+        (enumerate_from 0 drives) sized;
+  }
+
+-- What they did
+
+module _ {D : Type 0} (seen : Drive D → DriveView) (log : List Entry) where
+  -- a drive kept the number of its disk, and did what the log says of the disk
+  abbrev pub DidServe : ℕ × Drive D → ℕ × Drive D → Type 0
+  DidServe x y = (y.0 ≡ x.0) × IsServed log x.0 (seen x.1) (seen y.1)
+
+  served_from : (n : ℕ) (xs : List (Drive D)) (ys : List (ℕ × Drive D)) → AllZip DidServe (enumerate_from n xs) ys
+      → (k : ℕ) → IsServedAt log (n + k) (slice_get (map seen xs) k)
+      (slice_get (map seen (map (λ (y : ℕ × Drive D). y.1) ys)) k)
+  served_from n [] [] zip k = tt
+  served_from n [] (y ∷ ys) zip k = absurd zip
+  served_from n (x ∷ xs) [] zip k = absurd zip
+  served_from n (x ∷ xs) (y ∷ ys) zip zero =
+      subst (λ m. IsServed log m (seen x) (seen y.1)) (omega arith) zip.0.1
+  served_from n (x ∷ xs) (y ∷ ys) zip (suc k) =
+      subst (λ m. IsServedAt log m (slice_get (map seen xs) k)
+      (slice_get (map seen (map (λ (z : ℕ × Drive D). z.1) ys)) k)) (omega arith)
+      (served_from (n + 1) xs ys zip.1 k)
+
+  sizes_stay : (n : ℕ) (xs : List (Drive D)) (ys : List (ℕ × Drive D)) → AllZip DidServe (enumerate_from n xs) ys
+      → map size_of (map seen (map (λ (y : ℕ × Drive D). y.1) ys))
+      ≡ map size_of (map seen xs)
+  sizes_stay n [] [] zip = refl
+  sizes_stay n [] (y ∷ ys) zip = absurd zip
+  sizes_stay n (x ∷ xs) [] zip = absurd zip
+  sizes_stay n (x ∷ xs) (y ∷ ys) zip =
+      ap (λ (s : ℕ). (s, (seen y.1).count)
+      ∷ map size_of (map seen (map (λ (z : ℕ × Drive D). z.1) ys))) zip.0.1.sector
+      ∙ ap (λ (c : ℕ). ((seen x).sector, c)
+      ∷ map size_of (map seen (map (λ (z : ℕ × Drive D). z.1) ys))) zip.0.1.count
+      ∙ ap (λ (l : List (ℕ × ℕ)). ((seen x).sector, (seen x).count) ∷ l) (sizes_stay (n + 1) xs ys zip.1)
+
+  module _ (drives : List (Drive D)) (even odd : List (ℕ × Drive D))
+      (evens : AllZip DidServe (dealt 0 drives) even) (odds : AllZip DidServe (dealt 1 drives) odd) where
+    in_turn : AllZip DidServe (enumerate_from 0 drives) (merged even odd)
+    in_turn =
+        subst (λ (l : List (ℕ × Drive D)). AllZip DidServe l (merged even odd)) (merged_from 0 drives refl)
+        (merged_zip DidServe (dealt 0 drives) even (dealt 1 drives) odd evens odds)
+
+    -- all drives did what the log says
+    pub are_served : AreServed log (map seen drives) (map seen (gathered_drives even odd))
+    are_served disk =
+        subst (λ m. IsServedAt log m (slice_get (map seen drives) disk)
+        (slice_get (map seen (gathered_drives even odd)) disk))
+        (omega arith) (served_from 0 drives (merged even odd) in_turn disk)
+
+    -- and have their sizes
+    pub sizes_kept : map size_of (map seen (gathered_drives even odd))
+        ≡ map size_of (map seen drives)
+    sizes_kept = sizes_stay 0 drives (merged even odd) in_turn

@@ -1,26 +1,24 @@
--- A job that was started and ran has ended as its number says.
-use Rattle.std.specs.Prelude.{◌≡◌, ◌⊎◌, ℕ, zero, suc, ◌+◌, ◌<◌, ◌%◌, ◌==◌, true, List, [], ◌∷◌, ◌++◌, length, All, Contains}
+-- A job that was started and ran has ended as its number says, and its entries are those of its kind.
+use Rattle.geo_base.proofs.AllLists.{all_mapped}
+use Rattle.std.specs.Prelude.{◌≡◌, ◌⊎◌, ℕ, zero, suc, ◌+◌, ◌<◌, ◌%◌, ◌==◌, true, List, [], ◌∷◌, ◌++◌, length, All, Contains, ◌≢◌, Bool, false, filter, find, map, slice_index_or, Any, Option, Some, None, IsSome, option_and_then, ⊤}
 use Rattle.std.specs.List.{AllByRecursion, AllZip, enumerate_from}
 use Rattle.std.proofs.Common.{ap, arith, inl, inr, refl, subst, sym, ◌∙◌}
-use Rattle.std.proofs.lemmas.Bool.{eqb-true}
-use Rattle.std.proofs.lemmas.List.Elements.{All-weaker, filter_passes, recursion_from_All}
+use Rattle.std.proofs.lemmas.Bool.{eqb-true, both_ways, eq-eqb}
+use Rattle.std.proofs.lemmas.List.Elements.{All-weaker, filter_passes, recursion_from_All, All-contains, All-from_recursion, All-nil}
 use Rattle.geo_disk.specs.declared.drive.Drive.{Drive}
 use Rattle.geo_model.specs.declared.step.Entry.{Entry}
 use Rattle.geo_model.specs.declared.step.Step.{Step}
-use Rattle.geo_model.specs.declared.step.Step.TheVariants as steps
 use Rattle.geo_model.specs.World.{Plan, World}
-use Rattle.geo_model.specs.FixedOrder.{HasFinished, IsOfItsJob, event_seat}
+use Rattle.geo_model.specs.FixedOrder.{HasFinished, IsOfItsJob, event_seat, disk_seat}
 use Rattle.geo_serve.specs.Drives.{DriveView}
-use Rattle.geo_laws_graph.proofs.Members.{Contains-cases, nothing_in}
+use Rattle.geo_laws_graph.proofs.Members.{All-from_contained, at_contained, filter-Contains, find-Contains}
 use Rattle.geo_work.specs.Lanes.{Lanes}
 use Rattle.geo_work.specs.Turn.{Turn}
-use Rattle.geo_work.specs.Turn.TheVariants as turns
 use Rattle.geo_work.specs.Passes.{Goes, MeshPass, opened_by}
 use Rattle.geo_work.specs.Drives.{disks_of}
-use Rattle.geo_work.specs.Served.{HasServed, IsOfDisks}
+use Rattle.geo_work.specs.Served.{HasServed, IsOfDisks, AreAnswered}
 use Rattle.geo_work.specs.declared.client.ClientJob.{ClientJob}
 use Rattle.geo_work.specs.declared.job.Role.{Role}
-use Rattle.geo_work.specs.declared.job.Role.TheVariants as roles
 use Rattle.geo_work.specs.declared.run.Worker.{Worker}
 use Rattle.geo_work.specs.Causes.{Cause, WasInVain}
 use Rattle.geo_work.specs.Clients.{IsWaiting}
@@ -31,6 +29,22 @@ use Rattle.geo_work.specs.Workers.{WorkerRan}
 use Rattle.geo_threads.specs.Deal.{dealt}
 use Rattle.geo_threads.specs.Started.{AreStarted, HasRole, IsStarted, MeshYard}
 use Rattle.geo_threads.specs.Ended.{AreOfKind, DidAs, EndedAs, HasEnded, HaveEnded, TriedEach, TriedLast}
+use Rattle.geo_base.proofs.FindLists.{found_passes}
+use Rattle.geo_model.specs.Laws.{NoneBusy}
+use Rattle.geo_model.specs.Log.{Legal, replay}
+use Rattle.geo_model.specs.Opening.{opening}
+use Rattle.geo_model.specs.Passes.{entries_of_seat}
+use Rattle.geo_model.specs.Plans.{FactsFit, IsPlan}
+use Rattle.geo_model.specs.Results.{device_answer_in, device_answer_of, is_deliver_of, is_take_of, request_in, request_of}
+use Rattle.geo_laws_disks.proofs.AllDelivered.{all_delivered_none_busy}
+use Rattle.geo_laws_disks.specs.DriveLaws.{IsTaken}
+use Rattle.geo_laws_disks.specs.SeatLaws.{AreBySeats}
+use Rattle.geo_lock.specs.Pass.{IsGoodIn}
+use Rattle.geo_lock.proofs.EachOwn.{each_own}
+use Rattle.geo_threads.specs.Closing.{passes_of}
+use Rattle.geo_model.specs.declared.step.Step.TheVariants as steps
+use Rattle.geo_work.specs.Turn.TheVariants as turns
+use Rattle.geo_work.specs.declared.job.Role.TheVariants as roles
 
 -- Entries
 
@@ -108,71 +122,37 @@ of_two (suc (suc k)) lt = absurd (omega (arith, lt))
 -- Why a job ended
 
 -- a worker has only disks of its own
-own_disk : {D : Type 0} (worker disk : ℕ) (items : List (ℕ × Drive D)) → AreOfWorker worker items
-    → Contains (disks_of items) disk → disk % 2 ≡ worker
-own_disk {D} worker disk [] of among = absurd (nothing_in disk among)
-own_disk {D} worker disk (x ∷ items) of among =
-    elim (Contains-cases x.0 disk (disks_of items) among) [
-      | inl same ↦ ap (λ k. k % 2) (sym same) ∙ of.0
-      | inr rest ↦ own_disk worker disk items of.1 rest
-    ]
+own_disk : {X : Type 0} (worker disk : ℕ) (items : List (ℕ × X))
+    → AllByRecursion (λ (x : ℕ × X). x.0 % 2 ≡ worker) items → Contains (map (λ (x : ℕ × X). x.0) items) disk
+    → disk % 2 ≡ worker
+own_disk {X} worker disk items of among =
+    at_contained (λ d. d % 2 ≡ worker) (map (λ (x : ℕ × X). x.0) items) disk
+    (all_mapped (λ d. d % 2 ≡ worker) (λ (x : ℕ × X). x.0) items of) among
 
 module _ (plan : Plan) (k : ℕ) where
   -- a step of a role is of the kind of the job whose number the role has
   client_kind : (actor : ℕ) (s : Step) → k ≡ actor + 1 → IsOfClient actor s → IsOfItsJob plan k s
   client_kind actor (steps.Go other) number is = number ∙ ap (λ n. n + 1) (sym is)
-  client_kind actor steps.Event number is = absurd is
-  client_kind actor steps.Judge number is = absurd is
-  client_kind actor steps.Reap number is = absurd is
-  client_kind actor steps.Wash number is = absurd is
-  client_kind actor (steps.Start bio) number is = absurd is
-  client_kind actor (steps.Up bio) number is = absurd is
-  client_kind actor (steps.Take disk bio) number is = absurd is
-  client_kind actor (steps.Deliver bio got) number is = absurd is
+  client_kind actor _ number is = absurd is
 
   events_kind : (s : Step) → k ≡ event_seat plan → IsOfEvents s → IsOfItsJob plan k s
-  events_kind (steps.Go other) number is = absurd is
   events_kind steps.Event number is = number
   events_kind steps.Judge number is = number
   events_kind steps.Reap number is = number
   events_kind steps.Wash number is = number
-  events_kind (steps.Start bio) number is = absurd is
-  events_kind (steps.Up bio) number is = absurd is
-  events_kind (steps.Take disk bio) number is = absurd is
-  events_kind (steps.Deliver bio got) number is = absurd is
+  events_kind _ number is = absurd is
 
   down_kind : (s : Step) → k ≡ event_seat plan + 1 → IsOfDown s → IsOfItsJob plan k s
-  down_kind (steps.Go other) number is = absurd is
-  down_kind steps.Event number is = absurd is
-  down_kind steps.Judge number is = absurd is
-  down_kind steps.Reap number is = absurd is
-  down_kind steps.Wash number is = absurd is
   down_kind (steps.Start bio) number is = number
-  down_kind (steps.Up bio) number is = absurd is
-  down_kind (steps.Take disk bio) number is = absurd is
-  down_kind (steps.Deliver bio got) number is = absurd is
+  down_kind _ number is = absurd is
 
   up_kind : (s : Step) → k ≡ event_seat plan + 2 → IsOfUp s → IsOfItsJob plan k s
-  up_kind (steps.Go other) number is = absurd is
-  up_kind steps.Event number is = absurd is
-  up_kind steps.Judge number is = absurd is
-  up_kind steps.Reap number is = absurd is
-  up_kind steps.Wash number is = absurd is
-  up_kind (steps.Start bio) number is = absurd is
   up_kind (steps.Up bio) number is = number
-  up_kind (steps.Take disk bio) number is = absurd is
-  up_kind (steps.Deliver bio got) number is = absurd is
+  up_kind _ number is = absurd is
 
   disk_kind : {D : Type 0} (worker : ℕ) (items : List (ℕ × Drive D)) (s : Step) → worker < 2
       → AreOfWorker worker items → k ≡ event_seat plan + 3 + worker → IsOfDisks (disks_of items) s
       → IsOfItsJob plan k s
-  disk_kind worker items (steps.Go other) two of number is = absurd is
-  disk_kind worker items steps.Event two of number is = absurd is
-  disk_kind worker items steps.Judge two of number is = absurd is
-  disk_kind worker items steps.Reap two of number is = absurd is
-  disk_kind worker items steps.Wash two of number is = absurd is
-  disk_kind worker items (steps.Start bio) two of number is = absurd is
-  disk_kind worker items (steps.Up bio) two of number is = absurd is
   disk_kind worker items (steps.Take disk bio) two of number is =
       number ∙ ap (λ n. event_seat plan + 3 + n) (sym (own_disk worker disk items of is))
   disk_kind worker items (steps.Deliver bio got) two of number is =
@@ -180,6 +160,7 @@ module _ (plan : Plan) (k : ℕ) where
         | inl zeroth ↦ inl (number ∙ ap (λ n. event_seat plan + 3 + n) zeroth)
         | inr first ↦ inr (number ∙ ap (λ n. event_seat plan + 3 + n) first)
       ]
+  disk_kind worker items _ two of number is = absurd is
 
 module _ {D : Type 0} (opened : World) (plan : Plan) (drives : List (Drive D)) (n : ℕ) (q : MeshPass)
     (number : q.number ≡ n) where
@@ -229,15 +210,11 @@ module _ {D : Type 0} (opened : World) (plan : Plan) (drives : List (Drive D)) (
       subst (λ k. HasFinished opened q.seen k) (sym kept.0) cause
   ended_as seen added (roles.Events a) (roles.Events b) turns.Idle role kept cause =
       tried_each (λ s is. cause s is)
-  ended_as seen added (roles.Events a) (roles.Events b) turns.Finished role kept cause = cause
-  ended_as seen added (roles.Down a) (roles.Down b) turns.Idle role kept cause = tt
-  ended_as seen added (roles.Down a) (roles.Down b) turns.Finished role kept cause = cause
-  ended_as seen added (roles.Up a) (roles.Up b) turns.Idle role kept cause = tt
-  ended_as seen added (roles.Up a) (roles.Up b) turns.Finished role kept cause = cause
-  ended_as seen added (roles.Disk a) (roles.Disk b) turns.Idle role kept cause = tt
-  ended_as seen added (roles.Disk a) (roles.Disk b) turns.Finished role kept cause = cause
-  ended_as seen added _ _ turns.Idle role kept cause = absurd kept
-  ended_as seen added _ _ turns.Finished role kept cause = absurd kept
+  ended_as seen added _ (roles.Client b) turns.Idle role kept cause = absurd kept
+  ended_as seen added _ (roles.Events b) turns.Idle role kept cause = absurd kept
+  ended_as seen added _ _ turns.Idle role kept cause = tt
+  ended_as seen added (roles.Client a) _ turns.Finished role kept cause = absurd kept
+  ended_as seen added _ _ turns.Finished role kept cause = absurd cause
 
 -- Workers
 
@@ -267,3 +244,238 @@ module _ {D : Type 0} (y : MeshYard) (lanes : Lanes) (seen : Drive D → DriveVi
       (has_ended n x z started.0 ran.0, have_ended (n + 1) xs zs started.1 ran.1)
   have_ended n [] (z ∷ zs) started ran = absurd ran
   have_ended n (x ∷ xs) [] started ran = absurd ran
+
+-- Each entry of the threads' log is an own entry of the job whose number is its seat, and of the job's kind.
+
+-- a Go is of one of so many actors
+abbrev pub IsOfActors : ℕ → Step → Type 0
+IsOfActors actors (steps.Go actor) = actor < actors
+IsOfActors actors _ = ⊤
+
+-- where a step is a Take, the entries deliver all that they take
+abbrev pub AnswersIfTake : List Entry → Step → Type 0
+AnswersIfTake mine (steps.Take disk bio) = AreAnswered mine
+AnswersIfTake mine _ = ⊤
+
+-- what is known of a step of the job with a number, whose own entries these are
+pub record IsMine (plan : Plan) (mine : List Entry) (n : ℕ) (s : Step) : Type 0 where
+  pub some_job : n ≢ 0
+  pub kind : IsOfItsJob plan n s
+  pub actor : IsOfActors (length plan.actors) s
+  pub taken : IsTaken mine s
+  pub answered : AnswersIfTake mine s
+
+module _ (plan : Plan) (mine : List Entry) (n : ℕ) where
+  known : n ≢ 0 → (s : Step) → IsOfItsJob plan n s → IsOfActors (length plan.actors) s → IsTaken mine s
+      → AnswersIfTake mine s → IsMine plan mine n s
+  known some_job s kind actor taken answered =
+      record { some_job = some_job; kind = kind; actor = actor; taken = taken; answered = answered }
+
+  client_mine : (actor : ℕ) → actor < length plan.actors → n ≡ actor + 1 → (s : Step) → IsOfClient actor s
+      → IsMine plan mine n s
+  client_mine actor lt is (steps.Go other) of =
+      known (λ none. omega (arith, is, none)) (steps.Go other) (is ∙ ap (λ k. k + 1) (sym of))
+      (subst (λ k. k < length plan.actors) (sym of) lt) tt tt
+  client_mine actor lt is _ of = absurd of
+
+  events_mine : n ≡ length plan.actors + 1 → (s : Step) → IsOfEvents s → IsMine plan mine n s
+  events_mine is steps.Judge of = known (λ none. omega (arith, is, none)) steps.Judge is tt tt tt
+  events_mine is steps.Event of = known (λ none. omega (arith, is, none)) steps.Event is tt tt tt
+  events_mine is steps.Reap of = known (λ none. omega (arith, is, none)) steps.Reap is tt tt tt
+  events_mine is steps.Wash of = known (λ none. omega (arith, is, none)) steps.Wash is tt tt tt
+  events_mine is _ of = absurd of
+
+  down_mine : n ≡ length plan.actors + 2 → (s : Step) → IsOfDown s → IsMine plan mine n s
+  down_mine is (steps.Start bio) of =
+      known (λ none. omega (arith, is, none)) (steps.Start bio) (omega (arith, is)) tt tt tt
+  down_mine is _ of = absurd of
+
+  up_mine : n ≡ length plan.actors + 3 → (s : Step) → IsOfUp s → IsMine plan mine n s
+  up_mine is (steps.Up bio) of =
+      known (λ none. omega (arith, is, none)) (steps.Up bio) (omega (arith, is)) tt tt tt
+  up_mine is _ of = absurd of
+
+  disk_mine : {X : Type 0} (worker : ℕ) (drives : List X) → worker < 2 → n ≡ length plan.actors + 4 + worker
+      → (s : Step) → IsOfDisks (map (λ (x : ℕ × X). x.0) (dealt worker drives)) s → IsTaken mine s → AreAnswered mine
+      → IsMine plan mine n s
+  disk_mine {X} worker drives two is (steps.Take disk bio) of taken answered = record {
+    some_job = λ none. omega (arith, is, none);
+    kind = seat ∙ ap (λ k. event_seat plan + 3 + k) (sym its);
+    actor = tt;
+    taken = tt;
+    answered = answered;
+  }
+    where
+      seat : n ≡ event_seat plan + 3 + worker
+      seat = omega (arith, is)
+
+      its : disk % 2 ≡ worker
+      its = own_disk worker disk (dealt worker drives) (dealt_of_worker worker drives) of
+  disk_mine {X} worker drives two is (steps.Deliver bio got) of taken answered = record {
+    some_job = λ none. omega (arith, is, none);
+    kind = elim (of_two worker two) [
+      | inl one ↦ inl (omega (arith, is, one))
+      | inr one ↦ inr (omega (arith, is, one))
+    ];
+    actor = tt;
+    taken = taken;
+    answered = tt;
+  }
+  disk_mine worker drives two is _ of taken answered = absurd of
+
+-- the own entries of the job with a number
+mine_of : {D : Type 0} (seen : Drive D → DriveView) (plan : Plan) (drives : List (Drive D)) (n : ℕ) (q : MeshPass)
+    (role : Role D) → DidAs seen (length plan.actors) drives n q role
+    → All (λ (e : Entry). IsMine plan q.own n e.step) q.own
+mine_of seen plan drives n q (roles.Client j) did =
+    All-weaker (λ (e : Entry). IsOfClient j.actor e.step) (λ (e : Entry). IsMine plan q.own n e.step)
+    (λ e of. client_mine plan q.own n j.actor did.0 did.1 e.step of) q.own did.2
+mine_of seen plan drives n q (roles.Events j) did =
+    All-weaker (λ (e : Entry). IsOfEvents e.step) (λ (e : Entry). IsMine plan q.own n e.step)
+    (λ e of. events_mine plan q.own n did.0 e.step of) q.own did.1
+mine_of seen plan drives n q (roles.Down j) did =
+    All-weaker (λ (e : Entry). IsOfDown e.step) (λ (e : Entry). IsMine plan q.own n e.step)
+    (λ e of. down_mine plan q.own n did.0 e.step of) q.own did.1
+mine_of seen plan drives n q (roles.Up j) did =
+    All-weaker (λ (e : Entry). IsOfUp e.step) (λ (e : Entry). IsMine plan q.own n e.step)
+    (λ e of. up_mine plan q.own n did.0 e.step of) q.own did.1
+mine_of {D} seen plan drives n q (roles.Disk j) did = λ k d lt.
+    disk_mine plan q.own n {X = Drive D} j.worker drives did.0 did.1 (slice_index_or q.own k d).step (did.2 k d lt)
+    (All-from_recursion (λ (e : Entry). IsTaken q.own e.step) q.own did.3.taken k d lt) did.3.answered
+
+-- The whole log
+
+module _ {D : Type 0} (y : MeshYard) (seen : Drive D → DriveView) (drives : List (Drive D)) (log : List Entry) where
+  abbrev plan : Plan
+  plan = y.start.plan
+
+  -- what is known of an entry of a number
+  abbrev IsMineOf : ℕ → Entry → Type 0
+  IsMineOf n e = IsMine plan (entries_of_seat n log) n e.step
+
+  -- the own entries of a worker
+  mine_one : (n : ℕ) (w : Worker D) → HasEnded y seen (length plan.actors) drives n w
+      → IsGoodIn (λ (e : Entry). e.seat) w.job.pass log → All (IsMineOf w.job.pass.number) w.job.pass.own
+  mine_one n w ended good =
+      let q = w.job.pass in
+      let did : All (λ (e : Entry). IsMine plan q.own n e.step) q.own =
+      mine_of seen plan drives n q w.job.role ended.did in
+      subst (λ (l : List Entry). All (λ (e : Entry). IsMine plan l q.number e.step) q.own) (sym good.own)
+      (subst (λ k. All (λ (e : Entry). IsMine plan q.own k e.step) q.own) (sym ended.number) did)
+
+  mine_all : (n : ℕ) (ws : List (Worker D)) → HaveEnded y seen (length plan.actors) drives n ws
+      → AllByRecursion (λ (p : MeshPass). IsGoodIn (λ (e : Entry). e.seat) p log) (passes_of ws)
+      → AllByRecursion (λ (p : MeshPass). All (IsMineOf p.number) p.own) (passes_of ws)
+  mine_all n [] ended good = tt
+  mine_all n (w ∷ ws) ended good =
+      (mine_one n w ended.0 good.0, mine_all (n + 1) ws ended.1 good.1)
+
+  -- each entry of the log
+  pub each_mine : (first : MeshPass) (ws : List (Worker D)) → first.own ≡ []
+      → HaveEnded y seen (length plan.actors) drives 1 ws
+      → All (λ (p : MeshPass). IsGoodIn (λ (e : Entry). e.seat) p log) (first ∷ passes_of ws)
+      → All (λ (e : Entry). Any (λ (p : MeshPass). p.number ≡ e.seat) (first ∷ passes_of ws)) log
+      → All (λ (e : Entry). IsMine plan (entries_of_seat e.seat log) e.seat e.step) log
+  each_mine first ws none ended good numbers =
+      each_own (λ (e : Entry). e.seat) IsMineOf (first ∷ passes_of ws) log good numbers
+      (All-from_recursion (λ (p : MeshPass). All (IsMineOf p.number) p.own) (first ∷ passes_of ws) (
+        subst (λ (l : List Entry). All (IsMineOf first.number) l) (sym none) (All-nil (IsMineOf first.number)),
+        mine_all 1 ws ended
+            (recursion_from_All (λ (p : MeshPass). IsGoodIn (λ (e : Entry). e.seat) p log) (first ∷ passes_of ws)
+            good).1,
+      ))
+
+-- What that tells
+
+-- what is found and kept is found among what is kept
+found_kept : {X : Type 0} (test keep : X → Bool) (xs : List X) (x : X) → find test xs ≡ Some x → keep x ≡ true
+    → find test (filter keep xs) ≡ Some x
+found_kept test keep [] x found kept = found
+found_kept {X} test keep (z ∷ xs) x found kept =
+    by (test z) refl (keep z) refl found (λ rest. found_kept test keep xs x rest kept)
+  where
+    by : (c : Bool) → test z ≡ c → (k : Bool) → keep z ≡ k → find test (z ∷ xs) ≡ Some x
+        → (find test xs ≡ Some x → find test (filter keep xs) ≡ Some x) → find test (filter keep (z ∷ xs)) ≡ Some x
+    by true is true stays here rest = rw (stays, is) (rw is at here)
+    by true is false stays here rest =
+        let one : Some z ≡ Some x = rw is at here in
+        let same : z ≡ x = cc in
+        absurd (both_ways (keep x) (subst (λ (v : X). keep v ≡ false) same stays) kept)
+    by false is true stays here rest = rw (stays, is) (rest (rw is at here))
+    by false is false stays here rest = rw stays (rest (rw is at here))
+
+-- a Deliver has an answer
+answer_there : (b : ℕ) (s : Step) → is_deliver_of b s ≡ true → IsSome (device_answer_in s)
+answer_there b (steps.Deliver x got) hit = refl
+answer_there b _ hit = absurd (let bad : ⊥ = cc in bad)
+
+-- an answer that some entries have, all have
+answer_in_all : (b : ℕ) (keep : Entry → Bool) (es : List Entry) → IsSome (device_answer_of (filter keep es) b)
+    → IsSome (device_answer_of es b)
+answer_in_all b keep [] some = some
+answer_in_all b keep (e ∷ es) some =
+    by (is_deliver_of b e.step) refl (keep e) refl some (answer_in_all b keep es)
+  where
+    by : (c : Bool) → is_deliver_of b e.step ≡ c → (k : Bool) → keep e ≡ k
+        → IsSome (device_answer_of (filter keep (e ∷ es)) b)
+        → (IsSome (device_answer_of (filter keep es) b) → IsSome (device_answer_of es b))
+        → IsSome (device_answer_of (e ∷ es) b)
+    by true hit k stays here rest = rw hit (answer_there b e.step hit)
+    by false hit true stays here rest = rw hit (rest (rw (stays, hit) at here))
+    by false hit false stays here rest = rw hit (rest (rw stays at here))
+
+-- where the step is a Take
+answers_take : (mine : List Entry) (b : ℕ) (s : Step) → is_take_of b s ≡ true → AnswersIfTake mine s → AreAnswered mine
+answers_take mine b (steps.Take disk x) hit answered = answered
+answers_take mine b _ hit answered = absurd (let bad : ⊥ = cc in bad)
+
+module _ (plan : Plan) (log : List Entry)
+    (mine : All (λ (e : Entry). IsMine plan (entries_of_seat e.seat log) e.seat e.step) log) where
+  -- what is known of one
+  pub mine_at : (e : Entry) → Contains log e → IsMine plan (entries_of_seat e.seat log) e.seat e.step
+  mine_at e here = All-contains (λ (x : Entry). IsMine plan (entries_of_seat x.seat log) x.seat x.step) log e mine here
+
+  -- each is of a job and of its kind
+  pub are_of_kind : All (λ (e : Entry). (e.seat ≢ 0) × IsOfItsJob plan e.seat e.step) log
+  are_of_kind =
+      All-weaker (λ (e : Entry). IsMine plan (entries_of_seat e.seat log) e.seat e.step)
+      (λ (e : Entry). (e.seat ≢ 0) × IsOfItsJob plan e.seat e.step) (λ e its. (its.some_job, its.kind)) log mine
+
+  -- the disks are served by their seats
+  pub are_by_seats : AreBySeats (disk_seat plan) log
+  are_by_seats = record {
+    takes = All-weaker (λ (e : Entry). IsMine plan (entries_of_seat e.seat log) e.seat e.step)
+        (λ (e : Entry). (disk b : ℕ) → e.step ≡ steps.Take disk b → e.seat ≡ disk_seat plan disk)
+        (λ e its disk b is. subst (λ (s : Step). IsOfItsJob plan e.seat s) is its.kind) log mine;
+    delivers = λ seat. All-from_contained (λ (e : Entry). IsTaken (entries_of_seat seat log) e.step)
+        (entries_of_seat seat log) (λ e here.
+        let at = filter-Contains (λ (x : Entry). x.seat == seat) log e here in
+        subst (λ k. IsTaken (entries_of_seat k log) e.step) (eqb-true e.seat seat at.1) (mine_at e at.0).taken);
+  }
+
+  -- what was taken was delivered
+  all_delivered : (b : ℕ) → IsSome (request_of log b) → IsSome (device_answer_of log b)
+  all_delivered b some = by (find (λ (e : Entry). is_take_of b e.step) log) refl
+    where
+      by : (o : Option Entry) → find (λ (e : Entry). is_take_of b e.step) log ≡ o → IsSome (device_answer_of log b)
+      by None none =
+          let bad : IsSome (option_and_then (λ (e : Entry). request_in e.outcome) None) =
+          subst (λ (o : Option Entry). IsSome (option_and_then (λ (e : Entry). request_in e.outcome) o)) none some in
+          absurd (let wrong : ⊥ = cc in wrong)
+      by (Some e) found =
+          let here : Contains log e = find-Contains (λ (x : Entry). is_take_of b x.step) log e found in
+          let own = entries_of_seat e.seat log in
+          let answered : AreAnswered own =
+          answers_take own b e.step (found_passes (λ (x : Entry). is_take_of b x.step) log e found)
+          (mine_at e here).answered in
+          let same : find (λ (x : Entry). is_take_of b x.step) own ≡ Some e =
+          found_kept (λ (x : Entry). is_take_of b x.step) (λ (x : Entry). x.seat == e.seat) log e found
+          (eq-eqb e.seat e.seat refl) in
+          let asked : request_of log b ≡ request_of own b =
+          ap (λ (o : Option Entry). option_and_then (λ (x : Entry). request_in x.outcome) o) (found ∙ sym same) in
+          answer_in_all b (λ (x : Entry). x.seat == e.seat) log (answered b (subst (λ o. IsSome o) asked some))
+
+  -- so no bio is at a disk
+  pub none_is_busy : (facts : List (ℕ × ℕ)) → IsPlan plan → FactsFit plan facts → Legal (opening plan facts) log
+      → NoneBusy (replay (opening plan facts) log)
+  none_is_busy facts is fit legal = all_delivered_none_busy plan facts is fit log legal all_delivered

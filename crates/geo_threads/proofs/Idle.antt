@@ -1,47 +1,84 @@
--- Where the jobs ended idle, the log tells why, whatever is done after them.
-use Rattle.std.specs.Prelude.{◌≡◌, ◌≢◌, ◌⊎◌, ℕ, zero, suc, ◌+◌, ◌<◌, ◌≤◌, ◌==◌, List, [], ◌∷◌, ◌++◌, length, map, All, Contains, Option, Some, None, Err, IsOkAnd, IsSomeAnd, option_and_then, slice_get}
+-- Why the jobs of a run ended: one found the log full, or each tried its steps in vain.
+use Rattle.std.specs.Prelude.{◌≡◌, ◌≢◌, ℕ, ◌+◌, ◌-◌, ◌≤◌, List, [], ◌++◌, length, All, Contains, ◌⊎◌, zero, suc, ◌<◌, ◌==◌, ◌∷◌, map, Option, Some, None, Err, IsOkAnd, IsSomeAnd, option_and_then, slice_get}
 use Rattle.std.specs.List.{range_with_len}
-use Rattle.std.proofs.Common.{ap, arith, inl, inr, refl, subst, sym, ◌∙◌}
+use Rattle.std.proofs.Common.{arith, subst, sym, ap, inl, inr, refl, ◌∙◌}
+use Rattle.std.proofs.lemmas.List.Elements.{All-contains, All-from_recursion, Contains-append_left, All-append, Contains-append_right, filter-append}
 use Rattle.std.proofs.lemmas.Bool.{eq-eqb}
 use Rattle.std.proofs.lemmas.List.{append-nil, append_assoc, append_cancel_left}
-use Rattle.std.proofs.lemmas.List.Elements.{All-append, All-contains, All-from_recursion, Contains-append_right, filter-append}
 use Rattle.std.proofs.lemmas.List.FromFn.{length-map-range_with_len}
 use Rattle.std.proofs.lemmas.Option.{slice_get_past}
 use mathlib.Core.List.{IsPrefix}
+use Rattle.geo_base.specs.declared.limits.TheConstants.{MAX_LOG_ENTRIES}
+use Rattle.geo_model.specs.declared.step.Entry.{Entry}
+use Rattle.geo_model.specs.World.{Plan, World, commands_of}
+use Rattle.geo_model.specs.Fitting.{Firm}
+use Rattle.geo_model.specs.Log.{owed, replay, IsMade, Legal}
+use Rattle.geo_model.specs.Opening.{opening}
+use Rattle.geo_model.specs.Plans.{FactsFit, IsPlan}
+use Rattle.geo_laws_graph.proofs.Members.{All-from_contained, Contains-filter, Contains-here, Contains-map, Contains-there, nothing_in}
+use Rattle.geo_laws_owed.proofs.Full.{full_logs_are_long, owed_never_falls}
+use Rattle.geo_laws_disks.proofs.Legal.{firm_after}
+use Rattle.geo_work.specs.Passes.{MeshPass, opened_by}
+use Rattle.geo_threads.specs.Ended.{WasFull, DidAs, EndedAs, HasEnded, HaveEnded, TriedEach, TriedLast}
+use Rattle.geo_threads.specs.Left.{FoundFullByJob}
 use Rattle.geo_disk.specs.declared.drive.Drive.{Drive}
 use Rattle.geo_model.specs.declared.command.LineCommand.{LineCommand}
-use Rattle.geo_model.specs.declared.step.Entry.{Entry}
 use Rattle.geo_model.specs.declared.step.Found.{Found}
-use Rattle.geo_model.specs.declared.step.Found.TheVariants as founds
 use Rattle.geo_model.specs.declared.step.Outcome.{Outcome}
 use Rattle.geo_model.specs.declared.step.Step.{Step}
-use Rattle.geo_model.specs.declared.step.Step.TheVariants as steps
-use Rattle.geo_model.specs.World.{Plan, World, commands_of}
 use Rattle.geo_model.specs.FixedOrder.{ClientStopped, EndedIdle, HasFinished, IsOfItsJob, IsWait, JobsEndedIdle, WasIdle, event_seat}
 use Rattle.geo_model.specs.History.{first_command, next_command}
-use Rattle.geo_model.specs.Log.{IsMade, Legal, replay}
-use Rattle.geo_model.specs.Opening.{opening}
 use Rattle.geo_model.specs.Passes.{entries_of_seat}
 use Rattle.geo_model.specs.Step.{Answer, go, go_of, step}
 use Rattle.geo_model.proofs.LogLemmas.{Legal-back, replay-append}
 use Rattle.geo_serve.specs.Drives.{DriveView}
-use Rattle.geo_laws_graph.proofs.Members.{All-from_contained, Contains-filter, Contains-here, Contains-map, Contains-there, nothing_in}
 use Rattle.geo_laws_rest.proofs.CommandsLeft.{others_leave_commands}
 use Rattle.geo_lock.specs.Pass.{IsGoodIn}
 use Rattle.geo_lock.proofs.Prefixes.{prefix_self, prefix_trans}
 use Rattle.geo_work.proofs.Openings.{opening_actors}
 use Rattle.geo_work.specs.Turn.{Turn}
-use Rattle.geo_work.specs.Turn.TheVariants as turns
-use Rattle.geo_work.specs.Passes.{MeshPass, opened_by}
 use Rattle.geo_work.specs.declared.job.Role.{Role}
-use Rattle.geo_work.specs.declared.job.Role.TheVariants as roles
 use Rattle.geo_work.specs.declared.run.Worker.{Worker}
 use Rattle.geo_work.specs.Clients.{IsWaiting}
 use Rattle.geo_work.specs.Kinds.{event_steps}
 use Rattle.geo_threads.specs.Closing.{passes_of}
-use Rattle.geo_threads.specs.Ended.{DidAs, EndedAs, HasEnded, HaveEnded, TriedEach, TriedLast}
 use Rattle.geo_threads.specs.Started.{MeshYard}
-use Rattle.geo_threads.proofs.Owned.{IsMine, IsOfActors, mine_at}
+use Rattle.geo_threads.proofs.Ending.{IsMine, IsOfActors, mine_at}
+use Rattle.geo_model.specs.declared.step.Found.TheVariants as founds
+use Rattle.geo_model.specs.declared.step.Step.TheVariants as steps
+use Rattle.geo_work.specs.Turn.TheVariants as turns
+use Rattle.geo_work.specs.declared.job.Role.TheVariants as roles
+
+pub found_full : (plan : Plan) (facts : List (ℕ × ℕ)) → IsPlan plan → FactsFit plan facts → (log : List Entry)
+    → All (λ (e : Entry). e.seat ≢ 0) log → (q : MeshPass) → IsPrefix q.seen log
+    → WasFull (opening plan facts) plan q → FoundFullByJob plan (opening plan facts) log
+found_full plan facts is fit log jobs q begins full =
+    let w = opening plan facts in
+    let whole : log ≡ q.seen ++ begins.0 = sym begins.1 in
+    let firm : Firm (replay w q.seen) = firm_after plan facts is fit q.seen in
+    let long : MAX_LOG_ENTRIES - 1 ≤ length q.seen + owed (replay w q.seen) =
+    full_logs_are_long q.seen (replay w q.seen) q.number full.0 firm full.2 in
+    let more : length q.seen + owed (replay w q.seen)
+    ≤ length (q.seen ++ begins.0) + owed (replay w (q.seen ++ begins.0)) =
+    owed_never_falls w q.seen begins.0 (firm_after plan facts is fit []) in
+    record {
+      job = record {
+        seen = q.seen;
+        seat = q.number;
+        tried = full.0;
+        prefix = (begins.0, whole);
+        by_jobs = All-from_recursion (λ (e : Entry). e.seat ≢ 0) q.seen
+            (All-from_contained (λ (e : Entry). e.seat ≢ 0) q.seen (λ e here.
+            All-contains (λ (x : Entry). x.seat ≢ 0) log e jobs
+            (subst (λ (l : List Entry). Contains l e) begins.1 (Contains-append_left q.seen begins.0 e here))));
+        own_kind = full.1;
+        full = full.2;
+      };
+      nearly = subst (λ (l : List Entry). MAX_LOG_ENTRIES - 1 ≤ length l + owed (replay w l)) begins.1
+          (omega (arith, long, more));
+    }
+
+-- Where the jobs ended idle, the log tells why, whatever is done after them.
 
 -- Jobs by their numbers
 
@@ -88,11 +125,8 @@ module _ {D : Type 0} (opened : World) (plan : Plan) (seen : Drive D → DriveVi
   client_at a lt is (roles.Client j) turns.Finished did ended memory full =
       let same : j.actor ≡ a = (let e = did.1 in omega (arith, e, is)) in
       inr (subst (λ k. HasFinished opened q.seen k) same ended)
-  client_at a lt is (roles.Events j) answer did ended memory full =
-      absurd (let e = did.0 in omega (arith, e, is, lt))
-  client_at a lt is (roles.Down j) answer did ended memory full = absurd (let e = did.0 in omega (arith, e, is, lt))
-  client_at a lt is (roles.Up j) answer did ended memory full = absurd (let e = did.0 in omega (arith, e, is, lt))
   client_at a lt is (roles.Disk j) answer did ended memory full = absurd (let e = did.1 in omega (arith, e, is, lt))
+  client_at a lt is _ answer did ended memory full = absurd (let e = did.0 in omega (arith, e, is, lt))
 
   -- the event worker tried each of its steps in vain
   events_at : n ≡ actors + 1 → (role : Role D) (answer : Turn)
@@ -105,9 +139,8 @@ module _ {D : Type 0} (opened : World) (plan : Plan) (seen : Drive D → DriveVi
   events_at is (roles.Events j) turns.Finished did ended memory full = absurd ended
   events_at is (roles.Client j) answer did ended memory full =
       absurd (let e = did.1 in let lt = did.0 in omega (arith, e, is, lt))
-  events_at is (roles.Down j) answer did ended memory full = absurd (let e = did.0 in omega (arith, e, is))
-  events_at is (roles.Up j) answer did ended memory full = absurd (let e = did.0 in omega (arith, e, is))
   events_at is (roles.Disk j) answer did ended memory full = absurd (let e = did.1 in omega (arith, e, is))
+  events_at is _ answer did ended memory full = absurd (let e = did.0 in omega (arith, e, is))
 
 -- A step that a job tried
 

@@ -1,11 +1,6 @@
 pub mod Dealing
 pub mod Ending
-pub mod Owned
 pub mod Idle
-pub mod Full
-pub mod Drives
 pub mod Starting
 pub mod Leaving
 pub mod Homing
-pub mod Running
-pub mod Viewing

@@ -1,5 +1,5 @@
 -- Workers that begin, by their numbers.
-use Rattle.std.specs.Prelude.{◌≡◌, ℕ, zero, suc, ◌+◌, ◌*◌, ◌<◌, ◌≤◌, List, [], ◌∷◌, ◌++◌, length, slice_index_or, Option, Some, IfSome}
+use Rattle.std.specs.Prelude.{◌≡◌, ℕ, ◌+◌, ◌*◌, ◌<◌, ◌≤◌, List, [], ◌∷◌, ◌++◌, length, Option, Some, IfSome}
 use Rattle.std.proofs.Common.{ap, arith, refl, subst, sym, ◌∙◌}
 use Rattle.atomic_table.specs.Seated.{TableId}
 use Rattle.std.proofs.lemmas.List.{append-nil, append_assoc, length-append}
@@ -19,7 +19,6 @@ use Rattle.geo_work.specs.declared.run.Worker.{Worker}
 use Rattle.geo_work.specs.Jobs.{HasItsDrives, IsRoleOf}
 use Rattle.geo_work.specs.LanePasses.{IsPassTo}
 use Rattle.geo_work.specs.Listings.{listing_after, listing_seen}
-use Rattle.geo_work.specs.Workers.{IsReady}
 use Rattle.geo_threads.specs.declared.lanes.Passes.{Passes}
 use Rattle.geo_threads.specs.Deal.{dealt}
 use Rattle.geo_threads.specs.Lanes.{ArePasses, IsPutter, taker_of}
@@ -45,13 +44,6 @@ module _ {D : Type 0} (y : MeshYard) (lanes : Lanes) (seen : Drive D → DriveVi
     all.0,
     started_append (n + 1) xs vs all.1 (subst (λ k. AreStarted y lanes seen actors drives k vs) (omega arith) more),
   )
-
-  -- a worker is ready at a place of the yard
-  pub ready_at : (n : ℕ) (ws : List (Worker D)) (k : ℕ) (d : Worker D)
-      → AreStarted y lanes seen actors drives n ws → k < length ws → IsReady y lanes seen (slice_index_or ws k d)
-  ready_at n [] k d all lt = absurd (omega (arith, lt))
-  ready_at n (x ∷ xs) zero d all lt = all.0.ready
-  ready_at n (x ∷ xs) (suc k) d all lt = ready_at (n + 1) xs k d all.1 (omega (arith, lt))
 
   -- a worker that begins with the next pass
   begun : (n : ℕ) (first : MeshPass) (number : ℕ) (role : Role D) → IsPassOf y first → number ≡ n
@@ -232,14 +224,9 @@ module _ (first : MeshPass) where
       ≡ pass_of_number first (first.made + k)
   next_after k f is = ap (λ (p : MeshPass). pass_of_number p p.made) is
 
--- workers that begin alike
-pub begin_alike : {D : Type 0} (p q : MeshPass) (r s : Role D) → p ≡ q → r ≡ s → beginning p r ≡ beginning q s
-begin_alike p q r s same alike =
-    ap (λ (x : MeshPass). beginning x r) same ∙ ap (λ (x : Role _). beginning q x) alike
-
--- one more behind others
-pub push_on : {A : Type 0} (ws xs l m : List A) (b c : A) → l ≡ ws ++ xs → m ≡ l ++ b ∷ [] → b ≡ c
-    → m ≡ ws ++ (xs ++ c ∷ [])
-push_on {A} ws xs l m b c front more same =
-    more ∙ ap (λ (k : List A). k ++ b ∷ []) front ∙ append_assoc ws xs (b ∷ [])
-    ∙ ap (λ (x : A). ws ++ (xs ++ x ∷ [])) same
+-- one more worker behind others, with what its pass and its role are
+pub push_next : {D : Type 0} (ws xs l m : List (Worker D)) {p q : MeshPass} {r s : Role D} → l ≡ ws ++ xs
+    → m ≡ l ++ beginning p r ∷ [] → p ≡ q → r ≡ s → m ≡ ws ++ (xs ++ beginning q s ∷ [])
+push_next {D} ws xs l m {p} {q} {r} {s} front more same alike =
+    more ∙ ap (λ (k : List (Worker D)). k ++ beginning p r ∷ []) front ∙ append_assoc ws xs (beginning p r ∷ [])
+    ∙ (λ i. ws ++ (xs ++ beginning (same i) (alike i) ∷ []))

@@ -12,8 +12,7 @@ use Rattle.geo_model.specs.World.{World}
 use Rattle.geo_model.specs.Log.{made, entry_by, world_after, owed, is_full, is_full_after}
 use Rattle.geo_model.specs.Step.{Answer, step}
 use Rattle.geo_model.specs.Fitting.{Firm}
-use Rattle.geo_laws_traces.proofs.Legal.{firm_after}
-use Rattle.geo_laws_traces.proofs.Owes.{owes_one_more, owes_few}
+use Rattle.geo_laws_traces.proofs.Owes.{firm_after, owes_one_more, owes_few}
 use Rattle.geo_headline.specs.Traces.{read_steps, report_mark, parts_of, marked, seat_and_step, then_read}
 use Rattle.geo_core.specs.Mesh.{MeshView, opened, world_of, IsHistory, Made, Advances, entry_of}
 use Rattle.geo_core.specs.declared.refusal.ApplyRefusal.{ApplyRefusal}

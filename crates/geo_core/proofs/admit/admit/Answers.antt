@@ -1,11 +1,9 @@
 use Rattle.std.proofs.Common.{refl, sym, subst, arith}
 use Rattle.geo_state.specs.declared.state.State.{State}
 use Rattle.geo_core.specs.Goes.{IsReady}
-use Rattle.geo_core.proofs.Admits.{not_ok}
+use Rattle.geo_core.proofs.Admits.{not_ok, log_few}
 use Rattle.geo_core.proofs.Meshes.{mesh_stands}
-use Rattle.geo_core.proofs.Admitting.{other_mesh, other_seen, other_admitted, other_refused}
-use Rattle.geo_core.proofs.Applying.{refused_found, pays_room, pays_place, pays_found}
-use Rattle.geo_core.proofs.Owing.{log_few}
+use Rattle.geo_core.proofs.Applying.{other_mesh, other_seen, other_admitted, other_refused, refused_found, pays_room, pays_place, pays_found}
 use Rattle.geo_core.proofs.admit.admit.Goals as goal
 
 pub found_against-requires-clause-stands : goal.found_against-requires-clause-stands

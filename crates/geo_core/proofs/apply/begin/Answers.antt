@@ -1,4 +1,4 @@
-use Rattle.geo_core.proofs.Beginning.{begun}
+use Rattle.geo_core.proofs.Openings.{begun}
 use Rattle.geo_core.proofs.apply.begin.Goals as goal
 
 -- all commands are left, the state is that of the opening, and an empty log leads there

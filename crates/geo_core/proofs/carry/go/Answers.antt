@@ -1,6 +1,5 @@
 use Rattle.geo_core.specs.Left.{left_of}
-use Rattle.geo_core.proofs.Admits.{not_ok}
-use Rattle.geo_core.proofs.Going.{went, next_is_command, closes_surely}
+use Rattle.geo_core.proofs.Admits.{not_ok, went, next_is_command, closes_surely}
 use Rattle.geo_core.proofs.Making.{go_next_of}
 use Rattle.geo_core.proofs.carry.go.Goals as goal
 

@@ -1,6 +1,6 @@
 use Rattle.std.proofs.Common.{Some}
 use Rattle.geo_model.specs.Step.{step}
-use Rattle.geo_core.proofs.Founds.{found_next, found_nothing, found_by}
+use Rattle.geo_core.proofs.Admits.{found_next, found_nothing, found_by}
 use Rattle.geo_core.proofs.found.found_against.Goals as goal
 
 pub returns-in-Ok : goal.returns-in-Ok

@@ -2,7 +2,7 @@ use Rattle.std.proofs.Common.{◌∙◌, ap, map, List, ℕ}
 use Rattle.std.specs.Prelude.{zip}
 use Rattle.geo_model.specs.declared.command.DiskDecl.{DiskDecl}
 use Rattle.geo_model.specs.Opening.{disk_in_size}
-use Rattle.geo_core.proofs.Seats.{empty_result}
+use Rattle.geo_core.proofs.Openings.{empty_result}
 use Rattle.geo_core.proofs.opening.bare.Goals as goal
 
 -- with no disk standing, no request out and all commands left, the world is that before the opening's first disk

@@ -1,5 +1,5 @@
 -- So many disks have their seats, in header order.
-use Rattle.geo_core.proofs.Seats.{AreSeats}
+use Rattle.geo_core.proofs.Openings.{AreSeats}
 use Rattle.geo_core.proofs.opening.seats_of.Given as goal
 
 abbrev pub invariant-loop-place : goal.invariant-loop-place

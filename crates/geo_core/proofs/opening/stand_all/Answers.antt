@@ -1,5 +1,5 @@
 use Rattle.std.proofs.Common.{ap, length, arith}
-use Rattle.geo_core.proofs.Stands.{opened_end}
+use Rattle.geo_core.proofs.Openings.{opened_end}
 use Rattle.geo_core.proofs.opening.stand_all.Goals as goal
 
 -- all disks of the header were met, so those stand that stand at the opening

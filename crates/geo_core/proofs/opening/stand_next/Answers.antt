@@ -1,6 +1,6 @@
 use Rattle.std.proofs.Common.{arith}
 use Rattle.geo_core.specs.Openings.{stood}
-use Rattle.geo_core.proofs.Stands.{opened_stands, later_told, later_stays, can_stand, next_stands}
+use Rattle.geo_core.proofs.Openings.{opened_stands, later_told, later_stays, can_stand, next_stands}
 use Rattle.geo_core.proofs.opening.stand_next.Goals as goal
 
 pub overflow_cast-disk : goal.overflow_cast-disk

@@ -1,7 +1,7 @@
 use Rattle.std.proofs.Common.{Some, None, sym, subst}
 use Rattle.geo_model.specs.declared.step.Step.{Step}
 use Rattle.geo_core.specs.Goes.{IsReady}
-use Rattle.geo_core.proofs.Founds.{ready_some, ready_none, ready_other}
+use Rattle.geo_core.proofs.Admits.{ready_some, ready_none, ready_other}
 use Rattle.geo_core.proofs.owed.decide_step.Goals as goal
 
 -- what was decided is decided of the actor's next command, and there is just one

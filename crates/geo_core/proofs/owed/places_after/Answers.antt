@@ -1,10 +1,10 @@
-use Rattle.std.proofs.Common.{◌+◌, refl, ap, sym, subst, arith}
+use Rattle.std.proofs.Common.{◌+◌, ap, sym, subst, arith}
 use Rattle.geo_model.specs.declared.step.Step.{Step}
 use Rattle.geo_core.specs.Goes.{IsOwedAfter}
 use Rattle.geo_core.specs.Mesh.{world_of}
 use Rattle.geo_core.specs.Running.{seen}
 use Rattle.geo_core.proofs.Making.{ready_go}
-use Rattle.geo_core.proofs.Owing.{owed_few, owed_go, owed_none, owed_take, owed_deliver, owed_same}
+use Rattle.geo_core.proofs.Admits.{owed_few, owed_go, owed_none, owed_take, owed_deliver, owed_same}
 use Rattle.geo_core.proofs.owed.places_after.Goals as goal
 
 pub places_owed-now-requires : goal.places_owed-now-requires
@@ -45,32 +45,8 @@ returns-in-Deliver c =
     (owed_deliver r c.requires.mesh c.in-Deliver.bio c.saturating_sub.result c.in-Deliver.got
     (let less = c.saturating_sub.ensures in let same = c.places_owed-now.ensures.owed in omega (arith, less, same)))
 
--- Each other step: it begins to owe no place, and pays none
-pub returns-in-Event : goal.returns-in-Event
-returns-in-Event c =
-    owed_same c.args.running.now c.requires.mesh c.in-Event.is refl c.places_owed-now.result
-    c.places_owed-now.ensures.owed
-
-pub returns-in-Judge : goal.returns-in-Judge
-returns-in-Judge c =
-    owed_same c.args.running.now c.requires.mesh c.in-Judge.is refl c.places_owed-now.result
-    c.places_owed-now.ensures.owed
-
-pub returns-in-Reap : goal.returns-in-Reap
-returns-in-Reap c =
-    owed_same c.args.running.now c.requires.mesh c.in-Reap.is refl c.places_owed-now.result
-    c.places_owed-now.ensures.owed
-
-pub returns-in-Wash : goal.returns-in-Wash
-returns-in-Wash c =
-    owed_same c.args.running.now c.requires.mesh c.in-Wash.is refl c.places_owed-now.result
-    c.places_owed-now.ensures.owed
-
-pub returns-in-Start : goal.returns-in-Start
-returns-in-Start c =
-    owed_same c.args.running.now c.requires.mesh c.in-Start.is refl c.places_owed-now.result
-    c.places_owed-now.ensures.owed
-
-pub returns-in-Up : goal.returns-in-Up
-returns-in-Up c =
-    owed_same c.args.running.now c.requires.mesh c.in-Up.is refl c.places_owed-now.result c.places_owed-now.ensures.owed
+-- each other step begins to owe no place, and pays none
+pub returns-in_default : goal.returns-in_default
+returns-in_default c =
+    owed_same c.args.running.now c.requires.mesh c.args.step.now c.in_default.not-Go c.in_default.not-Take
+    c.in_default.not-Deliver c.places_owed-now.result c.places_owed-now.ensures.owed

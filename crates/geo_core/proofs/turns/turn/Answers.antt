@@ -1,11 +1,9 @@
-use Rattle.std.proofs.Common.{sym, subst}
+use Rattle.std.proofs.Common.{Ok, sym, subst}
 use Rattle.geo_model.specs.declared.step.Outcome.TheVariants as outcomes
 use Rattle.geo_model.specs.declared.step.Step.{Step}
 use Rattle.geo_model.specs.Step.{step}
-use Rattle.geo_core.specs.Moves.{Turns, IsTurn, IsDeliver}
-use Rattle.geo_core.proofs.Meshes.{longer_bytes}
-use Rattle.geo_core.proofs.Making.{more_bytes, all_bytes}
-use Rattle.geo_core.proofs.Turning.{none_by, is_down_now, is_up_now, turns_by, result_turns, turns_deliver}
+use Rattle.geo_core.specs.Moves.{Turns, IsTurn}
+use Rattle.geo_core.proofs.Making.{none_by, is_down_now, is_up_now, step_turned, turns_deliver}
 use Rattle.geo_core.proofs.turns.turn.Goals as goal
 
 pub unreachable-requires : goal.unreachable-requires
@@ -48,138 +46,71 @@ up-requires-clause-up g c =
     is_up_now c.args.state.now c.args.seat c.in-Up.bio
     (none_by c.args.state.now c.args.seat c.in-Up.is c.requires.enabled)
 
--- From here on for each step that may want memory: what was made is what the step does in the model
-pub returns-in-Event-clause-made : goal.returns-in-Event-clause-made
+-- From here on: what was made is what the step does in the model, and the bytes that bios name in the log are there
+-- still with one entry more
+pub returns-in-Event : goal.returns-in-Event
 unfolding step
-returns-in-Event-clause-made g c =
+returns-in-Event g c =
     let log = c.args.log.now.items in
-    result_turns log c.args.state.now c.do_event.new.state c.args.seat c.do_event.result c.in-Event.is
-    (c.do_event.ensures.logged log c.requires.logged) (c.do_event.ensures.made log)
+    let turned =
+    step_turned log c.args.state.now c.do_event.new.state c.args.seat c.do_event.result c.in-Event.is (λ no. no)
+    (c.do_event.ensures.logged log c.requires.logged) (c.do_event.ensures.made log) in
+    assumption (turned, c.do_event.ensures)
 
--- the bytes that bios name in the log are there still with one entry more
-pub returns-in-Event-clause-logged : goal.returns-in-Event-clause-logged
-returns-in-Event-clause-logged g c =
-    let log = c.args.log.now.items in
-    more_bytes log c.do_event.new.state c.do_event.result (c.do_event.ensures.logged log c.requires.logged)
-
-pub returns-in-Event-clause-bytes : goal.returns-in-Event-clause-bytes
-returns-in-Event-clause-bytes g c =
-    let log = c.args.log.now.items in
-    all_bytes log c.do_event.new.state c.do_event.result (c.do_event.ensures.logged log c.requires.logged)
-
-pub returns-in-Event-clause-sure : goal.returns-in-Event-clause-sure
-returns-in-Event-clause-sure g c = λ is. absurd (subst IsDeliver c.in-Event.is is)
-
-pub returns-in-Judge-clause-made : goal.returns-in-Judge-clause-made
+pub returns-in-Judge : goal.returns-in-Judge
 unfolding step
-returns-in-Judge-clause-made g c =
+returns-in-Judge g c =
     let log = c.args.log.now.items in
-    result_turns log c.args.state.now c.judge.new.state c.args.seat c.judge.result c.in-Judge.is
-    (c.judge.ensures.logged log c.requires.logged) (c.judge.ensures.made log)
+    let turned =
+    step_turned log c.args.state.now c.judge.new.state c.args.seat c.judge.result c.in-Judge.is (λ no. no)
+    (c.judge.ensures.logged log c.requires.logged) (c.judge.ensures.made log) in
+    assumption (turned, c.judge.ensures)
 
-pub returns-in-Judge-clause-logged : goal.returns-in-Judge-clause-logged
-returns-in-Judge-clause-logged g c =
-    let log = c.args.log.now.items in
-    more_bytes log c.judge.new.state c.judge.result (c.judge.ensures.logged log c.requires.logged)
-
-pub returns-in-Judge-clause-bytes : goal.returns-in-Judge-clause-bytes
-returns-in-Judge-clause-bytes g c =
-    let log = c.args.log.now.items in
-    all_bytes log c.judge.new.state c.judge.result (c.judge.ensures.logged log c.requires.logged)
-
-pub returns-in-Judge-clause-sure : goal.returns-in-Judge-clause-sure
-returns-in-Judge-clause-sure g c = λ is. absurd (subst IsDeliver c.in-Judge.is is)
-
-pub returns-in-Start-clause-made : goal.returns-in-Start-clause-made
+pub returns-in-Start : goal.returns-in-Start
 unfolding step
-returns-in-Start-clause-made g c =
+returns-in-Start g c =
     let log = c.args.log.now.items in
-    result_turns log c.args.state.now c.start.new.state c.args.seat c.start.result c.in-Start.is
-    (c.start.ensures.logged log c.requires.logged) (c.start.ensures.made log)
+    let turned =
+    step_turned log c.args.state.now c.start.new.state c.args.seat c.start.result c.in-Start.is (λ no. no)
+    (c.start.ensures.logged log c.requires.logged) (c.start.ensures.made log) in
+    assumption (turned, c.start.ensures)
 
-pub returns-in-Start-clause-logged : goal.returns-in-Start-clause-logged
-returns-in-Start-clause-logged g c =
-    let log = c.args.log.now.items in
-    more_bytes log c.start.new.state c.start.result (c.start.ensures.logged log c.requires.logged)
-
-pub returns-in-Start-clause-bytes : goal.returns-in-Start-clause-bytes
-returns-in-Start-clause-bytes g c =
-    let log = c.args.log.now.items in
-    all_bytes log c.start.new.state c.start.result (c.start.ensures.logged log c.requires.logged)
-
-pub returns-in-Start-clause-sure : goal.returns-in-Start-clause-sure
-returns-in-Start-clause-sure g c = λ is. absurd (subst IsDeliver c.in-Start.is is)
-
-pub returns-in-Take-clause-made : goal.returns-in-Take-clause-made
+pub returns-in-Take : goal.returns-in-Take
 unfolding step
-returns-in-Take-clause-made g c =
+returns-in-Take g c =
     let log = c.args.log.now.items in
-    result_turns log c.args.state.now c.take.new.state c.args.seat c.take.result c.in-Take.is
-    (c.take.ensures.logged log c.requires.logged) (c.take.ensures.made log)
+    let turned =
+    step_turned log c.args.state.now c.take.new.state c.args.seat c.take.result c.in-Take.is (λ no. no)
+    (c.take.ensures.logged log c.requires.logged) (c.take.ensures.made log) in
+    assumption (turned, c.take.ensures)
 
-pub returns-in-Take-clause-logged : goal.returns-in-Take-clause-logged
-returns-in-Take-clause-logged g c =
-    let log = c.args.log.now.items in
-    more_bytes log c.take.new.state c.take.result (c.take.ensures.logged log c.requires.logged)
-
-pub returns-in-Take-clause-bytes : goal.returns-in-Take-clause-bytes
-returns-in-Take-clause-bytes g c =
-    let log = c.args.log.now.items in
-    all_bytes log c.take.new.state c.take.result (c.take.ensures.logged log c.requires.logged)
-
-pub returns-in-Take-clause-sure : goal.returns-in-Take-clause-sure
-returns-in-Take-clause-sure g c = λ is. absurd (subst IsDeliver c.in-Take.is is)
-
-pub returns-in-Up-clause-made : goal.returns-in-Up-clause-made
+pub returns-in-Up : goal.returns-in-Up
 unfolding step
-returns-in-Up-clause-made g c =
+returns-in-Up g c =
     let log = c.args.log.now.items in
-    result_turns log c.args.state.now c.up.new.state c.args.seat c.up.result c.in-Up.is
-    (c.up.ensures.logged log c.requires.logged) c.up.ensures.made
+    let turned =
+    step_turned log c.args.state.now c.up.new.state c.args.seat c.up.result c.in-Up.is (λ no. no)
+    (c.up.ensures.logged log c.requires.logged) c.up.ensures.made in
+    assumption (turned, c.up.ensures)
 
-pub returns-in-Up-clause-logged : goal.returns-in-Up-clause-logged
-returns-in-Up-clause-logged g c =
-    let log = c.args.log.now.items in
-    more_bytes log c.up.new.state c.up.result (c.up.ensures.logged log c.requires.logged)
-
-pub returns-in-Up-clause-bytes : goal.returns-in-Up-clause-bytes
-returns-in-Up-clause-bytes g c =
-    let log = c.args.log.now.items in
-    all_bytes log c.up.new.state c.up.result (c.up.ensures.logged log c.requires.logged)
-
-pub returns-in-Up-clause-sure : goal.returns-in-Up-clause-sure
-returns-in-Up-clause-sure g c = λ is. absurd (subst IsDeliver c.in-Up.is is)
-
--- From here on a Reap and a Wash, which take no memory
-pub returns-in-Reap-clause-made : goal.returns-in-Reap-clause-made
+-- a Reap and a Wash take no memory
+pub returns-in-Reap : goal.returns-in-Reap
 unfolding step
-returns-in-Reap-clause-made g c =
+returns-in-Reap g c =
     let log = c.args.log.now.items in
-    turns_by log c.args.state.now c.do_reap.new.state c.args.seat c.do_reap.result c.in-Reap.is
-    (c.do_reap.ensures.logged log c.requires.logged) (c.do_reap.ensures.made log)
+    let turned =
+    step_turned log c.args.state.now c.do_reap.new.state c.args.seat (Ok c.do_reap.result) c.in-Reap.is (λ no. no)
+    (c.do_reap.ensures.logged log c.requires.logged) (c.do_reap.ensures.made log) in
+    assumption (turned, c.do_reap.ensures)
 
-pub returns-in-Reap-clause-logged : goal.returns-in-Reap-clause-logged
-returns-in-Reap-clause-logged g c = λ e.
-    let log = c.args.log.now.items in
-    longer_bytes log e c.do_reap.new.state (c.do_reap.ensures.logged log c.requires.logged)
-
-pub returns-in-Reap-clause-sure : goal.returns-in-Reap-clause-sure
-returns-in-Reap-clause-sure g c = λ is. absurd (subst IsDeliver c.in-Reap.is is)
-
-pub returns-in-Wash-clause-made : goal.returns-in-Wash-clause-made
+pub returns-in-Wash : goal.returns-in-Wash
 unfolding step
-returns-in-Wash-clause-made g c =
+returns-in-Wash g c =
     let log = c.args.log.now.items in
-    turns_by log c.args.state.now c.do_wash.new.state c.args.seat c.do_wash.result c.in-Wash.is
-    (c.do_wash.ensures.logged log c.requires.logged) (c.do_wash.ensures.made log)
-
-pub returns-in-Wash-clause-logged : goal.returns-in-Wash-clause-logged
-returns-in-Wash-clause-logged g c = λ e.
-    let log = c.args.log.now.items in
-    longer_bytes log e c.do_wash.new.state (c.do_wash.ensures.logged log c.requires.logged)
-
-pub returns-in-Wash-clause-sure : goal.returns-in-Wash-clause-sure
-returns-in-Wash-clause-sure g c = λ is. absurd (subst IsDeliver c.in-Wash.is is)
+    let turned =
+    step_turned log c.args.state.now c.do_wash.new.state c.args.seat (Ok c.do_wash.result) c.in-Wash.is (λ no. no)
+    (c.do_wash.ensures.logged log c.requires.logged) (c.do_wash.ensures.made log) in
+    assumption (turned, c.do_wash.ensures)
 
 -- the entry that comes next is that of the Deliver, so the bio may name its bytes by it
 pub returns-in-Deliver-clause-made : goal.returns-in-Deliver-clause-made

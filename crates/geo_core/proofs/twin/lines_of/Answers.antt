@@ -1,7 +1,7 @@
 use Rattle.std.proofs.Common.{sym, subst}
 use Rattle.geo_model.specs.declared.command.Command.{Command}
 use Rattle.geo_core.proofs.Meshes.{mesh_stands}
-use Rattle.geo_core.proofs.Spares.{prints_lines, quiet_command}
+use Rattle.geo_core.proofs.Twins.{prints_lines, quiet_command}
 use Rattle.geo_core.specs.declared.twin.Spare.TheVariants as spares
 use Rattle.geo_core.specs.Twins.{HasCommand}
 use Rattle.geo_core.proofs.twin.lines_of.Goals as goal

@@ -3,7 +3,7 @@ use Rattle.geo_model.specs.declared.step.Step.{Step}
 use Rattle.geo_core.specs.Mesh.{world_of, IsSure}
 use Rattle.geo_core.specs.Running.{seen}
 use Rattle.geo_core.specs.Twins.{HasOutcome}
-use Rattle.geo_core.proofs.Spares.{spare_go_result, spare_no_go, spare_take, spare_up, spare_none, close_is_quiet}
+use Rattle.geo_core.proofs.Twins.{spare_go_result, spare_no_go, spare_take, spare_up, spare_none, close_is_quiet}
 use Rattle.geo_core.proofs.twin.spare_of.Goals as goal
 
 -- the outcome of the Go is that of the actor's next command

@@ -1,9 +1,7 @@
-use Rattle.std.proofs.Common.{◌≡◌, ◌∙◌, ℕ, List, sym, subst}
-use Rattle.geo_model.specs.declared.step.Entry.{Entry}
-use Rattle.geo_drain.specs.Meshes.{opened, world_of}
-use Rattle.geo_elev.specs.declared.disks.DiskHead.{DiskHead}
-use Rattle.geo_elev.specs.Following.{ComesAfter, Followed, Starts, TakesIfFollowed, heads_at}
-use Rattle.geo_elev.proofs.Histories.{if_ok, quiet_then, take_then, start_then}
+use Rattle.std.proofs.Common.{◌∙◌, sym}
+use Rattle.geo_drain.specs.Meshes.{world_of}
+use Rattle.geo_elev.specs.Following.{Starts, TakesIfFollowed}
+use Rattle.geo_elev.proofs.Histories.{if_followed, quiet_then, take_then, start_then}
 use Rattle.geo_elev.proofs.heads.follow.Goals as goal
 
 -- no head moves and nothing comes to wait at a disk, or leaves it
@@ -19,13 +17,10 @@ returns-in-Asked-clause-followed c =
     let m = c.args.mesh.now in
     let e = c.args.entry.now in
     let new = c.follow_take.new.disks in
-    if_ok (λ b. TakesIfFollowed b c.in-Asked.request e.step c.args.disks.now new)
-    (λ b. (seen : List Entry) (n : ℕ) → ComesAfter m.log seen e c.args.is_last
-    → c.args.disks.now ≡ heads_at (opened m) seen n → Followed b (opened m) seen e n new)
-    c.follow_take.result
-    (λ b does seen n comes old.
-    take_then m c.requires.history seen e c.args.is_last comes n b c.in-Asked.request new c.in-Asked.is
-    (subst (λ (ds : List DiskHead). TakesIfFollowed b c.in-Asked.request e.step ds new) old does))
+    if_followed m e c.args.is_last c.args.disks.now new c.follow_take.result
+    (λ ds b. TakesIfFollowed b c.in-Asked.request e.step ds new)
+    (λ seen n b comes does.
+    take_then m c.requires.history seen e c.args.is_last comes n b c.in-Asked.request new c.in-Asked.is does)
     c.follow_take.ensures.takes
 
 -- it is the last entry, so the mesh still tells where at the disk the bio begins
@@ -34,12 +29,9 @@ returns-in-Queued-clause-followed c =
     let m = c.args.mesh.now in
     let e = c.args.entry.now in
     let new = c.follow_start.new.disks in
-    if_ok (λ b. Starts b (world_of m) c.in-Queued.disk e.step c.args.disks.now new)
-    (λ b. (seen : List Entry) (n : ℕ) → ComesAfter m.log seen e c.args.is_last
-    → c.args.disks.now ≡ heads_at (opened m) seen n → Followed b (opened m) seen e n new)
-    c.follow_start.result
-    (λ b does seen n comes old.
+    if_followed m e c.args.is_last c.args.disks.now new c.follow_start.result
+    (λ ds b. Starts b (world_of m) c.in-Queued.disk e.step ds new)
+    (λ seen n b comes does.
     start_then m c.requires.history seen e c.args.is_last comes n b c.in-Queued.disk new c.in-Queued.is
-    c.if-is_last.true
-    (subst (λ (ds : List DiskHead). Starts b (world_of m) c.in-Queued.disk e.step ds new) old does))
+    c.if-is_last.true does)
     c.follow_start.ensures.starts

@@ -4,7 +4,7 @@ use Rattle.std.specs.Ordering.{nat_cmp}
 use Rattle.geo_elev.specs.declared.lists.Place.{Place}
 use Rattle.geo_elev.specs.Lists.{Rises, all_waiting, is_none_of}
 use Rattle.geo_elev.proofs.Kept.{moved_on}
-use Rattle.geo_elev.proofs.Listed.{some_more}
+use Rattle.geo_elev.proofs.Candidates.{some_more}
 use Rattle.geo_elev.proofs.lists.fill_on.Goals as goal
 
 -- the first that comes behind is no FLUSH, so it may be taken next too, and waits as before

@@ -4,8 +4,7 @@ use Rattle.geo_laws_sweep.proofs.Sweeping.{sweep_goes_on}
 use Rattle.geo_laws_sweep.proofs.SweepRest.{sweep_ends}
 use Rattle.geo_drain.specs.Meshes.{world_of}
 use Rattle.geo_drain.proofs.Full.{none_at_rest}
-use Rattle.geo_elev.proofs.Nexts.{next_given}
-use Rattle.geo_elev.proofs.Parts.{due_before, due_take, due_behind}
+use Rattle.geo_elev.proofs.Nexts.{next_given, due_before, due_take, due_behind}
 use Rattle.geo_elev.proofs.sweep.pick_sweep.Goals as goal
 
 pub returns-then-at_rest-clause-picked : goal.returns-then-at_rest-clause-picked

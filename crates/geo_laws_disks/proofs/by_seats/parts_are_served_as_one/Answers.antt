@@ -1,4 +1,4 @@
-use Rattle.geo_laws_disks.proofs.ServedBy.{parts_serve}
+use Rattle.geo_laws_disks.proofs.Seats.{parts_serve}
 use Rattle.geo_laws_disks.proofs.by_seats.parts_are_served_as_one.Goals as goal
 
 pub returns-clause-serve : goal.returns-clause-serve

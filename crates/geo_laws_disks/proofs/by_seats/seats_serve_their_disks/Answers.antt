@@ -1,4 +1,4 @@
-use Rattle.geo_laws_disks.proofs.ServedBy.{seats_serve}
+use Rattle.geo_laws_disks.proofs.Seats.{seats_serve}
 use Rattle.geo_laws_disks.proofs.by_seats.seats_serve_their_disks.Goals as goal
 
 pub returns-clause-serve : goal.returns-clause-serve

@@ -1,8 +1,8 @@
 use Rattle.std.proofs.Common.{subst, sym}
 use Rattle.geo_serve.specs.Drives.{drive_view}
 use Rattle.geo_work.specs.Drives.{HasDrives}
-use Rattle.geo_threads.proofs.Drives.{dealt_fit}
-use Rattle.geo_threads.proofs.Viewing.{begins_view}
+use Rattle.geo_threads.proofs.Dealing.{dealt_fit}
+use Rattle.geo_threads.proofs.Homing.{begins_view}
 use Rattle.geo_threads.proofs.crew.start_all.Goals as goal
 
 -- each disk worker has the drives of its disks, which fit, and the first worker shows what is looked at

@@ -2,7 +2,7 @@ use Rattle.std.proofs.Common.{rules, ◌≡◌, length, subst, sym}
 use Rattle.std.specs.List.{AllZip}
 use Rattle.geo_serve.specs.Drives.{drive_view}
 use Rattle.geo_work.specs.Workers.{WorkerRan}
-use Rattle.geo_threads.proofs.Running.{ready_each, written}
+use Rattle.geo_threads.proofs.Leaving.{ready_each, written}
 use Rattle.geo_threads.proofs.threads.run_all.Goals as goal
 
 pub run_jobs-requires-clause-ready : goal.run_jobs-requires-clause-ready

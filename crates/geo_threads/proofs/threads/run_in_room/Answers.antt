@@ -2,7 +2,7 @@
 use Rattle.std.proofs.Common.{IfOk, map, subst}
 use Rattle.geo_serve.specs.Drives.{drive_view}
 use Rattle.geo_threads.specs.Left.{ThreadsRan}
-use Rattle.geo_threads.proofs.Running.{begins, begins_fit, begins_history, begins_shown}
+use Rattle.geo_threads.proofs.Leaving.{begins, begins_fit, begins_history, begins_shown}
 use Rattle.geo_threads.proofs.threads.run_in_room.Goals as goal
 
 pub run_in_yard-requires-clause-shown : goal.run_in_yard-requires-clause-shown

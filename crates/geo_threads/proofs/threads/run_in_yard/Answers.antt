@@ -3,9 +3,8 @@ use Rattle.geo_lock.specs.Yard.{IsWhole}
 use Rattle.geo_serve.specs.Drives.{drive_view}
 use Rattle.geo_threads.specs.Closing.{EndsYard}
 use Rattle.geo_threads.specs.Deal.{AreTwo, gathered_of}
-use Rattle.geo_threads.proofs.Leaving.{threads_ran}
-use Rattle.geo_threads.proofs.Running.{crew_ended, few_drives, first_listing, is_first, ready_all}
-use Rattle.geo_threads.proofs.Viewing.{as_many, ends_alike, looks_meet, nobody_looks, ran_view}
+use Rattle.geo_threads.proofs.Leaving.{threads_ran, crew_ended, few_drives, first_listing, is_first, ready_all}
+use Rattle.geo_threads.proofs.Homing.{as_many, ends_alike, looks_meet, nobody_looks, ran_view}
 use Rattle.geo_threads.proofs.threads.run_in_yard.Goals as goal
 
 -- a plan has few actors, and a mesh few disks, each with one drive

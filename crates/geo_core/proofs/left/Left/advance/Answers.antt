@@ -7,7 +7,8 @@ use Rattle.geo_core.proofs.left.Left.advance.Goals as goal
 
 pub unreachable-requires : goal.unreachable-requires
 unreachable-requires c =
-    has_place c.args.plan.now c.args.self.now c.args.actor c.requires.some (sym c.place_of.ensures ∙ c.in_default.is)
+    has_place c.args.plan.now c.args.self.now c.requires.next c.args.actor c.requires.some
+    (sym c.place_of.ensures ∙ c.in_default.is)
 
 -- its next command stands at the place, so behind it is within the commands or their end
 pub next_place-requires : goal.next_place-requires

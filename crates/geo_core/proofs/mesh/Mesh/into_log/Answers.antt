@@ -1,7 +1,5 @@
-use Rattle.std.proofs.Common.{subst}
-use Rattle.geo_core.specs.Mesh.{IsHistory}
-use Rattle.geo_core.proofs.Meshes.{mesh_history}
+use Rattle.geo_core.proofs.Meshes.{kept_history}
 use Rattle.geo_core.proofs.mesh.Mesh.into_log.Goals as goal
 
 pub returns-clause-history : goal.returns-clause-history
-returns-clause-history c = subst IsHistory c.self.view_is (mesh_history c.self.inside.running.value c.self.invariant)
+returns-clause-history c = kept_history c.self.view_is c.self.invariant

@@ -3,7 +3,7 @@ use Rattle.std.proofs.lemmas.List.FromFn.{length-map-range_with_len}
 use Rattle.geo_elev.specs.declared.disks.DiskHead.{DiskHead}
 use Rattle.geo_drain.specs.Meshes.{opened}
 use Rattle.geo_elev.specs.Heads.{AreHeads, no_head}
-use Rattle.geo_elev.proofs.Forgetting.{new_heads}
+use Rattle.geo_elev.proofs.Histories.{new_heads}
 use Rattle.geo_elev.proofs.elevator.Heads.new.Goals as goal
 
 pub invariant_of-result : goal.invariant_of-result

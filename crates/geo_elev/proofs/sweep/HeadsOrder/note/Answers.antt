@@ -1,5 +1,5 @@
 -- Where memory ran out all is forgotten.
-use Rattle.geo_elev.proofs.Forgetting.{forgotten_then}
+use Rattle.geo_elev.proofs.Histories.{forgotten_then}
 use Rattle.geo_elev.proofs.sweep.HeadsOrder.note.Goals as goal
 
 pub returns-clause-forgot : goal.returns-clause-forgot
