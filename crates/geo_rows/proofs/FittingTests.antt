@@ -29,16 +29,12 @@ sector_size n = Decides-or (n == 512) (n == 4096) (Decides-eqb n 512) (Decides-e
 pub media_size : (size sector : ℕ)
     → Decides (nat_le 1 size && ((size % sector == 0) && nat_le size MAX_MEDIA_BYTES)) (IsMediaSize size sector)
 media_size size sector =
-    Decides-like _
-    (λ h. record { positive = h.0; whole = h.1.0; limited = h.1.1 })
-    (λ h. (h.positive, (h.whole, h.limited)))
+    Decides-like _ (λ h. assumption) (λ h. assumption)
     (Decides-and _ _ (at_most 1 size) (Decides-and _ _ (Decides-eqb (size % sector) 0) (at_most size MAX_MEDIA_BYTES)))
 
 header_disk : (d : HeaderDisk) → Decides (is_header_disk d) (IsHeaderDisk d)
 header_disk d =
-    Decides-like _
-    (λ h. record { sector = h.0; size = h.1 })
-    (λ h. (h.sector, h.size))
+    Decides-like _ (λ h. assumption) (λ h. assumption)
     (Decides-and _ _ (sector_size d.sector) (media_size d.size d.sector))
 
 -- windows and strips in whole sectors, and this at the provider below
@@ -79,14 +75,12 @@ one_provider t g =
 its_sum : (t : Topology Config) (g : Geom Config) → Decides (has_its_sum t g) (HasItsSum t g)
 its_sum t g =
     under (is_kind g.kind kinds.Concat || is_kind g.kind kinds.Stripe) _
-    (Decides-or (is_kind g.kind kinds.Concat) (is_kind g.kind kinds.Stripe) (kind_is g.kind kinds.Concat) (kind_is g.kind kinds.Stripe))
+    (Decides-or _ _ (kind_is g.kind kinds.Concat) (kind_is g.kind kinds.Stripe))
     (each _ _ (λ p. Decides-eqb p.size (joined_size g.config)) (providers_of t g.number))
 
 held_places : (g : Geom Config) → Decides (places_hold g) (PlacesHold g)
 held_places g =
-    Decides-like _
-    (λ h. record { apart = h.0; few = h.1 })
-    (λ h. (h.apart, h.few))
+    Decides-like _ (λ h. assumption) (λ h. assumption)
     (Decides-and _ _
     (pairs (λ a b. not (a == b)) (λ a b. a ≢ b) (λ a b. Decides-not (a == b) (Decides-eqb a b)) (components g.config))
     (at_most (length (places_of g.config)) MAX_COMPONENTS))
@@ -115,9 +109,7 @@ asked_in_order t p (ReadBack kind got) =
 -- the read of a taste
 taste_read : (t : Topology Config) (bios : List Bio) → Decides (taste_read_holds t bios) (TasteReadHolds t bios)
 taste_read t bios =
-    Decides-like _
-    (λ h. record { one = h.0; sector = h.1 })
-    (λ h. (h.one, h.sector))
+    Decides-like _ (λ h. assumption) (λ h. assumption)
     (Decides-and _ _
     (at_most (count_by (λ x. is_taste_root x.owner) bios) 1)
     (each _ _ (λ x.
@@ -130,23 +122,7 @@ taste_read t bios =
 pub fitting_tested : (w : World) → Decides (is_fitting_world w) (Fitting w)
 unfolding is_fitting_world
 fitting_tested w =
-    Decides-like _
-    (λ h. record {
-      disks = h.0;
-      sectors = h.1.0;
-      wholes = h.1.1.0;
-      places = h.1.1.1.0;
-      one = h.1.1.1.1.0;
-      apart = h.1.1.1.1.1.0;
-      sums = h.1.1.1.1.1.1.0;
-      asked = h.1.1.1.1.1.1.1.0;
-      read = h.1.1.1.1.1.1.1.1.0;
-      commands = h.1.1.1.1.1.1.1.1.1.0;
-    })
-    (λ h. (
-      h.disks,
-      (h.sectors, (h.wholes, (h.places, (h.one, (h.apart, (h.sums, (h.asked, (h.read, (h.commands, tt))))))))),
-    ))
+    Decides-like _ (λ h. assumption) (λ h. assumption)
     (Decides-and _ _ (each _ _ header_disk w.disks)
     (Decides-and _ _ (each _ _ (λ p. sector_size p.sector) w.topology.providers)
     (Decides-and _ _ (each _ _ (below w.topology) w.topology.consumers)

@@ -11,9 +11,9 @@ use Rattle.geo_model.specs.Opening.{opening}
 use Rattle.geo_model.specs.Log.{replay, IsPrefixOf}
 use Rattle.geo_model.specs.Step.{step, event, is_enabled}
 use Rattle.geo_model.specs.WorldEvents.{do_event}
-use Rattle.geo_headline.specs.Modes.{Mode, StepMode, RunMode, GenMode, SweepMode, WatchMode, TraceMode, VerifyMode, StartsThreads}
+use Rattle.geo_headline.specs.Modes.{Mode, RunMode, GenMode, WatchMode, TraceMode, VerifyMode, StartsThreads}
 use Rattle.geo_model.specs.FixedOrder.{StepOrder, fixed_order, JobsEndedIdle, EndedIdle, WasIdle, event_seat, IsOfItsJob}
-use Rattle.geo_headline.specs.Endings.{Call, Ending, Reported, ReportedButFault, BadWords, NoScript, ReadFault, ShelfFault, NoDisk, BadSize, OutOfMemory, LogFull, TooLong, Answered, NoTrace, status_of, script_of, IsWhole, HasLog}
+use Rattle.geo_headline.specs.Endings.{Call, Ending, Reported, ReportedButFault, Answered, status_of, script_of, IsWhole, HasLog}
 use Rattle.geo_headline.specs.Headline.{KeepsAll, FollowsMode, FollowsRun}
 use Rattle.geo_rows.specs.WrongPrograms.{IsRefused, LeavesAllToTheDrain, IdlesAtEvent}
 use Rattle.geo_rows.proofs.WrongPrograms.{answers_verify, ends}
@@ -39,19 +39,10 @@ whole : (call : Call) (mode : Mode) (plan : Plan) (ending : Ending) → status_o
     → KeepsAll call mode plan ending → IsWhole ending
 whole call mode plan Reported s threads kept = tt
 whole call mode plan (ReportedButFault name) s threads kept = tt
-whole call mode plan BadWords s threads kept = absurd (omega (arith, s))
-whole call mode plan (NoScript line c) s threads kept = absurd (omega (arith, s))
-whole call mode plan ReadFault s threads kept = absurd (omega (arith, s))
-whole call mode plan (ShelfFault name) s threads kept = absurd (omega (arith, s))
-whole call mode plan (NoDisk name) s threads kept = absurd (omega (arith, s))
-whole call mode plan (BadSize name) s threads kept = absurd (omega (arith, s))
-whole call mode plan OutOfMemory s threads kept = absurd (omega (arith, s))
-whole call mode plan LogFull s threads kept = absurd (omega (arith, s))
-whole call mode plan TooLong s threads kept = absurd (omega (arith, s))
 whole call mode plan (Answered found) s threads kept =
     let no : StartsThreads VerifyMode = subst StartsThreads (sym (answers_verify call mode plan found kept)) threads in
     let bad : ⊥ = cc in absurd bad
-whole call mode plan (NoTrace line) s threads kept = absurd (omega (arith, s))
+whole call mode plan _ s threads kept = absurd (omega (arith, s))
 
 at_nothing : (seen : List Entry) → IsPrefixOf seen []
     → is_enabled (replay (opening one_disk_plan ((512, 4) ∷ [])) seen) 1 steps.Event ≡ false → ⊥
@@ -64,17 +55,7 @@ not-idle idle = at_nothing idle.0 idle.1 idle.3
 logged : (ending : Ending) (log : Option (List Entry)) → IsWhole ending → HasLog ending log → IsSome log
 logged Reported log w h = h
 logged (ReportedButFault name) log w h = h
-logged BadWords log w h = elim w [ ]
-logged (NoScript line cause) log w h = elim w [ ]
-logged ReadFault log w h = elim w [ ]
-logged (ShelfFault name) log w h = elim w [ ]
-logged (NoDisk name) log w h = elim w [ ]
-logged (BadSize name) log w h = elim w [ ]
-logged OutOfMemory log w h = elim w [ ]
-logged LogFull log w h = elim w [ ]
-logged TooLong log w h = elim w [ ]
-logged (Answered found) log w h = elim w [ ]
-logged (NoTrace line) log w h = elim w [ ]
+logged _ log w h = elim w [ ]
 
 -- a log of seat 0 alone has no entry of a job in front
 none-of-jobs : (plan : Plan) (threads rest : List Entry) → All (λ e. e.seat ≡ 0) (threads ++ rest)
@@ -99,13 +80,10 @@ by_threads order ending log w zero follows =
 by_mode : (mode : Mode) (ending : Ending) (log : List Entry) → StartsThreads mode → IsWhole ending
     → All (λ e. e.seat ≡ 0) log
     → FollowsMode mode one_disk_plan (opening one_disk_plan ((512, 4) ∷ [])) ending log → ⊥
-by_mode StepMode ending log threads w zero follows = let no : ⊥ = cc in no
 by_mode RunMode ending log threads w zero follows = by_threads fixed_order ending log w zero follows
-by_mode (GenMode start count) ending log threads w zero follows = let no : ⊥ = cc in no
-by_mode SweepMode ending log threads w zero follows = let no : ⊥ = cc in no
 by_mode WatchMode ending log threads w zero follows = by_threads fixed_order ending log w zero follows
 by_mode TraceMode ending log threads w zero follows = by_threads fixed_order ending log w zero follows
-by_mode VerifyMode ending log threads w zero follows = let no : ⊥ = cc in no
+by_mode _ ending log threads w zero follows = let no : ⊥ = cc in no
 
 by_log : (mode : Mode) (ending : Ending) (log : Option (List Entry)) → StartsThreads mode → IsWhole ending
     → IsSome log → IfSome log (λ l. All (λ e. e.seat ≡ 0) l)
@@ -115,13 +93,9 @@ by_log mode ending (Some log) threads w some zero order = by_mode mode ending lo
 
 -- with threads the text is the script
 text_is : (mode : Mode) (text : List ℕ) → StartsThreads mode → script_of mode text ≡ text
-text_is StepMode text threads = refl
-text_is RunMode text threads = refl
 text_is (GenMode start count) text threads = let no : ⊥ = cc in absurd no
-text_is SweepMode text threads = refl
-text_is WatchMode text threads = refl
-text_is TraceMode text threads = refl
 text_is VerifyMode text threads = let no : ⊥ = cc in absurd no
+text_is _ text threads = refl
 
 plan-of : (call : Call) (mode : Mode) (plan : Plan) (ending : Ending) → StartsThreads mode → IsSome call.log
     → call.text ≡ codes "ram md0 512 4" → KeepsAll call mode plan ending → plan ≡ one_disk_plan

@@ -1,12 +1,12 @@
 -- A call that keeps all.
-use Rattle.std.specs.Prelude.{◌≡◌, ℕ, true, List, [], ◌∷◌, ◌++◌, Ok, Err, All, refl, codes}
+use Rattle.std.specs.Prelude.{◌≡◌, ℕ, List, [], ◌∷◌, ◌++◌, Ok, Err, All, refl, codes}
 use Rattle.std.proofs.Common.{sym, ◌∙◌, arith, inl, inr}
 use Rattle.std.proofs.lemmas.List.Elements.{All-nil, All-cons}
 use Rattle.geo_model.specs.declared.command.DiskKind.TheVariants.{Shelf}
 use Rattle.geo_model.specs.declared.step.Entry.{Entry}
 use Rattle.geo_model.specs.World.{Plan, World}
 use Rattle.geo_model.specs.Script.{script, IsScript, Fault, empty_plan}
-use Rattle.geo_headline.specs.Modes.{Mode, StepMode, RunMode, GenMode, SweepMode, WatchMode, TraceMode, VerifyMode, Accepts, words_for}
+use Rattle.geo_headline.specs.Modes.{Mode, StepMode, Accepts, words_for}
 use Rattle.geo_model.specs.Opening.{opening}
 use Rattle.geo_model.specs.Plans.{IsPlan, FactsFit, IsDiskDecl}
 use Rattle.geo_model.specs.Sound.{Sound}
@@ -20,22 +20,12 @@ use Rattle.geo_headline.specs.Outside.{HasFactSectors, IsThere, HasToldSize, IsD
 use Rattle.geo_headline.specs.Endings.{Reported, IsOpened}
 use Rattle.geo_headline.specs.Headline.{HaveFactSectors, KeepsAll}
 use Rattle.geo_laws_life.proofs.Opened.{opening-sound}
-use Rattle.geo_rows.specs.RightCalls.{quiet_call, later_plan, later_text, silent_shelf, shelf_after}
+use Rattle.geo_rows.specs.RightCalls.{quiet_call, later_disk, later_plan, later_text, silent_shelf, shelf_after}
 
 -- the word `step` has one meaning
 step-only : (m : Mode) → Accepts (codes "step" ∷ []) m → m ≡ StepMode
 step-only StepMode a = refl
-step-only RunMode a = absurd (let e : words_for StepMode ≡ words_for RunMode = a.spelled in let no : ⊥ = cc in no)
-step-only (GenMode s n) a =
-    absurd (let e : words_for StepMode ≡ words_for (GenMode s n) = a.spelled in let no : ⊥ = cc in no)
-step-only SweepMode a =
-    absurd (let e : words_for StepMode ≡ words_for SweepMode = a.spelled in let no : ⊥ = cc in no)
-step-only WatchMode a =
-    absurd (let e : words_for StepMode ≡ words_for WatchMode = a.spelled in let no : ⊥ = cc in no)
-step-only TraceMode a =
-    absurd (let e : words_for StepMode ≡ words_for TraceMode = a.spelled in let no : ⊥ = cc in no)
-step-only VerifyMode a =
-    absurd (let e : words_for StepMode ≡ words_for VerifyMode = a.spelled in let no : ⊥ = cc in no)
+step-only m a = absurd (let e : words_for StepMode ≡ words_for m = a.spelled in let no : ⊥ = cc in no)
 
 accepts : Accepts (codes "step" ∷ []) StepMode
 accepts = record { spelled = refl; in_range = tt }
@@ -53,13 +43,13 @@ later-script = refl
 one : {X : Type 0} (P : X → Type 0) (x : X) → P x → All P (x ∷ [])
 one P x p = All-cons P x [] p (All-nil P)
 
-decl : IsDiskDecl (record { kind = Shelf; name = codes "d"; sector = 512; sectors = 0; later = true })
+decl : IsDiskDecl later_disk
 decl = record { name = refl; sector = inl refl; sectors = refl }
 
 is-plan : IsPlan later_plan
 is-plan = record {
   few_disks = omega arith;
-  disks = one IsDiskDecl (record { kind = Shelf; name = codes "d"; sector = 512; sectors = 0; later = true }) decl;
+  disks = one IsDiskDecl later_disk decl;
   disk_names = λ i j d less short. absurd (omega (arith, less, short));
   few_actors = omega arith;
   actors = All-nil _;
@@ -100,19 +90,10 @@ nothing-printed : report later_plan (opening later_plan ((512, 1000) ∷ [])) []
 unfolding opening report listing mesh_text
 nothing-printed = refl
 
-there : IsThere silent_shelf (record { kind = Shelf; name = codes "d"; sector = 512; sectors = 0; later = true })
+there : IsThere silent_shelf later_disk
 there of_shelf = record { not_lent = λ lent. omega (arith, lent.1); image = tt }
 
-told : HasToldSize silent_shelf (
-  record {
-    kind = Shelf;
-    name = codes "d";
-    sector = 512;
-    sectors = 0;
-    later = true;
-  },
-  (512, 1000),
-)
+told : HasToldSize silent_shelf (later_disk, (512, 1000))
 told of_shelf = tt
 
 opened : IsOpened quiet_call StepMode later_plan
@@ -123,57 +104,24 @@ opened = record {
     read = record { few = omega arith; ended = refl; none_left = tt };
     script = later-script;
   };
-  there = one (IsThere silent_shelf) (record {
-    kind = Shelf;
-    name = codes "d";
-    sector = 512;
-    sectors = 0;
-    later = true;
-  }) there;
+  there = one (IsThere silent_shelf) later_disk there;
   facts_fit = facts-fit;
-  told_sizes =
-      one (HasToldSize silent_shelf) (
-        record {
-          kind = Shelf;
-          name = codes "d";
-          sector = 512;
-          sectors = 0;
-          later = true;
-        },
-        (512, 1000),
-      ) told;
+  told_sizes = one (HasToldSize silent_shelf) (later_disk, (512, 1000)) told;
 }
 
 kept : IsDiskKept silent_shelf shelf_after []
-    (record {
-      number = 0;
-      decl =
-          record { kind = Shelf; name = codes "d"; sector = 512; sectors = 0; later = true };
-    }) Shelf
+    (record { number = 0; decl = later_disk }) Shelf
 kept not_back = record { asked = refl; failures = refl; bytes = tt; reads = tt }
 
 kept_disks : DisksAreKept later_plan silent_shelf shelf_after []
 kept_disks =
     one (λ d. IsDiskKept silent_shelf shelf_after [] d d.decl.kind)
-    (record {
-      number = 0;
-      decl =
-          record { kind = Shelf; name = codes "d"; sector = 512; sectors = 0; later = true };
-    }) kept
+    (record { number = 0; decl = later_disk }) kept
 
 -- the disk had 1,000 sectors
 fact-sectors : HaveFactSectors later_plan ((512, 1000) ∷ []) silent_shelf shelf_after
 fact-sectors =
-    one (HasFactSectors silent_shelf shelf_after) (
-      record {
-        kind = Shelf;
-        name = codes "d";
-        sector = 512;
-        sectors = 0;
-        later = true;
-      },
-      (512, 1000),
-    ) (λ of_shelf not_back. refl)
+    one (HasFactSectors silent_shelf shelf_after) (later_disk, (512, 1000)) (λ of_shelf not_back. refl)
 
 fitting : Fits (opening later_plan ((512, 1000) ∷ [])) []
 unfolding opening

@@ -6,7 +6,7 @@ use Rattle.std.specs.List.Sorted.{IsStrictlyIncreasing}
 use Rattle.std.specs.Option.{option_map_or}
 use Rattle.std.proofs.Common.{refl, arith, sym, ap, subst, ◌∙◌}
 use Rattle.std.proofs.Common.{get_or, inl, inr}
-use Rattle.std.proofs.lemmas.Bool.{true≢false, and_parts, and_from}
+use Rattle.std.proofs.lemmas.Bool.{true≢false}
 use Rattle.std.proofs.lemmas.List.Sums.{list_all-from_AllPass}
 use Rattle.std.proofs.lemmas.List.FromFn.{length-range_with_len, get_or-range_with_len}
 use Rattle.std.proofs.Math.Nat.{div-zero, le-div_iff_mul-le, suc-mul}
@@ -34,7 +34,7 @@ use Rattle.geo_model.specs.Topology.{Topology, Geom, Provider, Consumer, geom_at
 use Rattle.geo_model.specs.Graph.{AreNumbers}
 use Rattle.geo_model.specs.Rank.{rank}
 use Rattle.geo_model.specs.Demand.{have, want, is_zero, is_exclusive, fits_limit}
-use Rattle.geo_model.specs.World.{Config, Bio, Handle, HeaderDisk, Taste, Asked, NoClass, NextSector, ReadOut, ReadBack, granted_in, bio_among, is_read_out, is_root, is_taste_root, is_done, is_busy, is_sent, is_waiting}
+use Rattle.geo_model.specs.World.{Config, Bio, Handle, HeaderDisk, Taste, Asked, NoClass, NextSector, granted_in, bio_among, is_read_out, is_root, is_taste_root, is_done, is_busy, is_sent, is_waiting}
 use Rattle.geo_model.specs.Place.{Spot, place, component, disk_of}
 use Rattle.geo_model.specs.Bios.{disk_at, are_children_done}
 use Rattle.geo_model.specs.Chain.{Chain, BeginsAtZero}
@@ -81,16 +81,12 @@ of_named (Some x) test P one = (λ e d told. subst P (same_Some x d told) ((one 
 -- a geom that stands bare, and the ranks of all
 stands : (t : Topology Config) (g : ℕ) → Decides (stands_bare t g) (StandsBare t g)
 stands t g =
-    Decides-like _
-    (λ h. record { stands = h.0; no_provider = h.1 })
-    (λ h. (h.stands, h.no_provider))
+    Decides-like _ (λ h. assumption) (λ h. assumption)
     (Decides-and _ _ (there_and (geom_at t g) _ _ (λ x. untrue x.withering)) (bare (providers_of t g)))
 
 ranks : (t : Topology Config) → Decides (ranks_hold t) (RanksHold t)
 ranks t =
-    Decides-like _
-    (λ h. record { ranked = h.0; not_deep = h.1.0; dev = h.1.1.0; taste = h.1.1.1.0 })
-    (λ h. (h.ranked, (h.not_deep, (h.dev, (h.taste, tt)))))
+    Decides-like _ (λ h. assumption) (λ h. assumption)
     (Decides-and _ _
     (each _ _ (λ c. if_there c.provider _ _ (λ p.
     there_and (provider_at t p) _ _ (λ x. Decides-ltb (rank t x.geom) (rank t c.geom)))) t.consumers)
@@ -103,17 +99,13 @@ ranks t =
 -- access counts
 counts : (granted : ℕ → Counts) (t : Topology Config) → Decides (counts_hold granted t) (CountsHold granted t)
 counts granted t =
-    Decides-like _
-    (λ h. record { exclusive = h.0; limited = h.1 })
-    (λ h. (h.exclusive, h.limited))
+    Decides-like _ (λ h. assumption) (λ h. assumption)
     (Decides-and _ _ (itself (is_exclusive granted t)) (itself (fits_limit granted t)))
 
 -- names, errors and sizes of providers
 providers : (t : Topology Config) → Decides (providers_hold t) (ProvidersHold t)
 providers t =
-    Decides-like _
-    (λ h. record { names = h.0; withering = h.1.0; sizes = h.1.1.0 })
-    (λ h. (h.names, (h.withering, (h.sizes, tt))))
+    Decides-like _ (λ h. assumption) (λ h. assumption)
     (Decides-and _ _
     (pairs _ _ (λ x y. itself (not (not x.errored && (not y.errored && same_name x.name y.name)))) t.providers)
     (Decides-and _ _
@@ -136,9 +128,7 @@ numbers xs next = Decides-and _ _ (rising xs) (each _ _ (λ n. Decides-ltb n nex
 -- a geom is of its class
 of_class : (x : Geom Config) → Decides (is_of_its_class x) (IsOfItsClass x)
 of_class x =
-    Decides-like _
-    (λ h. record { config = h.0; dev = h.1.0; taste = h.1.1.0 })
-    (λ h. (h.config, (h.dev, (h.taste, tt))))
+    Decides-like _ (λ h. assumption) (λ h. assumption)
     (Decides-and _ _ (itself (fits_kind x.kind x.config))
     (Decides-and _ _ (same (is_kind x.kind kinds.Dev) (x.number == 1))
     (Decides-and _ _ (same (is_kind x.kind kinds.Taste) (x.number == 2)) always)))
@@ -157,19 +147,10 @@ disk_sizes t ds x =
 -- all of NumbersHold
 all_numbers : (t : Topology Config) (ds : List HeaderDisk) → Decides (numbers_hold t ds) (NumbersHold t ds)
 all_numbers t ds =
-    Decides-like _
-    (λ h. record {
-      geoms = h.0;
-      providers = h.1.0;
-      consumers = h.1.1.0;
-      classes = h.1.1.1.0;
-      one_geom_of_disk = h.1.1.1.1.0;
-      disk_sizes = h.1.1.1.1.1.0;
-    })
-    (λ h. (h.geoms, (h.providers, (h.consumers, (h.classes, (h.one_geom_of_disk, (h.disk_sizes, tt)))))))
-    (Decides-and _ _ (numbers _ _)
-    (Decides-and _ _ (numbers _ _)
-    (Decides-and _ _ (numbers _ _)
+    Decides-like _ (λ h. assumption) (λ h. assumption)
+    (Decides-and _ _ (numbers (map (λ (x : Geom Config). x.number) t.geoms) t.next_geom)
+    (Decides-and _ _ (numbers (map (λ (x : Provider). x.number) t.providers) t.next_provider)
+    (Decides-and _ _ (numbers (map (λ (x : Consumer). x.number) t.consumers) t.next_consumer)
     (Decides-and _ _ (each _ _ of_class t.geoms)
     (Decides-and _ _ (pairs _ _ other_disk t.geoms)
     (Decides-and _ _ (each _ _ (disk_sizes t ds) t.geoms) always))))))
@@ -181,9 +162,7 @@ handle_consumer : (hs : List Handle) (c : Consumer)
     → Decides (is_some c.provider && (count_by (λ h. names_number h.consumer c.number) hs == 1))
     (IsHandleConsumer hs c)
 handle_consumer hs c =
-    Decides-like _
-    (λ h. record { attached = h.0; one_handle = h.1 })
-    (λ h. (h.attached, h.one_handle))
+    Decides-like _ (λ h. assumption) (λ h. assumption)
     (Decides-and _ _ (itself (is_some c.provider))
     (Decides-eqb (count_by (λ h. names_number h.consumer c.number) hs) 1))
 
@@ -228,10 +207,8 @@ taste_consumer t (c ∷ d ∷ cs) (Some s) same =
 handles : (t : Topology Config) (hs : List Handle) (next : ℕ) (o : Option Taste)
     → Decides (handles_hold t hs next o) (HandlesHold t hs next o)
 handles t hs next o =
-    Decides-like _
-    (λ h. record { numbers = h.0; consumers = h.1.0; handles = h.1.1.0; taste = h.1.1.1.0 })
-    (λ h. (h.numbers, (h.consumers, (h.handles, (h.taste, tt)))))
-    (Decides-and _ _ (numbers _ _)
+    Decides-like _ (λ h. assumption) (λ h. assumption)
+    (Decides-and _ _ (numbers (map (λ (x : Handle). x.number) hs) next)
     (Decides-and _ _ (each _ _ (handle_consumer hs) (consumers_of t 1))
     (Decides-and _ _ (each _ _ (λ h. consumer_of t h.dead h.consumer) hs)
     (Decides-and _ _ (taste_consumer t (consumers_of t 2) o refl) always))))
@@ -241,15 +218,7 @@ handles t hs next o =
 -- the range, the counts and the bytes of a bio
 range_inside : (x : Bio) (p : Provider) → Decides (is_range_inside x p) (IsRangeInside x p)
 range_inside x p =
-    Decides-like _
-    (λ h. record {
-      some_byte = h.0;
-      not_long = h.1.0;
-      offset_whole = h.1.1.0;
-      len_whole = h.1.1.1.0;
-      inside = h.1.1.1.1.0;
-    })
-    (λ h. (h.some_byte, (h.not_long, (h.offset_whole, (h.len_whole, (h.inside, tt))))))
+    Decides-like _ (λ h. assumption) (λ h. assumption)
     (Decides-and _ _ (at_most 1 x.len)
     (Decides-and _ _ (at_most x.len MAX_REQUEST_BYTES)
     (Decides-and _ _ (Decides-eqb (x.offset % p.sector) 0)
@@ -266,9 +235,7 @@ count_for granted t x c =
 bio_in_order : (granted : ℕ → Counts) (t : Topology Config) (x : Bio)
     → Decides (is_bio_in_order granted t x) (IsBioInOrder granted t x)
 bio_in_order granted t x =
-    Decides-like _
-    (λ h. record { source = h.0; target = h.1.0; bytes = h.1.1.0 })
-    (λ h. (h.source, (h.target, (h.bytes, tt))))
+    Decides-like _ (λ h. assumption) (λ h. assumption)
     (Decides-and _ _
     (there_and (consumer_at t x.source) _ _
     (λ c. Decides-and _ _ (named c.provider x.target) (count_for granted t x c)))
@@ -286,24 +253,11 @@ cmd_told cmds.Read cmds.Read e = refl
 cmd_told cmds.Write cmds.Write e = refl
 cmd_told cmds.Delete cmds.Delete e = refl
 cmd_told cmds.Flush cmds.Flush e = refl
-cmd_told cmds.Read cmds.Write e = from_false_true e
-cmd_told cmds.Read cmds.Delete e = from_false_true e
-cmd_told cmds.Read cmds.Flush e = from_false_true e
-cmd_told cmds.Write cmds.Read e = from_false_true e
-cmd_told cmds.Write cmds.Delete e = from_false_true e
-cmd_told cmds.Write cmds.Flush e = from_false_true e
-cmd_told cmds.Delete cmds.Read e = from_false_true e
-cmd_told cmds.Delete cmds.Write e = from_false_true e
-cmd_told cmds.Delete cmds.Flush e = from_false_true e
-cmd_told cmds.Flush cmds.Read e = from_false_true e
-cmd_told cmds.Flush cmds.Write e = from_false_true e
-cmd_told cmds.Flush cmds.Delete e = from_false_true e
+cmd_told _ _ e = from_false_true e
 
 cmd_same : (a : BioCmd) → same_cmd a a ≡ true
 cmd_same cmds.Read = refl
-cmd_same cmds.Write = refl
-cmd_same cmds.Delete = refl
-cmd_same cmds.Flush = refl
+cmd_same _ = refl
 
 one_cmd : (a b : BioCmd) → Decides (same_cmd a b) (a ≡ b)
 one_cmd a b = (cmd_told a b, λ e. subst (λ c. same_cmd a c ≡ true) e (cmd_same a))
@@ -378,9 +332,7 @@ parent_there bios owners.Taste = always
 family : (t : Topology Config) (bios : List Bio) (x : Bio)
     → Decides (is_family_in_order t bios x) (IsFamilyInOrder t bios x)
 family t bios x =
-    Decides-like _
-    (λ h. record { parent = h.0; pieces = h.1.0; not_complete = h.1.1.0; root = h.1.1.1.0 })
-    (λ h. (h.parent, (h.pieces, (h.not_complete, (h.root, tt)))))
+    Decides-like _ (λ h. assumption) (λ h. assumption)
     (Decides-and _ _ (parent_there bios x.owner)
     (Decides-and _ _ (under (is_waiting x.phase) _ (itself (is_waiting x.phase)) (pieces_there t bios x))
     (Decides-and _ _
@@ -396,9 +348,7 @@ one_busy t x y =
 
 disks : (t : Topology Config) (bios : List Bio) → Decides (disks_hold t bios) (DisksHold t bios)
 disks t bios =
-    Decides-like _
-    (λ h. record { at_disk = h.0; one_busy = h.1 })
-    (λ h. (h.at_disk, h.one_busy))
+    Decides-like _ (λ h. assumption) (λ h. assumption)
     (Decides-and _ _
     (each _ _ (λ x.
     under (is_sent x.phase || is_busy x.phase) _ (itself (is_sent x.phase || is_busy x.phase))
@@ -412,14 +362,11 @@ disks t bios =
 reads : (asked : Asked) (n : ℕ) → Decides (are_reads_in_order asked n) (AreReadsInOrder asked n)
 reads NoClass n = Decides-eqb n 0
 reads (NextSector kind sector) n = Decides-ltb n reads_limit
-reads (ReadOut kind) n = at_most n reads_limit
-reads (ReadBack kind got) n = at_most n reads_limit
+reads _ n = at_most n reads_limit
 
 next : (asked : Asked) (n : ℕ) → Decides (is_next asked n) (IsNext asked n)
-next NoClass n = always
 next (NextSector kind sector) n = Decides-eqb sector n
-next (ReadOut kind) n = always
-next (ReadBack kind got) n = always
+next _ n = always
 
 from_zero : (xs : List ℕ) → Decides (begins_at_zero xs) (BeginsAtZero xs)
 from_zero [] = always
@@ -428,27 +375,13 @@ from_zero (sector ∷ rest) = Decides-eqb sector 0
 -- a partition, and the whole chain
 part_of : (n : ℕ) (s : EbrPart) → Decides (is_part_of n s) (IsPartOf n s)
 part_of n s =
-    Decides-like _
-    (λ h. record { some = h.0; inside = h.1 })
-    (λ h. (h.some, h.inside))
+    Decides-like _ (λ h. assumption) (λ h. assumption)
     (Decides-and _ _ (at_most 1 s.count) (at_most (s.first + s.count) n))
 
 one_chain : (n : ℕ) (asked : Asked) (made : ℕ) (c : Chain)
     → Decides (chain_holds n asked made c) (ChainHolds n asked made c)
 one_chain n asked made c =
-    Decides-like _
-    (λ h. record {
-      reads = h.0;
-      few = h.1.0;
-      parts = h.1.1.0;
-      sector = h.1.1.1.0;
-      zero = h.1.1.1.1.0;
-      inside = h.1.1.1.1.1.0;
-      near = h.1.1.1.1.1.1.0;
-      apart = h.1.1.1.1.1.1.1.0;
-      new = h.1.1.1.1.1.1.1.1.0;
-    })
-    (λ h. (h.reads, (h.few, (h.parts, (h.sector, (h.zero, (h.inside, (h.near, (h.apart, (h.new, tt))))))))))
+    Decides-like _ (λ h. assumption) (λ h. assumption)
     (Decides-and _ _ (Decides-eqb made (length c.links + reads_out asked))
     (Decides-and _ _ (Decides-ltb (length c.links) MAX_LINKS)
     (Decides-and _ _ (each _ _ (λ l. if_there l.part _ _ (part_of n)) c.links)
@@ -480,9 +413,7 @@ its_chain t s =
 
 taste : (t : Topology Config) (s : Taste) → Decides (is_taste_in_order t s) (IsTasteInOrder t s)
 taste t s =
-    Decides-like _
-    (λ h. record { rank = h.0; reads = h.1.0; chain = h.1.1.0 })
-    (λ h. (h.rank, (h.reads, (h.chain, tt))))
+    Decides-like _ (λ h. assumption) (λ h. assumption)
     (Decides-and _ _
     (there_and (geom_of_provider t s.provider) _ _ (λ g. Decides-ltb (rank t g.number) UNTASTED_RANK))
     (Decides-and _ _ (reads s.asked s.reads) (Decides-and _ _ (its_chain t s) always)))
@@ -491,9 +422,7 @@ taste t s =
 events : (t : Topology Config) (es : List Event) (o : Option Taste) (bios : List Bio)
     → Decides (events_hold t es o bios) (EventsHold t es o bios)
 events t es o bios =
-    Decides-like _
-    (λ h. record { living = h.0; read_out = h.1.0; taste = h.1.1.0 })
-    (λ h. (h.living, (h.read_out, (h.taste, tt))))
+    Decides-like _ (λ h. assumption) (λ h. assumption)
     (Decides-and _ _ (each _ _ (λ e. itself (is_some (provider_at t (provider_of_event e)))) es)
     (Decides-and _ _
     (both_ways (list_any (λ x. is_taste_root x.owner) bios) (some_and o (λ s. is_read_out s.asked)))
@@ -575,53 +504,21 @@ all_lead granted t ps h =
 pub sound_tested : TestsSound
 unfolding is_sound
 sound_tested w =
-    let d1 = ranks w.topology in
-    let d2 = counts (granted_in w) w.topology in
-    let d3 = providers w.topology in
-    let d4 = all_numbers w.topology w.disks in
-    let d5 = handles w.topology w.handles w.next_handle w.taste in
-    let d7 = numbers (map (λ (x : Bio). x.number) w.bios) w.next_bio in
-    let d8 = each (is_bio_in_order (granted_in w) w.topology) (IsBioInOrder (granted_in w) w.topology)
-    (bio_in_order (granted_in w) w.topology) w.bios in
-    let d9 = each (is_family_in_order w.topology w.bios) (IsFamilyInOrder w.topology w.bios)
-    (family w.topology w.bios) w.bios in
-    let d10 = disks w.topology w.bios in
-    let d11 = events w.topology w.events w.taste w.bios in (
-      λ e places.
-          let h1 = and_parts _ _ e in
-          let h2 = and_parts _ _ h1.1 in
-          let h3 = and_parts _ _ h2.1 in
-          let h4 = and_parts _ _ h3.1 in
-          let h5 = and_parts _ _ h4.1 in
-          let h6 = and_parts _ _ h5.1 in
-          let h7 = and_parts _ _ h6.1 in
-          let h8 = and_parts _ _ h7.1 in
-          let h9 = and_parts _ _ h8.1 in
-          let h10 = and_parts _ _ h9.1 in
-          let h11 = and_parts _ _ h10.1 in
-          record {
-            ranks = d1.0 h1.0;
-            counts = d2.0 h2.0;
-            providers = d3.0 h3.0;
-            numbers = d4.0 h4.0;
-            handles = d5.0 h5.0;
-            places = places;
-            bio_numbers = d7.0 h7.0;
-            bios = d8.0 h8.0;
-            families = d9.0 h9.0;
-            disks = d10.0 h10.0;
-            events = d11.0 h11.0;
-          },
-      λ h.
-          and_from _ _ (d1.1 h.ranks)
-          (and_from _ _ (d2.1 h.counts)
-          (and_from _ _ (d3.1 h.providers)
-          (and_from _ _ (d4.1 h.numbers)
-          (and_from _ _ (d5.1 h.handles)
-          (and_from _ _ (all_lead (granted_in w) w.topology w.topology.providers h.places)
-          (and_from _ _ (d7.1 h.bio_numbers)
-          (and_from _ _ (d8.1 h.bios)
-          (and_from _ _ (d9.1 h.families)
-          (and_from _ _ (d10.1 h.disks)
-          (and_from _ _ (d11.1 h.events) refl)))))))))),
+    let d =
+    Decides-and _ _ (ranks w.topology)
+    (Decides-and _ _ (counts (granted_in w) w.topology)
+    (Decides-and _ _ (providers w.topology)
+    (Decides-and _ _ (all_numbers w.topology w.disks)
+    (Decides-and _ _ (handles w.topology w.handles w.next_handle w.taste)
+    (Decides-and _ _ (itself (list_all (leads_down (granted_in w) w.topology) w.topology.providers))
+    (Decides-and _ _ (numbers (map (λ (x : Bio). x.number) w.bios) w.next_bio)
+    (Decides-and _ _
+    (each (is_bio_in_order (granted_in w) w.topology) (IsBioInOrder (granted_in w) w.topology)
+    (bio_in_order (granted_in w) w.topology) w.bios)
+    (Decides-and _ _
+    (each (is_family_in_order w.topology w.bios) (IsFamilyInOrder w.topology w.bios) (family w.topology w.bios) w.bios)
+    (Decides-and _ _ (disks w.topology w.bios)
+    (Decides-and _ _ (events w.topology w.events w.taste w.bios) always)))))))))) in (
+      λ e places. let h = d.0 e in assumption,
+      λ h. let down = all_lead (granted_in w) w.topology w.topology.providers h.places in d.1 assumption,
     )

@@ -50,9 +50,7 @@ made t =
 -- each part's geom is there
 parts : (t : Topology Config) → Decides (parts_have_geoms t) (PartsHaveGeoms t)
 parts t =
-    Decides-like _
-    (λ h. record { providers = h.0; consumers = h.1 })
-    (λ h. (h.providers, h.consumers))
+    Decides-like _ (λ h. assumption) (λ h. assumption)
     (Decides-and _ _
     (each _ _ (λ p. itself (is_some (geom_at t p.geom))) t.providers)
     (each _ _ (λ c. itself (is_some (geom_at t c.geom))) t.consumers))
@@ -104,18 +102,7 @@ its_result x =
 pub steady_tested : (w : World) → Decides (is_steady w) (Steady w)
 unfolding is_steady
 steady_tested w =
-    Decides-like _
-    (λ h. record {
-      made = h.0;
-      parts = h.1.0;
-      attached = h.1.1.0;
-      components = h.1.1.1.0;
-      partial = h.1.1.1.1.0;
-      owners = h.1.1.1.1.1.0;
-      results = h.1.1.1.1.1.1.0;
-      unmarked = h.1.1.1.1.1.1.1.0;
-    })
-    (λ h. (h.made, (h.parts, (h.attached, (h.components, (h.partial, (h.owners, (h.results, (h.unmarked, tt)))))))))
+    Decides-like _ (λ h. assumption) (λ h. assumption)
     (Decides-and _ _ (made w.topology)
     (Decides-and _ _ (parts w.topology)
     (Decides-and _ _ (attached w.topology)

@@ -4,34 +4,13 @@ use Rattle.std.specs.Prelude.{◌≡◌, ◌≢◌, ◌⊎◌, ℕ, zero, suc, �
 use Rattle.std.proofs.Common.{refl, sym, ◌∙◌, ap, arith, inl, inr}
 use Rattle.std.proofs.lemmas.Fmt.{decimal_digit, first_decimal, decimal_injective}
 use Rattle.geo_base.specs.declared.limits.TheConstants.{MAX_START}
-use Rattle.geo_headline.specs.Modes.{Mode, StepMode, RunMode, GenMode, SweepMode, WatchMode, TraceMode, VerifyMode, Accepts, words_for}
+use Rattle.geo_headline.specs.Modes.{Mode, StepMode, GenMode, Accepts, words_for}
 use Rattle.geo_rows.specs.WorkedWords.{AskNothing, gen_words}
-
-pub gen-accepted : Accepts (gen_words (codes "1") (codes "3")) (GenMode 1 3)
-unfolding digits
-gen-accepted = record { spelled = refl; in_range = (omega arith, omega arith) }
-
-pub sweep-accepted : Accepts (codes "sweep" ∷ []) SweepMode
-sweep-accepted = record { spelled = refl; in_range = tt }
-
-pub watch-accepted : Accepts (codes "watch" ∷ []) WatchMode
-watch-accepted = record { spelled = refl; in_range = tt }
-
-pub trace-accepted : Accepts (codes "trace" ∷ []) TraceMode
-trace-accepted = record { spelled = refl; in_range = tt }
-
-pub verify-accepted : Accepts (codes "verify" ∷ []) VerifyMode
-verify-accepted = record { spelled = refl; in_range = tt }
 
 -- each mode but `gen` is asked for by one word, and `gen` by three
 one_or_three : (mode : Mode) → (length (words_for mode) ≡ 1) ⊎ (length (words_for mode) ≡ 3)
-one_or_three StepMode = inl refl
-one_or_three RunMode = inl refl
 one_or_three (GenMode s c) = inr refl
-one_or_three SweepMode = inl refl
-one_or_three WatchMode = inl refl
-one_or_three TraceMode = inl refl
-one_or_three VerifyMode = inl refl
+one_or_three _ = inl refl
 
 -- so no other number of words is accepted
 other_number : (words : List (List ℕ)) → length words ≢ 1 → length words ≢ 3 → AskNothing words
@@ -56,12 +35,7 @@ letter words = 0
 small_letter : (mode : Mode) → 97 ≤ letter (words_for mode)
 unfolding letter
 small_letter StepMode = omega arith
-small_letter RunMode = omega arith
-small_letter (GenMode s c) = omega arith
-small_letter SweepMode = omega arith
-small_letter WatchMode = omega arith
-small_letter TraceMode = omega arith
-small_letter VerifyMode = omega arith
+small_letter _ = omega arith
 
 pub dash-refused : AskNothing (codes "--help" ∷ [])
 unfolding letter
@@ -73,13 +47,8 @@ dash-refused mode a =
 -- three words are those of `gen`
 only_gen : (words : List (List ℕ)) (mode : Mode) → length words ≡ 3 → Accepts words mode
     → (s : ℕ) × (c : ℕ) × Accepts words (GenMode s c)
-only_gen words StepMode three a = absurd (omega (arith, three, ap (λ ws. length ws) a.spelled))
-only_gen words RunMode three a = absurd (omega (arith, three, ap (λ ws. length ws) a.spelled))
 only_gen words (GenMode s c) three a = (s, c, a)
-only_gen words SweepMode three a = absurd (omega (arith, three, ap (λ ws. length ws) a.spelled))
-only_gen words WatchMode three a = absurd (omega (arith, three, ap (λ ws. length ws) a.spelled))
-only_gen words TraceMode three a = absurd (omega (arith, three, ap (λ ws. length ws) a.spelled))
-only_gen words VerifyMode three a = absurd (omega (arith, three, ap (λ ws. length ws) a.spelled))
+only_gen words _ three a = absurd (omega (arith, three, ap (λ ws. length ws) a.spelled))
 
 second : List (List ℕ) → List ℕ
 second (a ∷ b ∷ rest) = b
@@ -118,11 +87,6 @@ too_many-refused mode a =
 
 -- what `worked_words` says
 pub ruleset worked_words = (
-  gen-accepted,
-  sweep-accepted,
-  watch-accepted,
-  trace-accepted,
-  verify-accepted,
   no_word-refused,
   two_words-refused,
   dash-refused,

@@ -13,7 +13,7 @@ use Rattle.geo_model.specs.Words.{same_name}
 use Rattle.geo_model.specs.Script.{IsScript}
 use Rattle.geo_headline.specs.Modes.{Mode, StepMode, IsAlone}
 use Rattle.geo_headline.specs.Outside.{ShelfView, calls_logged, failures_of, gives_of, is_shelf, names_of_shelf, takes_of, DisksAreKept, HasFactSectors, HoldsWhatIsLogged, IsDiskKept, IsKeptBack, IsShelf, IsUnasked, PlannedDisk, planned_disk}
-use Rattle.geo_headline.specs.Endings.{Call, Ending, Reported, ReportedButFault, BadWords, NoScript, ReadFault, ShelfFault, NoDisk, BadSize, OutOfMemory, LogFull, TooLong, Answered, NoTrace, status_of, script_of}
+use Rattle.geo_headline.specs.Endings.{Call, Ending, Reported, OutOfMemory, Answered, status_of, script_of}
 use Rattle.geo_headline.specs.Headline.{KeepsAll, NoneAskedAt, TakesAreToldAt}
 use Rattle.geo_model.specs.declared.command.DiskKind.{DiskKind}
 use Rattle.geo_model.specs.declared.command.DiskKind.TheVariants as disk_kinds
@@ -39,18 +39,8 @@ gives_again-refused call mode plan ending wrong kept =
 no_take : (ending : Ending) (before after : ShelfView) (name : List ℕ) → status_of ending ≡ 0
     → TakesAreToldAt ending before after → after.take_faults name ≡ before.take_faults name
 no_take Reported before after name s told = told name
-no_take (ReportedButFault blamed) before after name s told = absurd (omega (arith, s))
-no_take BadWords before after name s told = absurd (omega (arith, s))
-no_take (NoScript line c) before after name s told = absurd (omega (arith, s))
-no_take ReadFault before after name s told = absurd (omega (arith, s))
-no_take (ShelfFault blamed) before after name s told = absurd (omega (arith, s))
-no_take (NoDisk blamed) before after name s told = absurd (omega (arith, s))
-no_take (BadSize blamed) before after name s told = absurd (omega (arith, s))
-no_take OutOfMemory before after name s told = absurd (omega (arith, s))
-no_take LogFull before after name s told = absurd (omega (arith, s))
-no_take TooLong before after name s told = absurd (omega (arith, s))
 no_take (Answered found) before after name s told = told name
-no_take (NoTrace line) before after name s told = absurd (omega (arith, s))
+no_take _ before after name s told = absurd (omega (arith, s))
 
 pub takes_again-refused : IsRefused TakesAgain
 takes_again-refused call mode plan ending wrong kept =
@@ -61,18 +51,7 @@ takes_again-refused call mode plan ending wrong kept =
 unasked : (call : Call) (ending : Ending) (name : List ℕ) → IsAlone call.words → NoneAskedAt call ending
     → IsUnasked call.before.shelf call.after.shelf name
 unasked call OutOfMemory name alone h = h alone name
-unasked call Reported name alone h = h name
-unasked call (ReportedButFault blamed) name alone h = h name
-unasked call BadWords name alone h = h name
-unasked call (NoScript line c) name alone h = h name
-unasked call ReadFault name alone h = h name
-unasked call (ShelfFault blamed) name alone h = h name
-unasked call (NoDisk blamed) name alone h = h name
-unasked call (BadSize blamed) name alone h = h name
-unasked call LogFull name alone h = h name
-unasked call TooLong name alone h = h name
-unasked call (Answered found) name alone h = h name
-unasked call (NoTrace line) name alone h = h name
+unasked call _ name alone h = h name
 
 pub asks_in_secret-refused : IsRefused AsksInSecret
 asks_in_secret-refused call mode plan ending wrong kept =

@@ -12,7 +12,7 @@ use Rattle.geo_model.specs.Report.{end_line}
 use Rattle.geo_model.specs.Script.{IsScript}
 use Rattle.geo_headline.specs.Modes.{Mode, StepMode, VerifyMode, Accepts}
 use Rattle.geo_headline.specs.Outside.{is_shelf, IsThere, KeepsLength, WhereTold}
-use Rattle.geo_headline.specs.Endings.{Call, Ending, Reported, ReportedButFault, BadWords, NoScript, ReadFault, ShelfFault, NoDisk, BadSize, OutOfMemory, LogFull, TooLong, Answered, NoTrace, status_of, due_text, reported, CauseOf, IsOpened, script_of}
+use Rattle.geo_headline.specs.Endings.{Call, Ending, Reported, ReportedButFault, ShelfFault, NoDisk, BadSize, Answered, status_of, due_text, reported, CauseOf, IsOpened, script_of}
 use Rattle.geo_headline.specs.Headline.{KeepsAll}
 use Rattle.geo_rows.specs.WrongPrograms.{IsRefused, KeepsDisk, DropsDisk, BlamesAnotherDisk, LosesImage, ReportsDisk, InventsDisk, InventsLentDisk}
 use Rattle.geo_rows.proofs.WrongPrograms.{answered, answers_verify, ends}
@@ -42,15 +42,11 @@ same_end a b e =
 by_blame : (call : Call) (mode : Mode) (plan : Plan) (ending : Ending) (text : List ℕ) → status_of ending ≡ 5
     → BlamesAnotherDisk call
     → CauseOf call mode plan ending → call.written ≡ due_text text ending → ⊥
-by_blame call mode plan Reported text s wrong cause e = omega (arith, s)
 by_blame call mode plan (ReportedButFault name) text s wrong cause e =
     let first : IsSomeAnd (find (λ d. is_shelf d.kind && list_any (same_name d.name) []) plan.disks)
     (λ d. d.name ≡ name) =
     rw wrong.all_back at cause.1 in
     rw (no_first plan.disks) at first
-by_blame call mode plan BadWords text s wrong cause e = omega (arith, s)
-by_blame call mode plan (NoScript line c) text s wrong cause e = omega (arith, s)
-by_blame call mode plan ReadFault text s wrong cause e = omega (arith, s)
 by_blame call mode plan (ShelfFault name) text s wrong cause e =
     let same : name ≡ wrong.name = same_end name wrong.name (sym e ∙ wrong.blamed) in
     wrong.not_taken (subst (λ n. Rose (call.before.shelf.take_faults n) (call.after.shelf.take_faults n)) same cause.2)
@@ -58,12 +54,9 @@ by_blame call mode plan (NoDisk name) text s wrong cause e =
     other_letter _ _ _ _ (sym e ∙ wrong.blamed) (λ letters. omega (arith, letters))
 by_blame call mode plan (BadSize name) text s wrong cause e =
     other_letter _ _ _ _ (sym e ∙ wrong.blamed) (λ letters. omega (arith, letters))
-by_blame call mode plan OutOfMemory text s wrong cause e = omega (arith, s)
-by_blame call mode plan LogFull text s wrong cause e = omega (arith, s)
-by_blame call mode plan TooLong text s wrong cause e = omega (arith, s)
 by_blame call mode plan (Answered found) text s wrong cause e =
     answered 5 found s (λ z. omega (arith, z)) (λ z. omega (arith, z))
-by_blame call mode plan (NoTrace line) text s wrong cause e = omega (arith, s)
+by_blame call mode plan _ text s wrong cause e = omega (arith, s)
 
 pub blames_another-refused : IsRefused BlamesAnotherDisk
 blames_another-refused call mode plan ending wrong kept =
@@ -80,21 +73,11 @@ loses_image-refused call mode plan ending wrong kept =
 pub by_report : (call : Call) (mode : Mode) (plan : Plan) (ending : Ending) → status_of ending ≡ 0
     → Accepts call.words StepMode → KeepsAll call mode plan ending → IsSome call.log
 by_report call mode plan Reported s words kept = kept.ends.has_log
-by_report call mode plan (ReportedButFault name) s words kept = absurd (omega (arith, s))
-by_report call mode plan BadWords s words kept = absurd (omega (arith, s))
-by_report call mode plan (NoScript line c) s words kept = absurd (omega (arith, s))
-by_report call mode plan ReadFault s words kept = absurd (omega (arith, s))
-by_report call mode plan (ShelfFault name) s words kept = absurd (omega (arith, s))
-by_report call mode plan (NoDisk name) s words kept = absurd (omega (arith, s))
-by_report call mode plan (BadSize name) s words kept = absurd (omega (arith, s))
-by_report call mode plan OutOfMemory s words kept = absurd (omega (arith, s))
-by_report call mode plan LogFull s words kept = absurd (omega (arith, s))
-by_report call mode plan TooLong s words kept = absurd (omega (arith, s))
 by_report call mode plan (Answered found) s words kept =
     let both : StepMode ≡ VerifyMode =
     kept.texts.read_as.mode_is StepMode words ∙ sym (answers_verify call mode plan found kept) in
     let no : ⊥ = cc in absurd no
-by_report call mode plan (NoTrace line) s words kept = absurd (omega (arith, s))
+by_report call mode plan _ s words kept = absurd (omega (arith, s))
 
 -- a disk that is reported on can be taken
 was_there : (call : Call) (mode : Mode) (plan : Plan) (ending : Ending) (disk : DiskDecl) → ReportsDisk call disk

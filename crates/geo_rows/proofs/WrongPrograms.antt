@@ -16,9 +16,9 @@ use Rattle.geo_model.specs.declared.command.Cause.{Cause}
 use Rattle.geo_model.specs.Script.{Fault, IsScript, IsFault}
 use Rattle.geo_headline.specs.declared.verified.Verified.{Verified}
 use Rattle.geo_headline.specs.declared.verified.Verified.TheVariants as found
-use Rattle.geo_headline.specs.Modes.{Mode, StepMode, RunMode, GenMode, SweepMode, WatchMode, TraceMode, VerifyMode, Accepts, OpensMesh, source_limit}
+use Rattle.geo_headline.specs.Modes.{Mode, GenMode, VerifyMode, Accepts, OpensMesh, source_limit}
 use Rattle.geo_headline.specs.Outside.{ShelfView, IsShelf, HasImage, IsMissing, IsBadSize}
-use Rattle.geo_headline.specs.Endings.{Call, Ending, Reported, ReportedButFault, BadWords, NoScript, ReadFault, ShelfFault, NoDisk, BadSize, OutOfMemory, LogFull, TooLong, Answered, NoTrace, status_of, HasLog, CauseOf, LogRanFull, ReadsScript, script_of}
+use Rattle.geo_headline.specs.Endings.{Call, Ending, Reported, ReportedButFault, BadWords, NoScript, ReadFault, ShelfFault, NoDisk, BadSize, LogFull, TooLong, Answered, NoTrace, status_of, HasLog, CauseOf, LogRanFull, ReadsScript, script_of}
 use Rattle.geo_headline.specs.Traces.{TraceFault, InScript, InTrace, read_after, read_trace, script_part}
 use Rattle.geo_headline.specs.Verifying.{found_read, verified}
 use Rattle.geo_headline.specs.Headline.{KeepsAll}
@@ -34,9 +34,7 @@ ends n call mode plan ending kept other status =
 -- what was found of a trace has status 0 or 9
 pub answered : {A : Type 0} (n : ℕ) (found : Verified) → status_of (Answered found) ≡ n → n ≢ 0 → n ≢ 9 → A
 answered n found.Yes s zero nine = absurd (zero (sym s))
-answered n (found.NotEnabled line) s zero nine = absurd (nine (sym s))
-answered n found.NotAtRest s zero nine = absurd (nine (sym s))
-answered n found.OtherReport s zero nine = absurd (nine (sym s))
+answered n _ s zero nine = absurd (nine (sym s))
 
 -- what was found is told only where it was asked
 pub answers_verify : (call : Call) (mode : Mode) (plan : Plan) (found : Verified)
@@ -46,20 +44,10 @@ answers_verify call mode plan found kept = kept.texts.read_as.mode_is VerifyMode
 by_usage : (call : Call) (mode : Mode) (plan : Plan) (ending : Ending) → status_of ending ≡ 1
     → ((m : Mode) × Accepts call.words m)
     → CauseOf call mode plan ending → ⊥
-by_usage call mode plan Reported s words cause = omega (arith, s)
-by_usage call mode plan (ReportedButFault name) s words cause = omega (arith, s)
 by_usage call mode plan BadWords s words cause = cause words.0 words.1
-by_usage call mode plan (NoScript line c) s words cause = omega (arith, s)
-by_usage call mode plan ReadFault s words cause = omega (arith, s)
-by_usage call mode plan (ShelfFault name) s words cause = omega (arith, s)
-by_usage call mode plan (NoDisk name) s words cause = omega (arith, s)
-by_usage call mode plan (BadSize name) s words cause = omega (arith, s)
-by_usage call mode plan OutOfMemory s words cause = omega (arith, s)
-by_usage call mode plan LogFull s words cause = omega (arith, s)
-by_usage call mode plan TooLong s words cause = omega (arith, s)
 by_usage call mode plan (Answered found) s words cause =
     answered 1 found s (λ e. omega (arith, e)) (λ e. omega (arith, e))
-by_usage call mode plan (NoTrace line) s words cause = omega (arith, s)
+by_usage call mode plan _ s words cause = omega (arith, s)
 
 pub usage-refused : IsRefused AnswersUsage
 usage-refused call mode plan ending wrong kept =
@@ -88,31 +76,18 @@ script_fault text line c bad = ap (λ r. found_read (read_after text r)) bad
 -- in a script that was asked for
 by_script : (call : Call) (mode : Mode) (p : Plan) (line : ℕ) (c : Cause) → (Accepts call.words VerifyMode → ⊥)
     → IsScript call.text p → ReadsScript call mode → IsFault (script_of mode call.text) line c → ⊥
-by_script call StepMode p line c other good reads bad = no_fault call.text p line c good bad
-by_script call RunMode p line c other good reads bad = no_fault call.text p line c good bad
 by_script call (GenMode start count) p line c other good reads bad = reads
-by_script call SweepMode p line c other good reads bad = no_fault call.text p line c good bad
-by_script call WatchMode p line c other good reads bad = no_fault call.text p line c good bad
-by_script call TraceMode p line c other good reads bad = no_fault call.text p line c good bad
 by_script call VerifyMode p line c other good reads bad = other reads
+by_script call _ p line c other good reads bad = no_fault call.text p line c good bad
 
 by_fault : (call : Call) (mode : Mode) (plan : Plan) (ending : Ending) (p : Plan) → status_of ending ≡ 2
     → (Accepts call.words VerifyMode → ⊥) → IsScript call.text p
     → CauseOf call mode plan ending → ⊥
-by_fault call mode plan Reported p s other good cause = omega (arith, s)
-by_fault call mode plan (ReportedButFault name) p s other good cause = omega (arith, s)
-by_fault call mode plan BadWords p s other good cause = omega (arith, s)
 by_fault call mode plan (NoScript line c) p s other good cause =
     by_script call mode p line c other good cause.0 cause.2
-by_fault call mode plan ReadFault p s other good cause = omega (arith, s)
-by_fault call mode plan (ShelfFault name) p s other good cause = omega (arith, s)
-by_fault call mode plan (NoDisk name) p s other good cause = omega (arith, s)
-by_fault call mode plan (BadSize name) p s other good cause = omega (arith, s)
-by_fault call mode plan OutOfMemory p s other good cause = omega (arith, s)
-by_fault call mode plan LogFull p s other good cause = omega (arith, s)
-by_fault call mode plan TooLong p s other good cause = omega (arith, s)
 by_fault call mode plan (Answered found) p s other good cause = other cause.0
 by_fault call mode plan (NoTrace line) p s other good cause = other cause.0
+by_fault call mode plan _ p s other good cause = omega (arith, s)
 
 pub fault_of_script-refused : IsRefused AnswersFaultOfScript
 fault_of_script-refused call mode plan ending wrong kept =
@@ -122,21 +97,12 @@ fault_of_script-refused call mode plan ending wrong kept =
 -- of a trace
 by_trace : (call : Call) (plan : Plan) (ending : Ending) (found : Verified) → status_of ending ≡ 2
     → verified call.text ≡ Ok found → CauseOf call VerifyMode plan ending → ⊥
-by_trace call plan Reported found s good cause = omega (arith, s)
-by_trace call plan (ReportedButFault name) found s good cause = omega (arith, s)
-by_trace call plan BadWords found s good cause = omega (arith, s)
 by_trace call plan (NoScript line c) found s good cause =
     no_trace_fault call.text found (InScript line c) good (script_fault call.text line c cause.2)
-by_trace call plan ReadFault found s good cause = omega (arith, s)
-by_trace call plan (ShelfFault name) found s good cause = omega (arith, s)
-by_trace call plan (NoDisk name) found s good cause = omega (arith, s)
-by_trace call plan (BadSize name) found s good cause = omega (arith, s)
-by_trace call plan OutOfMemory found s good cause = omega (arith, s)
-by_trace call plan LogFull found s good cause = omega (arith, s)
-by_trace call plan TooLong found s good cause = omega (arith, s)
 by_trace call plan (Answered other) found s good cause =
     answered 2 other s (λ e. omega (arith, e)) (λ e. omega (arith, e))
 by_trace call plan (NoTrace line) found s good cause = no_trace_fault call.text found (InTrace line) good cause.2
+by_trace call plan _ found s good cause = omega (arith, s)
 
 pub fault_of_trace-refused : IsRefused AnswersFaultOfTrace
 fault_of_trace-refused call mode plan ending wrong kept =
@@ -146,20 +112,10 @@ fault_of_trace-refused call mode plan ending wrong kept =
 
 by_read : (call : Call) (mode : Mode) (plan : Plan) (ending : Ending) → status_of ending ≡ 3
     → (Rose call.before.source.faults call.after.source.faults → ⊥) → CauseOf call mode plan ending → ⊥
-by_read call mode plan Reported s none cause = omega (arith, s)
-by_read call mode plan (ReportedButFault name) s none cause = omega (arith, s)
-by_read call mode plan BadWords s none cause = omega (arith, s)
-by_read call mode plan (NoScript line c) s none cause = omega (arith, s)
 by_read call mode plan ReadFault s none cause = none cause.2
-by_read call mode plan (ShelfFault name) s none cause = omega (arith, s)
-by_read call mode plan (NoDisk name) s none cause = omega (arith, s)
-by_read call mode plan (BadSize name) s none cause = omega (arith, s)
-by_read call mode plan OutOfMemory s none cause = omega (arith, s)
-by_read call mode plan LogFull s none cause = omega (arith, s)
-by_read call mode plan TooLong s none cause = omega (arith, s)
 by_read call mode plan (Answered found) s none cause =
     answered 3 found s (λ e. omega (arith, e)) (λ e. omega (arith, e))
-by_read call mode plan (NoTrace line) s none cause = omega (arith, s)
+by_read call mode plan _ s none cause = omega (arith, s)
 
 pub read_fault-refused : IsRefused AnswersReadFault
 read_fault-refused call mode plan ending wrong kept =
@@ -170,19 +126,9 @@ pub write_fault-refused : IsRefused AnswersWriteFault
 write_fault-refused call mode plan ending wrong kept = wrong.1 ((kept.texts.prints.cut_off wrong.0).fault)
 
 by_log : (call : Call) (ending : Ending) → status_of ending ≡ 7 → call.log ≡ None → HasLog ending call.log → ⊥
-by_log call Reported s e has = omega (arith, s)
-by_log call (ReportedButFault name) s e has = omega (arith, s)
-by_log call BadWords s e has = omega (arith, s)
-by_log call (NoScript line c) s e has = omega (arith, s)
-by_log call ReadFault s e has = omega (arith, s)
-by_log call (ShelfFault name) s e has = omega (arith, s)
-by_log call (NoDisk name) s e has = omega (arith, s)
-by_log call (BadSize name) s e has = omega (arith, s)
-by_log call OutOfMemory s e has = omega (arith, s)
 by_log call LogFull s e has = let no : IsSome {T = List Entry} None = rw e at has in (let bad : ⊥ = cc in bad)
-by_log call TooLong s e has = omega (arith, s)
 by_log call (Answered found) s e has = answered 7 found s (λ e. omega (arith, e)) (λ e. omega (arith, e))
-by_log call (NoTrace line) s e has = omega (arith, s)
+by_log call _ s e has = omega (arith, s)
 
 pub full_without_log-refused : IsRefused AnswersFullWithoutLog
 full_without_log-refused call mode plan ending wrong kept =
@@ -192,19 +138,9 @@ full_without_log-refused call mode plan ending wrong kept =
 by_full : (call : Call) (mode : Mode) (plan : Plan) (ending : Ending) → status_of ending ≡ 7
     → CauseOf call mode plan ending
     → IsSomeAnd call.log (LogRanFull mode plan (opening plan call.facts))
-by_full call mode plan Reported s cause = absurd (omega (arith, s))
-by_full call mode plan (ReportedButFault name) s cause = absurd (omega (arith, s))
-by_full call mode plan BadWords s cause = absurd (omega (arith, s))
-by_full call mode plan (NoScript line c) s cause = absurd (omega (arith, s))
-by_full call mode plan ReadFault s cause = absurd (omega (arith, s))
-by_full call mode plan (ShelfFault name) s cause = absurd (omega (arith, s))
-by_full call mode plan (NoDisk name) s cause = absurd (omega (arith, s))
-by_full call mode plan (BadSize name) s cause = absurd (omega (arith, s))
-by_full call mode plan OutOfMemory s cause = absurd (omega (arith, s))
 by_full call mode plan LogFull s cause = cause
-by_full call mode plan TooLong s cause = absurd (omega (arith, s))
 by_full call mode plan (Answered found) s cause = answered 7 found s (λ e. omega (arith, e)) (λ e. omega (arith, e))
-by_full call mode plan (NoTrace line) s cause = absurd (omega (arith, s))
+by_full call mode plan _ s cause = absurd (omega (arith, s))
 
 ran_full : (call : Call) (mode : Mode) (plan : Plan) (ending : Ending) → call.status ≡ 7
     → KeepsAll call mode plan ending
@@ -229,34 +165,19 @@ full_too_early-refused call mode plan ending wrong kept =
 
 -- where a text is read, the words are accepted
 accepted_by : (call : Call) (mode : Mode) → ReadsScript call mode → Accepts call.words mode
-accepted_by call StepMode reads = reads
-accepted_by call RunMode reads = reads
 accepted_by call (GenMode start count) reads = absurd reads
-accepted_by call SweepMode reads = reads
-accepted_by call WatchMode reads = reads
-accepted_by call TraceMode reads = reads
-accepted_by call VerifyMode reads = reads
+accepted_by call _ reads = reads
 
 by_length : (call : Call) (mode : Mode) (plan : Plan) (ending : Ending) → status_of ending ≡ 8
     → ((m : Mode) → Accepts call.words m → length call.text ≤ source_limit m)
     → CauseOf call mode plan ending → ⊥
-by_length call mode plan Reported s short cause = omega (arith, s)
-by_length call mode plan (ReportedButFault name) s short cause = omega (arith, s)
-by_length call mode plan BadWords s short cause = omega (arith, s)
-by_length call mode plan (NoScript line c) s short cause = omega (arith, s)
-by_length call mode plan ReadFault s short cause = omega (arith, s)
-by_length call mode plan (ShelfFault name) s short cause = omega (arith, s)
-by_length call mode plan (NoDisk name) s short cause = omega (arith, s)
-by_length call mode plan (BadSize name) s short cause = omega (arith, s)
-by_length call mode plan OutOfMemory s short cause = omega (arith, s)
-by_length call mode plan LogFull s short cause = omega (arith, s)
 by_length call mode plan TooLong s short cause =
     let few : length call.text ≤ source_limit mode = short mode (accepted_by call mode cause.0) in
     let long : source_limit mode < length call.text = cause.1 in
     omega (arith, few, long)
 by_length call mode plan (Answered found) s short cause =
     answered 8 found s (λ e. omega (arith, e)) (λ e. omega (arith, e))
-by_length call mode plan (NoTrace line) s short cause = omega (arith, s)
+by_length call mode plan _ s short cause = omega (arith, s)
 
 pub too_long-refused : IsRefused AnswersTooLong
 too_long-refused call mode plan ending wrong kept =
@@ -267,21 +188,10 @@ too_long-refused call mode plan ending wrong kept =
 by_no : (call : Call) (mode : Mode) (plan : Plan) (ending : Ending) → status_of ending ≡ 9
     → ((answer : Verified) → verified call.text ≡ Ok answer → answer ≡ found.Yes)
     → CauseOf call mode plan ending → ⊥
-by_no call mode plan Reported s only cause = omega (arith, s)
-by_no call mode plan (ReportedButFault name) s only cause = omega (arith, s)
-by_no call mode plan BadWords s only cause = omega (arith, s)
-by_no call mode plan (NoScript line c) s only cause = omega (arith, s)
-by_no call mode plan ReadFault s only cause = omega (arith, s)
-by_no call mode plan (ShelfFault name) s only cause = omega (arith, s)
-by_no call mode plan (NoDisk name) s only cause = omega (arith, s)
-by_no call mode plan (BadSize name) s only cause = omega (arith, s)
-by_no call mode plan OutOfMemory s only cause = omega (arith, s)
-by_no call mode plan LogFull s only cause = omega (arith, s)
-by_no call mode plan TooLong s only cause = omega (arith, s)
 by_no call mode plan (Answered found) s only cause =
     let is : status_of (Answered found) ≡ 0 = ap (λ f. status_of (Answered f)) (only found cause.2) in
     omega (arith, s, is)
-by_no call mode plan (NoTrace line) s only cause = omega (arith, s)
+by_no call mode plan _ s only cause = omega (arith, s)
 
 pub no-refused : IsRefused AnswersNo
 no-refused call mode plan ending wrong kept =
@@ -312,11 +222,7 @@ told_cause shelf had Fact told cause = rw told at cause
 
 by_disk : (call : Call) (mode : Mode) (plan : Plan) (ending : Ending) → status_of ending ≡ 5 → AnswersDiskFault call
     → CauseOf call mode plan ending → ⊥
-by_disk call mode plan Reported s wrong cause = omega (arith, s)
 by_disk call mode plan (ReportedButFault name) s wrong cause = wrong.gives name cause.2
-by_disk call mode plan BadWords s wrong cause = omega (arith, s)
-by_disk call mode plan (NoScript line c) s wrong cause = omega (arith, s)
-by_disk call mode plan ReadFault s wrong cause = omega (arith, s)
 by_disk call mode plan (ShelfFault name) s wrong cause = wrong.takes name cause.2
 by_disk call mode plan (NoDisk name) s wrong cause =
     let stop = cause.1 in
@@ -332,12 +238,9 @@ by_disk call mode plan (BadSize name) s wrong cause =
     (wrong.there mode plan cause.0.script) stop.of_shelf in
     there_or_bad (wrong.had stop.disk.name) (λ bytes. IsDiskSize stop.disk.sector (length bytes)) has
     (told_cause call.before.shelf wrong.had (IsBadSize stop.disk) wrong.told stop.cause)
-by_disk call mode plan OutOfMemory s wrong cause = omega (arith, s)
-by_disk call mode plan LogFull s wrong cause = omega (arith, s)
-by_disk call mode plan TooLong s wrong cause = omega (arith, s)
 by_disk call mode plan (Answered found) s wrong cause =
     answered 5 found s (λ e. omega (arith, e)) (λ e. omega (arith, e))
-by_disk call mode plan (NoTrace line) s wrong cause = omega (arith, s)
+by_disk call mode plan _ s wrong cause = omega (arith, s)
 
 pub disk_fault-refused : IsRefused AnswersDiskFault
 disk_fault-refused call mode plan ending wrong kept =
@@ -356,21 +259,8 @@ by_yes : (call : Call) (mode : Mode) (plan : Plan) (ending : Ending) → status_
     → (IsSome call.log → ⊥) → (verified call.text ≡ Ok found.Yes → ⊥)
     → CauseOf call mode plan ending → ⊥
 by_yes call mode plan Reported s none not_yes cause = none cause.0
-by_yes call mode plan (ReportedButFault name) s none not_yes cause = omega (arith, s)
-by_yes call mode plan BadWords s none not_yes cause = omega (arith, s)
-by_yes call mode plan (NoScript line c) s none not_yes cause = omega (arith, s)
-by_yes call mode plan ReadFault s none not_yes cause = omega (arith, s)
-by_yes call mode plan (ShelfFault name) s none not_yes cause = omega (arith, s)
-by_yes call mode plan (NoDisk name) s none not_yes cause = omega (arith, s)
-by_yes call mode plan (BadSize name) s none not_yes cause = omega (arith, s)
-by_yes call mode plan OutOfMemory s none not_yes cause = omega (arith, s)
-by_yes call mode plan LogFull s none not_yes cause = omega (arith, s)
-by_yes call mode plan TooLong s none not_yes cause = omega (arith, s)
 by_yes call mode plan (Answered found.Yes) s none not_yes cause = not_yes cause.2
-by_yes call mode plan (Answered (found.NotEnabled line)) s none not_yes cause = omega (arith, s)
-by_yes call mode plan (Answered found.NotAtRest) s none not_yes cause = omega (arith, s)
-by_yes call mode plan (Answered found.OtherReport) s none not_yes cause = omega (arith, s)
-by_yes call mode plan (NoTrace line) s none not_yes cause = omega (arith, s)
+by_yes call mode plan _ s none not_yes cause = omega (arith, s)
 
 pub yes-refused : IsRefused SaysYes
 yes-refused call mode plan ending wrong kept =

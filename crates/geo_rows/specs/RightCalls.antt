@@ -1,5 +1,6 @@
 -- Calls of a right program.
 use Rattle.std.specs.Prelude.{ℕ, false, true, List, [], ◌∷◌, ◌++◌, Some, None, codes}
+use Rattle.geo_model.specs.declared.command.DiskDecl.{DiskDecl}
 use Rattle.geo_model.specs.declared.command.DiskKind.TheVariants.{Shelf}
 use Rattle.geo_model.specs.World.{Plan}
 use Rattle.geo_headline.specs.Outside.{ShelfView, SourceView, gives_of, takes_of}
@@ -9,12 +10,11 @@ use Rattle.geo_headline.specs.Endings.{Call}
 abbrev pub later_text : List ℕ
 later_text = codes "disk d 512 later"
 
+abbrev pub later_disk : DiskDecl
+later_disk = record { kind = Shelf; name = codes "d"; sector = 512; sectors = 0; later = true }
+
 abbrev pub later_plan : Plan
-later_plan = record {
-  disks = record { kind = Shelf; name = codes "d"; sector = 512; sectors = 0; later = true } ∷ [];
-  actors = [];
-  commands = [];
-}
+later_plan = record { disks = later_disk ∷ []; actors = []; commands = [] }
 
 -- a shelf that tells nothing and wasn't called yet, of which nothing is lent and nothing failed; no disk was asked, and
 -- each had 1,000 sectors

@@ -1,4 +1,6 @@
 //! Chains of logical partitions, labels of both versions, and the numbers of a taste.
+#![tactic(auto, unfolding(crate::proofs::Computed::computed))]
+
 ghost use Rattle.geo_base.specs.declared.decline.DeclineCause.TheVariants as declines;
 ghost use Rattle.geo_base.specs.declared.kind.Kind.TheVariants as kinds;
 ghost use Rattle.geo_model.specs.declared.class.Shape.TheVariants.{Named};
@@ -18,7 +20,6 @@ ghost use Rattle.std.specs.Int.{to_le_bytes, w32};
 ghost use Rattle.std.specs.Prelude.{Err, None, Ok, Some, [], codes, false, nat_lt, true, ◌*◌, ◌+◌, ◌++◌, ◌∷◌, ◌≡◌};
 
 /// Chains that are found, and each cause to decline one; names, numbers and places of partitions.
-#[tactic(auto, using(crate::proofs::ChainFacts::worked_chains))]
 pub fn worked_chains()
     ensures two_links_found { chain_table (two_links 0 0) 63 ≡ Ok (table (part 1 4 ∷ part 11 3 ∷ []) 30) }
     ensures row_found { chain_table (links_in_row 32) 63 ≡ Ok (table parts_in_row 0) }
@@ -49,7 +50,6 @@ pub fn worked_chains()
 {}
 
 /// What is read of labels, and what LABEL says to them.
-#[tactic(auto, using(crate::proofs::ChainFacts::worked_labels))]
 pub fn worked_labels()
     ensures sized_again { label_record (label_sector 512 (record { name = codes "vol"; size = Some 3584 }))
         ≡ Ok (record { name = codes "vol"; size = Some 3584 }) }
@@ -67,7 +67,6 @@ pub fn worked_labels()
 {}
 
 /// The Judge steps that a taste can make, and the providers.
-#[tactic(auto, using(crate::proofs::ChainFacts::taste_numbers))]
 pub fn taste_numbers()
     ensures judges { judges_of_taste ≡ 331 }
     ensures makes { makes_of_taste ≡ 39 }
@@ -75,7 +74,6 @@ pub fn taste_numbers()
 {}
 
 /// The chain of a taste under way is sound as it should be, and unsound where it isn't in one respect.
-#[tactic(auto, using(crate::proofs::ChainSteps::chains_of_tastes))]
 pub fn chains_of_tastes()
     ensures lawful_holds { holds_all lawful_chain ≡ true }
     ensures lawful_kept { judged_unsound lawful_chain ≡ false }

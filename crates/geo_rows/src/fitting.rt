@@ -1,4 +1,6 @@
 //! Sizes, sectors, places and commands fit at each moment of the worked runs.
+#![tactic(auto, unfolding(crate::proofs::Computed::computed))]
+
 ghost use Rattle.geo_model.specs.declared.step.Step.TheVariants as steps;
 ghost use Rattle.geo_rows.specs.Rows.{first_plan, first_facts, exclusion_plan, exclusion_facts, boundaries_plan, boundaries_facts, slice_plan, slice_facts, hostile_table_plan, hostile_table_facts, spoiling_plan, spoiling_facts, pulling_plan, pulling_facts, joining_plan, joining_facts, striping_plan, striping_facts, diamond_plan, diamond_facts, failing_nop_plan, failing_nop_facts, assembling_plan, assembling_facts, labelling_plan, labelling_facts, two_users_plan, two_users_facts};
 ghost use Rattle.geo_rows.specs.GrownRows.{growing_plan, growing_facts, appearing_plan, appearing_facts, sized_label_plan, sized_label_facts, plain_label_plan, plain_label_facts, logical_plan, logical_facts, looping_plan, looping_facts, refusing_plan, refusing_facts, relabelling_plan, relabelling_facts, written_through_plan, written_through_facts, used_slice_plan, used_slice_facts, kept_above_plan, kept_above_facts, long_chain_plan, long_chain_facts, too_long_chain_plan, too_long_chain_facts};
@@ -29,7 +31,6 @@ pub fn soundness_is_tested()
 {}
 
 /// Each moment of the runs and of the step lists is fitting.
-#[tactic(auto, using(crate::proofs::RunFitting::worked_fitting))]
 pub fn worked_fitting()
     ensures first_fitting { run_is_fitting first_plan first_facts ≡ true }
     ensures exclusion_fitting { run_is_fitting exclusion_plan exclusion_facts ≡ true }
@@ -74,7 +75,6 @@ pub fn worked_fitting()
 
 /// Worlds that are sound and steady, aren't fitting, and aren't sound any more after the step; and a stripe whose
 /// provider has another size than its components make it.
-#[tactic(auto, using(crate::proofs::LooseSteps::unfitting_worlds))]
 pub fn unfitting_worlds()
     ensures crooked_nop_loose { is_loose crooked_nop (steps.Start 1) ≡ true }
     ensures large_component_loose { is_loose large_component steps.Judge ≡ true }

@@ -1,4 +1,6 @@
 //! Runs of the model in which a concat grows, labels of both versions are written and logical partitions are found.
+#![tactic(auto, unfolding(crate::proofs::Computed::computed))]
+
 ghost use Rattle.geo_base.specs.declared.errno.Errno.TheVariants.{EBUSY, EDEEP, EINVAL, ENXIO, EOVERFLOW};
 ghost use Rattle.geo_model.specs.Script.{script};
 ghost use Rattle.geo_model.specs.declared.step.Reply.TheVariants as replies;
@@ -16,7 +18,6 @@ ghost use Rattle.geo_rows.specs.WorkedSteady.{run_is_steady, steady_along};
 ghost use Rattle.std.specs.Prelude.{None, Ok, Some, [], codes, true, ◌-◌, ◌^◌, ◌∷◌, ◌≡◌};
 
 /// Each plan, run in the fixed order over memory disks of zeros, gives its report.
-#[tactic(auto, using(crate::proofs::GrownRuns::grown_runs))]
 pub fn grown_runs()
     ensures growing_report { report_of 400 growing_plan growing_facts ≡ growing_text }
     ensures appearing_report { report_of 400 appearing_plan appearing_facts ≡ appearing_text }
@@ -34,7 +35,6 @@ pub fn grown_runs()
 {}
 
 /// Each text is the script of its plan.
-#[tactic(auto, using(crate::proofs::GrownRuns::grown_scripts))]
 pub fn grown_scripts()
     ensures growing_script { script growing_script ≡ Ok growing_plan }
     ensures appearing_script { script appearing_script ≡ Ok appearing_plan }
@@ -50,41 +50,57 @@ pub fn grown_scripts()
 {}
 
 /// Appends while requests and tastes are under way, and appends that are refused.
-#[tactic(auto, using(crate::proofs::GrownStepLists::grown_step_lists))]
 pub fn grown_step_lists()
+    // a read of the concat is accepted
     ensures append_once_accepted { reply_after held_world (next_of 0 ∷ next_of 1 ∷ []) 8
         ≡ Some (replies.Refused EBUSY) }
+    // it is back from its disk
     ensures append_before_up { reply_after held_world (append_before_up held_world) 8 ≡ Some (replies.Refused EBUSY) }
+    // and it is answered
     ensures read_over_append { reply_after held_world (append_before_up held_world) 7
         ≡ Some (replies.Bytes (fill_of 0)) }
+    // it was answered
     ensures append_after_up { reply_after held_world (append_after_up held_world) 8 ≡ Some replies.Ok }
     ensures size_before_up { size_after held_world (append_before_up held_world) (codes "concat/c") ≡ Some 4096 }
     ensures size_after_up { size_after held_world (append_after_up held_world) (codes "concat/c") ≡ Some 6144 }
+    // the mesh is as before
     ensures held_mesh { mesh_after held_world (next_of 0 ∷ next_of 1 ∷ []) two_disks ≡ held_mesh }
+    // a read of what stands on the concat is accepted
     ensures append_under_nop { let w = around_world (codes "concat/c.nop") in
         reply_after w (next_of 0 ∷ next_of 1 ∷ []) 8 ≡ Some (replies.Refused EBUSY) }
+    // a read of what the concat stands on is accepted
     ensures append_over_read { let w = around_world (codes "md0") in reply_after w (next_of 0 ∷ next_of 1 ∷ []) 8
         ≡ Some replies.Ok }
+    // the concat is offered for taste
     ensures append_before_taste { reply_after new_world (next_of 0 ∷ next_of 1 ∷ []) 8 ≡ Some replies.Ok }
+    // its taste is under way
     ensures append_in_taste { reply_after new_world (next_of 0 ∷ steps.Event ∷ next_of 1 ∷ []) 8
         ≡ Some (replies.Refused EBUSY) }
+    // and has a read out
     ensures append_in_read { reply_after new_world (next_of 0 ∷ steps.Event ∷ steps.Judge ∷ next_of 1 ∷ []) 8
         ≡ Some (replies.Refused EBUSY) }
+    // the provider is orphaned
     ensures append_pulled { let w = pulled_world (codes "md1") in reply_after w (next_of 0 ∷ next_of 1 ∷ []) 8
         ≡ Some (replies.Refused ENXIO) }
+    // the one below it is
     ensures append_over_pulled { let w = pulled_world (codes "md1.nop") in
         reply_after w (next_of 0 ∷ next_of 1 ∷ []) 8 ≡ Some (replies.Refused ENXIO) }
+    // the counts together would be above the limit
     ensures append_overflow { reply_after (counted_world 2147483647) (next_of 1 ∷ []) 8
         ≡ Some (replies.Refused EOVERFLOW) }
+    // they are at the limit
     ensures append_counted { reply_after (counted_world 2147483646) (next_of 1 ∷ []) 8 ≡ Some replies.Ok }
+    // a component of the greatest rank is too deep
     ensures append_deep { refusal_over (chain 32) 32 (λ p. p) ≡ Some EDEEP }
+    // one of the rank below isn't
     ensures append_fits { refusal_over (chain 31) 31 (λ p. p) ≡ None }
+    // the concat would be above the greatest size
     ensures append_too_large { refusal_over (chain 1) 1 (λ p. record p { size = 2 ^ 60 - 1536 }) ≡ Some EINVAL }
+    // it is of the greatest size
     ensures append_largest { refusal_over (chain 1) 1 (λ p. record p { size = 2 ^ 60 - 2048 }) ≡ None }
 {}
 
 /// Each moment of these runs is sound, each step frees only what is idle, each request is answered once.
-#[tactic(auto, using(crate::proofs::GrownSound::grown_moments))]
 pub fn grown_moments()
     ensures growing_sound { run_is_sound growing_plan growing_facts ≡ true }
     ensures appearing_sound { run_is_sound appearing_plan appearing_facts ≡ true }
@@ -134,7 +150,6 @@ pub fn grown_moments()
 {}
 
 /// Each moment of these runs is steady, and each step offers for taste only what lives.
-#[tactic(auto, using(crate::proofs::GrownSteady::grown_steadiness))]
 pub fn grown_steadiness()
     ensures growing_steady { run_is_steady growing_plan growing_facts ≡ true }
     ensures appearing_steady { run_is_steady appearing_plan appearing_facts ≡ true }
@@ -158,7 +173,6 @@ pub fn grown_steadiness()
 {}
 
 /// The measure falls along each of these runs; results, sectors and contents are those of the log.
-#[tactic(auto, using(crate::proofs::GrownLaws::grown_laws))]
 pub fn grown_laws()
     ensures growing_falls { measure_falls 400 growing_plan growing_facts ≡ true }
     ensures appearing_falls { measure_falls 400 appearing_plan appearing_facts ≡ true }

@@ -1,4 +1,6 @@
 //! Worked examples of the model, proved by computation.
+#![tactic(auto, unfolding(crate::proofs::Computed::computed))]
+
 ghost use Rattle.geo_base.specs.declared.decline.DeclineCause.TheVariants as declines;
 ghost use Rattle.geo_base.specs.declared.errno.Errno.TheVariants.{EBUSY, EDEEP, EEXIST, EIO, ELOOP, ENXIO, EOVERFLOW, EPERM};
 ghost use Rattle.geo_model.specs.Generator.{draws};
@@ -31,7 +33,6 @@ ghost use Rattle.geo_model.specs.declared.step.Step.TheVariants as steps;
 ghost use Rattle.std.specs.Prelude.{Err, None, Ok, Some, [], codes, false, replicate, true, ◌++◌, ◌-◌, ◌^◌, ◌∷◌, ◌≡◌};
 
 /// Each plan, run in the fixed order over memory disks of zeros, gives its report.
-#[tactic(auto, using(crate::proofs::RowTexts::worked_runs))]
 pub fn worked_runs()
     ensures first_report { report_of 400 first_plan first_facts ≡ first_text }
     ensures exclusion_report { report_of 400 exclusion_plan exclusion_facts ≡ exclusion_text }
@@ -51,7 +52,6 @@ pub fn worked_runs()
 {}
 
 /// Each text is the script of its plan, or has its fault; and what is made from a number.
-#[tactic(auto, using(crate::proofs::ScriptPlans::worked_scripts))]
 pub fn worked_scripts()
     ensures exclusion_script { script exclusion_script ≡ Ok exclusion_plan }
     ensures boundaries_script { script boundaries_script ≡ Ok boundaries_plan }
@@ -81,12 +81,12 @@ pub fn worked_scripts()
     ensures first_draws { draws 9 1 ≡ 16838 ∷ 5758 ∷ 10113 ∷ 17515 ∷ 31051 ∷ 5627 ∷ 23010 ∷ 7419 ∷ 16212 ∷ [] }
     ensures no_lines_summary { generated_summary 400 1 0 ≡ no_lines_summary }
     ensures three_lines_summary { generated_summary 400 1 3 ≡ three_lines_summary }
+    // the empty text is a script, and its report is empty
     ensures empty_script { script [] ≡ Ok empty_plan }
     ensures empty_report { report_of 1 empty_plan [] ≡ [] }
 {}
 
 /// Lists of steps in other orders give these replies.
-#[tactic(auto, using(crate::proofs::StepListReplies::worked_step_lists))]
 pub fn worked_step_lists()
     ensures pulled_early_reply { reply_after sliced_world (pulled_early sliced_world) 9 ≡ Some (replies.Refused ENXIO) }
     ensures pulled_late_reply { reply_after sliced_world (pulled_late sliced_world) 9
@@ -105,8 +105,10 @@ pub fn worked_step_lists()
         reply_after w (second_up_first w) 8 ≡ Some (replies.Refused EIO) }
     ensures pulled_first_reply { let w = failing_world (codes "md1") (codes "md0.nop") in
         reply_after w (second_up_first w) 8 ≡ Some (replies.Refused ENXIO) }
+    // a disk that fails its call
     ensures failed_read_reply { reply_after opened_world (failed_read opened_world) 4 ≡ Some (replies.Refused EIO) }
     ensures failed_read_failures { failures_of (log_of_steps opened_world (failed_read opened_world)) 0 ≡ 1 }
+    // the errors that a bio met stand in piece order, whichever piece went up first
     ensures nop_first_errors { let w = failing_world (codes "md0.nop") (codes "md1") in
         errors_met w (second_up_first w) w.next_bio ≡ EIO ∷ ENXIO ∷ [] }
     ensures pulled_first_errors { let w = failing_world (codes "md1") (codes "md0.nop") in
@@ -114,17 +116,16 @@ pub fn worked_step_lists()
 {}
 
 /// Counts double from floor to floor of a tower of concats.
-#[tactic(auto, using(crate::proofs::TowerCounts::worked_towers))]
 pub fn worked_towers()
     ensures five_floors_counts { disk_counts 5 (counts 1 0 0) ≡ counts (2 ^ 5) 0 (2 ^ 6 - 2) }
     ensures five_floors_fits { top_refusal 5 (counts (2 ^ 26 - 1) 0 0) ≡ None }
     ensures five_floors_overflow { top_refusal 5 (counts (2 ^ 26) 0 0) ≡ Some EOVERFLOW }
+    // a name that is there already
     ensures first_floor_taken { concat_refusal_over (tower_world 1) (floor_name 1)
         (provider_at (tower_world 1).topology 1) ≡ Some EEXIST }
 {}
 
 /// The measure falls along each run; results, sectors and contents are those of the log.
-#[tactic(auto, using(crate::proofs::RunLaws::worked_laws))]
 pub fn worked_laws()
     ensures first_falls { measure_falls 400 first_plan first_facts ≡ true }
     ensures exclusion_falls { measure_falls 400 exclusion_plan exclusion_facts ≡ true }
@@ -156,7 +157,6 @@ pub fn worked_laws()
 {}
 
 /// Each moment of the runs is sound, each step frees only what is idle, each request is answered once.
-#[tactic(auto, using(crate::proofs::RunSound::worked_moments))]
 pub fn worked_moments()
     ensures first_sound { run_is_sound first_plan first_facts ≡ true }
     ensures exclusion_sound { run_is_sound exclusion_plan exclusion_facts ≡ true }
@@ -188,22 +188,25 @@ pub fn worked_moments()
     ensures spoiling_once { run_answers_once spoiling_plan spoiling_facts ≡ true }
     ensures joining_idle { run_frees_idle joining_plan joining_facts ≡ true }
     ensures joining_once { run_answers_once joining_plan joining_facts ≡ true }
+    // a world whose next number isn't above the numbers in use isn't sound
     ensures reused_number_unsound { let w : World = opening first_plan first_facts in
         is_sound (record w { topology = record w.topology { next_geom = 2 } }) ≡ false }
 {}
 
 /// Attaching, pieces and records.
-#[tactic(auto, using(crate::proofs::PartFacts::worked_parts))]
 pub fn worked_parts()
+    // a chain of 32 geoms is as deep as may be
     ensures chain_rank { rank (chain 32) 34 ≡ 32 }
     ensures attach_own { loose_refusal (chain 1) 2 ≡ Some ELOOP }
     ensures attach_errored { loose_refusal (set_error (chain 1) 1) 1 ≡ Some ENXIO }
     ensures attach_deep { loose_refusal (chain 32) 32 ≡ Some EDEEP }
     ensures attach_fits { loose_refusal (chain 31) 31 ≡ None }
+    // seven sectors over three components
     ensures three_way_pieces { pieces three_way three_way_provider 0 3584 ≡ piece 0 0 512 0 ∷ piece 1 0 512 512
         ∷ piece 2 0 512 1024 ∷ piece 0 512 512 1536 ∷ piece 1 512 512 2048 ∷ piece 2 512 512 2560
         ∷ piece 0 1024 512 3072 ∷ [] }
     ensures three_way_place { place three_way (codes "stripe/s") 2600 ≡ Some (spot 2 552) }
+    // what is written is read again
     ensures label_again { label_record (label_sector 512 (record { name = codes "vol"; size = None }))
         ≡ Ok (record { name = codes "vol"; size = None }) }
     ensures concat_again { concat_record
@@ -217,6 +220,7 @@ pub fn worked_parts()
           count = 16;
           stripe = 4096;
         })) ≡ Ok (record { name = codes "fast"; id = 4294967295; place = 15; count = 16; stripe = 4096 }) }
+    // each cause of a decline
     ensures place_declined { concat_record
         (concat_sector 512 (record { name = codes "v"; id = 7; place = 2; count = 2 })) ≡ Err declines.Place }
     ensures size_declined { stripe_record
@@ -229,14 +233,15 @@ pub fn worked_parts()
     ensures protective_declined { mbr_table (one_entry 238 (1 ∷ 0 ∷ 0 ∷ 0 ∷ 1 ∷ 0 ∷ 0 ∷ 0 ∷ [])) 64
         ≡ Err declines.Protective }
     ensures signature_declined { mbr_table (replicate 512 0) 64 ≡ Err declines.Signature }
+    // a concat over a geom of the greatest rank is too deep
     ensures concat_deep { concat_refusal (chain 32) (codes "c32") 32 ≡ Some EDEEP }
     ensures concat_fits { concat_refusal (chain 31) (codes "c31") 31 ≡ None }
+    // a slice whose name has 63 bytes is made, one of 64 isn't
     ensures slice_named { makes_slice 61 ≡ true }
     ensures slice_too_long { makes_slice 62 ≡ false }
 {}
 
 /// Each moment of the runs is steady, and each step offers for taste only what lives.
-#[tactic(auto, using(crate::proofs::RunSteady::worked_steadiness))]
 pub fn worked_steadiness()
     ensures first_steady { run_is_steady first_plan first_facts ≡ true }
     ensures exclusion_steady { run_is_steady exclusion_plan exclusion_facts ≡ true }
@@ -261,7 +266,7 @@ pub fn worked_steadiness()
 {}
 
 /// Words that are accepted, and words that aren't.
-#[tactic(auto, using(crate::proofs::WordFacts::worked_words))]
+#[tactic(auto, using(crate::proofs::WordFacts::worked_words), unfolding(crate::proofs::Computed::computed))]
 pub fn worked_words()
     ensures accepted { Accepts (gen_words (codes "1") (codes "3")) (GenMode 1 3) }
     ensures sweep { Accepts (codes "sweep" ∷ []) SweepMode }

@@ -1,4 +1,6 @@
 //! Worked examples of the words `sweep`, `watch`, `trace` and `verify`, proved by computation.
+#![tactic(auto, unfolding(crate::proofs::Computed::computed))]
+
 ghost use Rattle.geo_headline.specs.Endings.{Answered, BadWords, NoTrace, due_text};
 ghost use Rattle.geo_headline.specs.Traces.{InTrace};
 ghost use Rattle.geo_headline.specs.Verifying.{verified};
@@ -14,7 +16,6 @@ ghost use Rattle.std.specs.Prelude.{Err, Ok, codes, length, [], ◌∷◌, ◌�
 
 /// In the elevator order requests are taken by rising place and none passes a FLUSH; commands come before the disks'
 /// work, so that a close may find its write still out.
-#[tactic(auto, using(crate::proofs::SweptRuns::worked_sweeps))]
 pub fn worked_sweeps()
     ensures sweeping_script { script sweeping_script ≡ Ok sweeping_plan }
     ensures sweeping_report { swept_report 400 sweeping_plan sweeping_facts ≡ sweeping_text }
@@ -27,12 +28,12 @@ pub fn worked_sweeps()
 
 /// What a watched run prints: the report, and behind it the mesh as it was listed last to the client of the first
 /// actor, or that of the opening where it was listed to no client.
-#[tactic(auto, using(crate::proofs::WatchedRuns::worked_views))]
 pub fn worked_views()
     ensures first { watched 0 400 first_script first_plan first_facts ≡ first_watched }
     ensures first_by_client { watched 1 400 first_script first_plan first_facts ≡ first_watched }
     ensures listing_script { script listing_script ≡ Ok listing_plan }
     ensures listing { watched 0 400 listing_script listing_plan listing_facts ≡ listing_watched (codes "0") }
+    // the listing is the last entry
     ensures listing_length { length (log_by_seat 1 400 listing_plan listing_facts) ≡ 37 }
     ensures listing_by_client { watched 1 400 listing_script listing_plan listing_facts
         ≡ listing_watched (codes "37") }
@@ -43,7 +44,6 @@ pub fn worked_views()
 
 /// The trace of a run says how its log is made again, and is found to be true; a text that is almost this trace is told
 /// why it isn't.
-#[tactic(auto, using(crate::proofs::TracedRuns::worked_traces))]
 pub fn worked_traces()
     ensures whole_trace { traced 400 taste_script taste_plan taste_facts ≡ whole_trace }
     ensures whole { verified whole_trace ≡ Ok found.Yes }
@@ -57,7 +57,6 @@ pub fn worked_traces()
 {}
 
 /// What is printed of an answer, of a line that is no step, and how the program is used.
-#[tactic(auto, using(crate::proofs::TracedRuns::worked_endings))]
 pub fn worked_endings()
     ensures yes { due_text [] (Answered found.Yes) ≡ codes "yes\n" }
     ensures line { due_text [] (Answered (found.NotEnabled 11)) ≡ codes "no: line 11\n" }
