@@ -15,6 +15,7 @@ use Rattle.geo_model.specs.SoundBios.{IsBioInOrder, IsFamilyInOrder, HasItsParen
 use Rattle.geo_model.specs.Steady.{ComesFromItsOwner, HasItsResult, FitsBio}
 use Rattle.geo_model.specs.Fitting.{BiosOf, Firm}
 use Rattle.geo_model.proofs.DemandLemmas.{all_weaker}
+use Rattle.geo_model.proofs.Options.{some_and_of}
 use Rattle.geo_model.specs.declared.step.BioResult.{BioResult}
 use Rattle.geo_model.specs.Words.{change_where}
 use Rattle.geo_model.specs.Graph.{AreNumbers}
@@ -499,10 +500,9 @@ module _ (w : World) (firm : Firm w) (x : Bio) (parent index : ℕ) (found : bio
     (up : is_up x.phase ≡ true)
     (owner : x.owner ≡ owners.Child parent index) where
   -- by the parent
-  by_parent : (o : Option Bio) → bio_at w parent ≡ o → IsSomeAnd o (λ v. IsTrue (is_waiting v.phase))
+  by_parent : (y : Bio) → bio_at w parent ≡ Some y → is_waiting y.phase ≡ true
       → is_complete (turn w x phases.Done (λ r. r)) parent ≡ true → Firm (up_child w x parent).0
-  by_parent None at has complete = absurd has
-  by_parent (Some y) at has complete =
+  by_parent y at has complete =
       let same : y.number ≡ parent = number_found (λ (v : Bio). v.number) w.bios parent y at in
       let of_it : x.owner ≡ owners.Child y.number index =
       subst (λ (n : ℕ). x.owner ≡ owners.Child n index) (sym same) owner in
@@ -517,7 +517,9 @@ module _ (w : World) (firm : Firm w) (x : Bio) (parent index : ℕ) (found : bio
       let family : IsFamilyInOrder w.topology w.bios x =
       All-contains (IsFamilyInOrder w.topology w.bios) w.bios x firm.bios.families
       (find-Contains (λ (v : Bio). v.number == x.number) w.bios x found) in
-      by_parent (bio_at w parent) refl (rw owner at family.parent) e
+      let has : IsSomeAnd (bio_at w parent) (λ v. IsTrue (is_waiting v.phase)) = rw owner at family.parent in
+      let y = some_and_of (λ (v : Bio). IsTrue (is_waiting v.phase)) (bio_at w parent) has in
+      by_parent y.0 y.1 y.2 e
   by_last false e = rw e
       (turns_stay_firm w x phases.Done (λ r. r) (may_end w x parent index firm.bios found owner up e) firm)
 

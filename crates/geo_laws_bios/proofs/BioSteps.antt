@@ -1,9 +1,9 @@
 -- The four steps of bios keep a mesh firm.
 use Rattle.std.specs.Prelude.{◌≡◌, ℕ, ◌+◌, ◌==◌, Bool, true, false, List, Option, Some, None, ◌⊎◌, ◌/◌, ◌<◌, ◌≤◌, not, ◌&&◌, [], ◌∷◌, length, map, filter, find, count_by, All, Contains, IsSome, IsSomeAnd, IfSome, IsTrue, unwrap_or}
 use Rattle.std.proofs.Common.{refl, sym, ◌∙◌, ap, subst, inl, inr, arith}
-use Rattle.std.proofs.lemmas.Bool.{eqb-true, eqb-false, eq-eqb, not_from_false, not-true, and_right, or_left, false_from_ne_true}
+use Rattle.std.proofs.lemmas.Bool.{eqb-true, eq-eqb, not_from_false, not-true, and_right, or_left, false_from_ne_true}
 use Rattle.std.specs.List.{list_any}
-use Rattle.std.specs.Option.{option_map_or}
+use Rattle.std.specs.Option.{option_map_or, option_map}
 use Rattle.std.proofs.lemmas.List.Elements.{All-filter, All-weaker, All-contains, All-contains_itself}
 use Rattle.std.proofs.lemmas.List.Kept.{AllPairs-filter}
 use Rattle.std.proofs.lemmas.List.Sums.{length-filter}
@@ -11,12 +11,12 @@ use Rattle.geo_model.specs.declared.step.Outcome.{Outcome}
 use Rattle.geo_model.specs.Topology.{Topology, Geom, Provider, geom_at, provider_at, is_errored, note_started, Consumer, consumer_at, providers_of}
 use Rattle.geo_model.specs.World.{World, Bio, Config, Disk, Nop, bio_at, is_down, Handle, Taste, Asked, ReadOut, ReadBack, granted_in, taste_grant, is_root, is_taste_root, is_read_out, is_waiting, is_done, is_up}
 use Rattle.geo_model.specs.Place.{disk_of}
-use Rattle.geo_model.specs.Bios.{Way, Bounces, Fails, Sends, Splits, Passes, PieceTarget, way_at, way_of, is_hit, piece_targets, start_by, split_bio, up_taste, up, up_to}
+use Rattle.geo_model.specs.Bios.{Way, Bounces, Fails, Sends, Splits, Passes, PieceTarget, way_at, way_of, is_hit, piece_targets, start_by, split_bio, up, up_to}
 use Rattle.geo_model.specs.Step.{start_of, up_of, step}
 use Rattle.geo_model.specs.Log.{world_after}
 use Rattle.geo_model.specs.Fitting.{Firm, DemandHolds, IsAskedInOrder, IsOneSector, BiosOf}
 use Rattle.geo_model.proofs.WayLemmas.{starts_in_parts}
-use Rattle.geo_model.proofs.Options.{some_weaker}
+use Rattle.geo_model.proofs.Options.{some_weaker, some_and_of}
 use Rattle.geo_model.proofs.FindLists.{none_passes, any-kept_some, some-passes}
 use Rattle.geo_model.specs.Counts.{Counts}
 use Rattle.geo_model.specs.Kind.{Kind}
@@ -30,9 +30,9 @@ use Rattle.geo_model.specs.Demand.{have, want, is_zero, no_counts}
 use Rattle.geo_model.specs.Sound.{IsTasting, HasItsConsumer, LeadsDown, IsPlaced, IsTasteInOrder, HasItsChain, ChainHolds, class_asked, IsOfItsClass}
 use Rattle.geo_model.specs.SoundBios.{IsBioInOrder, IsFamilyInOrder, HasCountFor, NotBothBusy}
 use Rattle.geo_model.specs.Steady.{HasItsComponents, ComesFromItsOwner, HasItsResult, FitsBio}
-use Rattle.geo_laws_graph.proofs.Numbered.{at-here, at-unchanged, any-contained, number_found}
+use Rattle.geo_laws_graph.proofs.Numbered.{any-contained, number_found}
 use Rattle.geo_laws_graph.proofs.Classes.{granted_is}
-use Rattle.geo_laws_graph.proofs.Lists.{numbers-kept, filter-filter, found_itself}
+use Rattle.geo_laws_graph.proofs.Lists.{numbers-kept, filter-filter, found_itself, changed, changed-keeps, find-changed}
 use Rattle.geo_laws_graph.proofs.Living.{if_some_weaker}
 use Rattle.geo_laws_graph.proofs.Members.{find-Contains, filter-Contains, Contains-filter, Contains-cases, nothing_in, at_contained}
 use Rattle.geo_laws_counts.specs.CountWords.{IsAtMost, AreAtMost}
@@ -122,32 +122,22 @@ split_here w x targets found down s firm =
     (split_firm w firm x found down s.provider s.geom s.to_it s.of_it s.no_disk)
 
 -- where a bio is split, once a request more is counted somewhere
-pub counted_elsewhere : (t : Topology Config) (x : Bio) (targets : List PieceTarget) (n : ℕ) (b : Bool)
-    (s : SplitsAt t x targets) → (s.provider.geom == n) ≡ b
+pub counted_elsewhere : (t : Topology Config) (x : Bio) (targets : List PieceTarget) (n : ℕ) → SplitsAt t x targets
     → SplitsAt (note_started t n) x targets
-counted_elsewhere t x targets n true s e = record {
-  provider = s.provider;
-  geom = record s.geom { started = s.geom.started + 1 };
-  to_it = s.to_it;
-  of_it =
-      let same : s.provider.geom ≡ n = eqb-true s.provider.geom n e in
-      subst (λ (m : ℕ). geom_at (note_started t m) s.provider.geom ≡ Some
-      (record s.geom { started = s.geom.started + 1 })) same
-      (at-here (λ (v : Geom Config). v.number) (λ v. record v { started = v.started + 1 })
-      (λ v. refl) s.provider.geom t.geoms s.geom s.of_it);
-  no_disk = s.no_disk;
-  are = s.are;
-}
-counted_elsewhere t x targets n false s e = record {
-  provider = s.provider;
-  geom = s.geom;
-  to_it = s.to_it;
-  of_it = at-unchanged (λ (v : Geom Config). v.number) (λ v. record v { started = v.started + 1 })
-      (λ v. refl) n s.provider.geom
-      (eqb-false s.provider.geom n e) t.geoms ∙ s.of_it;
-  no_disk = s.no_disk;
-  are = s.are;
-}
+counted_elsewhere t x targets n s =
+    let hit : Geom Config → Bool = λ v. v.number == n in
+    let count : Geom Config → Geom Config = λ v. record v { started = v.started + 1 } in
+    let config : (changed hit count s.geom).config ≡ s.geom.config =
+    changed-keeps hit count (λ (v : Geom Config). v.config) (λ v e. refl) s.geom in
+    record {
+      provider = s.provider;
+      geom = changed hit count s.geom;
+      to_it = s.to_it;
+      of_it = find-changed hit count (λ (v : Geom Config). v.number == s.provider.geom) (λ v e. refl) t.geoms
+          ∙ ap (option_map (changed hit count)) s.of_it;
+      no_disk = ap disk_of config ∙ s.no_disk;
+      are = s.are ∙ ap (λ (c : Config). piece_targets c s.provider x) (sym config);
+    }
 
 -- by the way
 start_by_way : (w : World) (b : ℕ) (x : Bio) (way : Way) → bio_at w b ≡ Some x → is_down x.phase ≡ true
@@ -161,7 +151,7 @@ start_by_way w b x (Splits targets) found down is firm =
 start_by_way w b x (Passes n targets) found down is firm =
     let s = splits_at w.topology x targets (ap splits_by is) in
     split_here (record w { topology = note_started w.topology n }) x targets (found_there w b x found) down
-    (counted_elsewhere w.topology x targets n (s.provider.geom == n) s refl) (noted_stays_firm w n firm)
+    (counted_elsewhere w.topology x targets n s) (noted_stays_firm w n firm)
 
 -- by whether the bio is Down
 start_down : (w : World) (b : ℕ) (x : Bio) (down : Bool) → bio_at w b ≡ Some x → is_down x.phase ≡ down → Firm w
@@ -406,63 +396,53 @@ module _ (w : World) (x : Bio) (s : Taste) (kind : Kind) where
     -- a consumer of DEV, whose grant stays, wants what it wanted
     dev_wants : (c : Consumer) → c.geom ≡ 1 → granted_in tasted c.number ≡ granted_in w c.number
         → want (granted_in tasted) t c ≡ want (granted_in w) t c
-    dev_wants c dev same = by_geom (geom_at t 1) refl firm.graph.ranks.dev.stands where
-      by_geom : (o : Option (Geom Config)) → geom_at t 1 ≡ o → IsSomeAnd o (λ g. g.withering ≡ false)
-          → want (granted_in tasted) t c ≡ want (granted_in w) t c
-      by_geom None e has = absurd has
-      by_geom (Some g) e has =
-          let class : IsOfItsClass g = All-contains IsOfItsClass t.geoms g firm.graph.numbers.classes
-          (find-Contains (λ (v : Geom Config). v.number == 1) t.geoms g e) in
-          let one : g.number ≡ 1 = number_found (λ (v : Geom Config). v.number) t.geoms 1 g e in
-          let is_dev : is_kind g.kind kinds.Dev ≡ true = class.dev ∙ eq-eqb g.number 1 one in
-          let geom : geom_at t c.geom ≡ Some g = subst (λ (n : ℕ). geom_at t n ≡ Some g) (sym dev) e in
-          let grants : is_granted_kind g.kind ≡ true = granted_is g.kind ∙ rw is_dev refl in
-          rw geom (granted_want g.kind
-          (map (λ (v : Provider). have (granted_in tasted) t v.number) (providers_of t g.number))
-          (granted_in tasted c.number) grants
-          ∙ same ∙ sym
-          (granted_want g.kind (map (λ (v : Provider). have (granted_in w) t v.number) (providers_of t g.number))
-          (granted_in w c.number) grants))
+    dev_wants c dev same =
+        let g = some_and_of (λ (g : Geom Config). g.withering ≡ false) (geom_at t 1) firm.graph.ranks.dev.stands in
+        let class : IsOfItsClass g.0 = All-contains IsOfItsClass t.geoms g.0 firm.graph.numbers.classes
+        (find-Contains (λ (v : Geom Config). v.number == 1) t.geoms g.0 g.1) in
+        let one : g.0.number ≡ 1 = number_found (λ (v : Geom Config). v.number) t.geoms 1 g.0 g.1 in
+        let is_dev : is_kind g.0.kind kinds.Dev ≡ true = class.dev ∙ eq-eqb g.0.number 1 one in
+        let geom : geom_at t c.geom ≡ Some g.0 = subst (λ (n : ℕ). geom_at t n ≡ Some g.0) (sym dev) g.1 in
+        let grants : is_granted_kind g.0.kind ≡ true = granted_is g.0.kind ∙ rw is_dev refl in
+        rw geom (granted_want g.0.kind
+        (map (λ (v : Provider). have (granted_in tasted) t v.number) (providers_of t g.0.number))
+        (granted_in tasted c.number) grants
+        ∙ same ∙ sym
+        (granted_want g.0.kind (map (λ (v : Provider). have (granted_in w) t v.number) (providers_of t g.0.number))
+        (granted_in w c.number) grants))
 
     -- the source of a root of a line, by the handle
-    line_serves : (z : Bio) → Contains w.bios z → (o : Option Handle) (handle : ℕ)
-        → find (λ (h : Handle). h.number == handle) w.handles ≡ o
-        → IsSomeAnd o (λ h. h.consumer ≡ Some z.source) → SourceServes (granted_in tasted) t z
-    line_serves z stands None handle e has = absurd has
-    line_serves z stands (Some h) handle e names = by_consumer (consumer_at t z.source) refl where
-      by_consumer : (o : Option Consumer) → consumer_at t z.source ≡ o → SourceServes (granted_in tasted) t z
-      by_consumer o at =
-          let h_stands : Contains w.handles h = find-Contains (λ (v : Handle). v.number == handle) w.handles h e in
-          let of_it : HasItsConsumer t h = All-contains (HasItsConsumer t) w.handles h firm.handles.handles h_stands in
-          let dev : IsSomeAnd (consumer_at t z.source) (λ v. v.geom ≡ 1) = rw names at of_it in
-          let order : IsBioInOrder (granted_in w) t z =
-          All-contains (IsBioInOrder (granted_in w) t) w.bios z hold.order stands in
-          served o at (rw at at dev) (rw at at order.source)
-          (grant_by h z.source h_stands names
-          (find (λ (v : Handle). names_number v.consumer z.source) w.handles) refl)
-        where
-          served : (o : Option Consumer) → consumer_at t z.source ≡ o → IsSomeAnd o (λ v. v.geom ≡ 1)
-              → IsSomeAnd o (λ c. (c.provider ≡ Some z.target) × HasCountFor (granted_in w) t z c)
-              → granted_in tasted z.source ≡ granted_in w z.source → SourceServes (granted_in tasted) t z
-          served None at dev has same = absurd dev
-          served (Some c) at dev has same =
-              let number : c.number ≡ z.source = number_found (λ (v : Consumer). v.number) t.consumers z.source c at in
-              let grant : granted_in tasted c.number ≡ granted_in w c.number =
-              subst (λ (n : ℕ). granted_in tasted n ≡ granted_in w n) (sym number) same in
-              let wants : want (granted_in tasted) t c ≡ want (granted_in w) t c = dev_wants c dev grant in
-              rw at (
-                has.0,
-                subst
-                    (λ (n : Counts). (IsTrue (is_read z.cmd) → 0 < n.r) × (is_read z.cmd ≡ false → 0 < n.w))
-                    (sym wants) has.1,
-              )
+    line_serves : (z : Bio) → Contains w.bios z → (handle : ℕ)
+        → IsSomeAnd (find (λ (h : Handle). h.number == handle) w.handles) (λ h. h.consumer ≡ Some z.source)
+        → SourceServes (granted_in tasted) t z
+    line_serves z stands handle has =
+        let h = some_and_of (λ (h : Handle). h.consumer ≡ Some z.source)
+        (find (λ (h : Handle). h.number == handle) w.handles) has in
+        let h_stands : Contains w.handles h.0 =
+        find-Contains (λ (v : Handle). v.number == handle) w.handles h.0 h.1 in
+        let of_it : HasItsConsumer t h.0 =
+        All-contains (HasItsConsumer t) w.handles h.0 firm.handles.handles h_stands in
+        let dev : IsSomeAnd (consumer_at t z.source) (λ v. v.geom ≡ 1) = rw h.2 at of_it in
+        let c = some_and_of (λ (v : Consumer). v.geom ≡ 1) (consumer_at t z.source) dev in
+        let order : IsBioInOrder (granted_in w) t z =
+        All-contains (IsBioInOrder (granted_in w) t) w.bios z hold.order stands in
+        let has : (c.0.provider ≡ Some z.target) × HasCountFor (granted_in w) t z c.0 = rw c.1 at order.source in
+        let number : c.0.number ≡ z.source = number_found (λ (v : Consumer). v.number) t.consumers z.source c.0 c.1 in
+        let grant : granted_in tasted c.0.number ≡ granted_in w c.0.number =
+        subst (λ (n : ℕ). granted_in tasted n ≡ granted_in w n) (sym number)
+        (grant_by h.0 z.source h_stands h.2 (find (λ (v : Handle). names_number v.consumer z.source) w.handles) refl) in
+        rw c.1 (
+          has.0,
+          subst (λ (n : Counts). (IsTrue (is_read z.cmd) → 0 < n.r) × (is_read z.cmd ≡ false → 0 < n.w))
+              (sym (dev_wants c.0 c.2 grant)) has.1,
+        )
 
     -- the source of a root that stays, by its owner
     root_serves : (z : Bio) → Contains w.bios z → not (is_it z) ≡ true → (o : Owner) → z.owner ≡ o
         → is_root z.owner ≡ true → SourceServes (granted_in tasted) t z
     root_serves z stands kept (owners.Line handle line) e root =
         let comes : HasItsOwner w z = All-contains (HasItsOwner w) w.bios z hold.owners stands in
-        line_serves z stands (find (λ (h : Handle). h.number == handle) w.handles) handle refl (rw e at comes)
+        line_serves z stands handle (rw e at comes)
     root_serves z stands kept owners.Taste e root =
         let reads : is_taste_root z.owner ≡ true = rw e refl in
         let some : list_any (λ (v : Bio). is_taste_root v.owner) staying ≡ true =
@@ -557,31 +537,22 @@ module _ (w : World) (x : Bio) (s : Taste) (kind : Kind) where
       commands = firm.commands;
     }
 
-module _ (w : World) (x : Bio) (firm : Firm w) (found : bio_at w x.number ≡ Some x) (up : is_up x.phase ≡ true)
-    (owner : x.owner ≡ owners.Taste) where
-  -- whatever the taste
-  by_taste : (o : Option Taste) → w.taste ≡ o → IsSomeAnd o (λ s. (s.consumer ≡ x.source) × (s.provider ≡ x.target))
-      → Firm (up_taste w x).0
-  by_taste None is has = absurd has
-  by_taste (Some s) is has =
-      let here : Contains w.bios x = find-Contains (λ (v : Bio). v.number == x.number) w.bios x found in
-      let reads : is_taste_root x.owner ≡ true = rw owner refl in
-      let any : list_any (λ (v : Bio). is_taste_root v.owner) w.bios ≡ true =
-      any-contained (λ (v : Bio). is_taste_root v.owner) w.bios x here reads in
-      let out : is_read_out s.asked ≡ true = rw is at (firm.bios.read_out.0 any) in
-      let asked = is_out s.asked out in
-      let asked_is : s.asked ≡ ReadOut asked.kind = asked.is in
-      let firm_then : Firm (tasted w x s asked.kind) =
-      tasted_firm w x s asked.kind firm found up owner is asked_is has.1 in
-      rw (is, asked_is) firm_then
-
 -- an Up of the root of a taste keeps a mesh firm
 pub taste_ups_stay_firm : TasteUpsStayFirm
 taste_ups_stay_firm w b x found up owner firm =
     let there : bio_at w x.number ≡ Some x = found_there w b x found in
     let here : Contains w.bios x = find-Contains (λ (v : Bio). v.number == x.number) w.bios x there in
     let comes : HasItsOwner w x = All-contains (HasItsOwner w) w.bios x firm.bios.owners here in
-    by_taste w x firm there up owner w.taste refl (rw owner at comes)
+    let has : IsSomeAnd w.taste (λ s. (s.consumer ≡ x.source) × (s.provider ≡ x.target)) = rw owner at comes in
+    let s = some_and_of (λ (s : Taste). (s.consumer ≡ x.source) × (s.provider ≡ x.target)) w.taste has in
+    let any : list_any (λ (v : Bio). is_taste_root v.owner) w.bios ≡ true =
+    any-contained (λ (v : Bio). is_taste_root v.owner) w.bios x here (rw owner refl) in
+    let out : is_read_out s.0.asked ≡ true = rw s.1 at (firm.bios.read_out.0 any) in
+    let asked = is_out s.0.asked out in
+    let asked_is : s.0.asked ≡ ReadOut asked.kind = asked.is in
+    let firm_then : Firm (tasted w x s.0 asked.kind) =
+    tasted_firm w x s.0 asked.kind firm there up owner s.1 asked_is s.2.1 in
+    rw (s.1, asked_is) firm_then
 
 -- An Up keeps a mesh firm, whoever the owner of the bio is.
 

@@ -2,7 +2,7 @@
 use Rattle.std.specs.Prelude.{◌≡◌, ◌≢◌, ℕ, zero, suc, ◌==◌, Bool, true, false, List, [], ◌∷◌, flat_map, Option, Some, None, Contains, slice_get, if◌then◌else◌, ◌⊎◌, ◌+◌, ◌-◌, ◌<◌, ◌≤◌, nat_lt, map, filter_map, sum, IsSome, IsSomeAnd, option_and_then, option_map, ◌*◌, ◌/◌, ◌%◌, min, max, length, IfSome, IsTrue, ⊤}
 use Rattle.std.specs.Option.{option_to_list, option_flatten, option_map_or}
 use Rattle.std.proofs.Common.{subst, inl, inr, refl, sym, ◌∙◌, ap, arith, ltb-true, ltb-false}
-use Rattle.std.specs.List.{AllByRecursion, list_all, AllZip, range_with_len}
+use Rattle.std.specs.List.{AllByRecursion, AllZip, range_with_len}
 use Rattle.std.proofs.lemmas.Bool.{eq-eqb, false_from_ne_true, cases_lt, lt-ltb, le-ltb}
 use Rattle.std.proofs.lemmas.List.Elements.{All-contains}
 use Rattle.std.proofs.lemmas.List.Sums.{sum_by-cons}
@@ -34,8 +34,7 @@ use Rattle.geo_model.proofs.RankLemmas.{mapped_by}
 use Rattle.geo_laws_graph.proofs.Members.{Contains-here, Contains-there, nothing_in, find-Contains, Contains-filter, Contains-map, Contains-cases}
 use Rattle.geo_laws_graph.proofs.Numbered.{number_found, each_found}
 use Rattle.geo_laws_graph.proofs.Classes.{bare_config}
-use Rattle.geo_laws_counts.proofs.Sums.{zero-test, zeros-sum}
-use Rattle.geo_laws_counts.proofs.LimitFacts.{all_true}
+use Rattle.geo_laws_counts.proofs.Sums.{zero-test, at_most-trans}
 use Rattle.geo_laws_counts.specs.CountWords.{IsAtMost}
 use Rattle.geo_laws_bios.specs.PieceLaws.{FirmMeshesLoseNoPiece, Serves}
 use Rattle.geo_laws_bios.proofs.Items.{both_by_recursion}
@@ -223,6 +222,17 @@ module _ (t : Topology Config) (g : Geom Config) (p : Provider) (spot : Spot) wh
 
 -- A bio of a firm mesh
 
+-- each of some counts is at most their sum
+sum_above : (xs : List Counts) (a : Counts) → Contains xs a → IsAtMost a (sum_counts xs)
+sum_above [] a here = absurd (nothing_in a here)
+sum_above (x ∷ xs) a here =
+    elim (Contains-cases x a xs here) [
+      | inl same ↦ subst (λ (b : Counts). IsAtMost b (sum_counts (x ∷ xs))) same
+          (record { r = omega arith; w = omega arith; e = omega arith })
+      | inr rest ↦ let more = sum_above xs a rest in
+          record { r = omega (arith, more.r); w = omega (arith, more.w); e = omega (arith, more.e) }
+    ]
+
 module _ (w : World) (firm : Firm w) (x : Bio) (here : Contains w.bios x) where
   -- the graph
   abbrev t : Topology Config
@@ -234,38 +244,33 @@ module _ (w : World) (firm : Firm w) (x : Bio) (here : Contains w.bios x) where
 
   -- a consumer with the count that it needs wants something
   wants_some : (c : Consumer) (b : Bool) → is_read x.cmd ≡ b → HasCountFor (granted_in w) w.topology x c
-      → want (granted_in w) t c ≡ no_counts → ⊥
-  wants_some c true e has none =
-      let some : 0 < (want (granted_in w) t c).r = has.0 e in
-      let zero : (want (granted_in w) t c).r ≡ 0 = ap (λ (n : Counts). n.r) none in
-      omega arith
-  wants_some c false e has none =
-      let some : 0 < (want (granted_in w) t c).w = has.1 e in
-      let zero : (want (granted_in w) t c).w ≡ 0 = ap (λ (n : Counts). n.w) none in
-      omega arith
+      → IsAtMost (want (granted_in w) t c) no_counts → ⊥
+  wants_some c true e has less = let some : 0 < (want (granted_in w) t c).r = has.0 e in omega (arith, less.r)
+  wants_some c false e has less = let some : 0 < (want (granted_in w) t c).w = has.1 e in omega (arith, less.w)
 
   module _ (p : Provider) (at_target : provider_at t x.target ≡ Some p) where
-    -- so the provider has a count
-    open_by : (o : Option Consumer) → consumer_at t x.source ≡ o
-        → IsSomeAnd o (λ c. (c.provider ≡ Some x.target) × HasCountFor (granted_in w) w.topology x c)
-        → is_zero (have (granted_in w) t x.target) ≡ false
-    open_by None e has = absurd has
-    open_by (Some c) e has = false_from_ne_true (is_zero (have (granted_in w) t x.target)) (λ zero.
-        let stands : Contains t.consumers c = find-Contains (λ (v : Consumer). v.number == x.source) t.consumers c e in
-        let to_it : c.provider ≡ Some x.target = has.0 in
-        let named : names_number c.provider x.target ≡ true = rw to_it (eq-eqb x.target x.target refl) in
-        let attached : Contains (attached_to t x.target) c =
-        Contains-filter (λ (v : Consumer). names_number v.provider x.target) t.consumers c stands named in
-        let total : have (granted_in w) t x.target ≡ sum_counts (map (want (granted_in w) t) (attached_to t x.target)) =
-        have-sum (granted_in w) t firm.graph.ranks.ranked
+    -- the provider has what a consumer of it wants
+    pub want_held : (granted : ℕ → Counts) (c : Consumer) → Contains t.consumers c → c.provider ≡ Some x.target
+        → IsAtMost (want granted t c) (have granted t x.target)
+    want_held granted c stands to_it =
+        subst (IsAtMost (want granted t c))
+        (sym (have-sum granted t firm.graph.ranks.ranked
         (each_found (λ (v : Provider). v.number) t.next_provider t.providers firm.graph.numbers.providers)
-        x.target p at_target in
-        let all_zero : list_all is_zero (map (want (granted_in w) t) (attached_to t x.target)) ≡ true =
-        zeros-sum (map (want (granted_in w) t) (attached_to t x.target)) ∙ ap is_zero (sym total) ∙ zero in
-        let its_zero : is_zero (want (granted_in w) t c) ≡ true =
-        all_true is_zero (map (want (granted_in w) t) (attached_to t x.target)) all_zero (want (granted_in w) t c)
-        (Contains-map (want (granted_in w) t) (attached_to t x.target) c attached) in
-        wants_some c (is_read x.cmd) refl has.1 (zero-test (want (granted_in w) t c) its_zero))
+        x.target p at_target))
+        (sum_above (map (want granted t) (attached_to t x.target)) (want granted t c)
+        (Contains-map (want granted t) (attached_to t x.target) c
+        (Contains-filter (λ (v : Consumer). names_number v.provider x.target) t.consumers c stands
+        (rw to_it (eq-eqb x.target x.target refl)))))
+
+    -- so the provider has a count
+    open_there : is_zero (have (granted_in w) t x.target) ≡ false
+    open_there = false_from_ne_true (is_zero (have (granted_in w) t x.target)) (λ zero.
+        let c = some_and_of (λ (c : Consumer). (c.provider ≡ Some x.target) × HasCountFor (granted_in w) w.topology x c)
+        (consumer_at t x.source) in_order.source in
+        wants_some c.0 (is_read x.cmd) refl c.2.1
+        (subst (IsAtMost (want (granted_in w) t c.0)) (zero-test (have (granted_in w) t x.target) zero)
+        (want_held (granted_in w) c.0
+        (find-Contains (λ (v : Consumer). v.number == x.source) t.consumers c.0 c.1) c.2.0)))
 
     -- the provider's number
     its_number : p.number ≡ x.target
@@ -273,7 +278,7 @@ module _ (w : World) (firm : Firm w) (x : Bio) (here : Contains w.bios x) where
 
     -- it is open
     pub is_open : is_zero (have (granted_in w) t p.number) ≡ false
-    is_open = rw its_number (open_by (consumer_at t x.source) refl in_order.source)
+    is_open = rw its_number open_there
 
     -- the range of the bio
     pub range_of : is_flush x.cmd ≡ false → IsRangeInside x p
@@ -584,17 +589,6 @@ concat_kind _ id places sizes fits = absurd cc
 
 -- In a firm mesh the consumers of an open geom have the counts for each request to one of its providers.
 
--- each of some counts is at most their sum
-sum_above : (xs : List Counts) (a : Counts) → Contains xs a → IsAtMost a (sum_counts xs)
-sum_above [] a here = absurd (nothing_in a here)
-sum_above (x ∷ xs) a here =
-    elim (Contains-cases x a xs here) [
-      | inl same ↦ subst (λ (b : Counts). IsAtMost b (sum_counts (x ∷ xs))) same
-          (record { r = omega arith; w = omega arith; e = omega arith })
-      | inr rest ↦ let more = sum_above xs a rest in
-          record { r = omega (arith, more.r); w = omega (arith, more.w); e = omega (arith, more.e) }
-    ]
-
 -- a consumer of a class that adds up wants at least what the providers have
 want_over : (kind : Kind) (haves : List Counts) (granted : Counts) → is_granted_kind kind ≡ false
     → is_kind kind kinds.Disk ≡ false
@@ -673,42 +667,21 @@ module _ (w : World) (firm : Firm w) (x : Bio) (here : Contains w.bios x) (p : P
         let haves : List Counts = map (λ (v : Provider). have granted u v.number) (providers_of u g.number) in
         let among : Contains haves (have granted u p.number) =
         Contains-map (λ (v : Provider). have granted u v.number) (providers_of u g.number) p offered in
-        let low = sum_above haves (have granted u p.number) among in
-        let high = want_over g.kind haves (granted c.number) not_granted not_disk in
         let geom : geom_at u c.geom ≡ Some g =
         subst (λ (n : ℕ). geom_at u n ≡ Some g) (sym (of_geom ∙ number_of_geom)) of_it in
-        let through : IsAtMost (have granted u p.number)
-        (want_of_kind g.kind (map (λ (v : Provider). have granted u v.number) (providers_of u g.number))
-        (granted c.number)) =
-        record {
-          r = omega (arith, low.r, high.r);
-          w = omega (arith, low.w, high.w);
-          e = omega (arith, low.e, high.e);
-        } in
+        let through : IsAtMost (have granted u p.number) (want_of_kind g.kind haves (granted c.number)) =
+        at_most-trans (have granted u p.number) (sum_counts haves) (want_of_kind g.kind haves (granted c.number))
+        (sum_above haves (have granted u p.number) among)
+        (want_over g.kind haves (granted c.number) not_granted not_disk) in
         subst (λ (n : ℕ). IsAtMost (have granted u n) (want granted u c)) number (rw geom through)
 
     -- where the source of the bio has the counts, so has a consumer of the geom below
     pub serves_below : (s c : Consumer) → Contains u.consumers s → s.provider ≡ Some x.target → c.geom ≡ g.number
         → Serves granted u x s → Serves granted u x c
     serves_below s c stands to_it of_geom has =
-        let named : names_number s.provider x.target ≡ true = rw to_it (eq-eqb x.target x.target refl) in
-        let attached : Contains (attached_to u x.target) s =
-        Contains-filter (λ (v : Consumer). names_number v.provider x.target) u.consumers s stands named in
-        let total : have granted u x.target ≡ sum_counts (map (want granted u) (attached_to u x.target)) =
-        have-sum granted u firm.graph.ranks.ranked
-        (each_found (λ (v : Provider). v.number) u.next_provider u.providers firm.graph.numbers.providers)
-        x.target p at_target in
-        let low = sum_above (map (want granted u) (attached_to u x.target)) (want granted u s)
-        (Contains-map (want granted u) (attached_to u x.target) s attached) in
-        let lower : IsAtMost (want granted u s) (have granted u x.target) =
-        subst (λ (n : Counts). IsAtMost (want granted u s) n) (sym total) low in
-        let high = want_below c of_geom in
         count_up granted u x s c
-        (record {
-          r = omega (arith, lower.r, high.r);
-          w = omega (arith, lower.w, high.w);
-          e = omega (arith, lower.e, high.e);
-        }) has
+        (at_most-trans (want granted u s) (have granted u x.target) (want granted u c)
+        (want_held w firm x here p at_target granted s stands to_it) (want_below c of_geom)) has
 
   -- each consumer of the geom has the count for the request
   pub counted : (c : Consumer) → c.geom ≡ g.number → HasCountFor (granted_in w) w.topology x c

@@ -25,6 +25,7 @@ use Rattle.geo_model.specs.declared.step.Owner.{Owner}
 use Rattle.geo_model.specs.declared.step.Owner.TheVariants as owners
 use Rattle.geo_model.specs.Demand.{want}
 use Rattle.geo_laws_graph.proofs.Classes.{is_disk}
+use Rattle.geo_model.proofs.Options.{some_and_of}
 use Rattle.geo_laws_graph.proofs.Members.{nothing_in, find-Contains, Contains-filter, at_contained}
 use Rattle.geo_laws_graph.proofs.Numbered.{number_found}
 use Rattle.geo_laws_bios.proofs.Items.{both_by_recursion}
@@ -217,19 +218,18 @@ module _ (w : World) (firm : Firm w) (granted : ℕ → Counts) where
 
     -- the child, by what it is a piece of
     by_piece : (p : Provider) (g : Geom Config) → provider_at t y.target ≡ Some p → geom_at t p.geom ≡ Some g
-        → disk_of g.config ≡ None
-        → IsPieceOf w y z → (o : Option Consumer) → consumer_at t y.source ≡ o
-        → IsSomeAnd o (λ s. (s.provider ≡ Some y.target) × Serves granted t y s) → SourceServes granted t z
-    by_piece p g to_it of_it no_disk piece None e has = absurd has
-    by_piece p g to_it of_it no_disk piece (Some s) e has =
+        → disk_of g.config ≡ None → IsPieceOf w y z → SourceServes granted t z
+    by_piece p g to_it of_it no_disk piece =
+        let s = some_and_of (λ (s : Consumer). (s.provider ≡ Some y.target) × Serves granted t y s)
+        (consumer_at t y.source) served in
         let c : Consumer = piece.goes.consumer in
         let found : consumer_at t z.source ≡ Some c =
         subst (λ (n : ℕ). consumer_at t n ≡ Some c) (sym piece.source) piece.goes.found in
         let number : g.number ≡ p.geom = number_found (λ (v : Geom Config). v.number) t.geoms p.geom g of_it in
         let of_geom : c.geom ≡ g.number = piece.goes.of_geom p to_it ∙ sym number in
         let serves : Serves granted t y c =
-        serves_below w firm y y_here p to_it g of_it no_disk granted s c
-        (find-Contains (λ (v : Consumer). v.number == y.source) t.consumers s e) has.0 of_geom has.1 in
+        serves_below w firm y y_here p to_it g of_it no_disk granted s.0 c
+        (find-Contains (λ (v : Consumer). v.number == y.source) t.consumers s.0 s.1) s.2.0 of_geom s.2.1 in
         by_source c found
         (subst (λ (cmd : BioCmd). (IsTrue (is_read cmd) → 0 < (want granted t c).r)
         × (is_read cmd ≡ false → 0 < (want granted t c).w)) (sym piece.cmd) serves)
@@ -245,27 +245,25 @@ module _ (w : World) (firm : Firm w) (granted : ℕ → Counts) where
         (at_contained (IsPieceOf w y) (children_of w y.number) z
         (from_pieces w y (children_of w y.number) 0 (piece_targets there.geom.config there.provider y) there.are
         (all_go w firm y y_here there.provider there.to_it there.geom there.of_it no_disk)) child)
-        (consumer_at t y.source) refl served
 
   module _ (keep : Bio → Bool)
       (roots : (z : Bio) → Contains w.bios z → is_root z.owner ≡ true → keep z ≡ true → SourceServes granted t z)
       (waiting : (z : Bio) → Contains w.bios z → is_waiting z.phase ≡ true → keep z ≡ true) where
     -- a child of a parent that has them
-    by_parent : (n : ℕ) (z : Bio) → Contains w.bios z → (parent index : ℕ) → z.owner ≡ owners.Child parent index
+    by_parent : (z : Bio) → Contains w.bios z → (parent index : ℕ) → z.owner ≡ owners.Child parent index
         → ((y : Bio) → Contains w.bios y → y.number < z.number → keep y ≡ true → SourceServes granted t y)
-        → (o : Option Bio) → bio_at w parent ≡ o → IsSomeAnd o (λ y. IsTrue (is_waiting y.phase))
-        → SourceServes granted t z
-    by_parent n z here parent index owner so None at has = absurd has
-    by_parent n z here parent index owner so (Some y) at has =
-        let y_here : Contains w.bios y = find-Contains (λ (v : Bio). v.number == parent) w.bios y at in
-        let number : y.number ≡ parent = number_found (λ (v : Bio). v.number) w.bios parent y at in
+        → IsSomeAnd (bio_at w parent) (λ y. IsTrue (is_waiting y.phase)) → SourceServes granted t z
+    by_parent z here parent index owner so has =
+        let y = some_and_of (λ (y : Bio). IsTrue (is_waiting y.phase)) (bio_at w parent) has in
+        let y_here : Contains w.bios y.0 = find-Contains (λ (v : Bio). v.number == parent) w.bios y.0 y.1 in
+        let number : y.0.number ≡ parent = number_found (λ (v : Bio). v.number) w.bios parent y.0 y.1 in
         let comes : ComesFromItsOwner w.handles w.taste z z.owner =
         All-contains (λ (v : Bio). ComesFromItsOwner w.handles w.taste v v.owner) w.bios z firm.bios.owners here in
         let above : parent < z.number = rw owner at comes in
-        let is_child : is_child_of z.owner y.number ≡ true = rw owner (eq-eqb parent y.number (sym number)) in
-        child_serves y z y_here here
-        (Contains-filter (λ (v : Bio). is_child_of v.owner y.number) w.bios z here is_child)
-        (so y y_here (omega arith) (waiting y y_here has)) has
+        let is_child : is_child_of z.owner y.0.number ≡ true = rw owner (eq-eqb parent y.0.number (sym number)) in
+        child_serves y.0 z y_here here
+        (Contains-filter (λ (v : Bio). is_child_of v.owner y.0.number) w.bios z here is_child)
+        (so y.0 y_here (omega arith) (waiting y.0 y_here y.2)) y.2
 
     -- by the owner
     by_owner : (z : Bio) → Contains w.bios z → keep z ≡ true
@@ -274,7 +272,7 @@ module _ (w : World) (firm : Firm w) (granted : ℕ → Counts) where
     by_owner z here kept so (owners.Child parent index) e =
         let family : IsFamilyInOrder w.topology w.bios z =
         All-contains (IsFamilyInOrder w.topology w.bios) w.bios z firm.bios.families here in
-        by_parent 0 z here parent index e so (bio_at w parent) refl (rw e at family.parent)
+        by_parent z here parent index e so (rw e at family.parent)
     by_owner z here kept so _ e = roots z here (rw e refl) kept
 
     -- for all numbers below one

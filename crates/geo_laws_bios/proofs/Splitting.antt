@@ -1,12 +1,12 @@
 -- A bio is split: the bios stay in order where its pieces go down, and in a firm mesh they do.
-use Rattle.std.specs.Prelude.{◌≡◌, ◌≢◌, ◌↔◌, ℕ, ◌+◌, ◌%◌, ◌<◌, ◌≤◌, ◌==◌, Bool, true, false, ◌||◌, List, [], ◌∷◌, ◌++◌, length, map, filter, find, count_by, Option, Some, None, All, AllPairs, Contains, IsSome, IsSomeAnd, IsTrue, unwrap_or, ◌-◌, min, not, take, drop, sum, option_and_then, option_map, slice_get}
+use Rattle.std.specs.Prelude.{◌≡◌, ◌≢◌, ◌↔◌, ℕ, ◌+◌, ◌%◌, ◌<◌, ◌≤◌, ◌==◌, Bool, true, false, List, [], ◌∷◌, ◌++◌, length, map, filter, find, Option, Some, None, All, AllPairs, Contains, IsSome, IsSomeAnd, IsTrue, unwrap_or, ◌-◌, min, not, take, drop, sum, option_and_then, option_map, slice_get}
 use Rattle.std.specs.List.{AllByRecursion, list_any, list_all, enumerate_from}
 use Rattle.std.specs.Option.{option_map_or, option_flatten}
 use Rattle.std.proofs.Common.{refl, sym, ◌∙◌, ap, subst, arith, append_assoc, get_or, inl, inr, length-take, length-drop}
 use Rattle.std.proofs.lemmas.Bool.{eqb-true, eqb-false, eq-eqb, ne_eqb, not_from_false, cases_Bool}
 use Rattle.std.proofs.lemmas.List.{append-nil, map-append}
 use Rattle.std.proofs.lemmas.List.Elements.{All-append, All-from_recursion, All-contains, filter-append, recursion_from_All}
-use Rattle.std.proofs.lemmas.List.Folds.{list_any-append, list_any_none}
+use Rattle.geo_model.proofs.FindLists.{any-kept_some}
 use Rattle.std.proofs.lemmas.List.Quantifiers.{all_pairs_push}
 use Rattle.std.proofs.lemmas.List.Sums.{length-filter}
 use Rattle.std.proofs.lemmas.Simd.{map-map}
@@ -31,7 +31,7 @@ use Rattle.geo_model.specs.Place.{Spot, place, pieces, component, components, di
 use Rattle.geo_model.specs.Acceptance.{joined_size}
 use Rattle.geo_model.specs.Sound.{IsOfItsClass, IsMediaSize, IsPlaceInside}
 use Rattle.geo_model.proofs.RankLemmas.{mapped_by}
-use Rattle.geo_laws_graph.proofs.Lists.{Rise, rise-from, rise-wider, numbers-from, filter-changed, map-changed, any-changed, length-changed, numbers-changed}
+use Rattle.geo_laws_graph.proofs.Lists.{Rise, rise-from, rise-wider, numbers-from, filter-changed, map-changed, length-changed, numbers-changed}
 use Rattle.geo_laws_graph.proofs.Living.{found-before}
 use Rattle.geo_laws_graph.proofs.Members.{find-Contains, filter-Contains, Contains-here, Contains-map, has, Contains-filter}
 use Rattle.geo_laws_graph.proofs.Numbered.{at-here, at-unchanged, number_found, any-contained}
@@ -63,11 +63,6 @@ pairs_quiet R Quiet so (y ∷ ys) xs pairs quiet =
 nothing_kept : {X : Type 0} (xs : List X) → ((x : X) → Contains xs x → ⊥) → xs ≡ []
 nothing_kept [] none = refl
 nothing_kept (x ∷ xs) none = absurd (none x (Contains-here x xs))
-
--- a test or one that fails
-or_nothing : (a b : Bool) → b ≡ false → (a || b) ≡ a
-or_nothing true b e = refl
-or_nothing false b e = e
 
 -- A piece that goes down
 
@@ -139,18 +134,18 @@ module _ (w : World) (x : Bio) (targets : List PieceTarget) where
         (map (λ (c : Bio). c.number) (kids (k + 1) zs)) (omega arith) (omega arith) (kids_rise (k + 1) zs),
   )
 
-  -- none of the new children is one of another bio
-  child_test : (n : ℕ) → x.number ≢ n → AllByRecursion (λ (c : Bio). is_child_of c.owner n ≡ false) (kids 0 targets)
-  child_test n other = kids_any (λ (c : Bio). is_child_of c.owner n ≡ false) (λ k z. ne_eqb x.number n other) 0 targets
+  -- those that pass a test which no child passes are those that did, but for the one
+  kept_there : (test : Bio → Bool) → ((c : Bio) → is_it c ≡ true → test (wait c) ≡ test c)
+      → AllByRecursion (λ c. test c ≡ false) (kids 0 targets)
+      → filter test parted.bios ≡ change_where is_it wait (filter test w.bios)
+  kept_there test same none =
+      filter-append test old (kids 0 targets) ∙ ap (λ cs. filter test old ++ cs) (none_kept test (kids 0 targets) none)
+      ∙ append-nil (filter test old) ∙ filter-changed is_it wait test same w.bios
 
-  -- the children of another bio are those that it had, but for the one
+  -- so the children of another bio
   children_there : (n : ℕ) → x.number ≢ n → children_of parted n ≡ change_where is_it wait (children_of w n)
-  children_there n other =
-      filter-append (λ (c : Bio). is_child_of c.owner n) old (kids 0 targets)
-      ∙ ap (λ cs. filter (λ (c : Bio). is_child_of c.owner n) old ++ cs)
-      (none_kept (λ (c : Bio). is_child_of c.owner n) (kids 0 targets) (child_test n other))
-      ∙ append-nil (filter (λ (c : Bio). is_child_of c.owner n) old)
-      ∙ filter-changed is_it wait (λ (c : Bio). is_child_of c.owner n) (λ c e. refl) w.bios
+  children_there n other = kept_there (λ c. is_child_of c.owner n) (λ c e. refl)
+      (kids_any (λ (c : Bio). is_child_of c.owner n ≡ false) (λ k z. ne_eqb x.number n other) 0 targets)
 
   module _ (hold : BiosOf w) (found : bio_at w x.number ≡ Some x) (down : is_down x.phase ≡ true) where
     -- the bio isn't Waiting before
@@ -336,39 +331,14 @@ module _ (w : World) (x : Bio) (targets : List PieceTarget) where
           (pairs_turned w is_it wait (λ z. refl) w.bios hold.disks.one_busy)
           (kids_any (λ (c : Bio). is_busy c.phase ≡ false) (λ k z. refl) 0 targets)
 
-      -- no child reads for a taste
-      no_reads : AllByRecursion (λ (c : Bio). is_taste_root c.owner ≡ false) (kids 0 targets)
-      no_reads = kids_any (λ (c : Bio). is_taste_root c.owner ≡ false) (λ k z. refl) 0 targets
-
-      -- whether the read of a taste is out stays
-      any_same : list_any (λ (z : Bio). is_taste_root z.owner) parted.bios ≡ list_any
-          (λ (z : Bio). is_taste_root z.owner) w.bios
-      any_same =
-          list_any-append (λ (z : Bio). is_taste_root z.owner) old (kids 0 targets)
-          ∙ or_nothing (list_any (λ (z : Bio). is_taste_root z.owner) old)
-          (list_any (λ (z : Bio). is_taste_root z.owner) (kids 0 targets))
-          (list_any_none (λ (z : Bio). is_taste_root z.owner) (kids 0 targets)
-          (All-from_recursion _ (kids 0 targets) no_reads))
-          ∙ any-changed is_it wait (λ (z : Bio). is_taste_root z.owner) (λ z e. refl) w.bios
-
-      -- the reads are as before
-      reads_same : filter (λ (z : Bio). is_taste_root z.owner) parted.bios ≡ change_where is_it wait
+      -- there are as many reads for a taste as before
+      as_many : length (filter (λ (z : Bio). is_taste_root z.owner) parted.bios) ≡ length
           (filter (λ (z : Bio). is_taste_root z.owner) w.bios)
-      reads_same =
-          filter-append (λ (z : Bio). is_taste_root z.owner) old (kids 0 targets)
-          ∙ ap (λ cs. filter (λ (z : Bio). is_taste_root z.owner) old ++ cs)
-          (none_kept (λ (z : Bio). is_taste_root z.owner) (kids 0 targets) no_reads)
-          ∙ append-nil (filter (λ (z : Bio). is_taste_root z.owner) old)
-          ∙ filter-changed is_it wait (λ (z : Bio). is_taste_root z.owner) (λ z e. refl) w.bios
-
-      -- and there are as many
-      as_many : count_by (λ (z : Bio). is_taste_root z.owner) parted.bios ≡ count_by
-          (λ (z : Bio). is_taste_root z.owner) w.bios
       as_many =
-          sym (length-filter (λ (z : Bio). is_taste_root z.owner) parted.bios)
-          ∙ ap (λ (zs : List Bio). length zs) reads_same
+          ap (λ (zs : List Bio). length zs)
+          (kept_there (λ z. is_taste_root z.owner) (λ z e. refl)
+          (kids_any (λ (c : Bio). is_taste_root c.owner ≡ false) (λ k z. refl) 0 targets))
           ∙ length-changed is_it wait (filter (λ (z : Bio). is_taste_root z.owner) w.bios)
-          ∙ length-filter (λ (z : Bio). is_taste_root z.owner) w.bios
 
       -- the number of the bio is given out
       below_next : x.number < w.next_bio
@@ -392,14 +362,16 @@ module _ (w : World) (x : Bio) (targets : List PieceTarget) where
           one_busy = one_busy;
         };
         read_out = subst (λ (b : Bool). IsTrue b ↔ IsTrue (option_map_or (λ s. is_read_out s.asked) w.taste false))
-            (sym any_same) hold.read_out;
+            (sym (any-kept_some (λ (z : Bio). is_taste_root z.owner) parted.bios ∙ ap (λ (n : ℕ). not (n == 0)) as_many
+            ∙ sym (any-kept_some (λ (z : Bio). is_taste_root z.owner) w.bios))) hold.read_out;
         owners = each_after (HasItsOwner w) (HasItsOwner w)
             (owner_stays w.handles w.taste x (wait x) refl refl refl x.owner) (λ z e comes. comes)
             (kids_any (HasItsOwner w) (λ k z. omega (arith, below_next)) 0 targets) hold.owners;
         results = each_after HasItsResult HasItsResult (λ has up. absurd cc) (λ z e has. has)
             (kids_any HasItsResult (λ k z up. absurd cc) 0 targets) hold.results;
         read = record {
-          one = rw as_many hold.read.one;
+          one = rw (sym (length-filter (λ (z : Bio). is_taste_root z.owner) parted.bios) ∙ as_many
+              ∙ length-filter (λ (z : Bio). is_taste_root z.owner) w.bios) hold.read.one;
           sector = each_after (ReadsSector w) (ReadsSector w) (λ reads. reads) (λ z e reads. reads)
               (kids_any (ReadsSector w) (λ k z reads. absurd cc) 0 targets) hold.read.sector;
         };

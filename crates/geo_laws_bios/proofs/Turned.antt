@@ -201,13 +201,6 @@ IsElsewhere w x phase y =
     IsTrue (is_busy phase) → (d : ℕ) → disk_of_bio w x ≡ Some d
     → (is_busy y.phase && option_map_or (λ e. e == d) (disk_of_bio w y) false) ≡ false
 
--- of two bios neither is Busy where the other is to be, they differ in number, and not both are Busy at one disk
-record AreApart (w : World) (x : Bio) (phase : Phase) (y z : Bio) : Type 0 where
-  first : IsElsewhere w x phase y
-  second : IsElsewhere w x phase z
-  below : y.number < z.number
-  not_both : NotBothBusy w.topology y z
-
 -- the result of a bio fits it in another phase
 pub fits_turned : (x : Bio) (phase : Phase) (result : Option BioResult → Option BioResult) (o : Option BioResult)
     → IsSomeAnd o (FitsBio x) → IsSomeAnd o (FitsBio (turned phase result x))
@@ -376,32 +369,21 @@ module _ (w : World) (x : Bio) (phase : Phase) (result : Option BioResult → Op
         get_or-map (λ (y : Bio). y.number) w.bios j d 0 short in
         omega arith
 
-    -- bios differ in number, and so on
-    all_apart : AllPairs (AreApart w x phase) w.bios
-    all_apart = λ i j d less short.
-        let near : i < length w.bios = omega arith in
-        record {
-          first = elsewhere i d near;
-          second = elsewhere j d short;
-          below = number_below i j d less short;
-          not_both = hold.disks.one_busy i j d less short;
-        }
-
     -- of two bios after the change not both are Busy at one disk
     not_both_by : (y z : Bio) (a b : Bool) → is_it y ≡ a → is_it z ≡ b → (is_it y ≡ true → y ≡ x)
         → (is_it z ≡ true → z ≡ x)
-        → AreApart w x phase y z
+        → IsElsewhere w x phase y → IsElsewhere w x phase z → y.number < z.number → NotBothBusy w.topology y z
         → NotBothBusy w.topology (with_change w x phase result y) (with_change w x phase result z)
-    not_both_by y z true true e f only_y only_z apart =
+    not_both_by y z true true e f only_y only_z first second below apart =
         let same : y.number ≡ z.number = ap (λ (v : Bio). v.number) (only_y e ∙ sym (only_z f)) in
-        absurd (omega (arith, apart.below))
-    not_both_by y z true false e f only_y only_z apart = rw (e, f) (λ busy other d at at_other.
+        absurd (omega arith)
+    not_both_by y z true false e f only_y only_z first second below apart = rw (e, f) (λ busy other d at at_other.
         let here : disk_of_bio w x ≡ Some d = subst (λ (v : Bio). disk_of_bio w v ≡ Some d) (only_y e) at in
-        no_two_at (is_busy z.phase) (disk_of_bio w z) d (apart.second busy d here) other at_other)
-    not_both_by y z false true e f only_y only_z apart = rw (e, f) (λ other busy d at_other at.
+        no_two_at (is_busy z.phase) (disk_of_bio w z) d (second busy d here) other at_other)
+    not_both_by y z false true e f only_y only_z first second below apart = rw (e, f) (λ other busy d at_other at.
         let here : disk_of_bio w x ≡ Some d = subst (λ (v : Bio). disk_of_bio w v ≡ Some d) (only_z f) at in
-        no_two_at (is_busy y.phase) (disk_of_bio w y) d (apart.first busy d here) other at_other)
-    not_both_by y z false false e f only_y only_z apart = rw (e, f) apart.not_both
+        no_two_at (is_busy y.phase) (disk_of_bio w y) d (first busy d here) other at_other)
+    not_both_by y z false false e f only_y only_z first second below apart = rw (e, f) apart
 
     -- so for all pairs
     one_busy : AllPairs (NotBothBusy w.topology) after.bios
@@ -410,7 +392,8 @@ module _ (w : World) (x : Bio) (phase : Phase) (result : Option BioResult → Op
         let near : i < length w.bios = omega arith in
         not_both_by (get_or w.bios i d) (get_or w.bios j d) (is_it (get_or w.bios i d))
         (is_it (get_or w.bios j d)) refl refl
-        (only i d near) (only j d short) (all_apart i j d less short))
+        (only i d near) (only j d short) (elsewhere i d near) (elsewhere j d short)
+        (number_below i j d less short) (hold.disks.one_busy i j d less short))
 
     -- whether the read of a taste is out stays
     read_out : IsTrue (list_any (λ y. is_taste_root y.owner) after.bios) ↔ IsTrue

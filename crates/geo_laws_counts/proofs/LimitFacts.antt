@@ -3,7 +3,8 @@
 use Rattle.std.specs.Prelude.{◌≡◌, ◌≢◌, ◌⊎◌, ◌↔◌, ℕ, ◌==◌, nat_le, Bool, true, ◌&&◌, ◌||◌, List, All, Contains, IsTrue, filter, ◌≤◌, false, not, [], ◌∷◌, map}
 use Rattle.std.specs.List.{list_all}
 use Rattle.std.proofs.Common.{inl, inr, eq-eqb, refl, sym, ◌∙◌, ap, subst, arith}
-use Rattle.std.proofs.lemmas.Bool.{eqb-true, leb-true, le-leb, and_parts, and_from, or_cases, or_left, or_right, cases_eq, eqb-false, not-true, false_from_ne_true}
+use Rattle.std.proofs.lemmas.Bool.{eqb-true, cases_Bool, false_from_ne_true}
+use Rattle.std.proofs.lemmas.Bool.Decides.{nat_tests}
 use Rattle.std.proofs.lemmas.List.Elements.{All-from_recursion, All-contains, All-map}
 use Rattle.std.proofs.lemmas.List.Sums.{AllPass-from_list_all, list_all-from_AllPass}
 use Rattle.std.proofs.Math.Bool.{and-not_self, not-and_self}
@@ -13,11 +14,13 @@ use Rattle.geo_model.specs.Topology.{Topology, Provider, Consumer, attached_to}
 use Rattle.geo_model.specs.Demand.{have, want, is_exclusive, fits_limit, stand_together, no_counts, risen, fallen}
 pub use Rattle.geo_model.proofs.MemberLists.{All-from_contained as each_of, filter-Contains as of_filter}
 use Rattle.geo_model.specs.Words.{names_number}
-use Rattle.geo_model.proofs.MemberLists.{Contains-filter, Contains-there, Contains-cases, nothing_in, Contains-here}
+use Rattle.geo_model.proofs.FindLists.{some-passes, any-contained}
+use Rattle.geo_model.proofs.MemberLists.{Contains-filter}
 use Rattle.geo_laws_counts.specs.CountWords.{IsAtMost, AreAtMost, keep_consumers}
 use Rattle.geo_laws_counts.specs.LimitLaws.{NoneInTheWay, greatest_counts}
-use Rattle.geo_laws_counts.proofs.Sums.{at_most-trans, at_most-zero, have-at_most, want-at_most, kept-at_most, kept_want-at_most}
+use Rattle.geo_laws_counts.proofs.Sums.{at_most-trans, at_most-zero, kept-at_most, kept_want-at_most, keep_all}
 use Rattle.geo_laws_counts.specs.DemandLaws.{StaysAround}
+use Rattle.geo_laws_counts.specs.WalkWords.{has_number}
 
 -- a test that holds of all items, by what the list contains
 pub all_true : {X : Type 0} (p : X → Bool) (xs : List X) → list_all p xs ≡ true → (x : X) → Contains xs x → p x ≡ true
@@ -30,6 +33,14 @@ all_of P xs so = All-from_recursion P xs (each_of P xs so)
 -- a test that holds of all that a list contains
 true_all : {X : Type 0} (p : X → Bool) (xs : List X) → ((x : X) → Contains xs x → p x ≡ true) → list_all p xs ≡ true
 true_all p xs so = list_all-from_AllPass p xs (all_of (λ x. p x ≡ true) xs so)
+
+-- what the test of two numbers and two counts says
+free_from : (m n x y : ℕ) → ((m == n) || ((x == 0) || (y == 0))) ≡ true → m ≢ n → (x ≡ 0) ⊎ (y ≡ 0)
+free_from m n x y e other = grind (arith, nat_tests)
+
+-- and that it holds where this does
+free_true : (m n x y : ℕ) → (m ≢ n → (x ≡ 0) ⊎ (y ≡ 0)) → ((m == n) || ((x == 0) || (y == 0))) ≡ true
+free_true m n x y so = grind (arith, nat_tests)
 
 module _ {C : Type 0} (granted : ℕ → Counts) (t : Topology C) where
   -- whether one isn't in the way of another
@@ -45,37 +56,10 @@ module _ {C : Type 0} (granted : ℕ → Counts) (t : Topology C) where
   Apart = (x : Provider) (a b : Consumer) → Contains t.providers x → Contains (attached_to t x.number) a
       → Contains (attached_to t x.number) b → IsFree a b
 
-  -- what the test of two consumers says
-  pair_apart : (a b : Consumer) → is_free a b ≡ true → IsFree a b
-  pair_apart a b e other =
-      elim (or_cases (a.number == b.number) (((want granted t a).w == 0) || ((want granted t b).e == 0)) e) [
-        | inl same ↦ absurd (other (eqb-true a.number b.number same))
-        | inr free ↦
-            elim (or_cases ((want granted t a).w == 0) ((want granted t b).e == 0) free) [
-              | inl w ↦ inl (eqb-true (want granted t a).w 0 w)
-              | inr x ↦ inr (eqb-true (want granted t b).e 0 x)
-            ]
-      ]
-
-  -- and that it holds where this does
-  pair_true : (a b : Consumer) → IsFree a b → is_free a b ≡ true
-  pair_true a b so =
-      elim (cases_eq a.number b.number) [
-        | inl same ↦ or_left (a.number == b.number) _ (eq-eqb a.number b.number same)
-        | inr other ↦
-            or_right (a.number == b.number) (((want granted t a).w == 0) || ((want granted t b).e == 0))
-            (elim (so other) [
-              | inl w ↦ or_left ((want granted t a).w == 0) ((want granted t b).e == 0)
-                  (eq-eqb (want granted t a).w 0 w)
-              | inr x ↦ or_right ((want granted t a).w == 0) ((want granted t b).e == 0)
-                  (eq-eqb (want granted t b).e 0 x)
-            ])
-      ]
-
   -- the test of the whole graph gives the fact
   pub apart_from : is_exclusive granted t ≡ true → Apart
   apart_from e x a b there first second =
-      pair_apart a b
+      free_from a.number b.number (want granted t a).w (want granted t b).e
       (all_true (is_free a) (attached_to t x.number)
       (all_true (λ c. list_all (is_free c) (attached_to t x.number)) (attached_to t x.number)
       (all_true (λ y. stand_together granted t (attached_to t y.number)) t.providers e x there) a first) b second)
@@ -85,7 +69,8 @@ module _ {C : Type 0} (granted : ℕ → Counts) (t : Topology C) where
   exclusive_from so =
       true_all (λ x. stand_together granted t (attached_to t x.number)) t.providers (λ x there.
       true_all (λ a. list_all (is_free a) (attached_to t x.number)) (attached_to t x.number) (λ a first.
-      true_all (is_free a) (attached_to t x.number) (λ b second. pair_true a b (so x a b there first second))))
+      true_all (is_free a) (attached_to t x.number) (λ b second.
+      free_true a.number b.number (want granted t a).w (want granted t b).e (so x a b there first second))))
 
   -- what it says of any two consumers that none is in the way
   none_in_way : (cs : List Consumer) → NoneInTheWay granted t cs → (a b : Consumer) → Contains cs a → Contains cs b
@@ -112,24 +97,16 @@ module _ {C : Type 0} (granted : ℕ → Counts) (t : Topology C) where
   limited_from : (a : Counts)
       → (nat_le a.r MAX_ACCESS_COUNT && (nat_le a.w MAX_ACCESS_COUNT && nat_le a.e MAX_ACCESS_COUNT)) ≡ true
       → IsAtMost a greatest_counts
-  limited_from a e =
-      let first =
-      and_parts (nat_le a.r MAX_ACCESS_COUNT) (nat_le a.w MAX_ACCESS_COUNT && nat_le a.e MAX_ACCESS_COUNT) e in
-      let second = and_parts (nat_le a.w MAX_ACCESS_COUNT) (nat_le a.e MAX_ACCESS_COUNT) first.1 in
-      record {
-        r = leb-true a.r MAX_ACCESS_COUNT first.0;
-        w = leb-true a.w MAX_ACCESS_COUNT second.0;
-        e = leb-true a.e MAX_ACCESS_COUNT second.1;
-      }
+  limited_from a e = record {
+    r = grind (arith, nat_tests);
+    w = grind (arith, nat_tests);
+    e = grind (arith, nat_tests);
+  }
 
   -- and that the test holds where this does
   limited_true : (a : Counts) → IsAtMost a greatest_counts
       → (nat_le a.r MAX_ACCESS_COUNT && (nat_le a.w MAX_ACCESS_COUNT && nat_le a.e MAX_ACCESS_COUNT)) ≡ true
-  limited_true a h =
-      and_from (nat_le a.r MAX_ACCESS_COUNT) (nat_le a.w MAX_ACCESS_COUNT && nat_le a.e MAX_ACCESS_COUNT)
-      (le-leb a.r MAX_ACCESS_COUNT h.r)
-      (and_from (nat_le a.w MAX_ACCESS_COUNT) (nat_le a.e MAX_ACCESS_COUNT) (le-leb a.w MAX_ACCESS_COUNT h.w)
-      (le-leb a.e MAX_ACCESS_COUNT h.e))
+  limited_true a h = grind (arith, nat_tests)
 
   -- the test of the limit gives a fact of each provider
   pub within_limit : fits_limit granted t ≡ true → (x : Provider) → Contains t.providers x
@@ -249,26 +226,11 @@ module _ {C : Type 0} (small large : ℕ → Counts) (grants : AreAtMost small l
 
   -- the same with smaller grants alone
   pub exclusive_less : is_exclusive large t ≡ true → is_exclusive small t ≡ true
-  exclusive_less e =
-      exclusive_keeps large t small t
-      (λ x there a attached.
-      inr (record {
-        provider = x;
-        stands = there;
-        leads = refl;
-        elder = a;
-        attached = attached;
-        same = refl;
-        at_most = want-at_most small large grants t a;
-      }))
-      e
+  exclusive_less e = subst (λ u. is_exclusive small u ≡ true) (keep_all t) (exclusive_left (λ x. true) e)
 
   -- and for the limit
   pub limit_less : fits_limit large t ≡ true → fits_limit small t ≡ true
-  limit_less e =
-      limit_keeps large t small t
-      (λ x there. inr (record { provider = x; stands = there; at_most = have-at_most small large grants t x.number }))
-      e
+  limit_less e = subst (λ u. fits_limit small u ≡ true) (keep_all t) (limit_left (λ x. true) e)
 
 -- what `less_is_allowed` says
 pub ruleset less_is_allowed = (exclusive_left, limit_left, exclusive_less, limit_less)
@@ -282,37 +244,35 @@ filter_none : {X : Type 0} (test : X → Bool) (xs : List X) → ((x : X) → te
 filter_none test [] so = refl
 filter_none test (x ∷ xs) so = rw (so x) (filter_none test xs so)
 
+-- a number that the test finds is there
+pub has-contains : (xs : List ℕ) (x : ℕ) → has_number xs x ≡ true → Contains xs x
+has-contains xs x found =
+    let o = some-passes (λ y. y == x) xs found in subst (Contains xs) (eqb-true o.item x o.passes) o.here
+
+-- and the test finds one that is there
+pub contains-has : (xs : List ℕ) (x : ℕ) → Contains xs x → has_number xs x ≡ true
+contains-has xs x there = any-contained (λ y. y == x) xs x there (eq-eqb x x refl)
+
+-- where it finds none, there is none
+pub has_not : (xs : List ℕ) (x : ℕ) → has_number xs x ≡ false → Contains xs x → ⊥
+has_not xs x none there = let no : true ≡ false = sym (contains-has xs x there) ∙ none in cc
+
+-- and where there is none, it finds none
+pub not-has : (xs : List ℕ) (x : ℕ) → (Contains xs x → ⊥) → has_number xs x ≡ false
+not-has xs x none = false_from_ne_true (has_number xs x) (λ e. none (has-contains xs x e))
+
 -- whether a list of numbers contains a number
 is_there : (xs : List ℕ) (n : ℕ) → Contains xs n ⊎ (Contains xs n → ⊥)
-is_there [] n = inr (nothing_in n)
-is_there (x ∷ xs) n =
-    elim (cases_eq x n) [
-      | inl same ↦ inl (subst (λ m. Contains (x ∷ xs) m) same (Contains-here x xs))
-      | inr other ↦
-          elim (is_there xs n) [
-            | inl there ↦ inl (Contains-there x n xs there)
-            | inr away ↦ inr
-                (λ there. elim (Contains-cases x n xs there) [ inl same ↦ other same | inr rest ↦ away rest ])
-          ]
-    ]
+is_there xs n =
+    elim (cases_Bool (has_number xs n)) [ inl e ↦ inl (has-contains xs n e) | inr e ↦ inr (has_not xs n e) ]
 
 -- a count that is at most one which is zero is zero
 rises_not : (a b : ℕ) → b ≤ a → ((a == 0) && not (b == 0)) ≡ false
-rises_not a b h =
-    false_from_ne_true ((a == 0) && not (b == 0))
-    (λ e.
-    let parts = and_parts (a == 0) (not (b == 0)) e in
-    let zero : a ≡ 0 = eqb-true a 0 parts.0 in
-    eqb-false b 0 (not-true (b == 0) parts.1) (omega arith))
+rises_not a b h = grind (arith, nat_tests)
 
 -- a count that is at least one which is not zero is not zero
 falls_not : (a b : ℕ) → a ≤ b → (not (a == 0) && (b == 0)) ≡ false
-falls_not a b h =
-    false_from_ne_true (not (a == 0) && (b == 0))
-    (λ e.
-    let parts = and_parts (not (a == 0)) (b == 0) e in
-    let zero : b ≡ 0 = eqb-true b 0 parts.1 in
-    eqb-false a 0 (not-true (a == 0) parts.0) (omega arith))
+falls_not a b h = grind (arith, nat_tests)
 
 module _ {C : Type 0} (granted : ℕ → Counts) (t : Topology C) (after : ℕ → Counts) (u : Topology C) where
   -- where counts don't rise, no write count leaves zero
@@ -345,27 +305,22 @@ module _ {C : Type 0} (granted : ℕ → Counts) (t : Topology C) (after : ℕ �
               (cc))
         ]
 
+    -- so for each such test
+    moved_in : (test : ℕ → ℕ → Bool) → ((n : ℕ) → test n n ≡ false)
+        → All (Contains ns) (map (λ (x : Provider). x.number)
+        (filter (λ x. test (have granted t x.number).w (have after u x.number).w) t.providers))
+    moved_in test never =
+        let xs : List Provider = filter (λ x. test (have granted t x.number).w (have after u x.number).w) t.providers in
+        All-map (Contains ns) (λ (x : Provider). x.number) xs
+        (all_of (λ (x : Provider). Contains ns x.number) xs (λ x there.
+        changed_in test never x
+        (of_filter (λ y. test (have granted t y.number).w (have after u y.number).w) t.providers x there).1))
+
     pub risen_in : All (Contains ns) (risen granted t after u)
-    risen_in =
-        All-map (Contains ns) (λ (x : Provider). x.number)
-        (filter (λ x. ((have granted t x.number).w == 0) && not ((have after u x.number).w == 0)) t.providers)
-        (all_of (λ (x : Provider). Contains ns x.number)
-        (filter (λ x. ((have granted t x.number).w == 0) && not ((have after u x.number).w == 0)) t.providers)
-        (λ x there.
-        changed_in (λ a b. (a == 0) && not (b == 0)) (λ n. and-not_self (n == 0)) x
-        (of_filter (λ y. ((have granted t y.number).w == 0) && not ((have after u y.number).w == 0)) t.providers
-        x there).1))
+    risen_in = moved_in (λ a b. (a == 0) && not (b == 0)) (λ n. and-not_self (n == 0))
 
     pub fallen_in : All (Contains ns) (fallen granted t after u)
-    fallen_in =
-        All-map (Contains ns) (λ (x : Provider). x.number)
-        (filter (λ x. not ((have granted t x.number).w == 0) && ((have after u x.number).w == 0)) t.providers)
-        (all_of (λ (x : Provider). Contains ns x.number)
-        (filter (λ x. not ((have granted t x.number).w == 0) && ((have after u x.number).w == 0)) t.providers)
-        (λ x there.
-        changed_in (λ a b. not (a == 0) && (b == 0)) (λ n. not-and_self (n == 0)) x
-        (of_filter (λ y. not ((have granted t y.number).w == 0) && ((have after u y.number).w == 0)) t.providers
-        x there).1))
+    fallen_in = moved_in (λ a b. not (a == 0) && (b == 0)) (λ n. not-and_self (n == 0))
 
   -- where only some providers change, it is enough to look at these
   module _ (ns : List ℕ) (stay : StaysAround granted t after u ns) (providers : u.providers ≡ t.providers) where

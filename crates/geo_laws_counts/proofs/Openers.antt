@@ -14,6 +14,7 @@ use Rattle.geo_model.specs.Rank.{Ranked}
 use Rattle.geo_model.specs.Opens.{below, below_within, with_grant, has_error_below, grant_refusal, with_opener, open_refusal, open_refusal_at}
 use Rattle.geo_model.specs.Demand.{no_counts, add_counts, sum_counts, have, want, is_exclusive, fits_limit}
 use Rattle.geo_model.proofs.MemberLists.{Contains-cases, nothing_in, Contains-filter}
+use Rattle.geo_model.proofs.Options.{some_weaker}
 use Rattle.geo_model.proofs.Tests.{passes_apart}
 use Rattle.geo_model.proofs.DemandLemmas.{all_weaker}
 use Rattle.geo_model.specs.Errno.TheVariants.{ENXIO, EPERM, EOVERFLOW}
@@ -58,11 +59,8 @@ below_same t u look under (suc k) p =
 other_geom : {C : Type 0} (t : Topology C) (g : ℕ) → providers_of t g ≡ [] → (x : Provider)
     → Contains t.providers x → x.geom ≢ g
 other_geom t g bare x there e =
-    in_none x
+    nothing_in x
     (subst (λ xs. Contains xs x) bare (Contains-filter (λ y. y.geom == g) t.providers x there (eq-eqb x.geom g e)))
-  where
-    in_none : (x : Provider) → Contains [] x → ⊥
-    in_none x h = omega (arith, h.1)
 
 -- what is directly under another geom than that of a new consumer
 under_came : {C : Type 0} (t : Topology C) (geom : ℕ) (to : Option ℕ) (n : ℕ) → n ≢ geom
@@ -529,22 +527,15 @@ allowed_by granted after t agree p facts =
     let stay : DemandStays granted t after t (Contains t.consumers) = grants_agree granted after t (λ k d h. agree _) in
     record { errors = facts.errors; exclusive = stay.exclusive facts.exclusive; limit = stay.limit facts.limit }
 
--- the same with the opener at a found provider
-opened_at : {C : Type 0} (granted after : ℕ → Counts) (t : Topology C) → AgreeExcept t.next_consumer granted after
-    → (o : Option ℕ)
-    → IsSomeAnd o (λ p. IsAllowed (with_grant granted t.next_consumer (after t.next_consumer)) (with_opener t p) p)
-    → IsSomeAnd o (λ p. IsAllowed after (with_opener t p) p)
-opened_at granted after t agree None facts = facts
-opened_at granted after t agree (Some p) facts =
-    allowed_by (with_grant granted t.next_consumer (after t.next_consumer)) after (with_opener t p)
-    (agreed_at granted after t.next_consumer agree) p facts
-
 -- an open that is not refused leaves what is allowed, by any grants that agree
 pub opened_allowed : {C : Type 0} (granted : ℕ → Counts) (t : Topology C) (after : ℕ → Counts) (name : List ℕ)
     → AgreeExcept t.next_consumer granted after → open_refusal granted t name (after t.next_consumer) ≡ None
     → IsSomeAnd (find_provider t name) (λ p. IsAllowed after (with_opener t p) p)
 opened_allowed granted t after name agree e =
-    opened_at granted after t agree (find_provider t name) ((open_allowed granted t name (after t.next_consumer)).0 e)
+    let by : ℕ → Counts = with_grant granted t.next_consumer (after t.next_consumer) in
+    some_weaker (λ p. IsAllowed by (with_opener t p) p) (λ p. IsAllowed after (with_opener t p) p)
+    (λ p. allowed_by by after (with_opener t p) (agreed_at granted after t.next_consumer agree) p)
+    (find_provider t name) ((open_allowed granted t name (after t.next_consumer)).0 e)
 
 -- what `demands_are_allowed` says
 pub ruleset demands_are_allowed = (allowed, open_allowed, opened_allowed)

@@ -2,6 +2,7 @@
 use Rattle.std.specs.Prelude.{◌≡◌, ℕ, ◌==◌, Bool, true, false, ◌||◌, cond, List, [], ◌∷◌, fold, map, filter, Option, Some, None, Contains, if◌then◌else◌, ◌≢◌, IsSomeAnd}
 use Rattle.std.proofs.Common.{refl, sym, ◌∙◌, ap, subst, arith, inl, inr, eq-eqb}
 use Rattle.std.proofs.lemmas.Bool.{eqb-true, cases_eq, ne_eqb}
+use Rattle.std.proofs.lemmas.Bool.Decides.{nat_tests}
 use Rattle.std.proofs.lemmas.List.Elements.{All-contains, All-from_recursion}
 use Rattle.geo_model.specs.Counts.{Counts}
 use Rattle.geo_model.specs.Words.{names_number, is_granted_kind}
@@ -12,11 +13,11 @@ use Rattle.geo_model.specs.Kind.{Kind}
 use Rattle.geo_model.specs.Kind.TheVariants as kinds
 use Rattle.geo_model.specs.Opens.{below}
 use Rattle.geo_model.proofs.MemberLists.{Contains-cases, nothing_in, Contains-filter}
-use Rattle.geo_laws_counts.proofs.Sums.{counts-same, zero-add, add-zero, add-assoc, sum-same, sum-add, add-move, names_some, more-add, want_gains, have_gains}
-use Rattle.geo_laws_counts.proofs.LimitFacts.{of_filter}
+use Rattle.geo_laws_counts.proofs.Sums.{counts-same, zero-add, add-zero, add-assoc, sum-same, sum-add, add-move, names_some, more-add, want_gains, have_gains, more_of_same}
+use Rattle.geo_laws_counts.proofs.LimitFacts.{of_filter, has-contains, has_not, not-has}
 pub use Rattle.geo_laws_counts.proofs.LimitFacts.{each_of}
 use Rattle.geo_laws_counts.specs.WalkWords.{has_number, IsOrder, cap, set_at, hand_at, Flow, gain_without}
-use Rattle.geo_laws_counts.proofs.Reach.{directly_under, has-contains, contains-has, not-has, is-under, order_first, differing_stays, want_same}
+use Rattle.geo_laws_counts.proofs.Reach.{directly_under, is-under, order_first, differing_stays, want_same, sum_nothing}
 use Rattle.geo_laws_counts.specs.CountWords.{AreAtMost, more_counts, gain_of_kind, NumbersLead, HoldsGrants}
 use Rattle.geo_laws_counts.specs.DemandLaws.{DiffersAt, StaysAround, Comes}
 use Rattle.geo_laws_counts.proofs.Openers.{wants_grant, came_gains, came_wants, came_stays}
@@ -45,23 +46,15 @@ sum-cap f (x ∷ xs) a =
 -- a sum of nothing is nothing
 pub sum-none : {X : Type 0} (f : X → Counts) (xs : List X) → ((x : X) → Contains xs x → f x ≡ no_counts)
     → sum_counts (map f xs) ≡ no_counts
-sum-none f xs none = sum-same f (λ x. no_counts) xs (each_of (λ x. f x ≡ no_counts) xs none) ∙ nothing xs
-  where
-    nothing : {Y : Type 0} (ys : List Y) → sum_counts (map (λ (y : Y). no_counts) ys) ≡ no_counts
-    nothing [] = refl
-    nothing (y ∷ ys) = zero-add (sum_counts (map (λ z. no_counts) ys)) ∙ nothing ys
+sum-none f xs none = sum_nothing f xs (each_of (λ x. f x ≡ no_counts) xs none)
 
 -- What is handed down
 
 -- a value that is set is there, and the others are as before
 pub set_at-value : {V : Type 0} (f : ℕ → V) (n : ℕ) (v : V) (m : ℕ) (b : Bool) → (n == m) ≡ b
     → set_at f n v m ≡ (if b then v else f m)
-set_at-value f n v m true e = ap (λ b. cond b v (f m)) (eq-eqb m n (sym (eqb-true n m e)))
-set_at-value f n v m false e =
-    elim (cases_eq m n) [
-      | inl same ↦ let no : true ≡ false = sym (eq-eqb n m (sym same)) ∙ e in absurd (cc)
-      | inr other ↦ ap (λ b. cond b v (f m)) (ne_eqb m n other)
-    ]
+set_at-value f n v m b e =
+    let same : (m == n) ≡ b = grind (arith, nat_tests) in ap (λ c. if c then v else f m) same
 
 -- what a provider has gained once a consumer hands down what it gains
 hand-value : (m : Counts) (gains : ℕ → Counts) (c : Consumer) (q : ℕ)
@@ -194,10 +187,7 @@ module _ {C : Type 0} (t : Topology C) (p : ℕ) (first : Counts) (gain : ℕ �
       quiet : (c : Consumer) → Contains t.consumers c → (b : Bool) → has_number order c.geom ≡ b
           → (if b then no_counts else more c) ≡ no_counts
       quiet c there true e = refl
-      quiet c there false e = flow.around c there (λ inside. let no : true ≡ false = sym (found c inside) ∙ e in cc)
-        where
-          found : (c : Consumer) → Contains order c.geom → has_number order c.geom ≡ true
-          found c inside = contains-has order c.geom inside
+      quiet c there false e = flow.around c there (has_not order c.geom e)
 
   -- once all have, each provider has gained what it gains
   pub flow_end : (q : ℕ) → gain_without t p first more [] q ≡ cap (gain q)
@@ -231,8 +221,7 @@ module _ {C : Type 0} (t : Topology C) (p : ℕ) (first : Counts) (gain : ℕ �
 
 -- what is no more than it was has nothing more
 pub more-same : (a b : Counts) → b ≡ a → more_counts a b ≡ no_counts
-more-same a b e = ap (more_counts a) e
-    ∙ counts-same (more_counts a a) no_counts (omega arith) (omega arith) (omega arith)
+more-same a b e = more_of_same a b (sym e)
 
 -- what one of DEV or TASTE gains without a grant
 granted_gain : (kind : Kind) (had gains : List Counts) → is_granted_kind kind ≡ true

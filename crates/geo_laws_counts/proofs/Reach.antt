@@ -1,12 +1,11 @@
 -- What counts depend on: counters that keep the sums, what stands above, what is reached downwards from where a grant
 -- changes; and the order of a walk downwards.
-use Rattle.std.specs.Prelude.{◌≡◌, ℕ, ◌+◌, ◌==◌, false, List, [], ◌∷◌, map, Option, Some, None, All, option_map, Contains, Bool, true, filter, ◌≢◌, zero, suc, ◌<◌, ◌≤◌, flat_map, IfSome, IsSomeAnd, length, ◌⊎◌, ◌||◌, fold, if◌then◌else◌}
+use Rattle.std.specs.Prelude.{◌≡◌, ℕ, ◌+◌, ◌==◌, false, List, [], ◌∷◌, map, Option, Some, None, All, option_map, Contains, Bool, true, filter, ◌≢◌, zero, suc, ◌<◌, ◌≤◌, flat_map, IfSome, IsSomeAnd, length, ◌⊎◌, fold, if◌then◌else◌}
 use Rattle.std.specs.List.{AllByRecursion}
 use Rattle.std.proofs.Common.{refl, sym, ◌∙◌, ap, subst, arith, inl, inr, eq-eqb}
 use Rattle.std.proofs.lemmas.List.Elements.{recursion_from_All, All-from_recursion, All-contains}
 use Rattle.std.specs.Option.{option_map_or}
 use Rattle.std.proofs.lemmas.Bool.{eqb-true}
-use Rattle.std.proofs.Math.Bool.{or-true}
 use Rattle.geo_model.specs.Kind.TheVariants as kinds
 use Rattle.geo_model.specs.Counts.{Counts}
 use Rattle.geo_model.specs.Words.{is_granted_kind, is_kind, names_number}
@@ -20,7 +19,7 @@ use Rattle.geo_model.proofs.RankLemmas.{mapped_by}
 use Rattle.geo_model.proofs.AllLists.{two_facts}
 use Rattle.geo_laws_counts.specs.CountWords.{NumbersLead, SameAbove, kind_at}
 use Rattle.geo_laws_counts.proofs.Sums.{sum-same, counts-same, want_of_sum, want-sum, nothing_over, over_nothing, want_over, have_is_sum, want_given-same, geom_found, upward_from, of_each, names_some, want_given-granted, found_of}
-use Rattle.geo_laws_counts.proofs.LimitFacts.{all_of, each_of, of_filter}
+use Rattle.geo_laws_counts.proofs.LimitFacts.{all_of, each_of, of_filter, has-contains, has_not}
 use Rattle.geo_laws_counts.specs.DemandLaws.{DiffersAt, StaysAround}
 use Rattle.geo_laws_counts.specs.WalkWords.{has_number, IsOrder, order_from}
 
@@ -111,7 +110,7 @@ module _ {C D : Type 0} (granted : ℕ → Counts) (t : Topology C) (other : ℕ
       ∙ sym (have_is_sum t ranked known granted p))
 
 -- a sum of nothing
-sum_nothing : {X : Type 0} (f : X → Counts) (xs : List X) → AllByRecursion (λ x. f x ≡ no_counts) xs
+pub sum_nothing : {X : Type 0} (f : X → Counts) (xs : List X) → AllByRecursion (λ x. f x ≡ no_counts) xs
     → sum_counts (map f xs) ≡ no_counts
 sum_nothing f [] none = refl
 sum_nothing f (x ∷ xs) none = ap (λ a. add_counts a (sum_counts (map f xs))) none.0
@@ -347,41 +346,6 @@ differing_stays granted other t c p differs ranked known = record {
 
 -- The order of a walk downwards: no geom twice, each before those under it, and just those that are reached.
 
--- Lists of numbers
-
--- the same over one number more
-has_step : (y : ℕ) (ys : List ℕ) (x : ℕ) → (has_number ys x ≡ true → Contains ys x) → (b : Bool) → (y == x) ≡ b
-    → (b || has_number ys x) ≡ true
-    → Contains (y ∷ ys) x
-has_step y ys x so true e h = subst (λ z. Contains (y ∷ ys) z) (eqb-true y x e) (Contains-here y ys)
-has_step y ys x so false e h = Contains-there y x ys (so h)
-
--- a number that the test finds is there
-pub has-contains : (xs : List ℕ) (x : ℕ) → has_number xs x ≡ true → Contains xs x
-has-contains [] x never = absurd (cc)
-has-contains (y ∷ ys) x found = has_step y ys x (has-contains ys x) (y == x) refl found
-
--- and the test finds one that is there
-pub contains-has : (xs : List ℕ) (x : ℕ) → Contains xs x → has_number xs x ≡ true
-contains-has [] x there = absurd (nothing_in x there)
-contains-has (y ∷ ys) x there =
-    elim (Contains-cases y x ys there) [
-      | inl same ↦ ap (λ b. b || has_number ys x) (eq-eqb y x same)
-      | inr rest ↦ ap (λ b. (y == x) || b) (contains-has ys x rest) ∙ or-true (y == x)
-    ]
-
--- where it finds none, there is none
-pub has_not : (xs : List ℕ) (x : ℕ) → has_number xs x ≡ false → Contains xs x → ⊥
-has_not xs x none there = let no : true ≡ false = sym (contains-has xs x there) ∙ none in cc
-
--- and where there is none, it finds none
-pub not-has : (xs : List ℕ) (x : ℕ) → (Contains xs x → ⊥) → has_number xs x ≡ false
-not-has xs x none = cases (has_number xs x) refl
-  where
-    cases : (b : Bool) → has_number xs x ≡ b → b ≡ false
-    cases true e = absurd (none (has-contains xs x e))
-    cases false e = refl
-
 -- what each step keeps, a fold keeps
 fold_keeps : {A B : Type 0} (Q : B → Type 0) (f : B → A → B) (xs : List A)
     → ((b : B) (x : A) → Contains xs x → Q b → Q (f b x))
@@ -597,11 +561,8 @@ module _ {C : Type 0} (t : Topology C) (P : ℕ → Type 0)
 
   -- and over all levels
   least_within : (k p : ℕ) → P p → (y : ℕ) → Contains (below_within k t p) y → P y
-  least_within zero p here y there = elim (Contains-cases p y [] there) [
-    | inl same ↦
-        subst P same here
-    | inr none ↦ absurd (nothing_in y none)
-  ]
+  least_within zero p here y there =
+      elim (Contains-cases p y [] there) [ inl same ↦ subst P same here | inr none ↦ absurd (nothing_in y none) ]
   least_within (suc k) p here y there = least_over k p here (least_within k) (provider_at t p) refl y there
 
   -- so it holds of all that is reached

@@ -2,7 +2,8 @@
 use Rattle.std.specs.Prelude.{◌≡◌, ℕ, ◌==◌, Bool, true, false, ◌&&◌, List, [], ◌∷◌, map, ◌+◌, not, if◌then◌else◌, zero, suc, ◌-◌, ◌<◌, ◌≤◌, Option, Some, None, IfSome, IsSomeAnd, length, cond, filter, Contains}
 use Rattle.std.specs.List.{list_all, AllByRecursion}
 use Rattle.std.proofs.Common.{refl, sym, ◌∙◌, ap, arith, subst}
-use Rattle.std.proofs.lemmas.Bool.{eqb-true, and_parts}
+use Rattle.std.proofs.lemmas.Bool.{eqb-true}
+use Rattle.std.proofs.lemmas.Bool.Decides.{nat_tests}
 use Rattle.std.specs.Option.{option_map_or}
 use Rattle.std.proofs.lemmas.List.Elements.{recursion_from_All}
 use Rattle.geo_model.specs.Counts.{Counts}
@@ -35,22 +36,16 @@ add-zero a = counts-same (add_counts a no_counts) a (omega arith) (omega arith) 
 
 -- sums may be grouped otherwise
 pub add-assoc : (a b c : Counts) → add_counts (add_counts a b) c ≡ add_counts a (add_counts b c)
-add-assoc a b c =
-    counts-same (add_counts (add_counts a b) c) (add_counts a (add_counts b c)) (omega arith) (omega arith)
-    (omega arith)
+add-assoc a b c = counts-same _ _ (omega arith) (omega arith) (omega arith)
 
 -- the parts of a sum may change places
 pub add-move : (a b c : Counts) → add_counts a (add_counts b c) ≡ add_counts b (add_counts a c)
-add-move a b c =
-    counts-same (add_counts a (add_counts b c)) (add_counts b (add_counts a c)) (omega arith) (omega arith)
-    (omega arith)
+add-move a b c = counts-same _ _ (omega arith) (omega arith) (omega arith)
 
 -- two sums may exchange their parts
 add-swap : (a b c d : Counts)
     → add_counts (add_counts a b) (add_counts c d) ≡ add_counts (add_counts a c) (add_counts b d)
-add-swap a b c d =
-    counts-same (add_counts (add_counts a b) (add_counts c d)) (add_counts (add_counts a c) (add_counts b d))
-    (omega arith) (omega arith) (omega arith)
+add-swap a b c d = counts-same _ _ (omega arith) (omega arith) (omega arith)
 
 -- the order of counts
 pub at_most-same : (a : Counts) → IsAtMost a a
@@ -109,38 +104,11 @@ sum-add f g (x ∷ xs) =
 -- no counts at all, as a test
 pub zero-test : (a : Counts) → is_zero a ≡ true → a ≡ no_counts
 zero-test a h =
-    let first = and_parts (a.r == 0) ((a.w == 0) && (a.e == 0)) h in
-    let second = and_parts (a.w == 0) (a.e == 0) first.1 in
-    counts-same a no_counts (eqb-true a.r 0 first.0) (eqb-true a.w 0 second.0) (eqb-true a.e 0 second.1)
+    counts-same a no_counts (grind (arith, nat_tests)) (grind (arith, nat_tests)) (grind (arith, nat_tests))
 
 -- a sum is zero just where both parts are
 zero-add_test : (a b : Counts) → is_zero (add_counts a b) ≡ (is_zero a && is_zero b)
-zero-add_test a b = add_cases a b (is_zero a) (is_zero b) refl refl
-  where
-    zero_of : (a : Counts) → a.r ≡ 0 → a.w ≡ 0 → a.e ≡ 0 → is_zero a ≡ true
-    zero_of a r w e = rw (r, w, e) refl
-
-    not_zero : (a : Counts) (b : Bool) → is_zero a ≡ b → (a ≡ no_counts → ⊥) → b ≡ false
-    not_zero a true h so = absurd (so (zero-test a h))
-    not_zero a false h so = refl
-
-    add_cases : (a b : Counts) (x y : Bool) → is_zero a ≡ x → is_zero b ≡ y
-        → is_zero (add_counts a b) ≡ (is_zero a && is_zero b)
-    add_cases a b true true x y =
-        rw (zero-test a x, zero-test b y) refl
-    add_cases a b true false x y =
-        ap (λ z. is_zero (add_counts z b)) (zero-test a x) ∙ ap is_zero (zero-add b)
-        ∙ sym (ap (λ z. is_zero z && is_zero b) (zero-test a x))
-    add_cases a b false y x h =
-        not_zero (add_counts a b) (is_zero (add_counts a b)) refl
-        (λ none. let za : a ≡ no_counts =
-        zero-at_most a (record {
-          r = omega (arith, ap (λ (c : Counts). c.r) none);
-          w = omega (arith, ap (λ (c : Counts). c.w) none);
-          e = omega (arith, ap (λ (c : Counts). c.e) none);
-        }) in
-        let t : is_zero a ≡ true = rw za refl in let no : true ≡ false = sym t ∙ x in cc)
-        ∙ sym (ap (λ c. c && is_zero b) x)
+zero-add_test a b = grind (arith, nat_tests)
 
 -- all counts of a list are zero just where its sum is
 pub zeros-sum : (xs : List Counts) → list_all is_zero xs ≡ is_zero (sum_counts xs)
@@ -205,22 +173,9 @@ exclusive-gain : (s d : Counts) (x y : Bool)
     → exclusive_over (x && y) (add_counts s d)
     ≡ add_counts (exclusive_over x s) (add_counts d (record { r = 0; w = 0; e = (if x && not y then 1 else 0) }))
 unfolding exclusive_over
-exclusive-gain s d true true =
-    counts-same (exclusive_over true (add_counts s d))
-    (add_counts (exclusive_over true s) (add_counts d (record { r = 0; w = 0; e = 0 }))) (omega arith)
-    (omega arith) (omega arith)
-exclusive-gain s d true false =
-    counts-same (exclusive_over false (add_counts s d))
-    (add_counts (exclusive_over true s) (add_counts d (record { r = 0; w = 0; e = 1 }))) (omega arith)
-    (omega arith) (omega arith)
-exclusive-gain s d false true =
-    counts-same (exclusive_over false (add_counts s d))
-    (add_counts (exclusive_over false s) (add_counts d (record { r = 0; w = 0; e = 0 }))) (omega arith)
-    (omega arith) (omega arith)
-exclusive-gain s d false false =
-    counts-same (exclusive_over false (add_counts s d))
-    (add_counts (exclusive_over false s) (add_counts d (record { r = 0; w = 0; e = 0 }))) (omega arith)
-    (omega arith) (omega arith)
+exclusive-gain s d true true = counts-same _ _ (omega arith) (omega arith) (omega arith)
+exclusive-gain s d true false = counts-same _ _ (omega arith) (omega arith) (omega arith)
+exclusive-gain s d false y = counts-same _ _ (omega arith) (omega arith) (omega arith)
 
 -- the same for lists of counts
 exclusive_gain_of : (had gains : List Counts)
@@ -232,14 +187,8 @@ exclusive_gain_of : (had gains : List Counts)
 exclusive_gain_of had gains =
     let s : Counts = sum_counts had in
     let d : Counts = sum_counts gains in
-    ap (λ b. exclusive_over b (add_counts s d)) (zero-add_test s d)
-    ∙ exclusive-gain s d (is_zero s) (is_zero d)
-    ∙ ap (λ b. add_counts (exclusive_over (is_zero s) s)
-    (add_counts d (record { r = 0; w = 0; e = (if b && not (is_zero d) then 1 else 0) })))
-    (sym (zeros-sum had))
-    ∙ ap (λ b. add_counts (exclusive_over (is_zero s) s)
-    (add_counts d (record { r = 0; w = 0; e = (if list_all is_zero had && not b then 1 else 0) })))
-    (sym (zeros-sum gains))
+    rw (zeros-sum had, zeros-sum gains)
+    (ap (λ b. exclusive_over b (add_counts s d)) (zero-add_test s d) ∙ exclusive-gain s d (is_zero s) (is_zero d))
 
 -- what a consumer of the class wants more
 pub want_of_sum-gain : (kind : Kind) (had gains : List Counts) (x y : Counts)
@@ -433,10 +382,7 @@ module _ {C : Type 0} (t : Topology C) (ranked : Ranked t) (known : NumbersLead 
 
     -- enough levels are enough
     levels_and : (k p : ℕ) → have_within granted (length t.geoms + k) t p ≡ have granted t p
-    levels_and zero p = rw (plus_zero (length t.geoms)) refl
-      where
-        plus_zero : (n : ℕ) → n + zero ≡ n
-        plus_zero n = omega arith
+    levels_and zero p = let none : length t.geoms + zero ≡ length t.geoms = omega arith in rw none refl
     levels_and (suc k) p =
         let step : length t.geoms + suc k ≡ suc (length t.geoms + k) = omega arith in
         rw step (sym (more_levels (length t.geoms + k) (omega arith) p) ∙ levels_and k p)
@@ -522,7 +468,7 @@ module _ {C : Type 0} (small large : ℕ → Counts) (grants : AreAtMost small l
       want_given-at_most (have small (keep_consumers t test)) (have large t) (kept-at_most t test) t c
 
 -- a graph that keeps all its consumers
-keep_all : {C : Type 0} (t : Topology C) → keep_consumers t (λ x. true) ≡ t
+pub keep_all : {C : Type 0} (t : Topology C) → keep_consumers t (λ x. true) ≡ t
 keep_all t =
     ap (λ cs. record t { consumers = cs })
     (keeps_all (λ c. true) t.consumers (of_each (λ c. true ≡ true) (λ c. refl) t.consumers))

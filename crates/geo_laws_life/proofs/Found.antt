@@ -5,7 +5,7 @@ use Rattle.geo_model.specs.Graph.{AreNumbers}
 use Rattle.geo_laws_graph.proofs.Members.{Contains-here, Contains-there, Contains-cases, nothing_in, All-from_contained, at_contained, find-Contains}
 use Rattle.geo_laws_graph.proofs.Lists.{Rise, rise-from, found_itself}
 use Rattle.geo_laws_graph.proofs.Numbered.{number_found}
-use Rattle.geo_laws_life.proofs.Standers.{PairsByRecursion, pairs-from_recursion, recursion-from_pairs}
+use Rattle.geo_laws_life.proofs.Standing.{PairsByRecursion, pairs-from_recursion, recursion-from_pairs}
 use Rattle.geo_laws_life.specs.LessLaws.{ComesFrom}
 pub use Rattle.geo_model.proofs.Options.{some-with, some-there, if-found, at-found, at-some, one-found, none-there}
 pub use Rattle.geo_model.proofs.FilterLists.{keeps_all}

@@ -27,8 +27,7 @@ use Rattle.geo_model.specs.declared.command.LineCommand.{LineCommand}
 use Rattle.geo_model.specs.Fitting.{Fitting, IsHeaderDisk, FitsPlaces, HasOneProvider, PlacesHold, HasItsSum}
 use Rattle.geo_laws_graph.proofs.Members.{Contains-here, Contains-there, All-from_contained, at_contained}
 use Rattle.geo_laws_graph.proofs.Lists.{Rise, rise-wider, numbers-from, found_itself}
-use Rattle.geo_laws_life.proofs.Standing.{Stander, disk_geom, disk_provider, disk_geoms, disk_providers, disk_offers, standers, stood, opening-stood, nowhere}
-use Rattle.geo_laws_life.proofs.Standers.{IsStander, AreApart, PairsByRecursion, pairs-from_recursion, standers-stand, standers-apart, sizes_of}
+use Rattle.geo_laws_life.proofs.Standing.{Stander, disk_geom, disk_provider, disk_geoms, disk_providers, disk_offers, standers, stood, opening-stood, nowhere, IsStander, AreApart, PairsByRecursion, pairs-from_recursion, standers-stand, standers-apart, sizes_of}
 
 -- a number before numbers that rise
 rise_more : (n k : ℕ) (ns : List ℕ) → Rise (n + 1) ns (n + 1 + k) → Rise n (n ∷ ns) (n + suc k)

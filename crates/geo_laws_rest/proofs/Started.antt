@@ -683,4 +683,4 @@ start_way w x (Passes n targets) found down is firm after =
     let s = splits_at w.topology x targets (ap splits_by is) in
     counted_falls (start_by w x (Passes n targets)).0 w n firm
     (split_falls (counted w n) (noted_stays_firm w n firm) x found down targets
-    (counted_elsewhere w.topology x targets n (s.provider.geom == n) s refl) after)
+    (counted_elsewhere w.topology x targets n s) after)

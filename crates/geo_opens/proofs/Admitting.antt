@@ -354,13 +354,10 @@ module _ (s new : State) (line actor : ℕ) (name prov : List ℕ) (grant : Coun
       → do_open before line actor name prov grant ≡ (world actors log new, o)
   open-done decided made is =
       let fine = free-open before line actor name prov grant (decided actors log) in
-      fine.answer
-      ∙ (λ i. (
-        sym (at-found (find_provider s.topo.topology prov)
-            (λ p. world actors log new ≡ after_open before (with_handle before actor name p grant)) fine.provider fine.found
-            made) i,
-        sym is i,
-      ))
+      let whole = at-found (find_provider s.topo.topology prov)
+      (λ p. world actors log new ≡ after_open before (with_handle before actor name p grant)) fine.provider fine.found
+      made in
+      fine.answer ∙ (λ i. (sym whole i, sym is i))
 
 -- What is made, by how the calls end
 
