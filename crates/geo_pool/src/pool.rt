@@ -28,13 +28,15 @@ impl Pool {
     pub fn once(&mut self, bytes: SharedBytes) -> SharedBytes
         ensures { result ≡ bytes }
     {
-        match self.same(&bytes) {
-            Some(same) => same,
-            None => {
-                self.keep(&bytes);
-                bytes
+        if let Some(same) = self.same(&bytes) {
+            return same;
+        }
+        if let Some(first) = bytes.bytes().first() {
+            if let Ok(copy) = bytes.copy(self.alloc) {
+                let _ = self.known.insert(*first, copy);
             }
         }
+        bytes
     }
 
     // The same bytes, as a part of the known ones with this first byte, if those begin with them.
@@ -47,15 +49,6 @@ impl Pool {
             known.part(self.alloc, 0, bytes.len() as u64).ok()
         } else {
             None
-        }
-    }
-
-    // The bytes are known from now on, in the place of those with this first byte, if there is memory for it.
-    fn keep(&mut self, bytes: &SharedBytes) {
-        if let Some(first) = bytes.bytes().first() {
-            if let Ok(copy) = bytes.copy(self.alloc) {
-                let _ = self.known.insert(*first, copy);
-            }
         }
     }
 }
