@@ -52,28 +52,19 @@ pub fn find_byte(bytes: &[u8], byte: u8) -> Option<usize>
     bytes.iter().position(|b| *b == byte)
 }
 
-/// The first word of a line, and what stands behind the space after it.
-fn first_word(line: &[u8]) -> (&[u8], Option<&[u8]>)
-    requires { length line.now < 2 ^ 32 }
-    ensures word { words_of line.now ≡ result.0.now ∷ words_left result.1 }
-    ensures rest { IsShort result.1 }
-{
-    match find_byte(line, b' ') {
-        Some(at) => (&line[..at], Some(&line[at + 1..])),
-        None => (line, None),
-    }
-}
-
 /// The next word, and the words behind it.
 pub fn next_word<'a>(words: Words<'a>) -> Result<(&'a [u8], Words<'a>), Cause>
     ensures { ReadsWord result (next_word words.entry) }
 {
-    match words.rest {
-        Some(line) => {
-            let (word, rest) = first_word(line);
-            Ok((word, Words { rest }))
+    let Some(line) = words.rest else {
+        return Err(Cause::Words);
+    };
+    match find_byte(line, b' ') {
+        Some(at) => {
+            let rest = Some(&line[at + 1..]);
+            Ok((&line[..at], Words { rest }))
         }
-        None => Err(Cause::Words),
+        None => Ok((line, Words { rest: None })),
     }
 }
 
