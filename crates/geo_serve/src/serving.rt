@@ -9,7 +9,7 @@ use geo_disk::{Disk, DiskFailed, Drive};
 use geo_model::{DeviceResult, Request};
 
 /// Serves a request by exactly one call of the disk, and answers what came of it. A READ is read into the room, which
-/// is cut to its length.
+/// is cut to its length. After a DELETE the sectors are zero.
 pub fn serve<D: Disk>(disk: &mut Drive<D>, request: &Request, room: Block) -> DeviceResult
     requires room { HasRoom (drive_view D.view disk.old) request.now room }
     requires can { CanServe (drive_view D.view disk.old) request.now }
@@ -19,9 +19,9 @@ pub fn serve<D: Disk>(disk: &mut Drive<D>, request: &Request, room: Block) -> De
 {
     match request.cmd {
         BioCmd::Read => read(disk, request, room),
-        BioCmd::Write => write(disk, request),
-        BioCmd::Delete => delete(disk, request),
-        BioCmd::Flush => flush(disk, request),
+        BioCmd::Write => answer(disk.write(request.first, request.bytes.bytes())),
+        BioCmd::Delete => answer(disk.zero(request.first, request.count as u64)),
+        BioCmd::Flush => answer(disk.flush()),
     }
 }
 
@@ -40,41 +40,6 @@ fn read<D: Disk>(disk: &mut Drive<D>, request: &Request, mut room: Block) -> Dev
         Ok(()) => DeviceResult::Bytes(SharedBytes::from_block(room)),
         Err(_) => DeviceResult::Failed { done: 0 },
     }
-}
-
-// A WRITE.
-fn write<D: Disk>(disk: &mut Drive<D>, request: &Request) -> DeviceResult
-    requires can { CanServe (drive_view D.view disk.old) request.now }
-    requires cmd { request.now.cmd ≡ cmds.Write }
-    ensures { Serves request.now
-        (drive_view D.view disk.old)
-        (drive_view D.view disk.new) result }
-{
-    let done = disk.write(request.first, request.bytes.bytes());
-    answer(done)
-}
-
-// A DELETE, after which the sectors are zero.
-fn delete<D: Disk>(disk: &mut Drive<D>, request: &Request) -> DeviceResult
-    requires can { CanServe (drive_view D.view disk.old) request.now }
-    requires cmd { request.now.cmd ≡ cmds.Delete }
-    ensures { Serves request.now
-        (drive_view D.view disk.old)
-        (drive_view D.view disk.new) result }
-{
-    let done = disk.zero(request.first, request.count as u64);
-    answer(done)
-}
-
-// A FLUSH.
-fn flush<D: Disk>(disk: &mut Drive<D>, request: &Request) -> DeviceResult
-    requires cmd { request.now.cmd ≡ cmds.Flush }
-    ensures { Serves request.now
-        (drive_view D.view disk.old)
-        (drive_view D.view disk.new) result }
-{
-    let done = disk.flush();
-    answer(done)
 }
 
 // The answer by how a call ended that reads nothing.
