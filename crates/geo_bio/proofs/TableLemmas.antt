@@ -522,25 +522,18 @@ module _ {v : BioTableView} (s new : SlotsView Bio) (view : seen s ≡ v) (table
         ordered = in_order (with_value s.rows n (write x.0)) s.next s.spare kept.rising;
       }))
 
-  -- so it is with one that its disk has answered
-  pub one_delivered : has_phase is_busy v.bios n ≡ true → (place : ℕ) (errno : Option Errno) (held : Held)
-      → IfSome (value_at s.rows m) (λ x. held ≡ delivered_result x.cmd place errno)
-      → MatchOption (value_at s.rows m) (new ≡ s)
-      (λ x. new ≡ record s { rows = with_value s.rows m (up_holding held x) })
-      → Leaves v new n (delivered place errno)
-  one_delivered is place errno held holds became =
-      one_changed is_busy busy_facts is (delivered place errno)
-      (λ x. up_holding (delivered_result x.cmd place errno) x)
-      (λ x. record { owner = refl; undone = refl; idle = refl; changed = refl })
-      (by (value_at s.rows m) holds became)
-    where
-      by : (o : Option Bio) → IfSome o (λ x. held ≡ delivered_result x.cmd place errno)
-          → MatchOption o (new ≡ s) (λ x. new ≡ record s { rows = with_value s.rows m (up_holding held x) })
-          → MatchOption o (new ≡ s)
-          (λ x. new ≡ record s { rows = with_value s.rows m (up_holding (delivered_result x.cmd place errno) x) })
-      by None is ends = ends
-      by (Some x) is ends =
-          subst (λ h. new ≡ record s { rows = with_value s.rows m (up_holding h x) }) is ends
+-- so it is with one that its disk has answered
+pub one_delivered : {v : BioTableView} (s : SlotsView Bio) → seen s ≡ v → IsTable s.rows s.next → {m n : ℕ} → m ≡ n
+    → has_phase is_busy v.bios n ≡ true → (place : ℕ) (errno : Option Errno) {held : Held} {x : Bio}
+    → value_at s.rows m ≡ Some x → held ≡ delivered_result x.cmd place errno
+    → Leaves v (record s { rows = with_value s.rows m (up_holding held x) }) n (delivered place errno)
+one_delivered s view table {m} same is place errno {held} {x} found holds =
+    let new : SlotsView Bio = record s { rows = with_value s.rows m (up_holding held x) } in
+    let write : Bio → Bio = λ y. up_holding (delivered_result y.cmd place errno) y in
+    one_changed s new view table same is_busy busy_facts is (delivered place errno) write
+    (λ y. record { owner = refl; undone = refl; idle = refl; changed = refl })
+    (subst (λ o. MatchOption o (new ≡ s) (λ y. new ≡ record s { rows = with_value s.rows m (write y) })) (sym found)
+    (ap (λ h. record s { rows = with_value s.rows m (up_holding h x) }) holds))
 
 -- The children of a bio
 

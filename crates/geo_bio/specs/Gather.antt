@@ -3,8 +3,6 @@ use Rattle.std.specs.Prelude.{ℕ, zero, suc, ◌+◌, ◌==◌, Bool, List, [],
 use Rattle.std.specs.Option.{option_map_or, option_and_then}
 use Rattle.geo_model.specs.BioCmd.{BioCmd}
 use Rattle.geo_model.specs.Errno.{Errno}
-use Rattle.geo_model.specs.declared.step.BioResult.{BioResult}
-use Rattle.geo_model.specs.declared.step.BioResult.TheVariants as results
 use Rattle.geo_model.specs.Words.{is_read}
 use Rattle.geo_model.specs.Bios.{bytes_of_result}
 use Rattle.geo_model.specs.declared.step.Phase.TheVariants as phases
@@ -19,13 +17,6 @@ use Rattle.geo_bio.specs.Up.{resolved}
 abbrev pub copy_of : (ℕ → Option (List ℕ)) → Option Held → Option (List ℕ)
 copy_of log (Some (held.AtPlace place)) = Some (unwrap_or (log place) [])
 copy_of log _ = None
-
--- a result from what a bio held and the bytes that were copied for it
-abbrev pub result_given : Option Held → Option (List ℕ) → BioResult
-result_given (Some (held.Failed errno)) copied = results.Failed errno
-result_given (Some (held.Bytes bytes)) copied = results.Bytes bytes
-result_given (Some (held.AtPlace place)) (Some bytes) = results.Bytes bytes
-result_given _ _ = results.Done
 
 -- the error that a bio holds
 abbrev pub held_error : Option Held → Option Errno

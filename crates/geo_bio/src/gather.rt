@@ -4,7 +4,7 @@ ghost use Rattle.geo_slots.specs.Slots.{value_at, with_value, without};
 ghost use Rattle.std.specs.Option.{option_and_then, option_map_or};
 ghost use Rattle.geo_model.specs.Bios.{bytes_of_result};
 ghost use Rattle.geo_bio.specs.Up.{resolved};
-ghost use Rattle.geo_bio.specs.Gather.{copy_of, result_given, held_error, error_from, bytes_from, without_all, counted, held_from, is_last, rows_up};
+ghost use Rattle.geo_bio.specs.Gather.{copy_of, held_error, error_from, bytes_from, without_all, counted, held_from, is_last, rows_up};
 
 use crate::bio::{Bio, Held, Risen};
 use crate::log_bytes::LogBytes;
@@ -37,18 +37,6 @@ fn copied_bytes<B: LogBytes>(
     }
 }
 
-// What a bio held, as a result.
-fn result_of(held: Option<Held>, copied: Option<SharedBytes>) -> BioResult
-    ensures { result ≡ result_given held copied }
-{
-    match (held, copied) {
-        (Some(Held::Failed(errno)), _) => BioResult::Failed(errno),
-        (Some(Held::Bytes(bytes)), _) => BioResult::Bytes(bytes),
-        (Some(Held::AtPlace(_)), Some(bytes)) => BioResult::Bytes(bytes),
-        _ => BioResult::Done,
-    }
-}
-
 // A root is taken out, and its result handed on.
 pub fn take_root<B: LogBytes>(
     bios: &mut Slots<Bio>,
@@ -61,6 +49,7 @@ pub fn take_root<B: LogBytes>(
     ensures gone { OnOk result (bios.new ≡ record bios.old { rows = without bios.old.rows number }) }
     ensures stays { OnErr result (bios.new ≡ bios.old) }
 {
+    // What may want memory comes first: where it is wanting, the root stays.
     let copied = match bios.get(number) {
         Some(bio) => copied_bytes(alloc, bio, log)?,
         None => None,
@@ -69,7 +58,12 @@ pub fn take_root<B: LogBytes>(
         Some(mut bio) => bio.held.take(),
         None => None,
     };
-    Ok(Risen::Root(result_of(held, copied)))
+    Ok(Risen::Root(match (held, copied) {
+        (Some(Held::Failed(errno)), _) => BioResult::Failed(errno),
+        (Some(Held::Bytes(bytes)), _) => BioResult::Bytes(bytes),
+        (Some(Held::AtPlace(_)), Some(bytes)) => BioResult::Bytes(bytes),
+        _ => BioResult::Done,
+    }))
 }
 
 // The error that the bio of a number holds.

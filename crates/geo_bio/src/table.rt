@@ -4,8 +4,7 @@ ghost use Rattle.std.specs.Option.{option_map};
 ghost use Rattle.geo_model.specs.Bios.{new_bio, up_with};
 ghost use Rattle.geo_model.specs.World.{change_number, children_among, is_down, is_sent, is_busy, is_up, is_waiting, is_root, bio_among};
 ghost use Rattle.geo_model.specs.Words.{is_write};
-ghost use Rattle.geo_bio.specs.BioTable.{AreInOrder, HasParent, has_phase, bio_from, with_phase, delivered, delivered_result};
-ghost use Rattle.geo_slots.specs.Slots.{value_at};
+ghost use Rattle.geo_bio.specs.BioTable.{AreInOrder, HasParent, has_phase, bio_from, with_phase, delivered};
 ghost use Rattle.geo_bio.specs.Rows.{as_bio, KnowsChildren};
 ghost use Rattle.geo_bio.specs.Split.{split_into};
 ghost use Rattle.geo_bio.specs.Up.{told_of_up, after_up};
@@ -211,9 +210,16 @@ impl BioTable {
         } }
         ensures in_order { AreInOrder self.new }
     {
-        let number = bio.number();
-        let held = delivery(&self.bios, number, place, errno);
-        end_with(&mut self.bios, number, held);
+        let Some(found) = self.bios.get_mut(bio.number()) else {
+            unreachable!()
+        };
+        let held = match (errno, found.cmd) {
+            (Some(errno), _) => Held::Failed(errno),
+            (None, BioCmd::Read) => Held::AtPlace(place),
+            (None, _) => Held::Done,
+        };
+        found.phase = Phase::Up;
+        found.held = Some(held);
     }
 
     /// A bio goes up to its owner (g_io_deliver). A child counts in its parent; the last one gives it the first error
@@ -239,19 +245,5 @@ impl BioTable {
             Owner::Child { parent, .. } => rise_in(&mut self.bios, alloc, number, parent, log),
             _ => take_root(&mut self.bios, alloc, number, log),
         }
-    }
-}
-
-// What the bio of a number holds once it is delivered.
-fn delivery(bios: &Slots<Bio>, number: u64, place: u64, errno: Option<Errno>) -> Held
-    ensures { IfSome (value_at bios.now.rows number) (λ x. result ≡ delivered_result x.cmd place errno) }
-{
-    match bios.get(number) {
-        Some(bio) => match (errno, bio.cmd) {
-            (Some(errno), _) => Held::Failed(errno),
-            (None, BioCmd::Read) => Held::AtPlace(place),
-            (None, _) => Held::Done,
-        },
-        None => Held::Done,
     }
 }
