@@ -1,8 +1,8 @@
 //! A table of values under numbers.
-ghost use Rattle.std.specs.Prelude.{◌≡◌, ◌<◌, ◌≤◌, ◌^◌, max, [], IsOk, OnOk, IsTrue, option_copied};
+ghost use Rattle.std.specs.Prelude.{◌≡◌, ◌<◌, ◌≤◌, ◌^◌, max, [], IsOk, OnOk, option_copied};
 ghost use Rattle.std.specs.Option.{option_copied_mut};
 ghost use Rattle.std.specs.Borrow.{sem};
-ghost use Rattle.geo_slots.specs.Index.{key_at, first_key_from, has_row, with_key};
+ghost use Rattle.geo_slots.specs.Index.{key_at, first_key_from};
 ghost use Rattle.geo_slots.specs.Slots.{IsRising, value_at, first_from, with_insert, without};
 
 use slab::Slab;
@@ -128,7 +128,10 @@ impl<T> Slots<T> {
     {
         let number = self.next;
         let key = self.values.insert_reserved(value);
-        give_key(&mut self.index, number, key);
+        let Some(row) = self.index.get_mut(&number) else {
+            unreachable!()
+        };
+        *row = Some(key);
         self.next += 1;
         self.spare -= 1;
         number
@@ -168,15 +171,5 @@ fn first_keyed(index: &BTreeMap<u64, Option<usize>>, number: u64) -> Option<u64>
     match key {
         Some(_) => Some(*first),
         None => None,
-    }
-}
-
-// Gives the row of a number its key.
-fn give_key(index: &mut BTreeMap<u64, Option<usize>>, number: u64, key: usize)
-    requires { IsTrue (has_row number index.old.entries) }
-    ensures { index.new.entries ≡ with_key number key index.old.entries }
-{
-    if let Some(row) = index.get_mut(&number) {
-        *row = Some(key);
     }
 }
