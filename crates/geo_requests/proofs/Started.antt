@@ -17,7 +17,9 @@ use Rattle.geo_model.proofs.DemandLemmas.{all_weaker}
 use Rattle.geo_laws_graph.proofs.Numbered.{number_found}
 use Rattle.geo_laws_bios.proofs.Starting.{SplitsAt, splits_at}
 use Rattle.geo_bio.specs.declared.bio.Held.{Held}
+use Rattle.geo_bio.specs.declared.bio.Bio.{Bio}
 use Rattle.geo_bio.specs.PieceLaws.{target_in}
+use Rattle.geo_bio.specs.Rows.{as_bio}
 use Rattle.geo_log.specs.Places.{delivered_at}
 use Rattle.geo_handles.specs.Handles.{holding_handle}
 use Rattle.geo_state.specs.Shown.{shown_bios, shown_bio, AreLogged}
@@ -25,12 +27,12 @@ use Rattle.geo_state.proofs.StepLemmas.{world_shows_bios}
 use Rattle.geo_state.proofs.LoggedLemmas.{places_stay_logged}
 use Rattle.geo_state.specs.declared.state.State.{State}
 use Rattle.geo_state.specs.Bios.{IsNoHandles, OnlyBios}
-use Rattle.geo_state.specs.World.{world}
+use Rattle.geo_state.specs.World.{world, HasBytes}
 use Rattle.geo_state.specs.Steps.{IsFirm, Makes}
-use Rattle.geo_requests.specs.Ways.{CanGoDown, through, IsCut, CanCount, GoesBy}
+use Rattle.geo_requests.specs.Ways.{CanGoDown, through, IsCut, GoesBy}
 use Rattle.geo_requests.specs.Started.{HasStarted, bios_after, next_after, graph_after, outcome_of}
 use Rattle.geo_requests.proofs.Ways.{can_be_cut, some_targets, all_through, way_plain}
-use Rattle.geo_requests.proofs.Against.{here, there, world_moved, in_phase}
+use Rattle.geo_requests.proofs.Against.{here, there, world_moved}
 use Rattle.std.proofs.lemmas.List.{length-map}
 use Rattle.geo_base.specs.declared.errno.Errno.{Errno}
 use Rattle.geo_model.specs.declared.command.LineCommand.{LineCommand}
@@ -40,7 +42,7 @@ use Rattle.geo_bio.specs.declared.bio.Held.TheVariants as held
 use Rattle.geo_bio.specs.BioTable.{with_phase, has_phase}
 use Rattle.geo_bio.specs.Split.{split_into}
 use Rattle.geo_requests.specs.declared.cut.Cut.{Cut}
-use Rattle.geo_base.proofs.Options.{if-found, if_some_weaker, if_ok_weaker}
+use Rattle.geo_base.proofs.Options.{if-found, if_some_weaker}
 use Rattle.geo_laws_counts.proofs.Unseen.{map-changed}
 use Rattle.geo_base.specs.declared.kind.Kind.{Kind}
 use Rattle.geo_laws_counts.specs.CountWords.{seen_by_counts}
@@ -328,58 +330,6 @@ noted_holds s g h =
     holds_after_effects s (with_topology s.topo (note_started s.topo.topology g)) s.queue h
     (parts_same s.topo.topology g) refl stay.granted (stay.counted h.counted) (stay.quiet h.quiet) h.room
 
--- A Start, from what its way does to what the step does
-
-module _ (s new : State) (b : ℕ) where
-  -- the bio went its way, if the step is done
-  abbrev pub WentItsWay : Result Outcome NoMemory → Type 0
-  WentItsWay r =
-      IfSome (bio_among s.traffic.bios b) (λ x. IfOk r (λ o.
-      HasStarted s new b x (way_of s.topo.topology x) o))
-
-  -- the step does what the model's does
-  pub start_made : (log : List Entry) → IsTrue (has_phase is_down s.traffic.bios b) → (r : Result Outcome NoMemory)
-      → WentItsWay r → IfOk r (λ out. Makes (λ w. start_of w (bio_at w b)) log s new out)
-  start_made log down r went =
-      let x = in_phase s b is_down down in
-      if_ok_weaker (λ out. HasStarted s new b x.bio (way_of s.topo.topology x.bio) out)
-      (λ out. Makes (λ w. start_of w (bio_at w b)) log s new out) r
-      (λ out has. makes_started s new b x.bio (way_of s.topo.topology x.bio) out x.found has x.fact refl log)
-      (rw x.found at went)
-
-  pub start_logged : (n : ℕ) → AreLogged n s.traffic.bios → IsTrue (has_phase is_down s.traffic.bios b)
-      → (r : Result Outcome NoMemory) → WentItsWay r → OnErr r (new.traffic.bios ≡ s.traffic.bios)
-      → AreLogged n new.traffic.bios
-  start_logged n logged down (Ok out) went stay =
-      let x = in_phase s b is_down down in
-      logged_started s new b x.bio (way_of s.topo.topology x.bio) out x.found (rw x.found at went) n logged
-  start_logged n logged down (Err m) went stay = subst (AreLogged n) (sym stay) logged
-
-  -- A way that is done at once
-
-  pub went_at_once : (way : Way) (out : Outcome)
-      → IfSome (bio_among s.traffic.bios b) (λ x. way_of s.topo.topology x ≡ way)
-      → IfSome (bio_among s.traffic.bios b) (λ x. HasStarted s new b x way out)
-      → IfSome (bio_among s.traffic.bios b) (λ x. HasStarted s new b x (way_of s.topo.topology x) out)
-  went_at_once way out is started =
-      if-found (bio_among s.traffic.bios b) (λ x. HasStarted s new b x (way_of s.topo.topology x) out)
-      (λ x e. subst (λ v. HasStarted s new b x v out) (sym (rw e at is)) (rw e at started))
-
-  -- A way in pieces
-
-  module _ (cut : Cut) (named : List PieceTarget → Way) (r : Result Outcome NoMemory) where
-    pub went_by : IfSome (bio_among s.traffic.bios b) (λ x. GoesBy s.topo.topology cut named (way_of s.topo.topology x))
-        → ((zs : List PieceTarget) → IsCut s.topo.topology cut zs
-        → IfSome (bio_among s.traffic.bios b) (λ x. IfOk r (λ o. HasStarted s new b x (named zs) o)))
-        → WentItsWay r
-    went_by goes started =
-        if-found (bio_among s.traffic.bios b) (λ x. IfOk r (λ o. HasStarted s new b x (way_of s.topo.topology x) o))
-        (λ x e.
-        let its : GoesBy s.topo.topology cut named (way_of s.topo.topology x) = rw e at goes in
-        if_ok_weaker (λ o. HasStarted s new b x (named its.targets) o)
-        (λ o. HasStarted s new b x (way_of s.topo.topology x) o) r
-        (λ o has. subst (λ v. HasStarted s new b x v o) (sym its.is) has) (rw e at (started its.targets its.cut)))
-
 -- Pieces that can be split
 
 -- there are some, as many as targets, and each goes through a consumer that lives and is no handle's
@@ -401,58 +351,50 @@ well_cut s cut zs is well =
       through = subst (AllByRecursion (λ (z : ℕ × ℕ). IsNoHandles s z.0)) (sym is.targets) well.through;
     }
 
-module _ (s : State) (firm : IsFirm s) (b : ℕ) (down : IsTrue (has_phase is_down s.traffic.bios b)) (cut : Cut) where
-  pub split_well : IfSome (bio_among s.traffic.bios b)
-      (λ x. GoesBy s.topo.topology cut Splits (way_of s.topo.topology x)) → CutWell s cut
-  split_well goes =
-      let x = in_phase s b is_down down in
-      let its : GoesBy s.topo.topology cut Splits (way_of s.topo.topology x.bio) = rw x.found at goes in
-      well_cut s cut its.targets its.cut (splits_well s firm b x.bio x.found its.targets its.is)
+-- A Start of the bio that is there
 
-  pub pass_well : (g : ℕ) → IfSome (bio_among s.traffic.bios b)
-      (λ x. GoesBy s.topo.topology cut (Passes g) (way_of s.topo.topology x)) → CutWell s cut
-  pass_well g goes =
-      let x = in_phase s b is_down down in
-      let its : GoesBy s.topo.topology cut (Passes g) (way_of s.topo.topology x.bio) = rw x.found at goes in
-      well_cut s cut its.targets its.cut (passes_well s firm b x.bio x.found g its.targets its.is)
+-- what the step does to the world, and to the bytes that are named
+pub record StartIsMade (s new : State) (b : ℕ) (r : Result Outcome NoMemory) : Type 0 where
+  pub made : (log : List Entry) → IfOk r (λ out. Makes (λ w. start_of w (bio_at w b)) log s new out)
+  pub logged : (log : List Entry) → HasBytes log s → HasBytes log new
 
--- Facts of a bio that is there
+module _ (s : State) (b : ℕ) (row : Bio) (found : bio_among s.traffic.bios b ≡ Some (as_bio b row)) where
+  -- its number tells nothing of its way
+  way_is : (way : Way) → way_of s.topo.topology (as_bio 0 row) ≡ way → way_of s.topo.topology (as_bio b row) ≡ way
+  way_is way is =
+      way_plain s.topo.topology (as_bio b row) ∙ sym (way_plain s.topo.topology (as_bio 0 row)) ∙ is
 
-module _ (s : State) (b : ℕ) (A : BioOf Held → Type 0) (K : Type 0) where
-  pub first_fact : IfSome (bio_among s.traffic.bios b) (λ x. A x × K) → IfSome (bio_among s.traffic.bios b) A
-  first_fact facts =
-      if_some_weaker (λ (x : BioOf Held). A x × K) A (λ x both. both.0) (bio_among s.traffic.bios b) facts
+  -- pieces into which it can be split
+  module _ (firm : IsFirm s) (cut : Cut) where
+    pub split_well : GoesBy s.topo.topology cut Splits (way_of s.topo.topology (as_bio 0 row)) → CutWell s cut
+    split_well its =
+        well_cut s cut its.targets its.cut
+        (splits_well s firm b (as_bio b row) found its.targets (way_is (Splits its.targets) its.is))
 
-  pub second_fact : IsTrue (has_phase is_down s.traffic.bios b)
-      → IfSome (bio_among s.traffic.bios b) (λ x. A x × K) → K
-  second_fact down facts = let x = in_phase s b is_down down in (rw x.found at facts).1
+    pub pass_well : (g : ℕ) → GoesBy s.topo.topology cut (Passes g) (way_of s.topo.topology (as_bio 0 row))
+        → CutWell s cut
+    pass_well g its =
+        well_cut s cut its.targets its.cut
+        (passes_well s firm b (as_bio b row) found g its.targets (way_is (Passes g its.targets) its.is))
 
--- A way on which a start is counted
+  module _ (new : State) (down : IsTrue (has_phase is_down s.traffic.bios b)) where
+    -- it went its way
+    pub went : (way : Way) (out : Outcome) → way_of s.topo.topology (as_bio 0 row) ≡ way
+        → HasStarted s new b (as_bio b row) way out → StartIsMade s new b (Ok out)
+    went way out is started = record {
+      made = makes_started s new b (as_bio b row) way out found started (rw found at down) (way_is way is);
+      logged = λ log. logged_started s new b (as_bio b row) way out found started (length log);
+    }
 
-module _ (s : State) (b geom : ℕ) (facts : IfSome (bio_among s.traffic.bios b)
-    (λ x. (way_of s.topo.topology x ≡ Fails geom) × CanCount s.topo.topology geom)) where
-  -- a request fails at the geom
-  pub fails_there : IfSome (bio_among s.traffic.bios b) (λ x. way_of s.topo.topology x ≡ Fails geom)
-  fails_there =
-      first_fact s b (λ (x : BioOf Held). way_of s.topo.topology x ≡ Fails geom) (CanCount s.topo.topology geom) facts
-
-  -- and can be counted there
-  pub fails_counted : IsTrue (has_phase is_down s.traffic.bios b) → CanCount s.topo.topology geom
-  fails_counted down =
-      second_fact s b (λ (x : BioOf Held). way_of s.topo.topology x ≡ Fails geom) (CanCount s.topo.topology geom) down
-      facts
-
-module _ (s : State) (b : ℕ) (cut : Cut) (geom : ℕ) (facts : IfSome (bio_among s.traffic.bios b)
-    (λ x. GoesBy s.topo.topology cut (Passes geom) (way_of s.topo.topology x) × CanCount s.topo.topology geom)) where
-  -- a request passes the geom in pieces
-  pub passes_there : IfSome (bio_among s.traffic.bios b)
-      (λ x. GoesBy s.topo.topology cut (Passes geom) (way_of s.topo.topology x))
-  passes_there =
-      first_fact s b (λ (x : BioOf Held). GoesBy s.topo.topology cut (Passes geom) (way_of s.topo.topology x))
-      (CanCount s.topo.topology geom) facts
-
-  -- and can be counted there
-  pub passes_counted : IsTrue (has_phase is_down s.traffic.bios b) → CanCount s.topo.topology geom
-  passes_counted down =
-      second_fact s b (λ (x : BioOf Held). GoesBy s.topo.topology cut (Passes geom) (way_of s.topo.topology x))
-      (CanCount s.topo.topology geom) down facts
+    -- it went in pieces, if memory wasn't wanting
+    pub went_by : (cut : Cut) (named : List PieceTarget → Way) (r : Result Outcome NoMemory)
+        → GoesBy s.topo.topology cut named (way_of s.topo.topology (as_bio 0 row))
+        → ((zs : List PieceTarget) → IsCut s.topo.topology cut zs
+        → IfSome (bio_among s.traffic.bios b) (λ x. IfOk r (λ o. HasStarted s new b x (named zs) o)))
+        → OnErr r (new.traffic.bios ≡ s.traffic.bios) → StartIsMade s new b r
+    went_by cut named (Ok out) its started stay =
+        went (named its.targets) out its.is (rw found at (started its.targets its.cut))
+    went_by cut named (Err m) its started stay = record {
+      made = λ log. tt;
+      logged = λ log logged. subst (AreLogged (length log)) (sym stay) logged;
+    }

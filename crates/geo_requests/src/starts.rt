@@ -3,7 +3,7 @@ ghost use Rattle.std.specs.Prelude.{◌≡◌, ◌≤◌, List, length, IfOk, If
 ghost use Rattle.std.specs.List.{AllByRecursion};
 ghost use Rattle.geo_model.specs.declared.step.Entry.{Entry};
 ghost use Rattle.geo_model.specs.World.{bio_at, is_down, bio_among};
-ghost use Rattle.geo_model.specs.Bios.{PieceTarget, Splits, Passes, way_of};
+ghost use Rattle.geo_model.specs.Bios.{PieceTarget, Splits, Passes};
 ghost use Rattle.geo_model.specs.Step.{start_of};
 ghost use Rattle.geo_bio.specs.BioTable.{has_phase};
 ghost use Rattle.geo_state.specs.Bios.{IsNoHandles};
@@ -13,7 +13,7 @@ ghost use Rattle.geo_state.specs.Steps.{Stands, Makes, SameWorld};
 ghost use Rattle.geo_mesh.specs.Topo.{with_topology};
 ghost use Rattle.geo_model.specs.Topology.{note_started};
 ghost use Rattle.geo_requests.specs.Started.{HasStarted};
-ghost use Rattle.geo_requests.specs.Ways.{CanCount, IsCut, IsModelWay};
+ghost use Rattle.geo_requests.specs.Ways.{CanCount, IsCut};
 
 use crate::cut::Cut;
 use crate::way::{Way, way_of};
@@ -37,26 +37,12 @@ pub fn start(alloc: Global, state: &mut State, bio: BioId) -> Result<Outcome, No
         return Err(NoMemory);
     };
     let way = way_of(alloc, &state.topo, found)?;
-    go(alloc, state, bio, way)
-}
-
-// A bio goes a way: back with an error, also as one that a NOP geom counts and fails, to its disk, or in pieces.
-fn go(alloc: Global, state: &mut State, bio: BioId, way: Way) -> Result<Outcome, NoMemory>
-    requires stands { Stands state.old }
-    requires down { IsTrue (has_phase is_down state.old.traffic.bios bio) }
-    requires way { IfSome (bio_among state.old.traffic.bios bio) (λ x.
-        IsModelWay state.old.topo.topology way (way_of state.old.topo.topology x)) }
-    ensures started { IfSome (bio_among state.old.traffic.bios bio) (λ x. IfOk result (λ o.
-        HasStarted state.old state.new bio x (way_of state.old.topo.topology x) o)) }
-    ensures kept { Holds state.new }
-    ensures same { OnErr result (SameWorld state.old state.new) }
-    ensures bios_stay { OnErr result (state.new.traffic.bios ≡ state.old.traffic.bios) }
-{
     match way {
         Way::Bounces(errno) => {
             bounce(state, bio, errno);
             Ok(Outcome::Bounced)
         }
+        // a NOP geom counts what it fails
         Way::Fails(geom) => {
             note_started(state, geom);
             bounce(state, bio, Errno::EIO);
