@@ -2,7 +2,6 @@
 ghost use Rattle.std.specs.Prelude.{◌≡◌, ◌+◌, ◌≤◌, List, IfOk, IfSome, OnErr, IsTrue};
 ghost use Rattle.geo_model.specs.declared.step.Entry.{Entry};
 ghost use Rattle.geo_model.specs.World.{bio_at, is_up, bio_among};
-ghost use Rattle.geo_model.specs.Bios.{reply_of_result};
 ghost use Rattle.geo_model.specs.Step.{up_of};
 ghost use Rattle.geo_bio.specs.BioTable.{has_phase};
 ghost use Rattle.geo_state.specs.Holds.{Holds};
@@ -74,7 +73,7 @@ fn line_of(bios: &Traffic, bio: BioId) -> u32
     }
 }
 
-// What comes of a rise.
+// What comes of a rise: a child came in, or the result of a root is the reply to its line.
 fn outcome_of(line: u32, risen: Risen) -> Outcome
     ensures { result ≡ outcome_of_rise line risen }
 {
@@ -82,18 +81,11 @@ fn outcome_of(line: u32, risen: Risen) -> Outcome
         Risen::InParent { parent, complete } => Outcome::Gathered { parent, complete },
         Risen::Root(got) => Outcome::Replied {
             line,
-            reply: reply_of(got),
+            reply: match got {
+                BioResult::Done => Reply::Ok,
+                BioResult::Bytes(bytes) => Reply::Bytes(bytes),
+                BioResult::Failed(errno) => Reply::Refused(errno),
+            },
         },
-    }
-}
-
-// A result as the reply to a line.
-fn reply_of(got: BioResult) -> Reply
-    ensures { result ≡ reply_of_result got }
-{
-    match got {
-        BioResult::Done => Reply::Ok,
-        BioResult::Bytes(bytes) => Reply::Bytes(bytes),
-        BioResult::Failed(errno) => Reply::Refused(errno),
     }
 }
