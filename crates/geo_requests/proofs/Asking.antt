@@ -1,5 +1,5 @@
 -- What a request through a handle does to the state it does to the world.
-use Rattle.std.specs.Prelude.{◌≡◌, ℕ, ◌+◌, ◌-◌, ◌==◌, ◌&&◌, List, [], ◌∷◌, ◌++◌, Option, Some, None, Result, Ok, Err, IsSomeAnd, IfOk, OnOk, OnErr, option_and_then, unwrap_or}
+use Rattle.std.specs.Prelude.{◌≡◌, ℕ, ◌+◌, ◌-◌, ◌==◌, ◌&&◌, List, [], ◌∷◌, ◌++◌, Option, Some, None, Result, Ok, Err, IsSomeAnd, IfOk, option_and_then, unwrap_or}
 use Rattle.std.specs.Option.{option_map_or}
 use Rattle.std.proofs.Common.{refl, sym, ◌∙◌, ap, subst}
 use Rattle.geo_base.specs.declared.block.NoMemory.{NoMemory}
@@ -13,12 +13,11 @@ use Rattle.geo_model.specs.declared.step.Outcome.TheVariants as outcomes
 use Rattle.geo_model.specs.declared.step.Owner.TheVariants as owners
 use Rattle.geo_model.specs.declared.step.Reply.TheVariants as replies
 use Rattle.geo_model.specs.Topology.{Provider}
-use Rattle.geo_model.specs.World.{World, BioOf, Handle, handle_of}
+use Rattle.geo_model.specs.World.{World, Handle, handle_of}
 use Rattle.geo_model.specs.Bios.{new_bio, submit}
 use Rattle.geo_model.specs.Commands.{asking, request, write_record}
 use Rattle.geo_model.specs.HandleCommands.{request_answered, accept_request, record_request}
 use Rattle.geo_model.specs.Requests.{Asking, request_refusal, provider_of_handle}
-use Rattle.geo_bio.specs.declared.bio.Held.{Held}
 use Rattle.geo_handles.specs.Handles.{named_handle, handle_at}
 use Rattle.geo_log.specs.Places.{delivered_at}
 use Rattle.geo_state.specs.Shown.{shown_bios, AreLogged}
@@ -28,10 +27,10 @@ use Rattle.geo_state.specs.declared.state.State.{State}
 use Rattle.geo_state.specs.Bios.{OnlyBios, IsAsking}
 use Rattle.geo_state.specs.World.{world}
 use Rattle.geo_state.specs.Holds.{Holds}
-use Rattle.geo_state.specs.Steps.{Does, SameWorld}
+use Rattle.geo_state.specs.Steps.{Does}
 use Rattle.geo_requests.specs.declared.gate.Gate.{Gate}
 use Rattle.geo_requests.specs.Asked.{LetsThrough, mark_bytes, mark_sector, media_sizes, provider_attached, refusal_by}
-use Rattle.geo_requests.proofs.Against.{world_moved, same_moved}
+use Rattle.geo_requests.proofs.Against.{world_moved}
 use Rattle.geo_model.specs.Words.{same_name}
 use Rattle.geo_laws_graph.proofs.Members.{find-Contains, at_contained}
 use Rattle.geo_laws_graph.proofs.Numbered.{each_found}
@@ -137,36 +136,6 @@ module _ (s : State) (holds : Holds s) (gate : Gate) (a : Asking) where
       → IsSomeAnd (named_handle s.handles.handles actor name) (λ h. LetsThrough s.topo.topology h gate a)
       → IsAsking s gate.handle gate.source
   asks actor name lets = asks_by actor name (named_handle s.handles.handles actor name) refl lets
-
-module _ (s new : State) (line actor : ℕ) (name : List ℕ) (cmd : BioCmd) (offset len : ℕ) (bytes : List ℕ)
-    (gate : Gate) (only : OnlyBios s new) where
-  -- the bios with the request's
-  abbrev asked_bios : List (BioOf Held)
-  asked_bios = s.traffic.bios
-      ++ new_bio s.traffic.next cmd offset len bytes gate.source gate.target (owners.Line gate.handle line) ∷ []
-
-  pub accept_does : (r : Result Outcome NoMemory) → IfOk r (λ o. o ≡ outcomes.Accepted line s.traffic.next)
-      → OnOk r (new.traffic.bios ≡ asked_bios) → OnOk r (new.traffic.next ≡ s.traffic.next + 1)
-      → IsSomeAnd (named_handle s.handles.handles actor name)
-      (λ h. LetsThrough s.topo.topology h gate (asking cmd offset len []))
-      → (log : List Entry)
-      → IfOk r (λ o. Does (λ w. request w line actor name (asking cmd offset len bytes)) log s new o)
-  accept_does (Ok o) is bios next lets log =
-      subst (λ out. Does (λ w. request w line actor name (asking cmd offset len bytes)) log s new out) (sym is)
-      (does_accept s line actor name cmd offset len bytes new gate only bios next lets log)
-  accept_does (Err m) is bios next lets log = tt
-
-  pub accept_logged : (r : Result Outcome NoMemory) → OnOk r (new.traffic.bios ≡ asked_bios)
-      → OnOk r (new.traffic.next ≡ s.traffic.next + 1) → OnErr r (new.traffic.bios ≡ s.traffic.bios)
-      → (n : ℕ) → AreLogged n s.traffic.bios → AreLogged n new.traffic.bios
-  accept_logged (Ok o) bios next stay n logged =
-      logged_accepted s line actor name cmd offset len bytes new gate only bios next n logged
-  accept_logged (Err m) bios next stay n logged = subst (AreLogged n) (sym stay) logged
-
-  pub accept_same : (r : Result Outcome NoMemory) → OnErr r (new.traffic.bios ≡ s.traffic.bios)
-      → OnErr r (new.traffic.next ≡ s.traffic.next) → OnErr r (SameWorld s new)
-  accept_same (Ok o) bios next = tt
-  accept_same (Err m) bios next = same_moved s new only bios next
 
 -- Records
 

@@ -1,19 +1,16 @@
 //! Requests through handles (g_bio(9)).
-ghost use Rattle.std.specs.Prelude.{◌≡◌, ◌+◌, ◌-◌, ◌≤◌, [], ◌∷◌, ◌++◌, List, length, Some, None, IfOk, OnOk, OnErr, IsTrue};
+ghost use Rattle.std.specs.Prelude.{◌≡◌, ◌-◌, ◌≤◌, List, length, Some, None, IfOk, OnErr, IsTrue};
 ghost use Rattle.std.specs.Option.{option_and_then};
 ghost use Rattle.geo_model.specs.declared.step.Entry.{Entry};
-ghost use Rattle.geo_model.specs.declared.step.Owner.TheVariants as owners;
-ghost use Rattle.geo_model.specs.Bios.{new_bio};
 ghost use Rattle.geo_model.specs.Commands.{asking, request, write_record};
 ghost use Rattle.geo_model.specs.Words.{is_write};
-ghost use Rattle.geo_state.specs.Bios.{IsAsking, OnlyBios};
 ghost use Rattle.geo_state.specs.Holds.{Holds};
 ghost use Rattle.geo_state.specs.World.{HasBytes};
 ghost use Rattle.geo_state.specs.Steps.{Does, SameWorld};
 ghost use Rattle.geo_handles.specs.Handles.{named_handle};
 ghost use Rattle.geo_requests.specs.Asked.{IsShortMark, mark_sector, media_sizes, provider_attached};
 
-use crate::gate::{Gate, look};
+use crate::gate::look;
 use crate::mark::{Mark, media, sector_of};
 use geo_base::{BioCmd, Name, NoMemory, SharedBytes};
 use geo_model::{Outcome, Reply, Span};
@@ -43,45 +40,22 @@ pub fn request(
     ensures logged { (log : List Entry) → HasBytes log state.old → HasBytes log state.new }
 {
     match look(&state.topo, &state.handles, actor, name, cmd, span) {
-        Ok(gate) => accept(state, line, gate, cmd, span, bytes),
+        Ok(gate) => {
+            let new = NewBio {
+                cmd,
+                span,
+                bytes,
+                from: gate.source,
+                to: gate.target,
+            };
+            let bio = submit_line(state, gate.handle, line, new)?;
+            Ok(Outcome::Accepted { line, bio })
+        }
         Err(errno) => Ok(Outcome::Replied {
             line,
             reply: Reply::Refused(errno),
         }),
     }
-}
-
-// A request that a handle lets through is a bio.
-fn accept(
-    state: &mut State,
-    line: u32,
-    gate: Gate,
-    cmd: BioCmd,
-    span: Span,
-    bytes: SharedBytes,
-) -> Result<Outcome, NoMemory>
-    requires kept { Holds state.old }
-    requires asking { IsAsking state.old gate.handle gate.source }
-    requires bytes_fit { IsTrue (is_write cmd) → length bytes ≡ span.len }
-    ensures outcome { IfOk result (λ o. o ≡ Outcome.Accepted line state.old.traffic.next) }
-    ensures submitted { OnOk result (state.new.traffic.bios ≡ state.old.traffic.bios
-        ++ new_bio state.old.traffic.next cmd span.offset span.len bytes gate.source gate.target
-        (owners.Line gate.handle line) ∷ []) }
-    ensures next { OnOk result (state.new.traffic.next ≡ state.old.traffic.next + 1) }
-    ensures bios_stay { OnErr result (state.new.traffic.bios ≡ state.old.traffic.bios) }
-    ensures next_stays { OnErr result (state.new.traffic.next ≡ state.old.traffic.next) }
-    ensures only { OnlyBios state.old state.new }
-    ensures kept { Holds state.new }
-{
-    let new = NewBio {
-        cmd,
-        span,
-        bytes,
-        from: gate.source,
-        to: gate.target,
-    };
-    let bio = submit_line(state, gate.handle, line, new)?;
-    Ok(Outcome::Accepted { line, bio })
 }
 
 /// A WRITE of a record at the last sector of the provider of the actor's handle of the name.
