@@ -50,7 +50,7 @@ pub fn up<B: LogBytes>(
     Ok(risen)
 }
 
-// A request of this owner is out through the consumer no more.
+// A request of this owner is out through the consumer no more: one of an actor's lines, the taste's read, or a child.
 fn come_back(state: &mut State, from: ConsId, owner: Owner)
     requires lives { IsSome (consumer_at state.old.topo.topology from) }
     requires some_out { IfSome (value_at state.old.topo.active from) (λ n. 1 ≤ n) }
@@ -68,18 +68,8 @@ fn come_back(state: &mut State, from: ConsId, owner: Owner)
       read = state.new.read;
     } }
 {
-    leave_owner(state, owner);
     state.topo.note_back(from);
     refresh(&mut state.handles, &state.topo, from);
-}
-
-// A request is its owner's no more: an actor's, or the taste's.
-fn leave_owner(state: &mut State, owner: Owner)
-    requires { CanLeave state.old owner }
-    ensures own { state.new.own.items ≡ own_after state.old owner }
-    ensures read { state.new.read ≡ taste_read_after state.old owner }
-    ensures rest { state.new ≡ record state.old { own = state.new.own; read = state.new.read } }
-{
     match owner {
         Owner::Line { handle, .. } => {
             if let Some(found) = state.handles.get(handle) {
