@@ -1,5 +1,5 @@
 -- Where a log is full it is nearly as long as it can be, and where no step is due all is at rest.
-use Rattle.std.specs.Prelude.{◌≡◌, ◌↔◌, Bool, true, false, Option, Some, None, IsNone, IsSomeAnd, IsTrue}
+use Rattle.std.specs.Prelude.{◌≡◌, ◌↔◌, Bool, true, false, Option, Some, None, IsErrAnd, IsErrOf, IsNone, IsSomeAnd, IsTrue, Result, Ok, Err}
 use Rattle.std.proofs.Common.{refl, sym, ◌∙◌, subst}
 use Rattle.std.proofs.lemmas.Bool.{both_ways}
 use Rattle.geo_model.specs.declared.step.Step.{Step}
@@ -11,7 +11,15 @@ use Rattle.geo_model.specs.Laws.{Lowers, NoneBusy, OrderEnds, OrderGoesOn}
 use Rattle.geo_laws_disks.proofs.Legal.{firm_after}
 use Rattle.geo_core.proofs.FullLogs.{full_logs_are_long}
 use Rattle.geo_core.specs.Mesh.{IsHistory, MeshView, world_of}
+use Rattle.geo_drain.specs.declared.refusal.DrainRefusal.{DrainRefusal}
+use Rattle.geo_drain.specs.declared.refusal.DrainRefusal.TheVariants.{LogFull, NoMemory}
 use Rattle.geo_drain.specs.Drain.{RanFull}
+
+-- want of memory isn't a full log
+pub not_full : {A : Type 0} (result : Result A DrainRefusal) → IsErrAnd result (λ x. x ≡ NoMemory)
+    → IsErrOf result LogFull → ⊥
+not_full (Ok a) is full = absurd is
+not_full (Err x) is full = let no : ⊥ = cc (is, full) in no
 
 -- a step that is due and has no place
 pub ran_full : (order : StepOrder) (m : MeshView) (s : Step) → IsHistory m → order (world_of m) m.log ≡ Some s

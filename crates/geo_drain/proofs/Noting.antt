@@ -1,6 +1,6 @@
 -- What an order knows of a mesh, while the mesh goes on.
-use Rattle.std.specs.Prelude.{◌≡◌, List, Option, Some}
-use Rattle.std.proofs.Common.{sym, ◌∙◌, ap, subst}
+use Rattle.std.specs.Prelude.{◌≡◌, List, [], OnErr, Option, Some, Result, Ok, Err}
+use Rattle.std.proofs.Common.{append-nil, sym, ◌∙◌, ap, subst}
 use Rattle.geo_model.specs.declared.step.Entry.{Entry}
 use Rattle.geo_model.specs.declared.step.Step.{Step}
 use Rattle.geo_model.specs.FixedOrder.{StepOrder}
@@ -19,6 +19,11 @@ pub due_same : (first now : StepOrder) (w : World) (log : List Entry) (o : Optio
     → o ≡ now w log → o ≡ Some s → first w log ≡ Some s
 due_same first now w log o s same due is = ap (λ (order : StepOrder). order w log) (sym same) ∙ sym due ∙ is
 
+-- what holds after all is so where a refusal came
+pub on_err : {A E P : Type 0} (result : Result A E) → P → OnErr result P
+on_err (Ok a) p = tt
+on_err (Err e) p = p
+
 module _ (knows : World → List Entry → Type 0) where
   -- who knew all before more was done then knows a part
   pub part_of_more : (old new : MeshView) (added : List Entry) → new ≡ with_entries old added → KnowsAll knows old
@@ -27,6 +32,14 @@ module _ (knows : World → List Entry → Type 0) where
     old.log,
     (added, ap (λ (m : MeshView). m.log) grown),
     subst (λ (m : MeshView). knows (opened m) old.log) (sym grown) all,
+  )
+
+  -- or where nothing was done
+  pub part_of_all : (old new : MeshView) → new ≡ old → KnowsAll knows old → KnowsPart knows new
+  part_of_all old new same all = (
+    old.log,
+    ([], ap (λ (m : MeshView). m.log) same ∙ sym (append-nil old.log)),
+    subst (λ (m : MeshView). knows (opened m) old.log) (sym same) all,
   )
 
   -- so it is after a turn

@@ -1,8 +1,8 @@
 -- A Take that was made asks for what the drive of its disk can serve.
-use Rattle.std.specs.Prelude.{◌≡◌, ℕ, zero, suc, ◌<◌, ◌*◌, ◌≤◌, List, [], ◌∷◌, ◌++◌, length, map, zip, Option, Some, None, Ok, IsSomeAnd, IsTrue, slice_get}
+use Rattle.std.specs.Prelude.{◌≡◌, ℕ, zero, suc, ◌<◌, ◌*◌, ◌≤◌, List, [], ◌∷◌, ◌++◌, length, map, zip, Option, Some, None, Ok, IsSomeAnd, IsTrue, slice_get, slice_set}
 use Rattle.std.specs.Option.{option_map_or}
 use Rattle.std.proofs.Common.{get_or, refl, sym, ◌∙◌, ap, subst, arith}
-use Rattle.std.proofs.lemmas.List.{length-map, same_from_push}
+use Rattle.std.proofs.lemmas.List.{length-map, map-set, same_from_push}
 use Rattle.std.proofs.lemmas.Option.{slice_get_within}
 use Rattle.geo_model.specs.declared.step.DeviceResult.{DeviceResult}
 use Rattle.geo_model.specs.declared.step.Entry.{Entry}
@@ -18,7 +18,7 @@ use Rattle.geo_laws_disks.proofs.Legal.{firm_after}
 use Rattle.geo_laws_disks.specs.DiskLaws.{AsksInside, LiesInside}
 use Rattle.geo_laws_disks.proofs.Inside.{disks_are_asked}
 use Rattle.geo_serve.specs.Drives.{DriveView}
-use Rattle.geo_serve.specs.Serve.{CanServe, HasRoom, fits_request}
+use Rattle.geo_serve.specs.Serve.{CanServe, HasRoom, Serves, fits_request}
 use Rattle.geo_laws_disks.specs.DriveLaws.{IsReadOf, IsServable}
 use Rattle.geo_laws_disks.proofs.Takes.{takes_are_servable}
 use Rattle.geo_core.specs.Mesh.{IsHistory, Made, MeshView, bytes_read, bytes_read_by, entry_of, opened, world_of}
@@ -128,40 +128,59 @@ module _ {old taken : MeshView} (drives : List DriveView) {disk bio : ℕ} {o : 
       subst (λ (r : Request). TakesRequest old taken drives bio o r)
       (same_request taken.log some.0 q (ends_with old taken disk bio o some.0 made some.1.asked) ends) some.1
 
-module _ {old taken : MeshView} {drives : List DriveView} {bio : ℕ} {o : Outcome} {q : Request}
-    (it : TakesRequest old taken drives bio o q) where
-  -- its drive can serve it
-  pub last_can : IsSomeAnd (slice_get drives q.disk) (λ d. CanServe d q)
-  last_can = subst (λ x. IsSomeAnd x (λ d. CanServe d q)) (sym it.is_its) it.can
-
-  -- in room of as many bytes as the bio reads
-  pub last_room : (block : List ℕ) → length block ≡ bytes_read_by (world_of old) bio
-      → IsSomeAnd (slice_get drives q.disk) (λ d. HasRoom d q block)
-  last_room block long =
-      subst (λ x. IsSomeAnd x (λ d. HasRoom d q block)) (sym it.is_its) (it.room block long)
-
-  -- and its answer can be delivered
-  pub last_enabled : (after : List DriveView) (got : DeviceResult) → AnswersRequest q drives after got
-      → IsTrue (is_enabled (world_of taken) 0 (steps.Deliver bio got))
-  last_enabled after got answers =
-      let both : Some it.drive ≡ Some answers.old = sym it.is_its ∙ answers.is_its in
-      let same : it.drive ≡ answers.old = cc in
-      it.fits got (subst (λ (d : DriveView). IsTrue (fits_request d.sector q got)) (sym same) answers.serves.fits)
-
 -- Drives as they are seen
 
 module _ {X Y : Type 0} (f : X → Y) where
   -- one of them
-  pub seen_at : (xs : List X) (i : ℕ) (d : X) → i < length xs → slice_get (map f xs) i ≡ Some (f (get_or xs i d))
+  seen_at : (xs : List X) (i : ℕ) (d : X) → i < length xs → slice_get (map f xs) i ≡ Some (f (get_or xs i d))
   seen_at [] i d below = absurd (omega arith)
   seen_at (x ∷ xs) zero d below = refl
   seen_at (x ∷ xs) (suc i) d below = seen_at xs i d (omega arith)
 
   -- and what holds of it
-  pub holds_at : (P : Y → Type 0) (xs : List X) (i : ℕ) (d : X) → i < length xs → IsSomeAnd (slice_get (map f xs) i) P
+  holds_at : (P : Y → Type 0) (xs : List X) (i : ℕ) (d : X) → i < length xs → IsSomeAnd (slice_get (map f xs) i) P
       → P (f (get_or xs i d))
   holds_at P xs i d below holds = subst (λ o. IsSomeAnd o P) (seen_at xs i d below) holds
 
   -- where one is seen it is there
-  pub seen_within : (xs : List X) (i : ℕ) (y : Y) → slice_get (map f xs) i ≡ Some y → i < length xs
+  seen_within : (xs : List X) (i : ℕ) (y : Y) → slice_get (map f xs) i ≡ Some y → i < length xs
   seen_within xs i y at = subst (λ n. i < n) (length-map xs f) (slice_get_within (map f xs) i y at)
+
+-- the drive of the request's disk, where it is kept
+module _ {X : Type 0} (f : X → DriveView) {old taken : MeshView} (disks : List X) {bio : ℕ} {o : Outcome} {q : Request}
+    (it : TakesRequest old taken (map f disks) bio o q) where
+  pub is_within : q.disk < length disks
+  is_within = seen_within f disks q.disk it.drive it.is_its
+
+  module _ (d : X) where
+    abbrev its : X
+    its = get_or disks q.disk d
+
+    -- is the one that the request fits
+    is_drive : it.drive ≡ f its
+    is_drive =
+        let both : Some it.drive ≡ Some (f its) = sym it.is_its ∙ seen_at f disks q.disk d is_within in
+        cc
+
+    -- it can serve it
+    pub can_at : CanServe (f its) q
+    can_at = subst (λ (v : DriveView). CanServe v q) is_drive it.can
+
+    -- in room of as many bytes as the bio reads
+    pub room_at : (block : List ℕ) → length block ≡ bytes_read_by (world_of old) bio → HasRoom (f its) q block
+    room_at block long = subst (λ (v : DriveView). HasRoom v q block) is_drive (it.room block long)
+
+    -- and where it served it its answer can be delivered
+    module _ (after : X) (got : DeviceResult) (serves : Serves q (f its) (f after) got) where
+      pub is_answered : AnswersRequest q (map f disks) (map f (slice_set disks q.disk after)) got
+      is_answered = record {
+        old = f its;
+        is_its = seen_at f disks q.disk d is_within;
+        new = f after;
+        serves = serves;
+        drives = map-set f disks q.disk after;
+      }
+
+      pub is_enabled_after : IsTrue (is_enabled (world_of taken) 0 (steps.Deliver bio got))
+      is_enabled_after =
+          it.fits got (subst (λ (v : DriveView). IsTrue (fits_request v.sector q got)) (sym is_drive) serves.fits)

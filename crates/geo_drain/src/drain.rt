@@ -42,25 +42,11 @@ pub fn run_to_rest<D: Disk, O: Order>(
     ensures part { OnErr result (KnowsPart (O.knows order.new) mesh.new) }
 {
     let mut pool = Pool::new(alloc);
-    while let Some(step) = next_step(mesh, order)? {
+    loop {
+        order.note(mesh)?;
+        let Some(step) = order.next(mesh) else {
+            return Ok(());
+        };
         turn(alloc, mesh, disks, &mut pool, step)?;
-    }
-    Ok(())
-}
-
-// Notes what the mesh did, and gives the step that is due.
-fn next_step<O: Order>(mesh: &Mesh, order: &mut O) -> Result<Option<Step>, DrainRefusal>
-    requires none_busy { NoneBusy (world_of mesh.now) }
-    requires known { KnowsPart (O.knows order.old) mesh.now }
-    ensures due { IfOk result (λ step. step ≡ O.due order.old (world_of mesh.now) mesh.now.log) }
-    ensures known { OnOk result (KnowsAll (O.knows order.new) mesh.now) }
-    ensures same { O.due order.new ≡ O.due order.old }
-    ensures refused { IfErr result (λ refusal. refusal ≡ DrainRefusal.NoMemory) }
-    ensures part { OnErr result (KnowsPart (O.knows order.new) mesh.now) }
-    ensures history { IsHistory mesh.now }
-{
-    match order.note(mesh) {
-        Ok(()) => Ok(order.next(mesh)),
-        Err(_) => Err(DrainRefusal::NoMemory),
     }
 }

@@ -1,4 +1,6 @@
 //! Why a mesh didn't come to rest.
+ghost use Rattle.std.specs.Prelude.{◌≡◌};
+ghost use Rattle.geo_drain.specs.declared.refusal.DrainRefusal.TheVariants as refusals;
 
 use geo_base::NoMemory;
 use thiserror::Error;
@@ -12,4 +14,12 @@ pub enum DrainRefusal {
     /// Memory ran out.
     #[error("out of memory")]
     NoMemory,
+}
+
+impl From<NoMemory> for DrainRefusal {
+    ghost from_gives = { λ _ refusal. refusal ≡ refusals.NoMemory };
+
+    fn from(_error: NoMemory) -> DrainRefusal {
+        DrainRefusal::NoMemory
+    }
 }

@@ -63,8 +63,9 @@ fn make(mesh: &mut Mesh, step: Step) -> Result<(), DrainRefusal>
     }
 }
 
-// Takes a bio, has its disk serve the request, and delivers the answer. The room for what a READ gives is there before
-// the Take.
+// Takes a bio, has the drive of its disk serve the request, and delivers the answer. The room for what a READ gives is
+// there before the Take. Its bytes are shared, so that its reply needs no copy, and share the memory of those in the
+// pool, if these begin with them.
 fn take<D: Disk>(
     alloc: Global,
     mesh: &mut Mesh,
@@ -86,13 +87,16 @@ fn take<D: Disk>(
     ensures disks { OnErr result (disks.new ≡ disks.old) }
     ensures history { IsHistory mesh.new }
 {
-    let Ok(room) = Block::zeros(alloc, mesh.room(bio)) else {
-        return Err(DrainRefusal::NoMemory);
-    };
+    let room = Block::zeros(alloc, mesh.room(bio))?;
     make(mesh, Step::Take { disk, bio })?;
-    let got = answer(alloc, last_request(mesh), disks, pool, room);
-    deliver(mesh, bio, got);
-    Ok(())
+    let request = last_request(mesh);
+    let drive = &mut disks[request.disk as usize];
+    let got = pooled(pool, serve(drive, request, room).share(alloc));
+    match mesh.make(0, Step::Deliver { bio, got }) {
+        Ok(()) => Ok(()),
+        // A Deliver that is enabled is never refused.
+        Err(_) => unreachable!(),
+    }
 }
 
 // The request that the last entry of the log asked for.
@@ -109,31 +113,6 @@ fn last_request(mesh: &Mesh) -> &Request
     }
 }
 
-// The answer of the drive of the request's disk. The bytes of a READ are shared, so that its reply needs no copy; they
-// share the memory of those in the pool, if these begin with them.
-fn answer<D: Disk>(
-    alloc: Global,
-    request: &Request,
-    disks: &mut [Drive<D>],
-    pool: &mut Pool,
-    room: Block,
-) -> DeviceResult
-    requires inside { request.now.disk < length disks.old }
-    requires can { IsSomeAnd
-        (slice_get (map (drive_view D.view) disks.old) request.now.disk)
-        (λ d. CanServe d request.now) }
-    requires room { IsSomeAnd
-        (slice_get (map (drive_view D.view) disks.old) request.now.disk)
-        (λ d. HasRoom d request.now room) }
-    ensures { AnswersRequest request.now
-        (map (drive_view D.view) disks.old)
-        (map (drive_view D.view) disks.new) result }
-{
-    let drive = &mut disks[request.disk as usize];
-    let got = serve(drive, request, room).share(alloc);
-    pooled(pool, got)
-}
-
 // The same answer, whose bytes share the memory of those in the pool, if these begin with them.
 fn pooled(pool: &mut Pool, got: DeviceResult) -> DeviceResult
     ensures { result ≡ got }
@@ -141,17 +120,5 @@ fn pooled(pool: &mut Pool, got: DeviceResult) -> DeviceResult
     match got {
         DeviceResult::Bytes(bytes) => DeviceResult::Bytes(pool.once(bytes)),
         other => other,
-    }
-}
-
-// Delivers an answer that fits, which is never refused.
-fn deliver(mesh: &mut Mesh, bio: BioId, got: DeviceResult)
-    requires { IsTrue (is_enabled (world_of mesh.old) 0 (steps.Deliver bio got)) }
-    ensures made { (outcome : OutcomeValue) × Made mesh.old mesh.new 0 (steps.Deliver bio got) outcome }
-    ensures history { IsHistory mesh.new }
-{
-    match mesh.make(0, Step::Deliver { bio, got }) {
-        Ok(()) => {}
-        Err(_) => unreachable!(),
     }
 }

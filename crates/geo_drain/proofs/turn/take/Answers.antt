@@ -1,4 +1,4 @@
-use Rattle.std.proofs.Common.{◌∙◌, ap, map, subst}
+use Rattle.std.proofs.Common.{◌∙◌, ap, map, rules, subst}
 use Rattle.std.proofs.lemmas.List.{length-replicate}
 use Rattle.std.specs.Prelude.{length}
 use Rattle.geo_model.specs.declared.step.Outcome.{Outcome}
@@ -6,12 +6,17 @@ use Rattle.geo_model.specs.declared.step.Request.{Request}
 use Rattle.geo_model.specs.declared.step.Step.TheVariants as steps
 use Rattle.geo_serve.specs.Drives.{drive_view}
 use Rattle.geo_core.specs.Mesh.{Made}
-use Rattle.geo_drain.proofs.Taking.{TakesRequest, ends_with, last_can, last_enabled, last_room, seen_within, takes_last, takes_request}
+use Rattle.geo_drain.proofs.Full.{not_full}
+use Rattle.geo_drain.proofs.Taking.{TakesRequest, can_at, ends_with, is_answered, is_enabled_after, is_within, room_at, takes_last, takes_request}
 use Rattle.geo_drain.proofs.turn.take.Goals as goal
 
+pub returns-in_err-room-clause-full : goal.returns-in_err-room-clause-full
+returns-in_err-room-clause-full g c = λ full.
+    absurd (not_full c.from_residual.result c.from_residual.ensures.1 full)
+
 -- the Take was made, so the last entry asks its disk
-pub last_request-requires : goal.last_request-requires
-last_request-requires g c =
+pub last_request-request-requires : goal.last_request-request-requires
+last_request-request-requires g c =
     let seen = drive_view g.D.Disk.view in
     let o : Outcome = c.in_ok-make.ensures.made.0 in
     let it : (q : Request) × TakesRequest c.args.mesh.now c.make.new.mesh (map seen c.args.disks.now) c.args.bio o q =
@@ -22,43 +27,60 @@ last_request-requires g c =
           it.1.asked,
     )
 
--- Each that an answer asks: the request is that of the Take, which fits the drive of its disk
-pub answer-got-requires-clause-inside : goal.answer-got-requires-clause-inside
-answer-got-requires-clause-inside g c =
+-- that request fits the drive of its disk, which is there
+pub bounds-disks-request : goal.bounds-disks-request
+bounds-disks-request g c =
+    is_within (drive_view g.D.Disk.view) c.args.disks.now
+    (takes_last (map (drive_view g.D.Disk.view) c.args.disks.now) c.requires.history
+    c.in_ok-make.ensures.history c.requires.fit c.in_ok-make.ensures.made.1 c.last_request-request.ensures)
+
+pub offset_bounds-disks-request : goal.offset_bounds-disks-request
+offset_bounds-disks-request g c =
     let it = takes_last (map (drive_view g.D.Disk.view) c.args.disks.now) c.requires.history
-    c.in_ok-make.ensures.history c.requires.fit c.in_ok-make.ensures.made.1 c.last_request.ensures in
-    seen_within (drive_view g.D.Disk.view) c.args.disks.now c.last_request.result.now.disk it.drive it.is_its
+    c.in_ok-make.ensures.history c.requires.fit c.in_ok-make.ensures.made.1 c.last_request-request.ensures in
+    let within = is_within (drive_view g.D.Disk.view) c.args.disks.now it in
+    search (rules, within)
 
-pub answer-got-requires-clause-can : goal.answer-got-requires-clause-can
-answer-got-requires-clause-can g c =
-    last_can (takes_last (map (drive_view g.D.Disk.view) c.args.disks.now) c.requires.history
-    c.in_ok-make.ensures.history c.requires.fit c.in_ok-make.ensures.made.1 c.last_request.ensures)
+pub serve-requires-clause-can : goal.serve-requires-clause-can
+serve-requires-clause-can g c =
+    can_at (drive_view g.D.Disk.view) c.args.disks.now
+    (takes_last (map (drive_view g.D.Disk.view) c.args.disks.now) c.requires.history
+    c.in_ok-make.ensures.history c.requires.fit c.in_ok-make.ensures.made.1 c.last_request-request.ensures)
+    c.index-disks-request.result
 
-pub answer-got-requires-clause-room : goal.answer-got-requires-clause-room
-answer-got-requires-clause-room g c =
-    last_room (takes_last (map (drive_view g.D.Disk.view) c.args.disks.now) c.requires.history
-    c.in_ok-make.ensures.history c.requires.fit c.in_ok-make.ensures.made.1 c.last_request.ensures) c.in-Ok.room
-    (ap length c.in-Ok.ensures ∙ length-replicate c.room.result 0 ∙ c.room.ensures)
+pub serve-requires-clause-room : goal.serve-requires-clause-room
+serve-requires-clause-room g c =
+    room_at (drive_view g.D.Disk.view) c.args.disks.now
+    (takes_last (map (drive_view g.D.Disk.view) c.args.disks.now) c.requires.history
+    c.in_ok-make.ensures.history c.requires.fit c.in_ok-make.ensures.made.1 c.last_request-request.ensures)
+    c.index-disks-request.result c.in_ok-room.room
+    (ap length c.in_ok-room.ensures ∙ length-replicate c.room.result 0 ∙ c.room.ensures)
 
--- the bio was just taken by seat 0, and a drive gives an answer that fits the request
-pub deliver-requires : goal.deliver-requires
-deliver-requires g c =
-    last_enabled (takes_last (map (drive_view g.D.Disk.view) c.args.disks.now) c.requires.history
-    c.in_ok-make.ensures.history c.requires.fit c.in_ok-make.ensures.made.1 c.last_request.ensures)
-    (map (drive_view g.D.Disk.view) c.answer-got.new.disks) c.answer-got.result c.answer-got.ensures
+-- sharing the bytes leaves them, and the bio was just taken by seat 0, so its Deliver is never refused
+pub unreachable-requires : goal.unreachable-requires
+unreachable-requires g c =
+    let it = takes_last (map (drive_view g.D.Disk.view) c.args.disks.now) c.requires.history
+    c.in_ok-make.ensures.history c.requires.fit c.in_ok-make.ensures.made.1 c.last_request-request.ensures in
+    let ok =
+    c.in-Err.ensures.sure
+    (is_enabled_after (drive_view g.D.Disk.view) c.args.disks.now it c.index-disks-request.result c.serve.new.disk
+    c.pooled-got.result (rw (c.pooled-got.ensures ∙ c.share.ensures) c.serve.ensures)) in
+    let no : ⊥ = cc ok in no
 
 -- the Take, the answer of the drive and its Deliver
 pub returns-clause-made : goal.returns-clause-made
 returns-clause-made g c =
+    let seen = drive_view g.D.Disk.view in
     let it = takes_last (map (drive_view g.D.Disk.view) c.args.disks.now) c.requires.history
-    c.in_ok-make.ensures.history c.requires.fit c.in_ok-make.ensures.made.1 c.last_request.ensures in
+    c.in_ok-make.ensures.history c.requires.fit c.in_ok-make.ensures.made.1 c.last_request-request.ensures in
     record {
       taken = c.make.new.mesh;
-      request = c.last_request.result.now;
+      request = c.last_request-request.result.now;
       take = subst (λ (o : Outcome). Made c.args.mesh.now c.make.new.mesh 0 (steps.Take c.args.disk c.args.bio) o)
           it.asked c.in_ok-make.ensures.made.1;
-      got = c.answer-got.result;
-      answers = c.answer-got.ensures;
-      outcome = c.deliver.ensures.made.0;
-      deliver = c.deliver.ensures.made.1;
+      got = c.pooled-got.result;
+      answers = is_answered seen c.args.disks.now it c.index-disks-request.result c.serve.new.disk
+          c.pooled-got.result (rw (c.pooled-got.ensures ∙ c.share.ensures) c.serve.ensures);
+      outcome = c.in-Ok.ensures.answer.0;
+      deliver = c.in-Ok.ensures.answer.1;
     }
