@@ -1,14 +1,12 @@
 -- The rows that an index stands for, as its keys are looked up, given and taken away.
-use Rattle.std.proofs.Common.{◌≡◌, ◌≢◌, ℕ, zero, suc, ◌+◌, ◌-◌, ◌^◌, ◌<◌, ◌≤◌, IsTrue, List, [], ◌∷◌, ◌++◌, map, ◌==◌, cond, Bool, true, false, Option, Some, None, is_some, sym, refl, ap, ◌∙◌, subst, inl, inr, arith, nat_le, IsSome, find}
-use Rattle.std.proofs.lemmas.Bool.{cases_eq, eq-eqb, ne_eqb, le-ltb}
-use Rattle.std.proofs.lemmas.Bool.Decides.{nat_tests}
+use Rattle.std.proofs.Common.{◌≡◌, ◌≢◌, ℕ, zero, suc, ◌+◌, ◌-◌, ◌^◌, ◌<◌, ◌≤◌, IsTrue, List, [], ◌∷◌, ◌++◌, map, ◌==◌, cond, Bool, true, false, Option, Some, None, is_some, sym, refl, ap, ◌∙◌, subst, inl, inr, arith, nat_le, IsSome, find, rules}
+use Rattle.std.proofs.lemmas.Bool.{cases_eq, eq-eqb, ne_eqb}
 use Rattle.std.proofs.lemmas.Option.{same_Some}
-use Rattle.std.specs.List.{cons_option, slice_get}
-use Rattle.std.specs.declared.cmp.Ordering.TheVariants.{Greater}
+use Rattle.std.specs.List.{slice_get}
 use Rattle.std.specs.Option.{option_map, option_and_then, option_flatten}
 use Rattle.std.specs.Map.{lookup, remove_entry}
 use Rattle.std.specs.BTreeMap.{insert_entry, is_at}
-use Rattle.std.specs.BTreeMap.Range.{entries_between, range_contains}
+use Rattle.std.specs.BTreeMap.Range.{entries_between}
 use Rattle.std.specs.declared.ops.Bound.TheVariants.{Included, Unbounded}
 use Rattle.std.specs.Ordering.{nat_cmp}
 use Rattle.std.proofs.lemmas.List.Sums.{sum_by-set}
@@ -16,7 +14,7 @@ use Rattle.slab.proofs.SlabLemmas.{ContainsKey-within}
 use Rattle.slab.specs.Slab.{Slab, get, slab_len, Updates, HasRoomFor, SameValues, with_value as slab_with_value}
 use Rattle.geo_slots.specs.Slots.{SlotsView, IsRising, value_at, first_from, with_value, without}
 use Rattle.geo_slots.proofs.RowLemmas.{IsRising_ends, IsRising_from, IsRising-push, with_value_below, without_below}
-use Rattle.geo_slots.specs.Index.{keyed, reserved, key_at, has_row, with_key, keyed_number, first_key_from, NoneHas, KeysAreApart, row_of, rows_of, AreHeld, IsIndex}
+use Rattle.geo_slots.specs.Index.{keyed, reserved, key_at, has_row, with_key, keyed_number, first_key_from, NoneHas, KeysAreApart, rows_of, AreHeld, IsIndex}
 
 -- Look-ups in the index
 
@@ -74,8 +72,7 @@ module _ {T : Type 0} where
       → IsRising low live high → IsRising low (rows_of values (map keyed live)) high
   IsRising-rows values low [] high held rising = rising
   IsRising-rows values low (p ∷ ps) high held rising =
-      let t = some_value (get values p.1) held.0 in
-      rw t.1 (rising.0, IsRising-rows values (p.0 + 1) ps high held.1 rising.1)
+      search (rules, IsRising-rows values (p.0 + 1) ps high held.1 rising.1)
 
 -- Keys of the index
 
@@ -95,18 +92,12 @@ pub with_key-next : (key low : ℕ) (live : List (ℕ × ℕ)) (next spare : ℕ
 with_key-next key low [] next spare rising = rw (eq-eqb next next refl) refl
 with_key-next key low (p ∷ ps) next spare rising =
     let ends = IsRising_ends (p.0 + 1) ps next rising.1 in
-    rw (ne_eqb p.0 next (λ same. omega (arith, same)))
-    (ap (λ rest. keyed p ∷ rest) (with_key-next key (p.0 + 1) ps next spare rising.1))
-
-cmp_above : (n m : ℕ) → m < n → nat_cmp n m ≡ Greater
-cmp_above n m above = rw (le-ltb n m (omega arith), ne_eqb n m (λ same. omega (arith, same))) refl
+    search (rules, with_key-next key (p.0 + 1) ps next spare rising.1)
 
 insert_entry-reserved : (first more n : ℕ) → n ≡ first + more
     → insert_entry nat_cmp (reserved first more) n None ≡ reserved first (suc more)
 insert_entry-reserved first zero n place = let same : n ≡ first = omega arith in ap (λ m. (m, None) ∷ []) same
-insert_entry-reserved first (suc more) n place =
-    rw (cmp_above n first (omega arith))
-    (ap (λ rest. (first, None) ∷ rest) (insert_entry-reserved (first + 1) more n (omega arith)))
+insert_entry-reserved first (suc more) n place = search (rules, insert_entry-reserved (first + 1) more n (omega arith))
 
 -- the room of one more number comes at the end
 pub insert_entry-parts : (low : ℕ) (live : List (ℕ × ℕ)) (next spare : ℕ) → IsRising low live next
@@ -115,8 +106,7 @@ pub insert_entry-parts : (low : ℕ) (live : List (ℕ × ℕ)) (next spare : �
 insert_entry-parts low [] next spare rising = insert_entry-reserved next spare (next + spare) refl
 insert_entry-parts low (p ∷ ps) next spare rising =
     let ends = IsRising_ends (p.0 + 1) ps next rising.1 in
-    rw (cmp_above (next + spare) p.0 (omega arith))
-    (ap (λ rest. keyed p ∷ rest) (insert_entry-parts (p.0 + 1) ps next spare rising.1))
+    search (rules, insert_entry-parts (p.0 + 1) ps next spare rising.1)
 
 remove_either : (b : Bool) (p : ℕ × ℕ) (ps : List (ℕ × ℕ)) (more rest : List (ℕ × Option ℕ)) (left : List (ℕ × ℕ))
     → (b ≡ false → more ≡ map keyed left ++ rest)
@@ -148,20 +138,13 @@ IsRising-remove_entry n low (p ∷ ps) high rising =
 
 NoneHas-remove_entry : (k n : ℕ) (live : List (ℕ × ℕ)) → NoneHas k live → NoneHas k (remove_entry (λ m. m == n) live)
 NoneHas-remove_entry k n [] none = tt
-NoneHas-remove_entry k n (p ∷ ps) none =
-    elim (cases_eq p.0 n) [
-      | inl same ↦ rw (eq-eqb p.0 n same) none.1
-      | inr other ↦ rw (ne_eqb p.0 n other) (none.0, NoneHas-remove_entry k n ps none.1)
-    ]
+NoneHas-remove_entry k n (p ∷ ps) none = search (rules, NoneHas-remove_entry k n ps none.1)
 
 pub AreApart-remove_entry : (n : ℕ) (live : List (ℕ × ℕ)) → KeysAreApart live
     → KeysAreApart (remove_entry (λ m. m == n) live)
 AreApart-remove_entry n [] apart = tt
 AreApart-remove_entry n (p ∷ ps) apart =
-    elim (cases_eq p.0 n) [
-      | inl same ↦ rw (eq-eqb p.0 n same) apart.1
-      | inr other ↦ rw (ne_eqb p.0 n other) (NoneHas-remove_entry p.1 n ps apart.0, AreApart-remove_entry n ps apart.1)
-    ]
+    search (rules, NoneHas-remove_entry p.1 n ps apart.0, AreApart-remove_entry n ps apart.1)
 
 NoneHas-push : (k n key : ℕ) (live : List (ℕ × ℕ)) → NoneHas k live → key ≢ k → NoneHas k (live ++ (n, key) ∷ [])
 NoneHas-push k n key [] none differs = (differs, tt)
@@ -198,19 +181,13 @@ module _ {T : Type 0} where
   pub NoneHas-vacant : (values : Slab T) (key : ℕ) (live : List (ℕ × ℕ)) → get values key ≡ None
       → AreHeld values live → NoneHas key live
   NoneHas-vacant values key [] vacant held = tt
-  NoneHas-vacant values key (p ∷ ps) vacant held =
-      let t = some_value (get values p.1) held.0 in
-      let e = t.1 in (
-        (λ same. absurd (let found : get values key ≡ Some t.0 = ap (get values) (sym same) ∙ e in cc)),
-        NoneHas-vacant values key ps vacant held.1,
-      )
+  NoneHas-vacant values key (p ∷ ps) vacant held = search (rules, NoneHas-vacant values key ps vacant held.1)
 
   -- where only one key's value changes, other numbers keep their rows
   rows-others : (old new : Slab T) (key : ℕ) (slot : Option T) (live : List (ℕ × ℕ)) → Updates old new key slot
       → NoneHas key live → rows_of new (map keyed live) ≡ rows_of old (map keyed live)
   rows-others old new key slot [] updates none = refl
-  rows-others old new key slot (p ∷ ps) updates none =
-      rw (updates.others p.1 none.0) (rw (rows-others old new key slot ps updates none.1) refl)
+  rows-others old new key slot (p ∷ ps) updates none = search (rules, rows-others old new key slot ps updates none.1)
 
   AreHeld-others : (old new : Slab T) (key : ℕ) (slot : Option T) (live : List (ℕ × ℕ)) → Updates old new key slot
       → NoneHas key live → AreHeld old live → AreHeld new live
@@ -223,13 +200,7 @@ module _ {T : Type 0} where
       → Updates old new key (Some value) → NoneHas key live
       → rows_of new (map keyed (live ++ (n, key) ∷ [])) ≡ rows_of old (map keyed live) ++ (n, value) ∷ []
   rows-push old new key n value [] updates none = rw updates.changed refl
-  rows-push old new key n value (p ∷ ps) updates none =
-      rw (updates.others p.1 none.0)
-      (rw (rows-push old new key n value ps updates none.1) (cons_append (row_of old (keyed p)) _ _))
-    where
-      cons_append : (o : Option (ℕ × T)) (xs ys : List (ℕ × T)) → cons_option o (xs ++ ys) ≡ cons_option o xs ++ ys
-      cons_append None xs ys = refl
-      cons_append (Some x) xs ys = refl
+  rows-push old new key n value (p ∷ ps) updates none = search (rules, rows-push old new key n value ps updates none.1)
 
   pub AreHeld-push : (old new : Slab T) (key n : ℕ) (value : T) (live : List (ℕ × ℕ))
       → Updates old new key (Some value) → NoneHas key live → AreHeld old live → AreHeld new (live ++ (n, key) ∷ [])
@@ -263,13 +234,8 @@ module _ {T : Type 0} where
   pub AreHeld-with_value : (old new : Slab T) (key : ℕ) (w : T) (live : List (ℕ × ℕ))
       → Updates old new key (Some w) → AreHeld old live → AreHeld new live
   AreHeld-with_value old new key w [] updates held = tt
-  AreHeld-with_value old new key w (p ∷ ps) updates held = (
-    elim (cases_eq p.1 key) [
-      | inl same ↦ ap is_some (ap (get new) same ∙ updates.changed)
-      | inr other ↦ rw (updates.others p.1 other) held.0
-    ],
-    AreHeld-with_value old new key w ps updates held.1,
-  )
+  AreHeld-with_value old new key w (p ∷ ps) updates held =
+      search (rules, AreHeld-with_value old new key w ps updates held.1)
 
   -- the rows without a number
   pub rows-without : (old new : Slab T) (key n low : ℕ) (live : List (ℕ × ℕ)) (high : ℕ) → Updates old new key None
@@ -299,32 +265,21 @@ module _ {T : Type 0} where
   AreHeld-without old new key n low (p ∷ ps) high updates held apart found =
       elim (cases_eq p.0 n) [
         | inl same ↦
-            let key_is : p.1 ≡ key = same_Some _ _ (rw (eq-eqb p.0 n same) at found) in
-            rw (eq-eqb p.0 n same)
-            (AreHeld-others old new key None ps updates (subst (λ k. NoneHas k ps) key_is apart.0) held.1)
+            search (rules, AreHeld-others old new key None ps updates)
         | inr other ↦
-            let in_rest = rw (ne_eqb p.0 n other) at found in
-            let now : get new p.1 ≡ get old p.1 = updates.others p.1 (key_of_found p.1 n key ps apart.0 in_rest) in
-            rw (ne_eqb p.0 n other) (
-              rw now held.0,
-              AreHeld-without old new key n low ps high updates held.1 apart.1 in_rest,
+            search (
+              rules,
+              key_of_found p.1 n key ps apart.0,
+              AreHeld-without old new key n low ps high updates held.1 apart.1,
             )
       ]
-
-  find_from_either : (values : Slab T) (b : Bool) (p : ℕ × ℕ) (t : T) (o : Option (ℕ × Option ℕ))
-      (r : Option (ℕ × T)) → option_and_then keyed_number o ≡ option_map (λ row. row.0) r
-      → option_and_then keyed_number (cond b (Some (keyed p)) o)
-      ≡ option_map (λ row. row.0) (cond b (Some (p.0, t)) r)
-  find_from_either values true p t o r rest = refl
-  find_from_either values false p t o r rest = rest
 
   -- the first number with a key is the first row's
   pub first_key_from-rows : (values : Slab T) (n : ℕ) (live : List (ℕ × ℕ)) (next spare : ℕ) → AreHeld values live
       → first_key_from n (map keyed live ++ reserved next spare) ≡ first_from (rows_of values (map keyed live)) n
   first_key_from-rows values n [] next spare held = first_key_from-reserved n next spare
   first_key_from-rows values n (p ∷ ps) next spare held =
-      let t = some_value (get values p.1) held.0 in
-      rw t.1 (find_from_either values (nat_le n p.0) p t.0 _ _ (first_key_from-rows values n ps next spare held.1))
+      search (rules, first_key_from-rows values n ps next spare held.1)
 
 -- What the invariant says of the rows
 
@@ -367,79 +322,60 @@ module _ {T : Type 0} (index : List (ℕ × Option ℕ)) (values : Slab T) (next
       → key_at n index ≡ Some key → Updates values new key (Some w) → HasRoomFor new spare
       → IsIndex index new next spare
   index_with_value new n key w i found updates room =
-      record {
-        live = i.live;
-        parts = i.parts;
-        rising = i.rising;
-        held = AreHeld-with_value values new key w i.live updates i.held;
-        apart = i.apart;
-        room = room;
-        numbers = i.numbers;
-      }
+      search (rules, AreHeld-with_value values new key w i.live updates i.held)
 
   -- a number taken away
   pub rows_without : (left : List (ℕ × Option ℕ)) (new : Slab T) (n key : ℕ) → IsIndex index values next spare
       → key_at n index ≡ Some key → Updates values new key None → left ≡ remove_entry (λ m. m == n) index
       → rows_of new left ≡ without (rows_of values index) n
   rows_without left new n key i found updates removed =
-      let live = key_live n key i found in
-      rw (
-        removed,
-        i.parts,
-        remove_entry-parts n key i.live (reserved next spare) live,
+      search (
+        rules,
+        key_live n key i found,
+        remove_entry-parts n key i.live (reserved next spare),
         rows-parts values i.live next spare,
         rows-parts new (remove_entry (λ m. m == n) i.live) next spare,
+        rows-without values new key n 1 i.live next updates i.held i.apart i.rising,
       )
-      (rows-without values new key n 1 i.live next updates i.held i.apart i.rising live)
 
   pub index_without : (left : List (ℕ × Option ℕ)) (new : Slab T) (n key : ℕ) → IsIndex index values next spare
       → key_at n index ≡ Some key → Updates values new key None → HasRoomFor new spare
       → left ≡ remove_entry (λ m. m == n) index → IsIndex left new next spare
   index_without left new n key i found updates room removed =
-      let live = key_live n key i found in
-      record {
-        live = remove_entry (λ m. m == n) i.live;
-        parts = removed ∙ ap (remove_entry (λ m. m == n)) i.parts
-            ∙ remove_entry-parts n key i.live (reserved next spare) live;
-        rising = IsRising-remove_entry n 1 i.live next i.rising;
-        held = AreHeld-without values new key n 1 i.live next updates i.held i.apart live;
-        apart = AreApart-remove_entry n i.live i.apart;
-        room = room;
-        numbers = i.numbers;
-      }
+      search (
+        rules,
+        key_live n key i found,
+        remove_entry-parts n key i.live (reserved next spare),
+        IsRising-remove_entry n 1 i.live next i.rising,
+        AreHeld-without values new key n 1 i.live next updates i.held i.apart,
+        AreApart-remove_entry n i.live i.apart,
+      )
 
   -- the next number with a value
   pub rows_with_next : (left : List (ℕ × Option ℕ)) (new : Slab T) (key : ℕ) (value : T) → 1 ≤ spare
       → IsIndex index values next spare → get values key ≡ None → Updates values new key (Some value)
       → left ≡ with_key next key index → rows_of new left ≡ rows_of values index ++ (next, value) ∷ []
   rows_with_next left new key value some i vacant updates given =
-      let one : spare ≡ suc (spare - 1) = omega arith in
-      let parts = i.parts ∙ ap (λ n. map keyed i.live ++ reserved next n) one in
-      rw (
-        given,
-        parts,
+      search (
+        rules,
         with_key-next key 1 i.live next (spare - 1) i.rising,
         rows-parts new (i.live ++ (next, key) ∷ []) (next + 1) (spare - 1),
         rows-parts values i.live next (suc (spare - 1)),
+        rows-push values new key next value i.live updates (NoneHas-vacant values key i.live vacant i.held),
       )
-      (rows-push values new key next value i.live updates (NoneHas-vacant values key i.live vacant i.held))
 
   pub index_with_next : (left : List (ℕ × Option ℕ)) (new : Slab T) (key : ℕ) (value : T) → 1 ≤ spare
       → IsIndex index values next spare → get values key ≡ None → Updates values new key (Some value)
       → HasRoomFor new (spare - 1) → left ≡ with_key next key index → IsIndex left new (next + 1) (spare - 1)
   index_with_next left new key value some i vacant updates room given =
-      let one : spare ≡ suc (spare - 1) = omega arith in
-      let none = NoneHas-vacant values key i.live vacant i.held in
-      record {
-        live = i.live ++ (next, key) ∷ [];
-        parts = given ∙ ap (with_key next key) (i.parts ∙ ap (λ n. map keyed i.live ++ reserved next n) one)
-            ∙ with_key-next key 1 i.live next (spare - 1) i.rising;
-        rising = IsRising-push 1 i.live next key i.rising;
-        held = AreHeld-push values new key next value i.live updates none i.held;
-        apart = AreApart-push next key i.live none i.apart;
-        room = room;
-        numbers = let fits = i.numbers in omega arith;
-      }
+      search (
+        rules,
+        NoneHas-vacant values key i.live vacant i.held,
+        with_key-next key 1 i.live next (spare - 1) i.rising,
+        IsRising-push 1 i.live next key i.rising,
+        AreHeld-push values new key next value i.live updates,
+        AreApart-push next key i.live,
+      )
 
   pub has_next_row : 1 ≤ spare → IsIndex index values next spare → IsTrue (has_row next index)
   has_next_row some i = rw i.parts (has_row-next 1 i.live next spare i.rising some)
@@ -448,29 +384,17 @@ module _ {T : Type 0} (index : List (ℕ × Option ℕ)) (values : Slab T) (next
   pub rows_with_room : (more : List (ℕ × Option ℕ)) → IsIndex index values next spare
       → more ≡ insert_entry nat_cmp index (next + spare) None → rows_of values more ≡ rows_of values index
   rows_with_room more i inserted =
-      rw (
-        inserted,
-        i.parts,
+      search (
+        rules,
         insert_entry-parts 1 i.live next spare i.rising,
         rows-parts values i.live next (suc spare),
         rows-parts values i.live next spare,
-      ) refl
+      )
 
   pub index_with_room : (more : List (ℕ × Option ℕ)) → IsIndex index values next spare
       → more ≡ insert_entry nat_cmp index (next + spare) None → HasRoomFor values (spare + 1)
       → next + spare + 1 < 2 ^ 64 → IsIndex more values next (spare + 1)
-  index_with_room more i inserted room numbers =
-      let one : suc spare ≡ spare + 1 = omega arith in
-      record {
-        live = i.live;
-        parts = inserted ∙ ap (λ xs. insert_entry nat_cmp xs (next + spare) None) i.parts
-            ∙ insert_entry-parts 1 i.live next spare i.rising ∙ ap (λ n. map keyed i.live ++ reserved next n) one;
-        rising = i.rising;
-        held = i.held;
-        apart = i.apart;
-        room = room;
-        numbers = omega (arith, numbers);
-      }
+  index_with_room more i inserted room numbers = search (rules, insert_entry-parts 1 i.live next spare i.rising)
 
   held_key : (key n : ℕ) (live : List (ℕ × ℕ)) → AreHeld values live → lookup (λ m. m == n) live ≡ Some key
       → (t : T) × (get values key ≡ Some t)
@@ -478,9 +402,7 @@ module _ {T : Type 0} (index : List (ℕ × Option ℕ)) (values : Slab T) (next
   held_key key n (p ∷ ps) held found =
       elim (cases_eq p.0 n) [
         | inl same ↦
-            let key_is : p.1 ≡ key = same_Some _ _ (rw (eq-eqb p.0 n same) at found) in
-            let t = some_value (get values p.1) held.0 in
-            (t.0, ap (get values) (sym key_is) ∙ t.1)
+            search (rules, some_value (get values p.1) held.0)
         | inr other ↦ held_key key n ps held.1 (rw (ne_eqb p.0 n other) at found)
       ]
 
@@ -504,22 +426,14 @@ module _ {T : Type 0} (index : List (ℕ × Option ℕ)) (values : Slab T) (next
 pub HasRoomFor-with_value : {T : Type 0} → (values : Slab T) (key spare : ℕ) (w : T)
     → (t : T) × (get values key ≡ Some t) → HasRoomFor values spare → HasRoomFor (slab_with_value values key w) spare
 HasRoomFor-with_value {T} values key spare w held room =
-    let count : Option T → ℕ = λ o. cond (is_some o) 1 0 in
-    let within = ContainsKey-within values key (ap is_some held.1) in
-    let before : count (get values key) ≡ 1 = ap count held.1 in
-    omega (arith, room, before, sum_by-set count values.slots key (Some w) None within)
+    search (rules, ContainsKey-within values key (ap is_some held.1), sum_by-set)
 
 -- Memory alone
 
 module _ {T : Type 0} (old new : Slab T) (same : SameValues old new) where
   rows_same : (index : List (ℕ × Option ℕ)) → rows_of new index ≡ rows_of old index
   rows_same [] = refl
-  rows_same (p ∷ ps) =
-      rw (rows_same ps) (ap (λ o. cons_option (option_map (λ value. (p.0, value)) o) (rows_of old ps)) (value_same p.1))
-    where
-      value_same : (key : Option ℕ) → option_and_then (get new) key ≡ option_and_then (get old) key
-      value_same None = refl
-      value_same (Some key) = same key
+  rows_same (p ∷ ps) = search rules
 
   AreHeld-same : (live : List (ℕ × ℕ)) → AreHeld old live → AreHeld new live
   AreHeld-same [] held = tt
@@ -528,16 +442,7 @@ module _ {T : Type 0} (old new : Slab T) (same : SameValues old new) where
   -- a slab with the same values serves as well
   index_same : (index : List (ℕ × Option ℕ)) (next spare : ℕ) → IsIndex index old next spare → HasRoomFor new spare
       → IsIndex index new next spare
-  index_same index next spare i room =
-      record {
-        live = i.live;
-        parts = i.parts;
-        rising = i.rising;
-        held = AreHeld-same i.live i.held;
-        apart = i.apart;
-        room = room;
-        numbers = i.numbers;
-      }
+  index_same index next spare i room = search (rules, AreHeld-same i.live i.held)
 
 -- room alone was made
 module _ {T : Type 0} (old new : Slab T) (kept : new ≡ record old { capacity = new.capacity }) where
@@ -552,21 +457,10 @@ module _ {T : Type 0} (old new : Slab T) (kept : new ≡ record old { capacity =
 
 -- the test by which a map finds a number
 pub finds_number : (n : ℕ) → is_at (nat_cmp n) ≡ (λ m. m == n)
-finds_number n = λ i m. same n m i
-  where
-    same : (n m : ℕ) → is_at (nat_cmp n) m ≡ (m == n)
-    same n m = grind (arith, nat_tests)
+finds_number n = search rules
 
 -- a search from a number on
 pub find-between : (n : ℕ) (es : List (ℕ × Option ℕ))
     → find (λ p. nat_le n p.0) es ≡ slice_get (entries_between nat_cmp (Included n) Unbounded es) 0
 find-between n [] = refl
-find-between n (p ∷ ps) = rw (test_is p.0) (either (nat_le n p.0) _ _ (find-between n ps))
-  where
-    test_is : (m : ℕ) → range_contains nat_cmp (Included n) Unbounded m ≡ nat_le n m
-    test_is m = grind (arith, nat_tests)
-
-    either : (b : Bool) (o : Option (ℕ × Option ℕ)) (rest : List (ℕ × Option ℕ)) → o ≡ slice_get rest 0
-        → cond b (Some p) o ≡ slice_get (cond b (p ∷ rest) rest) 0
-    either true o rest e = refl
-    either false o rest e = e
+find-between n (p ∷ ps) = search (rules, find-between n ps)
