@@ -1,15 +1,14 @@
 -- The order of a family after each of its changes.
-use Rattle.std.proofs.Common.{◌≡◌, ℕ, ◌<◌, ◌==◌, List, [], ◌∷◌, ◌++◌, Bool, true, false, Some, None, Option, IsSome, ◌⊎◌, sym, refl, ap, ◌∙◌, subst, inl, inr, arith}
-use Rattle.std.proofs.lemmas.Bool.{cases_eq, cases_lt, eq-eqb, ne_eqb}
-use Rattle.std.specs.Option.{option_and_then}
+use Rattle.std.proofs.Common.{◌≡◌, ℕ, ◌<◌, ◌==◌, List, [], ◌∷◌, ◌++◌, Bool, true, false, Some, None, Option, IsSome, ◌⊎◌, sym, refl, ap, ◌∙◌, subst, inl, inr, arith, rules}
+use Rattle.std.proofs.lemmas.Bool.{cases_lt}
 use Rattle.geo_slots.specs.Slots.{value_at, without}
 use Rattle.geo_family.specs.declared.family.Link.{Link}
 use Rattle.geo_family.specs.declared.family.Ends.{Ends}
 use Rattle.geo_family.specs.Nearest.{IsNearest, NextIsNearest, IsFirst, Up, Down, put, put_at, put_unless}
 use Rattle.geo_family.specs.Links.{part_at, parent_of, before_of, after_of, first_in_ends, last_in_ends, IsFamily, with_after, with_before, with_first, with_last_child, with_child_link, child_after}
 use Rattle.geo_family.proofs.LinkLemmas.{part-kept, part-set, IsSome-change}
-use Rattle.geo_family.proofs.NearestLemmas.{put-here, put-other}
-use Rattle.geo_family.proofs.OrderLemmas.{link_next, link_first, unlink_next, unlink_first, behind_prev, behind_first}
+use Rattle.geo_family.proofs.NearestLemmas.{put-other}
+use Rattle.geo_family.proofs.OrderLemmas.{link_next, link_first, unlink_next, unlink_first}
 
 -- the two orders
 
@@ -40,11 +39,7 @@ down_total a b other = elim (cases_lt a b) [ inl below ↦ inr below | inr above
 module _ {T : Type 0} (part : T → Option ℕ) where
   -- who has a part is there
   pub part_there : (rows : List (ℕ × T)) (c p : ℕ) → part_at part rows c ≡ Some p → IsSome (value_at rows c)
-  part_there rows c p has = there (value_at rows c) has
-    where
-      there : (o : Option T) → option_and_then part o ≡ Some p → IsSome o
-      there None never = absurd (cc)
-      there (Some v) is = refl
+  part_there rows c p has = search rules
 
   -- a value without the part at the end changes no part
   pub part-push : (rows : List (ℕ × T)) (n : ℕ) (v : T) → part v ≡ None
@@ -57,11 +52,7 @@ module _ {T : Type 0} (part : T → Option ℕ) where
 
       same : (rows : List (ℕ × T)) (c : ℕ) → part_at part (rows ++ (n, v) ∷ []) c ≡ part_at part rows c
       same [] c = last_one c (n == c) refl
-      same (row ∷ rows) c =
-          elim (cases_eq row.0 c) [
-            | inl here ↦ rw (eq-eqb row.0 c here) refl
-            | inr other ↦ rw (ne_eqb row.0 c other) (same rows c)
-          ]
+      same (row ∷ rows) c = search (rules, same rows c)
 
   -- without a number, its part is none
   pub part-without : (n : ℕ) (rows : List (ℕ × T)) → part_at part (without rows n) ≡ put (part_at part rows) n None
@@ -69,33 +60,14 @@ module _ {T : Type 0} (part : T → Option ℕ) where
     where
       gone : (rows : List (ℕ × T)) → part_at part (without rows n) n ≡ None
       gone [] = refl
-      gone (row ∷ rows) =
-          elim (cases_eq row.0 n) [
-            | inl same ↦ rw (eq-eqb row.0 n same) (gone rows)
-            | inr other ↦ rw (ne_eqb row.0 n other, ne_eqb row.0 n other) (gone rows)
-          ]
+      gone (row ∷ rows) = search (rules, gone rows)
 
       stays : (c : ℕ) → (c ≡ n → ⊥) → (rows : List (ℕ × T)) → part_at part (without rows n) c ≡ part_at part rows c
       stays c apart [] = refl
-      stays c apart (row ∷ rows) =
-          elim (cases_eq row.0 n) [
-            | inl same ↦
-                let away : row.0 ≡ c → ⊥ = λ here. apart (sym here ∙ same) in
-                rw (eq-eqb row.0 n same, ne_eqb row.0 c away) (stays c apart rows)
-            | inr other ↦
-                rw (ne_eqb row.0 n other)
-                (elim (cases_eq row.0 c) [
-                  | inl here ↦ rw (eq-eqb row.0 c here) refl
-                  | inr away ↦ rw (ne_eqb row.0 c away) (stays c apart rows)
-                ])
-          ]
+      stays c apart (row ∷ rows) = search (rules, stays c apart rows)
 
       all : (c : ℕ) → part_at part (without rows n) c ≡ put (part_at part rows) n None c
-      all c =
-          elim (cases_eq c n) [
-            | inl same ↦ rw (same, eq-eqb n n refl) (gone rows)
-            | inr other ↦ rw (ne_eqb c n other) (stays c other rows)
-          ]
+      all c = search (rules, gone rows, stays c)
 
 -- Parts after another neighbour
 
@@ -269,8 +241,7 @@ nearest_there : (links : List (ℕ × Link)) (S : ℕ → Type 0) (R : ℕ → �
     → IsNearest S R (part_at parent_of links) p o
     → (c : ℕ) → o ≡ Some c → IsSome (value_at links c)
 nearest_there links S R p None is c here = let never : None ≡ Some c = here in absurd (cc)
-nearest_there links S R p (Some b) is c here = let same : b ≡ c = cc in
-    subst (λ m. IsSome (value_at links m)) same (part_there parent_of links b p is.1)
+nearest_there links S R p (Some b) is c here = search rules
 
 module _ (links : List (ℕ × Link)) (ends : List (ℕ × Ends)) (family : IsFamily links ends) (child parent : ℕ)
     (parent_stands : IsSome (value_at ends parent)) where
@@ -278,12 +249,8 @@ module _ (links : List (ℕ × Link)) (ends : List (ℕ × Ends)) (family : IsFa
   behind_is : (free : part_at parent_of links child ≡ None) (prev : Option ℕ)
       → IsNearest (λ d. d < child) Down (part_at parent_of links) parent prev
       → IsNearest (λ d. child < d) Up (part_at parent_of links) parent (child_after links ends prev parent)
-  behind_is free None is =
-      behind_first Up up_irreflexive up_transitive up_total (part_at parent_of links) child parent free
-      (part_at first_in_ends ends) family.firsts is
-  behind_is free (Some b) is =
-      behind_prev Up up_irreflexive up_transitive up_total (part_at parent_of links) child parent free
-      (part_at after_of links) b family.afters is
+  behind_is free None is = search rules
+  behind_is free (Some b) is = search rules
 
   -- a child under a parent
   pub family-link : (free : part_at parent_of links child ≡ None) → IsSome (value_at links child)
@@ -371,12 +338,7 @@ module _ (links : List (ℕ × Link)) (ends : List (ℕ × Ends)) (family : IsFa
 module _ (links : List (ℕ × Link)) (ends : List (ℕ × Ends)) (family : IsFamily links ends) where
   -- whose parent is p has p's ends
   pub parent_there : (child p : ℕ) → part_at parent_of links child ≡ Some p → IsSome (value_at ends p)
-  parent_there child p under = ends_there (part_at first_in_ends ends p) refl (family.firsts p)
-    where
-      ends_there : (o : Option ℕ) → part_at first_in_ends ends p ≡ o
-          → IsNearest (λ d. Unit {0}) Up (part_at parent_of links) p o → IsSome (value_at ends p)
-      ends_there None e is = absurd (is child tt under)
-      ends_there (Some c) e is = part_there first_in_ends ends p c e
+  parent_there child p under = search rules
 
   -- a new parent without children, a new child without a parent
   pub family-push_ends : (n : ℕ) (e : Ends) → e.first ≡ None → e.last ≡ None → IsFamily links (ends ++ (n, e) ∷ [])
@@ -398,14 +360,7 @@ module _ (links : List (ℕ × Link)) (ends : List (ℕ × Ends)) (family : IsFa
 
   -- putting none where there is none changes nothing
   put_same : (f : ℕ → Option ℕ) (n : ℕ) → f n ≡ None → put f n None ≡ f
-  put_same f n none = λ i. λ c. same c i
-    where
-      same : (c : ℕ) → put f n None c ≡ f c
-      same c = elim (cases_eq c n) [
-        | inl here ↦
-            rw (here, eq-eqb n n refl) (sym none)
-        | inr other ↦ rw (ne_eqb c n other) refl
-      ]
+  put_same f n none = search rules
 
   -- without a child that has no parent
   pub family-without_link : (n : ℕ) → part_at parent_of links n ≡ None → IsFamily (without links n) ends
@@ -419,22 +374,16 @@ module _ (links : List (ℕ × Link)) (ends : List (ℕ × Ends)) (family : IsFa
       family.firsts family.lasts
     where
       apart : (c p : ℕ) → part_at parent_of links c ≡ Some p → c ≡ n → ⊥
-      apart c p under same = let never : None ≡ Some p =
-          sym free ∙ subst (λ m. part_at parent_of links m ≡ Some p) same under in cc
+      apart c p under same = search rules
 
   -- without a parent that has no child
   pub family-without_ends : (n : ℕ) → ((d : ℕ) → part_at parent_of links d ≡ Some n → ⊥)
       → IsFamily links (without ends n)
   family-without_ends n childless =
-      family_of links (without ends n) (part_at parent_of links) (part_at after_of links) (part_at before_of links)
-      (put (part_at first_in_ends ends) n None) (put (part_at last_in_ends ends) n None)
-      refl refl refl (part-without first_in_ends n ends) (part-without last_in_ends n ends)
-      family.afters family.befores
-      (λ p. elim (cases_eq p n) [
-        | inl same ↦ rw (same, put-here (part_at first_in_ends ends) n None) (λ d _ had. childless d had)
-        | inr other ↦ rw (put-other (part_at first_in_ends ends) n None p other) (family.firsts p)
-      ])
-      (λ p. elim (cases_eq p n) [
-        | inl same ↦ rw (same, put-here (part_at last_in_ends ends) n None) (λ d _ had. childless d had)
-        | inr other ↦ rw (put-other (part_at last_in_ends ends) n None p other) (family.lasts p)
-      ])
+      search (
+        rules,
+        family_of links (without ends n) (part_at parent_of links) (part_at after_of links) (part_at before_of links)
+            (put (part_at first_in_ends ends) n None) (put (part_at last_in_ends ends) n None),
+        part-without first_in_ends n ends,
+        part-without last_in_ends n ends,
+      )

@@ -1,6 +1,6 @@
 -- The last child of a parent is the last row of it.
-use Rattle.std.proofs.Common.{◌≡◌, ℕ, ◌+◌, ◌<◌, List, [], ◌∷◌, Bool, true, false, Some, None, Option, refl, ap, inl, inr, arith, filter}
-use Rattle.std.proofs.lemmas.Bool.{cases_eq, cases_lt, eq-eqb, ne_eqb}
+use Rattle.std.proofs.Common.{◌≡◌, ℕ, ◌+◌, ◌<◌, List, [], ◌∷◌, Bool, true, false, Some, None, Option, refl, ap, inl, inr, arith, filter, rules}
+use Rattle.std.proofs.lemmas.Bool.{cases_eq, eq-eqb, ne_eqb}
 use Rattle.std.specs.List.{last_or}
 use Rattle.std.specs.Option.{option_map}
 use Rattle.geo_slots.specs.Slots.{IsRising}
@@ -20,13 +20,7 @@ module _ (p : ℕ) where
   later : (low high : ℕ) (row : ℕ × Link) (rows : List (ℕ × Link)) → IsRising low (row ∷ rows) high → (d : ℕ)
       → part_at parent_of rows d ≡ Some p
       → (row.0 < d) × (part_at parent_of (row ∷ rows) d ≡ Some p)
-  later low high row rows rising d had =
-      elim (cases_lt row.0 d) [
-        | inl above ↦ (above, rw (ne_eqb row.0 d (λ same. omega (arith, same, above))) had)
-        | inr below ↦
-            let never = rw (value_at_below d (row.0 + 1) rows high rising.1 (omega (arith, below))) at had in
-            absurd (cc)
-      ]
+  later low high row rows rising d had = search (rules, value_at_below d (row.0 + 1) rows high rising.1)
 
   -- where a parent has no child, the last one is the one before
   last_none : (low high : ℕ) (rows : List (ℕ × Link)) → IsRising low rows high

@@ -1,13 +1,12 @@
 -- The parents and the children that the rows stand for, after each change.
-use Rattle.std.proofs.Common.{◌≡◌, ℕ, ◌+◌, ◌==◌, List, [], ◌∷◌, ◌++◌, map, Bool, true, false, Some, None, Option, IsSome, sym, refl, ap, ◌∙◌, inl, inr, arith, not, filter}
+use Rattle.std.proofs.Common.{◌≡◌, ℕ, ◌+◌, ◌==◌, List, [], ◌∷◌, ◌++◌, map, true, false, Some, None, Option, IsSome, refl, ap, ◌∙◌, inl, inr, not, filter, rules}
 use Rattle.std.proofs.lemmas.Bool.{cases_eq, eq-eqb, ne_eqb}
-use Rattle.std.specs.Prelude.{◌||◌, if◌then◌else◌}
 use Rattle.std.specs.Option.{option_map, option_and_then}
 use Rattle.geo_slots.specs.Slots.{IsRising, value_at, with_value, without}
 use Rattle.geo_slots.proofs.RowLemmas.{value_at_below, IsRising_ends}
 use Rattle.geo_family.specs.declared.family.Link.{Link}
 use Rattle.geo_family.specs.declared.family.Ends.{Ends}
-use Rattle.geo_family.specs.Family.{names, is_parent, has_child}
+use Rattle.geo_family.specs.Family.{is_parent, has_child}
 use Rattle.geo_family.specs.Links.{change_at, part_at, parent_of, child_rows, with_after, with_before, with_first, with_last_child, with_child_link}
 
 -- the numbers of rows
@@ -18,11 +17,7 @@ numbers_of rows = map (λ row. row.0) rows
 numbers-change : {T : Type 0} (g : T → T) (n : ℕ) (rows : List (ℕ × T))
     → numbers_of (change_at g rows n) ≡ numbers_of rows
 numbers-change g n [] = refl
-numbers-change g n (row ∷ rows) =
-    elim (cases_eq row.0 n) [
-      | inl same ↦ rw (eq-eqb row.0 n same) (ap (λ xs. row.0 ∷ xs) (numbers-change g n rows))
-      | inr other ↦ rw (ne_eqb row.0 n other) (ap (λ xs. row.0 ∷ xs) (numbers-change g n rows))
-    ]
+numbers-change g n (row ∷ rows) = search (rules, numbers-change g n rows)
 
 -- another first child leaves the numbers of the parents
 pub numbers-with_first : (o : Option ℕ) (p : ℕ) (to : Option ℕ) (ends : List (ℕ × Ends))
@@ -40,11 +35,7 @@ numbers-with_last (Some c) p to ends = refl
 pub numbers-without : {T : Type 0} (n : ℕ) (rows : List (ℕ × T))
     → numbers_of (without rows n) ≡ filter (λ m. not (m == n)) (numbers_of rows)
 numbers-without n [] = refl
-numbers-without n (row ∷ rows) =
-    elim (cases_eq row.0 n) [
-      | inl same ↦ rw (eq-eqb row.0 n same) (numbers-without n rows)
-      | inr other ↦ rw (ne_eqb row.0 n other) (ap (λ xs. row.0 ∷ xs) (numbers-without n rows))
-    ]
+numbers-without n (row ∷ rows) = search (rules, ap (λ xs. row.0 ∷ xs) (numbers-without n rows))
 
 -- the numbers with one more row at the end
 pub numbers-push : {T : Type 0} (n : ℕ) (v : T) (rows : List (ℕ × T))
@@ -56,22 +47,13 @@ numbers-push n v (row ∷ rows) = ap (λ xs. row.0 ∷ xs) (numbers-push n v row
 pub parent_stands : {T : Type 0} (p : ℕ) (rows : List (ℕ × T)) → is_parent (numbers_of rows) p ≡ true
     → IsSome (value_at rows p)
 parent_stands p [] never = absurd (cc)
-parent_stands p (row ∷ rows) stands =
-    elim (cases_eq row.0 p) [
-      | inl same ↦ rw (eq-eqb row.0 p same) refl
-      | inr other ↦ rw (ne_eqb row.0 p other) (parent_stands p rows (rw (ne_eqb row.0 p other) at stands))
-    ]
+parent_stands p (row ∷ rows) stands = search (rules, parent_stands p rows)
 
 -- a change that keeps the parent leaves each child with its parent
 children-change : (g : Link → Link) → ((l : Link) → parent_of (g l) ≡ parent_of l)
     → (n : ℕ) (links : List (ℕ × Link)) → child_rows (change_at g links n) ≡ child_rows links
 children-change g same n [] = refl
-children-change g same n (row ∷ rows) =
-    elim (cases_eq row.0 n) [
-      | inl here ↦
-          rw (eq-eqb row.0 n here, same row.1) (ap (λ xs. (row.0, row.1.parent) ∷ xs) (children-change g same n rows))
-      | inr other ↦ rw (ne_eqb row.0 n other) (ap (λ xs. (row.0, row.1.parent) ∷ xs) (children-change g same n rows))
-    ]
+children-change g same n (row ∷ rows) = search (rules, children-change g same n rows)
 
 -- another number after a child leaves each child with its parent
 pub children-with_after : (o to : Option ℕ) (links : List (ℕ × Link))
@@ -90,10 +72,7 @@ pub children-with_link : (n : ℕ) (l : Link) (links : List (ℕ × Link))
     → child_rows (with_child_link n l links) ≡ with_value (child_rows links) n l.parent
 children-with_link n l [] = refl
 children-with_link n l (row ∷ rows) =
-    elim (cases_eq row.0 n) [
-      | inl here ↦ rw (eq-eqb row.0 n here) (λ i. (here i, l.parent) ∷ children-with_link n l rows i)
-      | inr other ↦ rw (ne_eqb row.0 n other) (ap (λ xs. (row.0, row.1.parent) ∷ xs) (children-with_link n l rows))
-    ]
+    search (rules, ap (λ xs. (row.0, row.1.parent) ∷ xs) (children-with_link n l rows))
 
 -- all the changes at once
 pub children-relinked : (child : ℕ) (link : Link) (prev behind to_after to_before : Option ℕ) (links : List (ℕ × Link))
@@ -108,64 +87,37 @@ children-relinked child link prev behind to_after to_before links =
 -- the children once one was taken away
 pub children-without : (n : ℕ) (links : List (ℕ × Link)) → child_rows (without links n) ≡ without (child_rows links) n
 children-without n [] = refl
-children-without n (row ∷ rows) =
-    elim (cases_eq row.0 n) [
-      | inl same ↦ rw (eq-eqb row.0 n same) (children-without n rows)
-      | inr other ↦ rw (ne_eqb row.0 n other) (ap (λ xs. (row.0, row.1.parent) ∷ xs) (children-without n rows))
-    ]
+children-without n (row ∷ rows) = search (rules, ap (λ xs. (row.0, row.1.parent) ∷ xs) (children-without n rows))
 
 -- the parent of a child, by the rows and by what they stand for
 pub value_at-children : (n : ℕ) (links : List (ℕ × Link))
     → value_at (child_rows links) n ≡ option_map parent_of (value_at links n)
 value_at-children n [] = refl
-value_at-children n (row ∷ rows) =
-    elim (cases_eq row.0 n) [
-      | inl same ↦ rw (eq-eqb row.0 n same) refl
-      | inr other ↦ rw (ne_eqb row.0 n other) (value_at-children n rows)
-    ]
+value_at-children n (row ∷ rows) = search (rules, value_at-children n rows)
 
 -- a child without a parent
 pub free_child : (n : ℕ) (links : List (ℕ × Link)) → value_at (child_rows links) n ≡ Some None
     → (part_at parent_of links n ≡ None) × IsSome (value_at links n)
-free_child n links free = from (value_at links n) (sym (value_at-children n links) ∙ free)
-  where
-    from : (o : Option Link) → option_map parent_of o ≡ Some None → (option_and_then parent_of o ≡ None) × IsSome o
-    from None never = absurd (cc)
-    from (Some l) is = let e : parent_of l ≡ None = cc in (e, refl)
+free_child n links free = search (rules, value_at-children n links)
 
 -- taking no parent away changes nothing
 pub children-kept : (n low high : ℕ) (links : List (ℕ × Link)) → IsRising low links high
     → part_at parent_of links n ≡ None → with_value (child_rows links) n None ≡ child_rows links
 children-kept n low high [] rising free = refl
 children-kept n low high (row ∷ rows) rising free =
-    elim (cases_eq row.0 n) [
-      | inl same ↦
-          let none : row.1.parent ≡ None = rw (eq-eqb row.0 n same) at free in
-          let absent = value_at_below n (row.0 + 1) rows high rising.1 (omega (arith, same)) in
-          rw (eq-eqb row.0 n same, none, same)
-          (ap (λ xs. (n, None) ∷ xs) (children-kept n (row.0 + 1) high rows rising.1 (rw absent refl)))
-      | inr other ↦
-          rw (ne_eqb row.0 n other)
-          (ap (λ xs. (row.0, row.1.parent) ∷ xs)
-          (children-kept n (row.0 + 1) high rows rising.1 (rw (ne_eqb row.0 n other) at free)))
-    ]
+    search (rules, value_at_below n (row.0 + 1) rows high rising.1, children-kept n (row.0 + 1) high rows rising.1)
 
 -- without a child it doesn't matter what parent it had
 pub without-with_value : {T : Type 0} (n : ℕ) (v : T) (rows : List (ℕ × T))
     → without (with_value rows n v) n ≡ without rows n
 without-with_value n v [] = refl
-without-with_value n v (row ∷ rows) =
-    elim (cases_eq row.0 n) [
-      | inl same ↦ rw (eq-eqb row.0 n same, eq-eqb n n refl) (without-with_value n v rows)
-      | inr other ↦ rw (ne_eqb row.0 n other, ne_eqb row.0 n other) (ap (λ xs. row ∷ xs) (without-with_value n v rows))
-    ]
+without-with_value n v (row ∷ rows) = search (rules, ap (λ xs. row ∷ xs) (without-with_value n v rows))
 
 -- after it, the child has no parent
 pub value_at-with_none : (n : ℕ) (rows : List (ℕ × Option ℕ)) (links : List (ℕ × Link))
     → child_rows links ≡ with_value rows n None → part_at parent_of links n ≡ None
 value_at-with_none n rows links same =
-    from (value_at links n) (λ p is. after rows p (sym (ap (λ xs. value_at xs n) same)
-    ∙ value_at-children n links ∙ is))
+    from (value_at links n) (search (rules, after rows, value_at-children n links))
   where
     from : (o : Option Link) → ((p : ℕ) → option_map parent_of o ≡ Some (Some p) → ⊥)
         → option_and_then parent_of o ≡ None
@@ -188,18 +140,7 @@ value_at-with_none n rows links same =
 pub childless : (p : ℕ) (links : List (ℕ × Link)) → has_child (child_rows links) p ≡ false → (d : ℕ)
     → part_at parent_of links d ≡ Some p → ⊥
 childless p [] none d had = let never : None ≡ Some p = had in cc
-childless p (row ∷ rows) none d had =
-    elim (cases_eq row.0 d) [
-      | inl here ↦
-          let under : row.1.parent ≡ Some p = rw (eq-eqb row.0 d here) at had in
-          let named : names row.1.parent p ≡ true = rw (under, eq-eqb p p refl) refl in
-          let never : true ≡ false = rw named at none in cc
-      | inr other ↦ childless p rows (rest (names row.1.parent p) none) d (rw (ne_eqb row.0 d other) at had)
-    ]
-  where
-    rest : {b : Bool} (a : Bool) → (a || b) ≡ false → b ≡ false
-    rest true never = absurd (cc)
-    rest false is = is
+childless p (row ∷ rows) none d had = search (rules, childless p rows)
 
 -- the numbers of the children rise as those of their rows
 pub children_rise : (low high : ℕ) (links : List (ℕ × Link)) → IsRising low links high
@@ -213,17 +154,14 @@ module _ {T : Type 0} (n : ℕ) where
       → value_at (rows ++ (n, v) ∷ []) n ≡ Some v
   value_at-push v low [] rising = rw (eq-eqb n n refl) refl
   value_at-push v low (row ∷ rows) rising =
-      let below = IsRising_ends (row.0 + 1) rows n rising.1 in
-      rw (ne_eqb row.0 n (λ same. omega (arith, same, below))) (value_at-push v (row.0 + 1) rows rising.1)
+      search (rules, IsRising_ends (row.0 + 1) rows n rising.1, value_at-push v (row.0 + 1) rows rising.1)
 
   -- and is changed there
   pub with_value-push : (v w : T) (low : ℕ) (rows : List (ℕ × T)) → IsRising low rows n
       → with_value (rows ++ (n, v) ∷ []) n w ≡ rows ++ (n, w) ∷ []
   with_value-push v w low [] rising = rw (eq-eqb n n refl) refl
   with_value-push v w low (row ∷ rows) rising =
-      let below = IsRising_ends (row.0 + 1) rows n rising.1 in
-      rw (ne_eqb row.0 n (λ same. omega (arith, same, below)))
-      (ap (λ xs. row ∷ xs) (with_value-push v w (row.0 + 1) rows rising.1))
+      search (rules, IsRising_ends (row.0 + 1) rows n rising.1, with_value-push v w (row.0 + 1) rows rising.1)
 
 -- Numbers still rise where values change
 
@@ -231,12 +169,7 @@ rising-changed : {T : Type 0} (change : T → T) (n low high : ℕ) (rows : List
     → IsRising low (change_at change rows n) high
 rising-changed change n low high [] rising = rising
 rising-changed {T} change n low high (row ∷ rows) rising =
-    at (row.0 == n) (rising-changed change n (row.0 + 1) high rows rising.1)
-  where
-    at : (b : Bool) → IsRising (row.0 + 1) (change_at change rows n) high
-        → IsRising low ((if b then (row.0, change row.1) else row) ∷ change_at change rows n) high
-    at true rest = (rising.0, rest)
-    at false rest = (rising.0, rest)
+    search (rules, rising-changed change n (row.0 + 1) high rows rising.1)
 
 rising-after : (child to : Option ℕ) (high : ℕ) (links : List (ℕ × Link)) → IsRising 1 links high
     → IsRising 1 (with_after child to links) high

@@ -1,8 +1,8 @@
 -- Walks up over the children of a parent.
-use Rattle.std.proofs.Common.{◌≡◌, ℕ, ◌+◌, ◌-◌, ◌<◌, ◌≤◌, List, [], ◌∷◌, Bool, true, false, Some, None, Option, sym, refl, ap, ◌∙◌, subst, inl, inr, arith}
+use Rattle.std.proofs.Common.{◌≡◌, ℕ, ◌+◌, ◌-◌, ◌<◌, ◌≤◌, List, [], ◌∷◌, Bool, true, false, Some, None, Option, refl, ◌∙◌, subst, rules}
 use Rattle.std.specs.Prelude.{◌&&◌, nat_le}
 use Rattle.std.specs.Option.{option_map_or}
-use Rattle.std.proofs.lemmas.Bool.{cases_eq, cases_lt, eq-eqb, ne_eqb, eqb-true, le-leb, leb-true, and_parts}
+use Rattle.std.proofs.lemmas.Bool.{eq-eqb}
 use Rattle.geo_slots.specs.Slots.{IsRising}
 use Rattle.geo_slots.proofs.RowLemmas.{value_at_below}
 use Rattle.geo_family.specs.declared.family.Link.{Link}
@@ -11,67 +11,30 @@ use Rattle.geo_family.specs.Family.{names, first_child}
 use Rattle.geo_family.specs.Links.{part_at, parent_of, child_rows}
 
 module _ (f : ℕ → Option ℕ) (p n : ℕ) where
-  -- the child after one that is below the number is on the way up too
-  up_step : (c : ℕ) → c < n → (o : Option ℕ) → IsNearest (λ d. c < d) Up f p o → IsOnWayUp f p n o
-  up_step c below None is = λ d from had. is d (omega arith) had
-  up_step c below (Some b) is = (
-    is.1,
-    λ d from had. elim (cases_lt d b) [
-      | inl early ↦
-          absurd (is.2 d (omega arith) early had)
-      | inr within ↦ within
-    ],
-  )
-
   -- a walk up goes on to the child after
   pub way_up_goes_on : (at : Option ℕ) (c : ℕ) → at ≡ Some c → c < n → IsOnWayUp f p n at → (after : ℕ → Option ℕ)
       → ((c q : ℕ) → f c ≡ Some q → IsNearest (λ d. c < d) Up f q (after c)) → IsOnWayUp f p n (after c)
-  way_up_goes_on at c here below way after afters =
-      let on = subst (λ o. IsOnWayUp f p n o) here way in up_step c below (after c) (afters c p on.0)
-
-  -- the child after is greater, or there is none
-  falls_up : (c : ℕ) → c < n → (o : Option ℕ) → IsNearest (λ d. c < d) Up f p o
-      → option_map_or (λ b. n + 1 - b) o 0 < n + 1 - c
-  falls_up c below None is = omega arith
-  falls_up c below (Some b) is = omega (arith, is.0)
+  way_up_goes_on at c here below way after afters = search rules
 
   -- each step up leaves less of the way, so the walk ends
   pub way_up_falls : (at : Option ℕ) (c : ℕ) → at ≡ Some c → c < n → IsOnWayUp f p n at → (after : ℕ → Option ℕ)
       → ((c q : ℕ) → f c ≡ Some q → IsNearest (λ d. c < d) Up f q (after c))
       → option_map_or (λ b. n + 1 - b) (after c) 0 < option_map_or (λ b. n + 1 - b) at 0
-  way_up_falls at c here below way after afters =
-      let on = subst (λ o. IsOnWayUp f p n o) here way in rw here (falls_up c below (after c) (afters c p on.0))
+  way_up_falls at c here below way after afters = search rules
 
   -- it ends at the first child that isn't below the number
   pub way_up_ends : (at : Option ℕ) (c : ℕ) → at ≡ Some c → n ≤ c → IsOnWayUp f p n at
       → IsNearest (λ d. n ≤ d) Up f p (Some c)
-  way_up_ends at c here from way =
-      let on = subst (λ o. IsOnWayUp f p n o) here way in
-      (from, on.0, λ d above early had. let low : c ≤ d = on.1 d above had in omega arith)
+  way_up_ends at c here from way = search rules
 
   -- where it has come to none, the parent has no child from the number on
   pub way_up_none : (at : Option ℕ) → at ≡ None → IsOnWayUp f p n at → IsNearest (λ d. n ≤ d) Up f p None
   way_up_none at here way = subst (λ o. IsOnWayUp f p n o) here way
 
--- what names a parent is that parent
-names_is : (o : Option ℕ) (p : ℕ) → names o p ≡ true → o ≡ Some p
-names_is None p never = absurd (cc)
-names_is (Some q) p same = ap (λ m. Some m) (eqb-true q p same)
-
--- and that parent is named
-is_names : (o : Option ℕ) (p : ℕ) → o ≡ Some p → names o p ≡ true
-is_names None p never = absurd (cc)
-is_names (Some q) p same = let e : q ≡ p = cc in eq-eqb q p e
-
 module _ (p n : ℕ) where
   -- the part of the first row, and of the others
   here_at : (row : ℕ × Link) (rows : List (ℕ × Link)) → part_at parent_of (row ∷ rows) row.0 ≡ row.1.parent
   here_at row rows = rw (eq-eqb row.0 row.0 refl) refl
-
-  -- the parent of a child that isn't the first row's stands in the other rows
-  there_at : (row : ℕ × Link) (rows : List (ℕ × Link)) (d : ℕ) → (row.0 ≡ d → ⊥)
-      → part_at parent_of (row ∷ rows) d ≡ part_at parent_of rows d
-  there_at row rows d other = rw (ne_eqb row.0 d other) refl
 
   -- below the first number no child has the parent
   none_below : (low high : ℕ) (rows : List (ℕ × Link)) → IsRising low rows high → (d : ℕ) → d < low
@@ -84,41 +47,15 @@ module _ (p n : ℕ) where
       → (o : Option ℕ) → IsNearest (λ d. n ≤ d) Up (part_at parent_of (row ∷ rows)) p o → Some row.0 ≡ o
   found_row low high row rows rising from under None is = absurd (is row.0 from (here_at row rows ∙ under))
   found_row low high row rows rising from under (Some c) is =
-      elim (cases_eq row.0 c) [
-        | inl same ↦ ap (λ m. Some m) same
-        | inr other ↦
-            elim (cases_lt row.0 c) [
-              | inl early ↦ absurd (is.2 row.0 from early (here_at row rows ∙ under))
-              | inr late ↦
-                  absurd (none_below (row.0 + 1) high rows rising.1 c (omega (arith, other, late))
-                  (sym (there_at row rows c other) ∙ is.1))
-            ]
-      ]
+      search (rules, here_at row rows, none_below (row.0 + 1) high rows rising.1 c)
 
   -- a first row that isn't so leaves the nearest child to the other rows
   other_row : (low high : ℕ) (row : ℕ × Link) (rows : List (ℕ × Link)) → IsRising low (row ∷ rows) high
       → (nat_le n row.0 && names row.1.parent p) ≡ false
       → (o : Option ℕ) → IsNearest (λ d. n ≤ d) Up (part_at parent_of (row ∷ rows)) p o
       → IsNearest (λ d. n ≤ d) Up (part_at parent_of rows) p o
-  other_row low high row rows rising fails None is =
-      λ d from had.
-      is d from (there_at row rows d
-      (λ same. none_below (row.0 + 1) high rows rising.1 d (omega (arith, same)) had) ∙ had)
-  other_row low high row rows rising fails (Some c) is =
-      let apart : row.0 ≡ c → ⊥ = λ same.
-      let under : row.1.parent ≡ Some p = sym (here_at row rows)
-      ∙ (subst (λ m. part_at parent_of (row ∷ rows) m ≡ Some p) (sym same) is.1) in
-      let passes : (nat_le n row.0 && names row.1.parent p) ≡ true =
-      rw (le-leb n row.0 (omega (arith, is.0, same)), is_names row.1.parent p under) refl in
-      let no : true ≡ false = sym passes ∙ fails in cc
-      in (
-        is.0,
-        sym (there_at row rows c apart) ∙ is.1,
-        λ d from early had.
-            is.2 d from early
-            (there_at row rows d
-            (λ same. none_below (row.0 + 1) high rows rising.1 d (omega (arith, same)) had) ∙ had),
-      )
+  other_row low high row rows rising fails None is = search (rules, none_below (row.0 + 1) high rows rising.1)
+  other_row low high row rows rising fails (Some c) is = search (rules, none_below (row.0 + 1) high rows rising.1)
 
   -- one row more in front: it is the first child, or the other rows tell
   first_step : (low high : ℕ) (row : ℕ × Link) (rows : List (ℕ × Link)) (o : Option ℕ) (b : Bool)
@@ -126,9 +63,7 @@ module _ (p n : ℕ) where
       → IsRising low (row ∷ rows) high → IsNearest (λ d. n ≤ d) Up (part_at parent_of (row ∷ rows)) p o
       → (IsNearest (λ d. n ≤ d) Up (part_at parent_of rows) p o → first_child (child_rows rows) p n ≡ o)
       → first_child (child_rows (row ∷ rows)) p n ≡ o
-  first_step low high row rows o true e rising is so =
-      let parts = and_parts (nat_le n row.0) (names row.1.parent p) e in
-      rw e (found_row low high row rows rising (leb-true n row.0 parts.0) (names_is row.1.parent p parts.1) o is)
+  first_step low high row rows o true e rising is so = search (rules, found_row low high row rows rising)
   first_step low high row rows o false e rising is so = rw e (so (other_row low high row rows rising e o is))
 
   -- the nearest child from a number on is the first row of the parent
