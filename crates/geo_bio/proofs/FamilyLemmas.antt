@@ -1,11 +1,11 @@
 -- A child comes in: its family counts one more that is Done, and the last one completes its parent.
 use Rattle.std.specs.Prelude.{count_by, flat_map, if◌then◌else◌}
 use Rattle.std.specs.List.{cons_option, list_all}
-use Rattle.std.specs.Option.{option_map, option_map_or, option_and_then}
-use Rattle.std.proofs.Common.{◌≡◌, ◌≢◌, ℕ, suc, ◌+◌, ◌<◌, ◌≤◌, ◌==◌, ◌&&◌, cond, not, List, [], ◌∷◌, ◌++◌, map, filter, length, Bool, true, false, Option, Some, None, sym, refl, ap, ◌∙◌, subst, inl, inr, arith, ◌-◌, append_assoc}
-use Rattle.std.proofs.lemmas.Bool.{cases_Bool, cases_eq, eq-eqb, ne_eqb, and_parts, not-true, MatchBool-at_true, MatchBool-at_false}
+use Rattle.std.specs.Option.{option_map_or, option_and_then}
+use Rattle.std.proofs.Common.{◌≡◌, ◌≢◌, ℕ, suc, ◌+◌, ◌<◌, ◌≤◌, ◌==◌, ◌&&◌, cond, not, List, [], ◌∷◌, ◌++◌, map, filter, length, Bool, true, false, Option, Some, sym, refl, ap, ◌∙◌, subst, arith, ◌-◌, append_assoc, rules}
+use Rattle.std.proofs.lemmas.Bool.{eq-eqb, and_parts, not-true, MatchBool-at_true, MatchBool-at_false}
 use Rattle.std.proofs.lemmas.List.{map-append}
-use Rattle.std.proofs.lemmas.List.Elements.{filter-append, filter_agree}
+use Rattle.std.proofs.lemmas.List.Elements.{filter-append}
 use Rattle.std.proofs.lemmas.List.Folds.{list_all-append}
 use Rattle.std.proofs.lemmas.List.Sums.{count_by-le-length, sum_by-cons}
 use Rattle.std.proofs.lemmas.Option.{same_Some}
@@ -13,9 +13,8 @@ use Rattle.geo_model.specs.Errno.{Errno}
 use Rattle.geo_model.specs.declared.step.BioResult.{BioResult}
 use Rattle.geo_model.specs.declared.step.Owner.{Owner}
 use Rattle.geo_model.specs.declared.step.Phase.{Phase}
-use Rattle.geo_model.specs.World.{BioOf, is_done, is_waiting, is_child_of, children_among, change_number, bio_among}
-use Rattle.geo_model.specs.Words.{is_read}
-use Rattle.geo_model.specs.Bios.{up_with, bytes_of_result, error_of_result, first_failure, joined_result}
+use Rattle.geo_model.specs.World.{BioOf, is_done, is_waiting, is_child_of, children_among, change_number}
+use Rattle.geo_model.specs.Bios.{up_with, bytes_of_result, first_failure}
 use Rattle.geo_model.proofs.FilterLists.{filter-map}
 use Rattle.geo_slots.specs.Slots.{IsRising, value_at, with_value, without}
 use Rattle.geo_slots.proofs.RowLemmas.{IsRising-with_value, IsRising-without, value_at-kept, without_below, change-items}
@@ -23,9 +22,9 @@ use Rattle.geo_bio.specs.declared.bio.Bio.{Bio}
 use Rattle.geo_bio.specs.declared.bio.Held.{Held}
 use Rattle.geo_bio.specs.BioTable.{with_phase}
 use Rattle.geo_bio.specs.Rows.{as_bio, seen_row, at_phase, up_holding, Child, child_of, family, FollowFrom, HasFamily, IsSplitInto, WaitsIn, IsTable}
-use Rattle.geo_bio.specs.Gather.{counted, held_error, error_from, bytes_from, without_all, held_of_parts, held_from}
-use Rattle.geo_bio.specs.Up.{are_in, resolved, held_as, gathered, completed}
-use Rattle.geo_bio.proofs.TableLemmas.{stands_at, at_written, each_written, waits_written, not_it, IsRising-filter, value_at-filter_back, value_at-filter, family-append, family-with, family-with_value, own_child, waiting_not_done, bio_among-rows, seen_changed, standing, kid, stranger, seen_family}
+use Rattle.geo_bio.specs.Gather.{counted, held_error, error_from, bytes_from, without_all, held_from}
+use Rattle.geo_bio.specs.Up.{are_in, resolved, gathered, completed}
+use Rattle.geo_bio.proofs.TableLemmas.{stands_at, at_written, each_written, waits_written, not_it, IsRising-filter, value_at-filter_back, value_at-filter, family-append, family-with, family-with_value, own_child, waiting_not_done, bio_among-rows, seen_changed, seen_family}
 use Rattle.geo_model.specs.declared.step.BioResult.TheVariants as results
 use Rattle.geo_model.specs.declared.step.Owner.TheVariants as owners
 use Rattle.geo_model.specs.declared.step.Phase.TheVariants as phases
@@ -47,22 +46,11 @@ count_open c cs done = count_first c cs ∙ ap (λ b. cond b 1 0 + count_by (λ 
 
 pub all_in : (xs : List Child) → count_by (λ c. c.done) xs ≡ length xs → list_all (λ c. c.done) xs ≡ true
 all_in [] e = refl
-all_in (c ∷ cs) e =
-    let long : length (c ∷ cs) ≡ 1 + length cs = omega arith in
-    elim (cases_Bool c.done) [
-      | inl done ↦ rw done (all_in cs (omega (arith, long, e, count_done c cs done)))
-      | inr open_still ↦
-          absurd (omega (arith, long, e, count_open c cs open_still, count_by-le-length (λ (x : Child). x.done) cs))
-    ]
+all_in (c ∷ cs) e = search (rules, all_in cs, count_done c cs, count_by-le-length (λ (x : Child). x.done) cs)
 
 pub not_all_in : (xs : List Child) → count_by (λ c. c.done) xs < length xs → list_all (λ c. c.done) xs ≡ false
 not_all_in [] less = absurd (omega (arith, less))
-not_all_in (c ∷ cs) less =
-    let long : length (c ∷ cs) ≡ 1 + length cs = omega arith in
-    elim (cases_Bool c.done) [
-      | inl done ↦ rw done (not_all_in cs (omega (arith, long, less, count_done c cs done)))
-      | inr open_still ↦ rw open_still refl
-    ]
+not_all_in (c ∷ cs) less = search (rules, not_all_in cs, count_done c cs)
 
 -- one more child is Done
 
@@ -116,18 +104,11 @@ family-done p n k x owner busy rows high rising found =
 pub seen_same : (p : ℕ) (x w : Bio) (rows : List (ℕ × Bio)) (high : ℕ) → IsRising 1 rows high
     → value_at rows p ≡ Some x → as_bio p w ≡ as_bio p x → map seen_row (with_value rows p w) ≡ map seen_row rows
 seen_same p x w rows high rising found same =
-    let s = stands_at p x 1 rows high rising found in
-    ap (map seen_row) (s.written w) ∙ map-append seen_row s.front ((p, w) ∷ s.back)
-    ∙ ap (λ b. map seen_row s.front ++ b ∷ map seen_row s.back) same
-    ∙ sym (ap (map seen_row) s.rows_are ∙ map-append seen_row s.front ((p, x) ∷ s.back))
+    search (rules, stands_at p x 1 rows high rising found, map-append seen_row)
 
 other_child : (q p n k : ℕ) (b c : Bool) (owner : Owner) → owner ≡ owners.Child p k → p ≢ q
     → child_of q n b owner ≡ child_of q n c owner
-other_child q p n k b c owner is differs =
-    ap (child_of q n b) is ∙ none b ∙ sym (ap (child_of q n c) is ∙ none c)
-  where
-    none : (d : Bool) → child_of q n d (owners.Child p k) ≡ None
-    none d = rw (ne_eqb p q differs) refl
+other_child q p n k b c owner is differs = search rules
 
 -- A child that goes up: it is Done, and counts in its parent
 
@@ -204,13 +185,12 @@ module _ (rows : List (ℕ × Bio)) (next n p k : ℕ) (x y : Bio) (t : IsTable 
 
   waits_counted : (q : ℕ) → WaitsIn rows q → WaitsIn counted_rows q
   waits_counted q w =
-      let v = waits_written rows n x (at_phase phases.Done x) u.child u.idle q w in
-      elim (cases_eq q p) [
-        | inl same ↦
-            subst (λ r. WaitsIn counted_rows r) (sym same)
-            (counted y, at_written done_rows p y (counted y) parent_done, u.waits)
-        | inr other ↦ (v.0, value_at-kept p q (counted y) done_rows other ∙ v.1, v.2)
-      ]
+      search (
+        rules,
+        waits_written rows n x (at_phase phases.Done x) u.child u.idle q w,
+        at_written done_rows p y (counted y) parent_done,
+        value_at-kept p q (counted y) done_rows,
+      )
 
   has_family : HasFamily (family counted_rows p) (counted y)
   has_family =
@@ -246,11 +226,8 @@ module _ (rows : List (ℕ × Bio)) (next n p k : ℕ) (x y : Bio) (t : IsTable 
       (λ i b differs stood of. waits_counted q (t.parents i b q j stood of)) l v) m z
 
   pub table_counted : IsTable counted_rows next
-  table_counted = record {
-    rising = IsRising-with_value p (counted y) 1 done_rows next rising_done;
-    families = families_counted;
-    parents = parents_counted;
-  }
+  table_counted =
+      search (rules, IsRising-with_value p (counted y) 1 done_rows next rising_done, families_counted, parents_counted)
 
 -- The last child comes in
 
@@ -279,22 +256,10 @@ done_if_child p j m y rows high rising all found owner =
 pub head_is : {a b : Child} {xs ys : List Child} → a ∷ xs ≡ b ∷ ys → a ≡ b
 head_is e = cc
 
-pub tail_is : {a b : Child} {xs ys : List Child} → a ∷ xs ≡ b ∷ ys → xs ≡ ys
-tail_is e = cc
-
 family-above : (p low : ℕ) (rows : List (ℕ × Bio)) (high : ℕ) (c : Child) (cs : List Child)
     → IsRising low rows high → family rows p ≡ c ∷ cs → low ≤ c.number
 family-above p low [] high c cs rising is = absurd (cc)
-family-above p low (row ∷ rows) high c cs rising is =
-    elim (standing p row.0 (is_done row.1.phase) row.1.owner) [
-      | kid index owner inside mine ↦
-          let number : row.0 ≡ c.number =
-          ap (λ (v : Child). v.number) (head_is (sym (ap (λ o. cons_option o (family rows p)) mine) ∙ is)) in
-          omega (arith, number, rising.0)
-      | stranger outside none ↦
-          let later = family-above p (row.0 + 1) rows high c cs rising.1
-          (sym (ap (λ o. cons_option o (family rows p)) none) ∙ is) in omega (arith, later, rising.0)
-    ]
+family-above p low (row ∷ rows) high c cs rising is = search (rules, family-above p (row.0 + 1) rows high c cs rising.1)
 
 record IsFirstGone (p first : ℕ) (rest : List Child) (rows : List (ℕ × Bio)) : Type 0 where
   pub family_is : family (without rows first) p ≡ rest
@@ -304,40 +269,16 @@ first_gone : (p low : ℕ) (rows : List (ℕ × Bio)) (high : ℕ) (c : Child) (
     → family rows p ≡ c ∷ cs → IsFirstGone p c.number cs rows
 first_gone p low [] high c cs rising is = absurd (cc)
 first_gone p low (row ∷ rows) high c cs rising is =
-    elim (standing p row.0 (is_done row.1.phase) row.1.owner) [
-      | kid index owner inside mine ↦
-          let e = sym (ap (λ o. cons_option o (family rows p)) mine) ∙ is in
-          let number : row.0 ≡ c.number = ap (λ (v : Child). v.number) (head_is e) in
-          let tail = tail_is e in
-          let gone : without (row ∷ rows) c.number ≡ rows =
-          rw (eq-eqb row.0 c.number number)
-          (without_below c.number (row.0 + 1) rows high rising.1 (omega (arith, number))) in
-          record {
-            family_is = ap (λ r. family r p) gone ∙ tail;
-            others_are = ap (λ r. others r p) gone
-                ∙ rw inside refl;
-          }
-      | stranger outside none ↦
-          let e = sym (ap (λ o. cons_option o (family rows p)) none) ∙ is in
-          let above = family-above p (row.0 + 1) rows high c cs rising.1 e in
-          let later = first_gone p (row.0 + 1) rows high c cs rising.1 e in
-          let differs : row.0 ≢ c.number = λ same. omega (arith, above, same) in
-          record {
-            family_is = rw (ne_eqb row.0 c.number differs)
-                (ap (λ o. cons_option o (family (without rows c.number) p)) none ∙ later.family_is);
-            others_are = rw (ne_eqb row.0 c.number differs, outside) (ap (λ xs. row ∷ xs) later.others_are);
-          }
-    ]
+    search (
+      rules,
+      without_below c.number (row.0 + 1) rows high rising.1,
+      family-above p (row.0 + 1) rows high c cs rising.1,
+      first_gone p (row.0 + 1) rows high c cs rising.1,
+    )
 
 others-none : (p : ℕ) (rows : List (ℕ × Bio)) → family rows p ≡ [] → others rows p ≡ rows
 others-none p [] none = refl
-others-none p (row ∷ rows) none =
-    elim (standing p row.0 (is_done row.1.phase) row.1.owner) [
-      | kid index owner inside mine ↦ absurd (let e = sym (ap (λ o. cons_option o (family rows p)) mine) ∙ none in cc)
-      | stranger outside absent ↦
-          rw outside (ap (λ xs. row ∷ xs)
-          (others-none p rows (sym (ap (λ o. cons_option o (family rows p)) absent) ∙ none)))
-    ]
+others-none p (row ∷ rows) none = search (rules, others-none p rows)
 
 pub without_all-family : (p first place : ℕ) (fam : List Child) (rows : List (ℕ × Bio)) (high : ℕ)
     → IsRising 1 rows high → family rows p ≡ fam → FollowFrom first place fam
@@ -350,13 +291,6 @@ without_all-family p first place (c ∷ cs) rows high rising is follow =
 
 -- What the children hold
 
-pub error-resolved : (log : ℕ → Option (List ℕ)) (h : Option Held) → error_of_result (resolved log h) ≡ held_error h
-error-resolved log None = refl
-error-resolved log (Some held.Done) = refl
-error-resolved log (Some (held.Bytes bytes)) = refl
-error-resolved log (Some (held.AtPlace place)) = refl
-error-resolved log (Some (held.Failed errno)) = refl
-
 -- the results of the children of a bio
 abbrev pub results_of : (ℕ → Option (List ℕ)) → List (BioOf Held) → ℕ → List BioResult
 results_of log bios p = map (λ x. resolved log x.result) (children_among bios p)
@@ -366,70 +300,24 @@ pub record IsGathered (log : ℕ → Option (List ℕ)) (all : List (ℕ × Bio)
   pub error : error_from all first count ≡ first_failure xs
   pub bytes : bytes_from log all first count ≡ flat_map bytes_of_result xs
 
-one_gathered : (log : ℕ → Option (List ℕ)) (all : List (ℕ × Bio)) (x : Bio) (first count : ℕ) (xs : List BioResult)
-    → value_at all first ≡ Some x → IsGathered log all (first + 1) count xs
-    → IsGathered log all first (suc count) (resolved log x.held ∷ xs)
-one_gathered log all x first count xs at rest = record {
-  error = ap (λ o. option_map_or (λ e. Some e) (option_and_then (λ (v : Bio). held_error v.held) o)
-      (error_from all (first + 1) count)) at
-      ∙ (λ i. option_map_or (λ e. Some e) (sym (error-resolved log x.held) i) (rest.error i));
-  bytes = ap (λ o. option_map_or (λ (v : Bio). bytes_of_result (resolved log v.held)) o []
-      ++ bytes_from log all (first + 1) count) at ∙ ap (λ r. bytes_of_result (resolved log x.held) ++ r) rest.bytes;
-}
-
 pub gathered-family : (log : ℕ → Option (List ℕ)) (all : List (ℕ × Bio)) (p low : ℕ) (rows : List (ℕ × Bio))
     (high first place : ℕ) (fam : List Child) → IsRising low rows high
     → ((m : ℕ) → low ≤ m → value_at all m ≡ value_at rows m) → family rows p ≡ fam → FollowFrom first place fam
     → IsGathered log all first (length fam) (results_of log (map seen_row rows) p)
-gathered-family log all p low [] high first place fam rising same is follow =
-    subst (λ f. IsGathered log all first (length f) []) is (record { error = refl; bytes = refl })
+gathered-family log all p low [] high first place fam rising same is follow = search rules
 gathered-family log all p low (row ∷ rows) high first place fam rising same is follow =
-    elim (standing p row.0 (is_done row.1.phase) row.1.owner) [
-      | kid index owner inside mine ↦
-          let e = sym (ap (λ o. cons_option o (family rows p)) mine) ∙ is in
-          let f = subst (FollowFrom first place) (sym e) follow in
-          let at : value_at all first ≡ Some row.1 = same first (omega (arith, f.0, rising.0))
-          ∙ rw (eq-eqb row.0 first f.0) refl in
-          let rest = gathered-family log all p (row.0 + 1) rows high (first + 1) (place + 1) (family rows p)
-          rising.1 later refl f.1.1 in
-          let xs = results_of log (map seen_row rows) p in
-          let step = one_gathered log all row.1 first (length (family rows p)) xs at rest in
-          rw inside (subst (λ g. IsGathered log all first (length g) (resolved log row.1.held ∷ xs)) e step)
-      | stranger outside none ↦
-          rw outside (gathered-family log all p (row.0 + 1) rows high first place fam rising.1 later
-          (sym (ap (λ o. cons_option o (family rows p)) none) ∙ is) follow)
-    ]
-  where
-    later : (m : ℕ) → row.0 + 1 ≤ m → value_at all m ≡ value_at rows m
-    later m from =
-        let differs : row.0 ≢ m = λ here. omega (arith, here, from) in
-        same m (omega (arith, rising.0, from)) ∙ rw (ne_eqb row.0 m differs) refl
+    search (
+      rules,
+      eq-eqb row.0 first,
+      gathered-family log all p (row.0 + 1) rows high (first + 1) (place + 1) (family rows p) rising.1,
+      gathered-family log all p (row.0 + 1) rows high first place fam rising.1,
+    )
 
 -- a change of phase leaves the results
 results-change : (log : ℕ → Option (List ℕ)) (n p : ℕ) (phase : Phase) (bios : List (BioOf Held))
     → results_of log (change_number n (with_phase phase) bios) p ≡ results_of log bios p
 results-change log n p phase [] = refl
-results-change log n p phase (x ∷ bios) =
-    let rest = results-change log n p phase bios in
-    elim (cases_Bool (x.number == n)) [
-      | inl same ↦
-          elim (cases_Bool (is_child_of x.owner p)) [
-            | inl inside ↦ rw (same, inside) (ap (λ r. resolved log x.result ∷ r) rest)
-            | inr outside ↦ rw (same, outside) rest
-          ]
-      | inr other ↦
-          elim (cases_Bool (is_child_of x.owner p)) [
-            | inl inside ↦ rw (other, inside) (ap (λ r. resolved log x.result ∷ r) rest)
-            | inr outside ↦ rw (other, outside) rest
-          ]
-    ]
-
-held-parts : (read : Bool) (error : Option Errno) (bytes : List ℕ)
-    → held_as (option_map_or (λ e. results.Failed e) error (if read then results.Bytes bytes else results.Done))
-    ≡ option_map_or (λ e. held.Failed e) error (if read then held.Bytes bytes else held.Done)
-held-parts read (Some e) bytes = refl
-held-parts true None bytes = refl
-held-parts false None bytes = refl
+results-change log n p phase (x ∷ bios) = search (rules, results-change log n p phase bios)
 
 -- What goes, and what stays
 
@@ -438,64 +326,40 @@ others-changed : (p q : ℕ) (h : Held) (bios : List (BioOf Held))
     → filter (λ z. not (is_child_of z.owner q)) (change_number p (up_with h) bios)
     ≡ change_number p (up_with h) (filter (λ z. not (is_child_of z.owner q)) bios)
 others-changed p q h bios =
-    filter-map (λ (z : BioOf Held). not (is_child_of z.owner q))
-    (λ (z : BioOf Held). if z.number == p then up_with h z else z) bios
-    ∙ ap (change_number p (up_with h))
-    (filter_agree (λ (z : BioOf Held). not (is_child_of (if z.number == p then up_with h z else z).owner q))
-    (λ (z : BioOf Held). not (is_child_of z.owner q)) (λ z. by (z.number == p) z) bios)
-  where
-    by : (b : Bool) (z : BioOf Held)
-        → not (is_child_of (if b then up_with h z else z).owner q) ≡ not (is_child_of z.owner q)
-    by true z = refl
-    by false z = refl
+    search (
+      rules,
+      filter-map (λ (z : BioOf Held). not (is_child_of z.owner q))
+          (λ (z : BioOf Held). if z.number == p then up_with h z else z) bios,
+    )
 
 -- a changed child goes as it would have gone
 others-with_child : (p n : ℕ) (x w : Bio) (rows : List (ℕ × Bio)) (high : ℕ) → IsRising 1 rows high
     → value_at rows n ≡ Some x → is_child_of x.owner p ≡ true → is_child_of w.owner p ≡ true
     → others (with_value rows n w) p ≡ others rows p
 others-with_child p n x w rows high rising found was is =
-    let s = stands_at n x 1 rows high rising found in
-    let test : ℕ × Bio → Bool = λ row. not (is_child_of row.1.owner p) in
-    let gone : (v : Bio) → is_child_of v.owner p ≡ true
-    → others (s.front ++ (n, v) ∷ s.back) p ≡ others s.front p ++ others s.back p =
-    λ v inside. filter-append test s.front ((n, v) ∷ s.back) ∙ rw inside refl in
-    ap (λ r. others r p) (s.written w) ∙ gone w is ∙ sym (ap (λ r. others r p) s.rows_are ∙ gone x was)
+    search (rules, stands_at n x 1 rows high rising found, filter-append)
 
 family-others_none : (p : ℕ) (rows : List (ℕ × Bio)) → family (others rows p) p ≡ []
 family-others_none p [] = refl
-family-others_none p (row ∷ rows) =
-    elim (standing p row.0 (is_done row.1.phase) row.1.owner) [
-      | kid index owner inside mine ↦ rw inside (family-others_none p rows)
-      | stranger outside none ↦
-          rw outside (ap (λ o. cons_option o (family (others rows p) p)) none ∙ family-others_none p rows)
-    ]
+family-others_none p (row ∷ rows) = search (rules, family-others_none p rows)
 
 family-others : (p q : ℕ) (rows : List (ℕ × Bio)) → q ≢ p → family (others rows p) q ≡ family rows q
 family-others p q [] differs = refl
-family-others p q (row ∷ rows) differs =
-    let rest = family-others p q rows differs in
-    elim (standing p row.0 (is_done row.1.phase) row.1.owner) [
-      | kid index owner inside mine ↦
-          let none : child_of q row.0 (is_done row.1.phase) row.1.owner ≡ None =
-          ap (child_of q row.0 (is_done row.1.phase)) owner ∙ rw (ne_eqb p q (λ same. differs (sym same))) refl in
-          rw inside (rest ∙ sym (ap (λ o. cons_option o (family rows q)) none))
-      | stranger outside none ↦ rw outside (ap (cons_option (child_of q row.0 (is_done row.1.phase) row.1.owner)) rest)
-    ]
+family-others p q (row ∷ rows) differs = search (rules, family-others p q rows differs)
 
 module _ (rows : List (ℕ × Bio)) (next n p k : ℕ) (x y : Bio) (t : IsTable rows next)
     (u : IsChildUp rows n p k x y) (last : y.finished + 1 ≡ y.children) where
   -- a Waiting bio isn't one of the children
   stays : (q : ℕ) (z : Bio) → value_at rows q ≡ Some z → is_waiting z.phase ≡ true → is_child_of z.owner p ≡ false
   stays q z at waits =
-      elim (standing p q true z.owner) [
-        | kid index owner inside mine ↦
-            let stands =
-            value_at-kept n q (at_phase phases.Done x) rows (not_it rows n x u.child u.idle q (z, at, waits)) ∙ at in
-            let done = done_if_child p index q z (done_rows rows next n p k x y t u) next
-            (rising_done rows next n p k x y t u) (all_done rows next n p k x y t u last) stands owner in
-            absurd (let e = sym (waiting_not_done z.phase waits) ∙ done in cc)
-        | stranger outside none ↦ outside
-      ]
+      search (
+        rules,
+        value_at-kept n q (at_phase phases.Done x) rows (not_it rows n x u.child u.idle q (z, at, waits)),
+        done_if_child p,
+        rising_done rows next n p k x y t u,
+        all_done rows next n p k x y t u last,
+        waiting_not_done z.phase waits,
+      )
 
   pub gone : without_all rows y.first_child y.children ≡ others rows p
   gone =
@@ -543,14 +407,10 @@ module _ (rows : List (ℕ × Bio)) (next n p k : ℕ) (x y : Bio) (t : IsTable 
     waits_kept : (owner : Owner) (q j : ℕ) → is_child_of owner p ≡ false → owner ≡ owners.Child q j
         → WaitsIn rows q → WaitsIn (with_value kept_rows p (up_holding h y)) q
     waits_kept owner q j outside of v =
-        let differs : q ≢ p = λ same.
-        let own : is_child_of owner p ≡ true = ap (λ o. is_child_of o p) of ∙ rw (eq-eqb q p same) refl in
-        let no : false ≡ true = sym outside ∙ own in cc in (
-          v.0,
-          value_at-kept p q (up_holding h y) kept_rows differs
-              ∙ value_at-filter (λ row. not (is_child_of row.1.owner p)) rows q v.0 v.1
-              (ap not (stays q v.0 v.1 v.2)),
-          v.2,
+        search (
+          rules,
+          value_at-kept p q (up_holding h y) kept_rows,
+          value_at-filter (λ row. not (is_child_of row.1.owner p)) rows q v.0 v.1 (ap not (stays q v.0 v.1 v.2)),
         )
 
     parents_kept : (m : ℕ) (z : Bio) (q j : ℕ) → value_at (with_value kept_rows p (up_holding h y)) m ≡ Some z
@@ -589,28 +449,24 @@ module _ (rows : List (ℕ × Bio)) (next n p k : ℕ) (x y : Bio) (t : IsTable 
     gathered_is : gathered log (change_number n (with_phase phases.Done) (map seen_row rows)) (as_bio p y)
         ≡ held_from log rows y
     gathered_is =
-        let s = split rows next n p k x y t u in
-        let g = subst (λ c. IsGathered log rows y.first_child c (results_of log (map seen_row rows) p)) s.count
-        (gathered-family log rows p 1 rows next y.first_child 0 (family rows p) t.rising (λ m from. refl) refl
-        s.follow) in
-        ap (λ xs. held_as (joined_result y.cmd xs)) (results-change log n p phases.Done (map seen_row rows))
-        ∙ held-parts (is_read y.cmd) (first_failure (results_of log (map seen_row rows) p))
-        (flat_map bytes_of_result (results_of log (map seen_row rows) p))
-        ∙ (λ i. held_of_parts y.cmd (sym g.error i) (sym g.bytes i))
+        search (
+          rules,
+          split rows next n p k x y t u,
+          gathered-family log rows p 1 rows next y.first_child 0 (family rows p) t.rising (λ m from. refl),
+          results-change log n p phases.Done (map seen_row rows),
+        )
 
     pub completed_is : completed log (change_number n (with_phase phases.Done) (map seen_row rows)) p
         ≡ map seen_row (complete_rows (held_from log rows y))
     completed_is =
-        let bios = change_number n (with_phase phases.Done) (map seen_row rows) in
-        let among : bio_among bios p ≡ Some (as_bio p y) =
-        ap (λ b. bio_among b p) (sym (seen_done rows next n p k x y t u))
-        ∙ bio_among-rows (done_rows rows next n p k x y t u) p
-        ∙ ap (option_map (as_bio p)) (parent_done rows next n p k x y t u) in
-        ap (λ o. option_map_or
-        (λ z. filter (λ v. not (is_child_of v.owner p)) (change_number p (up_with (gathered log bios z)) bios))
-        o bios) among
-        ∙ ap (λ h. filter (λ v. not (is_child_of v.owner p)) (change_number p (up_with h) bios)) gathered_is
-        ∙ seen_complete (held_from log rows y)
+        search (
+          rules,
+          seen_done rows next n p k x y t u,
+          bio_among-rows (done_rows rows next n p k x y t u) p,
+          parent_done rows next n p k x y t u,
+          gathered_is,
+          seen_complete (held_from log rows y),
+        )
 
 -- One more number of those that a parent gathers.
 
@@ -620,8 +476,7 @@ pub error_from-more : (rows : List (ℕ × Bio)) (first place count : ℕ) → p
     (error_from rows (first + (place + 1)) (count - (place + 1)))
 error_from-more rows first place count more =
     let one : count - place ≡ suc (count - (place + 1)) = omega arith in
-    let next : first + place + 1 ≡ first + (place + 1) = omega arith in
-    rw (one, next) refl
+    search rules
 
 -- the error of one bio is the first one, or else it is among the bios after it
 pub error_from-at : (rows : List (ℕ × Bio)) (first place count : ℕ) (o : Option Errno) → place < count
@@ -629,31 +484,20 @@ pub error_from-at : (rows : List (ℕ × Bio)) (first place count : ℕ) (o : Op
     → error_from rows (first + place) (count - place) ≡ error_from rows first count
     → option_map_or (λ e. Some e) o (error_from rows (first + (place + 1)) (count - (place + 1)))
     ≡ error_from rows first count
-error_from-at rows first place count o more here so_far =
-    ap (λ (e : Option Errno). option_map_or (λ x. Some x) e
-    (error_from rows (first + (place + 1)) (count - (place + 1)))) here
-    ∙ sym (error_from-more rows first place count more) ∙ so_far
+error_from-at rows first place count o more here so_far = search (rules, error_from-more rows first place count more)
 
 pub bytes_from-more : (log : ℕ → Option (List ℕ)) (rows : List (ℕ × Bio)) (first place count : ℕ) → place < count
     → bytes_from log rows (first + place) (count - place)
     ≡ option_map_or (λ x. bytes_of_result (resolved log x.held)) (value_at rows (first + place)) []
     ++ bytes_from log rows (first + (place + 1)) (count - (place + 1))
-bytes_from-more log rows first place count more =
-    let one : count - place ≡ suc (count - (place + 1)) = omega arith in
-    let next : first + place + 1 ≡ first + (place + 1) = omega arith in
-    rw (one, next) refl
+bytes_from-more log rows first place count more = search rules
 
 pub without_all-more : (rows : List (ℕ × Bio)) (first place count : ℕ) → place < count
     → without_all rows (first + place) (count - place)
     ≡ without_all (without rows (first + place)) (first + (place + 1)) (count - (place + 1))
-without_all-more rows first place count more =
-    let one : count - place ≡ suc (count - (place + 1)) = omega arith in
-    let next : first + place + 1 ≡ first + (place + 1) = omega arith in
-    ap (without_all rows (first + place)) one
-    ∙ ap (λ a. without_all (without rows (first + place)) a (count - (place + 1))) next
+without_all-more rows first place count more = search rules
 
 -- one more part is joined
 pub join_step : (new old part rest tail all : List ℕ) → new ≡ old ++ part → tail ≡ part ++ rest → old ++ tail ≡ all
     → new ++ rest ≡ all
-join_step new old part rest tail all pushed more so_far =
-    ap (λ b. b ++ rest) pushed ∙ append_assoc old part rest ∙ ap (λ r. old ++ r) (sym more) ∙ so_far
+join_step new old part rest tail all pushed more so_far = search (rules, append_assoc old part rest)

@@ -1,10 +1,10 @@
 -- A bio is split: its children stand at the end of the table, and it waits for them.
-use Rattle.std.proofs.Common.{◌≡◌, ◌≢◌, ℕ, suc, ◌+◌, ◌-◌, ◌^◌, ◌<◌, ◌≤◌, max, List, [], ◌∷◌, ◌++◌, map, length, ◌==◌, true, false, Option, Some, None, sym, refl, ap, ◌∙◌, subst, inl, inr, arith, append_assoc, append-nil}
-use Rattle.std.proofs.lemmas.Bool.{cases_eq, cases_lt, eq-eqb, ne_eqb, MatchBool-at_false}
+use Rattle.std.proofs.Common.{◌≡◌, ◌≢◌, ℕ, suc, ◌+◌, ◌-◌, ◌^◌, ◌<◌, ◌≤◌, max, List, [], ◌∷◌, ◌++◌, map, length, ◌==◌, true, false, Option, Some, sym, refl, ap, ◌∙◌, subst, inl, inr, arith, append_assoc, append-nil, rules}
+use Rattle.std.proofs.lemmas.Bool.{cases_eq, eq-eqb, ne_eqb, MatchBool-at_false}
 use Rattle.std.proofs.lemmas.List.{map-append}
 use Rattle.std.proofs.lemmas.Option.{same_Some, MatchOption-at_some}
 use Rattle.std.specs.Prelude.{count_by, if◌then◌else◌}
-use Rattle.std.specs.Option.{option_map, option_or, MatchOption, IfSome}
+use Rattle.std.specs.Option.{option_or, MatchOption, IfSome}
 use Rattle.geo_model.specs.declared.span.Piece.{Piece}
 use Rattle.geo_model.specs.declared.step.Owner.TheVariants as owners
 use Rattle.geo_model.specs.declared.step.Phase.TheVariants as phases
@@ -25,11 +25,7 @@ pub with_all-numbered : {T : Type 0} → (s : SlotsView T) (xs : List T)
       spare =
           s.spare - length xs;
     }
-with_all-numbered s [] =
-    let next : s.next ≡ s.next + 0 = omega arith in
-    let spare : s.spare ≡ s.spare - 0 = omega arith in
-    let rows = sym (append-nil s.rows) in
-    λ i. record { rows = rows i; next = next i; spare = spare i }
+with_all-numbered s [] = search rules
 with_all-numbered s (x ∷ xs) =
     let next : s.next + 1 + length xs ≡ s.next + suc (length xs) = omega arith in
     let spare : s.spare - 1 - length xs ≡ s.spare - suc (length xs) = omega arith in
@@ -50,8 +46,7 @@ pub seen-children : (first p : ℕ) (x : Bio) (k n : ℕ) (pieces : List Piece) 
 seen-children first p x k n [] targets place = refl
 seen-children first p x k n (piece ∷ pieces) [] place = refl
 seen-children first p x k n (piece ∷ pieces) (target ∷ targets) place =
-    λ i. as_bio (place i) (child_for p x k piece target)
-    ∷ seen-children first p x (k + 1) (n + 1) pieces targets (omega (arith, place)) i
+    search (rules, seen-children first p x (k + 1) (n + 1) pieces targets (omega (arith, place)))
 
 pub IsRising-numbered : {T : Type 0} → (low : ℕ) (rows : List (ℕ × T)) (next : ℕ) (xs : List T)
     → IsRising low rows next → IsRising low (rows ++ numbered next xs) (next + length xs)
@@ -78,12 +73,7 @@ new_child p x k n (piece ∷ pieces) (target ∷ targets) m y found =
     elim (cases_eq n m) [
       | inl same ↦
           let y_is : child_for p x k piece target ≡ y = same_Some _ _ (rw (eq-eqb n m same) at found) in
-          record {
-            index = k;
-            owner = ap (λ (z : Bio). z.owner) (sym y_is);
-            idle =
-                ap (λ (z : Bio). is_waiting z.phase) (sym y_is);
-          }
+          search (rules, ap (λ (z : Bio). z.owner) (sym y_is))
       | inr other ↦ new_child p x (k + 1) (n + 1) pieces targets m y (rw (ne_eqb n m other) at found)
     ]
 
@@ -194,17 +184,7 @@ pub split_left : (mid new : SlotsView Bio) (rows : List (ℕ × Bio)) (high room
     ≡ record mid { rows = with_value mid.rows n (change x) })
     → IfSome (value_at rows n) (λ x. new.rows ≡ with_value rows n (change x)) × (new.next ≡ high)
     × (new.spare ≡ room)
-split_left mid new rows high room n change all step =
-    by (value_at rows n)
-    (subst (λ m. MatchOption (value_at m.rows n) (new ≡ m) (λ x. new
-    ≡ record m { rows = with_value m.rows n (change x) })) all step)
-  where
-    by : (o : Option Bio)
-        → MatchOption o (new ≡ record { rows = rows; next = high; spare = room }) (λ x. new
-        ≡ record { rows = with_value rows n (change x); next = high; spare = room })
-        → IfSome o (λ x. new.rows ≡ with_value rows n (change x)) × (new.next ≡ high) × (new.spare ≡ room)
-    by (Some x) e = (ap (λ s. s.rows) e, ap (λ s. s.next) e, ap (λ s. s.spare) e)
-    by None e = (tt, ap (λ s. s.next) e, ap (λ s. s.spare) e)
+split_left mid new rows high room n change all step = search rules
 
 -- room that was made where it was wanting, and then taken, leaves what there was beyond it
 pub room_left : (old made count : ℕ) → old ≤ made → count ≤ made → made ≤ max old count → made - count ≡ old - count
@@ -223,11 +203,7 @@ module _ (rows : List (ℕ × Bio)) (next n : ℕ) (x : Bio) (pieces : List Piec
     (t : IsTable rows next) (found : value_at rows n ≡ Some x) (done : is_done x.phase ≡ false)
     (was : is_waiting x.phase ≡ false) (same : length targets ≡ length pieces) (few : length pieces < 2 ^ 32) where
   below_next : n < next
-  below_next =
-      elim (cases_lt n next) [
-        | inl below ↦ below
-        | inr past ↦ absurd (let e = sym (value_at_next n 1 rows next t.rising past) ∙ found in cc)
-      ]
+  below_next = search (rules, value_at_next n 1 rows next t.rising)
 
   rows_split : split_rows rows next n x pieces targets ≡ with_value rows n (parent rows next n x pieces targets)
       ++ kids rows next n x pieces targets
@@ -283,9 +259,7 @@ module _ (n : ℕ) (x : Bio) {items pieces : List Piece} {goals targets : List (
     (made : children ≡ children_for n x 0 items goals) (items_are : items ≡ pieces) (goals_are : goals ≡ targets)
     (as_many : length targets ≡ length pieces) where
   pub children_counted : length children ≡ length pieces
-  children_counted =
-      ap length made ∙ ap length (λ i. children_for n x 0 (items_are i) (goals_are i))
-      ∙ length-children_for n x 0 pieces targets as_many
+  children_counted = search (rules, length-children_for n x 0 pieces targets as_many)
 
 -- a bio was split, as contracts see it
 pub record IsStarted (v : BioTableView) (new : SlotsView Bio) (n : ℕ) (pieces : List Piece) (targets : List (ℕ × ℕ))
@@ -309,16 +283,9 @@ module _ (s mid new : SlotsView Bio) {v : BioTableView} {m n : ℕ} {o : Option 
   started =
       let there = in_phase is_down s view same down got x some in
       let facts = down_facts x.phase there.1 in
-      let after = subst (λ k. IfSome (value_at (mid.rows ++ numbered mid.next children) k) (λ z. new.rows
-      ≡ with_value (mid.rows ++ numbered mid.next children) k (waiting (length children) mid.next z))) same rows_are in
-      let split = is_split s.rows s.next n x pieces targets t there.0 facts.0 facts.1 as_many few mid new mid.spare x
-      children roomed refl (made ∙ (λ i. children_for n x 0 (items_are i) (goals_are i))) after grown in
-      let among : bio_among (map seen_row s.rows) n ≡ Some (as_bio n x) =
-      bio_among-rows s.rows n ∙ ap (option_map (as_bio n)) there.0 in
-      subst (λ (w : BioTableView). IsStarted w new n pieces targets) view (record {
-        table = split.table;
-        split = subst (λ p. IfSome p (λ z. map seen_row new.rows
-            ≡ change_number n (with_phase phases.Waiting) (map seen_row s.rows)
-            ++ split_into s.next z 0 pieces targets)) (sym among) split.seen_rows;
-        grows = split.grows;
-      })
+      search (
+        rules,
+        is_split s.rows s.next n x pieces targets t there.0 facts.0 facts.1 as_many few mid new mid.spare x children
+            roomed,
+        bio_among-rows s.rows n,
+      )

@@ -1,9 +1,9 @@
 -- The rows of a table of bios: what stands where after a change, the families, and what contracts see of it all.
 use Rattle.std.specs.Prelude.{is_some, count_by}
 use Rattle.std.specs.List.{cons_option, list_all}
-use Rattle.std.specs.Option.{option_map, option_map_or, option_or, MatchOption}
+use Rattle.std.specs.Option.{option_map, option_or, MatchOption}
 use Rattle.std.specs.List.Sorted.{IsStrictlyIncreasing}
-use Rattle.std.proofs.Common.{◌≡◌, ◌≢◌, ℕ, zero, suc, ◌+◌, ◌<◌, ◌≤◌, ◌==◌, ◌&&◌, nat_le, cond, List, [], ◌∷◌, ◌++◌, map, filter, find, length, Bool, true, false, Option, Some, None, IfSome, All, sym, refl, ap, ◌∙◌, subst, inl, inr, arith, append-nil}
+use Rattle.std.proofs.Common.{◌≡◌, ◌≢◌, ℕ, zero, suc, ◌+◌, ◌<◌, ◌≤◌, ◌==◌, nat_le, cond, List, [], ◌∷◌, ◌++◌, map, filter, find, length, Bool, true, false, Option, Some, None, IfSome, All, sym, refl, ap, ◌∙◌, subst, inl, inr, arith, rules}
 use Rattle.std.proofs.lemmas.Bool.{cases_Bool, cases_eq, eq-eqb, ne_eqb, MatchBool-at_true, MatchBool-at_false}
 use Rattle.std.proofs.lemmas.List.Elements.{All-cons, All-nil, filter_map-append}
 use Rattle.std.proofs.lemmas.List.Folds.{find-append}
@@ -71,33 +71,20 @@ module _ {T : Type 0} (rows : List (ℕ × T)) (n : ℕ) (x w : T) (found : valu
   each_written P here others m y at =
       elim (cases_eq m n) [
         | inl same ↦
-            let is : w ≡ y = same_Some _ _ (sym at_written ∙ ap (value_at (with_value rows n w)) (sym same) ∙ at) in
-            subst (λ (k : ℕ). P k y) (sym same) (subst (λ (z : T). P n z) is here)
+            search (rules, same_Some _ _ (sym at_written ∙ ap (value_at (with_value rows n w)) (sym same) ∙ at))
         | inr other ↦ others m y other (sym (value_at-kept n m w rows other) ∙ at)
       ]
 
 module _ {T : Type 0} (rows more : List (ℕ × T)) where
   -- a look-up in rows and those behind them
   pub value_at-append : (m : ℕ) → value_at (rows ++ more) m ≡ option_or (value_at rows m) (value_at more m)
-  value_at-append m =
-      ap (option_map (λ (row : ℕ × T). row.1)) (find-append (λ (row : ℕ × T). row.0 == m) rows more)
-      ∙ by (find (λ (row : ℕ × T). row.0 == m) rows) (find (λ (row : ℕ × T). row.0 == m) more)
-    where
-      by : (o r : Option (ℕ × T)) → option_map (λ (row : ℕ × T). row.1) (option_or o r)
-          ≡ option_or (option_map (λ (row : ℕ × T). row.1) o) (option_map (λ (row : ℕ × T). row.1) r)
-      by None r = refl
-      by (Some row) r = refl
+  value_at-append m = search (rules, find-append (λ (row : ℕ × T). row.0 == m) rows more)
 
   -- what holds of each value of these and of each behind them holds of each
   pub each_appended : (P : ℕ → T → Type 0) → ((m : ℕ) (y : T) → value_at rows m ≡ Some y → P m y)
       → ((m : ℕ) (y : T) → value_at rows m ≡ None → value_at more m ≡ Some y → P m y)
       → (m : ℕ) (y : T) → value_at (rows ++ more) m ≡ Some y → P m y
-  each_appended P old new m y at =
-      by (value_at rows m) (value_at more m) refl refl (sym (value_at-append m) ∙ at)
-    where
-      by : (o r : Option T) → value_at rows m ≡ o → value_at more m ≡ r → option_or o r ≡ Some y → P m y
-      by (Some z) r e f here = old m y (e ∙ here)
-      by None r e f here = new m y e (f ∙ here)
+  each_appended P old new m y at = search (rules, value_at-append m)
 
 module _ {T : Type 0} (test : ℕ × T → Bool) where
   pub IsRising-filter : (low : ℕ) (rows : List (ℕ × T)) (high : ℕ) → IsRising low rows high
@@ -132,12 +119,9 @@ module _ {T : Type 0} (test : ℕ × T → Bool) where
       kept passes back at =
           elim (cases_eq row.0 m) [
             | inl same ↦
-                let is : row.1 ≡ y = same_Some _ _ (rw (eq-eqb row.0 m same) at at) in
-                let e : test (row.0, row.1) ≡ test (m, y) = λ i. test (same i, is i) in
-                (rw (eq-eqb row.0 m same) (ap Some is), sym e ∙ passes)
+                search rules
             | inr other ↦
-                let later = back (rw (ne_eqb row.0 m other) at at) in
-                (rw (ne_eqb row.0 m other) later.0, later.1)
+                search rules
           ]
 
   -- what passes still stands
@@ -147,30 +131,16 @@ module _ {T : Type 0} (test : ℕ × T → Bool) where
   value_at-filter (row ∷ rows) m y found passes =
       elim (cases_eq row.0 m) [
         | inl same ↦
-            let is : row.1 ≡ y = same_Some _ _ (rw (eq-eqb row.0 m same) at found) in
-            let e : test (row.0, row.1) ≡ test (m, y) = λ i. test (same i, is i) in
-            let here : test row ≡ true = e ∙ passes in
-            rw (here, eq-eqb row.0 m same) (ap Some is)
+            search rules
         | inr other ↦
-            let later = value_at-filter rows m y (rw (ne_eqb row.0 m other) at found) passes in
-            elim (cases_Bool (test row)) [
-              | inl keeps ↦ rw (keeps, ne_eqb row.0 m other) later
-              | inr drops ↦ rw drops later
-            ]
+            search (rules, value_at-filter rows m y (rw (ne_eqb row.0 m other) at found) passes)
       ]
 
 -- A search from a number on goes through what contracts see
 pub find-from_seen : (n : ℕ) (rows : List (ℕ × Bio))
     → option_map (λ x. x.number) (find (λ x. nat_le n x.number) (map seen_row rows))
     ≡ option_map (λ row. row.0) (find (λ row. nat_le n row.0) rows)
-find-from_seen n rows =
-    ap (option_map (λ (x : BioOf Held). x.number)) (find-map (λ (x : BioOf Held). nat_le n x.number) seen_row rows)
-    ∙ by (find (λ (row : ℕ × Bio). nat_le n row.0) rows)
-  where
-    by : (o : Option (ℕ × Bio))
-        → option_map (λ (x : BioOf Held). x.number) (option_map seen_row o) ≡ option_map (λ (row : ℕ × Bio). row.0) o
-    by None = refl
-    by (Some row) = refl
+find-from_seen n rows = search (rules, find-map (λ (x : BioOf Held). nat_le n x.number) seen_row rows)
 
 -- after a change of one number, what a look-up finds at another
 pub value_at-changed_other : {T : Type 0} → (old new : SlotsView T) (n m : ℕ) (change : T → T) → m ≢ n
@@ -195,17 +165,9 @@ pub own_child : (p n k : ℕ) (done : Bool)
     → child_of p n done (owners.Child p k) ≡ Some (record { number = n; place = k; done = done })
 own_child p n k done = rw (eq-eqb p p refl) refl
 
--- a bio that isn't a child is in no family
-pub child_of-root : (p n : ℕ) (done : Bool) (owner : Owner) → is_root owner ≡ true → child_of p n done owner ≡ None
-child_of-root p n done (owners.Child parent index) root = absurd (cc)
-child_of-root p n done _ root = refl
-
 family-push : (p n : ℕ) (w : Bio) (rows : List (ℕ × Bio)) → is_root w.owner ≡ true
     → family (rows ++ (n, w) ∷ []) p ≡ family rows p
-family-push p n w rows root =
-    family-append p rows ((n, w) ∷ [])
-    ∙ ap (λ o. family rows p ++ cons_option o []) (child_of-root p n (is_done w.phase) w.owner root)
-    ∙ append-nil (family rows p)
+family-push p n w rows root = search (rules, family-append p rows ((n, w) ∷ []))
 
 module _ (p n : ℕ) (x : Bio) (rows : List (ℕ × Bio)) (high : ℕ) (rising : IsRising 1 rows high)
     (found : value_at rows n ≡ Some x) where
@@ -218,18 +180,11 @@ module _ (p n : ℕ) (x : Bio) (rows : List (ℕ × Bio)) (high : ℕ) (rising :
   pub family-with_value : (w : Bio)
       → child_of p n (is_done w.phase) w.owner ≡ child_of p n (is_done x.phase) x.owner
       → family (with_value rows n w) p ≡ family rows p
-  family-with_value w same =
-      let s = stands_at n x 1 rows high rising found in
-      ap (λ r. family r p) (s.written w) ∙ family-append p s.front ((n, w) ∷ s.back)
-      ∙ ap (λ o. family s.front p ++ cons_option o (family s.back p)) same ∙ sym (family-with s)
+  family-with_value w same = search (rules, stands_at n x 1 rows high rising found, family-append p)
 
   -- a root that goes was in no family
   pub family-without_root : is_root x.owner ≡ true → family (without rows n) p ≡ family rows p
-  family-without_root root =
-      let s = stands_at n x 1 rows high rising found in
-      ap (λ r. family r p) s.gone ∙ family-append p s.front s.back
-      ∙ ap (λ o. family s.front p ++ cons_option o (family s.back p))
-      (sym (child_of-root p n (is_done x.phase) x.owner root)) ∙ sym (family-with s)
+  family-without_root root = search (rules, stands_at n x 1 rows high rising found, family-append p)
 
 -- a bio that no bio names as its parent has no family
 pub family-none : (p low : ℕ) (rows : List (ℕ × Bio)) (high : ℕ) → IsRising low rows high
@@ -241,13 +196,7 @@ family-none p low (row ∷ rows) high rising none =
     rw (no_child row.1.owner (λ k. none row.0 row.1 k first)) rest
   where
     later : (m : ℕ) (x : Bio) → value_at rows m ≡ Some x → value_at (row ∷ rows) m ≡ Some x
-    later m x found =
-        elim (cases_eq row.0 m) [
-          | inl same ↦
-              let absent = value_at_below m (row.0 + 1) rows high rising.1 (omega (arith, same)) in
-              absurd (let e = sym absent ∙ found in cc)
-          | inr other ↦ rw (ne_eqb row.0 m other) found
-        ]
+    later m x found = search (rules, value_at_below m (row.0 + 1) rows high rising.1)
 
     no_child : (owner : Owner) → ((k : ℕ) → owner ≡ owners.Child p k → ⊥)
         → child_of p row.0 (is_done row.1.phase) owner ≡ None
@@ -264,16 +213,12 @@ no_family rows next n t absent =
 -- a bio that doesn't wait is another than one that does
 pub not_it : (rows : List (ℕ × Bio)) (n : ℕ) (x : Bio) → value_at rows n ≡ Some x → is_waiting x.phase ≡ false
     → (p : ℕ) → WaitsIn rows p → p ≢ n
-not_it rows n x found was p q same =
-    let is : x ≡ q.0 = same_Some _ _ (sym found ∙ ap (value_at rows) (sym same) ∙ q.1) in
-    let no : false ≡ true = sym was ∙ ap (λ (y : Bio). is_waiting y.phase) is ∙ q.2 in
-    cc
+not_it rows n x found was p q same = search rules
 
 -- so one that waits still waits once the other is written
 pub waits_written : (rows : List (ℕ × Bio)) (n : ℕ) (x w : Bio) → value_at rows n ≡ Some x
     → is_waiting x.phase ≡ false → (p : ℕ) → WaitsIn rows p → WaitsIn (with_value rows n w) p
-waits_written rows n x w found was p q =
-    (q.0, value_at-kept n p w rows (not_it rows n x found was p q) ∙ q.1, q.2)
+waits_written rows n x w found was p q = search (rules, value_at-kept n p w rows (not_it rows n x found was p q))
 
 -- and once more come behind
 pub waits_appended : (rows more : List (ℕ × Bio)) (p : ℕ) → WaitsIn rows p → WaitsIn (rows ++ more) p
@@ -332,19 +277,12 @@ pub table_without_root : (rows : List (ℕ × Bio)) (next n : ℕ) (x : Bio) →
 table_without_root rows next n x t found root was =
     record {
       rising = IsRising-without n 1 rows next t.rising;
-      families = λ m y at.
-          rw (family-without_root m n x rows next t.rising found root) (t.families m y (stood m y at));
-      parents = λ m y p k at of. let q = t.parents m y p k (stood m y at) of in
-          (q.0, value_at-without n p rows (not_it rows n x found was p q) ∙ q.1, q.2);
+      families = search (rules, family-without_root, stood);
+      parents = λ m y p k at of. search (rules, t.parents m y p k (stood m y at) of, value_at-without n p rows);
     }
   where
     stood : (m : ℕ) (y : Bio) → value_at (without rows n) m ≡ Some y → value_at rows m ≡ Some y
-    stood m y at =
-        elim (cases_eq m n) [
-          | inl same ↦
-              absurd (let no = sym (value_at-gone n rows) ∙ ap (value_at (without rows n)) (sym same) ∙ at in cc)
-          | inr other ↦ sym (value_at-without n m rows other) ∙ at
-        ]
+    stood m y at = search (rules, value_at-gone n rows, value_at-without n m rows)
 
 -- a bio in one of these phases is neither Done nor Waiting
 
@@ -382,8 +320,7 @@ increases_on : (n : ℕ) (rows : List (ℕ × Bio)) (high : ℕ) → IsRising (n
 increases_on n [] high rising up zero less = absurd (omega (arith, less))
 increases_on n [] high rising up (suc k) less = absurd (omega (arith, less))
 increases_on n (row ∷ rows) high rising up zero less = omega (arith, rising.0)
-increases_on n (row ∷ rows) high rising up (suc k) less = let e : suc k + 1 ≡ suc (k + 1) = omega arith in
-    rw e (up k (omega (arith, less)))
+increases_on n (row ∷ rows) high rising up (suc k) less = search rules
 
 -- the numbers of rising rows increase
 increases : (low : ℕ) (rows : List (ℕ × Bio)) (high : ℕ) → IsRising low rows high
@@ -397,9 +334,7 @@ below : (low : ℕ) (rows : List (ℕ × Bio)) (high : ℕ) → IsRising low row
     → All (λ n. n < high) (map (λ x. x.number) (map seen_row rows))
 below low [] high rising = All-nil (λ n. n < high)
 below low (row ∷ rows) high rising =
-    let ends = IsRising_ends (row.0 + 1) rows high rising.1 in
-    All-cons (λ n. n < high) row.0 (map (λ x. x.number) (map seen_row rows)) (omega (arith, ends))
-    (below (row.0 + 1) rows high rising.1)
+    search (rules, IsRising_ends (row.0 + 1) rows high rising.1, below (row.0 + 1) rows high rising.1)
 
 -- none is below the beginning
 above : (least low : ℕ) (rows : List (ℕ × Bio)) (high : ℕ) → least ≤ low → IsRising low rows high
@@ -428,15 +363,7 @@ bio_among-rows rows n = find-items seen_row (λ x. x.number) (λ row. refl) n ro
 -- a bio in a phase is there
 pub bio_of_phase : (test : Phase → Bool) (rows : List (ℕ × Bio)) (n : ℕ)
     → has_phase test (map seen_row rows) n ≡ true → (x : Bio) × (value_at rows n ≡ Some x) × (test x.phase ≡ true)
-bio_of_phase test rows n e =
-    there (value_at rows n) refl
-    (sym (ap (λ o. option_map_or (λ (x : BioOf Held). test x.phase) o false) (bio_among-rows rows n)) ∙ e)
-  where
-    there : (o : Option Bio) → value_at rows n ≡ o
-        → option_map_or (λ (x : BioOf Held). test x.phase) (option_map (as_bio n) o) false ≡ true
-        → (x : Bio) × (value_at rows n ≡ Some x) × (test x.phase ≡ true)
-    there (Some x) found passes = (x, found, passes)
-    there None found passes = absurd (cc)
+bio_of_phase test rows n e = search (rules, bio_among-rows rows n)
 
 -- a changed bio among what contracts see
 pub seen_changed : (rows : List (ℕ × Bio)) (next n : ℕ) (x w : Bio) (change : BioOf Held → BioOf Held)
@@ -453,9 +380,7 @@ seen s = record { bios = map seen_row s.rows; next = s.next; spare = s.spare }
 -- the phase of a bio that is there
 pub phase_there : (test : Phase → Bool) (rows : List (ℕ × Bio)) (n : ℕ) (x : Bio) → value_at rows n ≡ Some x
     → has_phase test (map seen_row rows) n ≡ true → test x.phase ≡ true
-phase_there test rows n x found e =
-    sym (ap (λ o. option_map_or (λ (y : BioOf Held). test y.phase) o false) (bio_among-rows rows n
-    ∙ ap (option_map (as_bio n)) found)) ∙ e
+phase_there test rows n x found e = search (rules, bio_among-rows rows n)
 
 -- a bio of the number that was asked for is seen in a phase
 module _ (test : Phase → Bool) (s : SlotsView Bio) {v : BioTableView} {m n : ℕ} (view : seen s ≡ v) (same : m ≡ n)
@@ -467,16 +392,11 @@ module _ (test : Phase → Bool) (s : SlotsView Bio) {v : BioTableView} {m n : �
   module _ {o : Option Bio} (got : o ≡ value_at s.rows m) where
     -- so it was found
     pub never_none : o ≡ None → ⊥
-    never_none none =
-        let x = bio_of_phase test s.rows n has in
-        let e : Some x.0 ≡ None = sym x.1 ∙ sym (ap (value_at s.rows) same) ∙ sym got ∙ none in
-        absurd (cc)
+    never_none none = search (rules, bio_of_phase test s.rows n has)
 
     -- at its number, and in the phase
     pub in_phase : (x : Bio) → o ≡ Some x → (value_at s.rows n ≡ Some x) × (test x.phase ≡ true)
-    in_phase x some =
-        let found : value_at s.rows n ≡ Some x = sym (ap (value_at s.rows) same) ∙ sym got ∙ some in
-        (found, phase_there test s.rows n x found has)
+    in_phase x some = search (rules, phase_there test s.rows n x)
 
 -- What is left
 
@@ -565,22 +485,16 @@ pub record IsSeenFamily (p : ℕ) (seen_children : List (BioOf Held)) (children 
 one_seen : (p : ℕ) (x : BioOf Held) (c : Child) (xs : List (BioOf Held)) (cs : List Child) → x.number ≡ c.number
     → x.owner ≡ owners.Child p c.place → is_done x.phase ≡ c.done → IsSeenFamily p xs cs
     → IsSeenFamily p (x ∷ xs) (c ∷ cs)
-one_seen p x c xs cs number owner same rest = record {
-  same_length = ap suc rest.same_length;
-  same_count = sum_by-cons (λ (y : BioOf Held). cond (is_done y.phase) 1 0) x xs
-      ∙ (λ i. cond (same i) 1 0 + rest.same_count i) ∙ sym (sum_by-cons (λ (d : Child). cond d.done 1 0) c cs);
-  same_all = λ i. same i && rest.same_all i;
-  same_places =
-      λ first place follow. (
-        number ∙ follow.0,
-        (owner ∙ ap (owners.Child p) follow.1.0, rest.same_places (first + 1) (place + 1) follow.1.1),
-      );
-}
+one_seen p x c xs cs number owner same rest =
+    search (
+      rules,
+      sum_by-cons (λ (y : BioOf Held). cond (is_done y.phase) 1 0) x xs,
+      sum_by-cons (λ (d : Child). cond d.done 1 0) c cs,
+    )
 
 pub seen_family : (p : ℕ) (rows : List (ℕ × Bio))
     → IsSeenFamily p (children_among (map seen_row rows) p) (family rows p)
-seen_family p [] =
-    record { same_length = refl; same_count = refl; same_all = refl; same_places = λ first place follow. tt }
+seen_family p [] = search rules
 seen_family p (row ∷ rows) =
     let rest = seen_family p rows in
     elim (standing p row.0 (is_done row.1.phase) row.1.owner) [
@@ -597,14 +511,7 @@ pub family_told : (rows : List (ℕ × Bio)) (next n : ℕ) → IsTable rows nex
 family_told rows next n t None found = tt
 family_told rows next n t (Some x) found =
     λ waits.
-    let s = MatchBool-at_true _ _ waits (t.families n x (sym found)) in
-    let f = seen_family n rows in
-    record {
-      stand = f.same_places x.first_child 0 s.follow;
-      all = sym s.count ∙ sym f.same_length;
-      done =
-          sym s.finished ∙ sym f.same_count;
-    }
+    search (rules, MatchBool-at_true _ _ waits (t.families n x (sym found)), seen_family n rows)
 
 -- the parent of a child waits
 pub parent_told : (rows : List (ℕ × Bio)) (next n : ℕ) → IsTable rows next → (o : Option Bio) → o ≡ value_at rows n
@@ -615,6 +522,4 @@ parent_told rows next n t (Some x) found = at x.owner refl where
   at (owners.Line handle line) is = tt
   at owners.Taste is = tt
   at (owners.Child parent index) is =
-      let w = t.parents n x parent index (sym found) is in
-      ap (λ o. option_map_or (λ (y : BioOf Held). is_waiting y.phase) o false) (bio_among-rows rows parent
-      ∙ ap (option_map (as_bio parent)) w.1) ∙ w.2
+      search (rules, t.parents n x parent index (sym found) is, bio_among-rows rows parent)

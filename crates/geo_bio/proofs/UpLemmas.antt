@@ -1,13 +1,11 @@
 -- A bio goes up: what becomes of the rows, and what contracts see of it.
-use Rattle.std.proofs.Common.{◌≡◌, ◌≢◌, ◌⊎◌, ℕ, suc, ◌+◌, ◌^◌, ◌<◌, ◌≤◌, List, [], ◌∷◌, map, filter, length, not, ◌==◌, true, false, Option, Some, Result, Ok, Err, sym, refl, ap, ◌∙◌, subst, inl, inr, arith, IfOk, OnOk, OnErr, IfSome}
-use Rattle.std.proofs.lemmas.Bool.{cases_eq, eq-eqb, ne_eqb}
-use Rattle.std.proofs.lemmas.Result.{on_ok_weaker, on_err_weaker}
-use Rattle.std.specs.List.{cons_option}
+use Rattle.std.proofs.Common.{◌≡◌, ◌≢◌, ◌⊎◌, ℕ, ◌+◌, ◌^◌, ◌<◌, ◌≤◌, List, [], ◌∷◌, map, length, not, true, Option, Some, Result, Ok, Err, sym, refl, ap, ◌∙◌, subst, inl, inr, arith, IfOk, OnOk, OnErr, IfSome, rules}
+use Rattle.std.proofs.lemmas.Bool.{cases_eq}
 use Rattle.std.specs.Option.{option_map, option_map_or}
 use Rattle.geo_model.specs.declared.step.Owner.{Owner}
 use Rattle.geo_model.specs.declared.step.Owner.TheVariants as owners
 use Rattle.geo_model.specs.declared.step.Phase.TheVariants as phases
-use Rattle.geo_model.specs.World.{BioOf, is_up, is_done, is_root, is_child_of, change_number, bio_among}
+use Rattle.geo_model.specs.World.{BioOf, is_up, is_root, is_child_of, change_number, bio_among}
 use Rattle.geo_slots.specs.Slots.{SlotsView, IsRising, value_at, with_value, without}
 use Rattle.geo_slots.proofs.RowLemmas.{IsRising_ends, filter-items}
 use Rattle.geo_bio.specs.declared.bio.Bio.{Bio}
@@ -15,11 +13,11 @@ use Rattle.geo_bio.specs.declared.bio.Held.{Held}
 use Rattle.geo_bio.specs.declared.bio.Risen.{Risen}
 use Rattle.geo_bio.specs.declared.bio.Risen.TheVariants as risen
 use Rattle.geo_bio.specs.BioTable.{BioTableView, AreInOrder, has_phase, with_phase}
-use Rattle.geo_bio.specs.Rows.{as_bio, seen_row, at_phase, up_holding, Child, family, FollowFrom, IsTable}
-use Rattle.geo_bio.specs.Gather.{without_all, counted, held_from, changed_at, is_last, rows_up}
+use Rattle.geo_bio.specs.Rows.{as_bio, seen_row, Child, family, FollowFrom, IsTable}
+use Rattle.geo_bio.specs.Gather.{counted, changed_at, is_last, rows_up}
 use Rattle.geo_bio.specs.Up.{resolved, are_in, after_up, told_of_up}
-use Rattle.geo_bio.proofs.TableLemmas.{value_at-filter, not_it, table_without_root, up_facts, bio_among-rows, seen, in_phase, in_order, standing, kid, stranger}
-use Rattle.geo_bio.proofs.FamilyLemmas.{IsChildUp, done_rows, parent_done, split, fewer, are_in-last, are_in-other, counted_rows, seen_counted, table_counted, gone, no_child, complete_rows, table_complete, completed_is}
+use Rattle.geo_bio.proofs.TableLemmas.{value_at-filter, table_without_root, up_facts, bio_among-rows, seen, in_phase, in_order}
+use Rattle.geo_bio.proofs.FamilyLemmas.{IsChildUp, done_rows, parent_done, split, fewer, are_in-last, are_in-other, seen_counted, table_counted, gone, no_child, table_complete, completed_is}
 
 -- the numbers of a family stay below the next number
 family_below : (p low : ℕ) (rows : List (ℕ × Bio)) (high first place : ℕ) → IsRising low rows high
@@ -27,22 +25,12 @@ family_below : (p low : ℕ) (rows : List (ℕ × Bio)) (high first place : ℕ)
     → (length (family rows p) ≡ 0) ⊎ (first + length (family rows p) ≤ high)
 family_below p low [] high first place rising follow = inl refl
 family_below p low (row ∷ rows) high first place rising follow =
-    elim (standing p row.0 (is_done row.1.phase) row.1.owner) [
-      | kid index owner inside mine ↦
-          let e = ap (λ o. cons_option o (family rows p)) mine in
-          let f = subst (FollowFrom first place) e follow in
-          let ends = IsRising_ends (row.0 + 1) rows high rising.1 in
-          let below : first + suc (length (family rows p)) ≤ high =
-          elim (family_below p (row.0 + 1) rows high (first + 1) (place + 1) rising.1 f.1.1) [
-            | inl none ↦ omega (arith, ends, f.0, none)
-            | inr rest ↦ omega (arith, rest)
-          ] in
-          subst (λ (g : List Child). (length g ≡ 0) ⊎ (first + length g ≤ high)) (sym e) (inr below)
-      | stranger outside none ↦
-          let e = ap (λ o. cons_option o (family rows p)) none in
-          subst (λ (g : List Child). (length g ≡ 0) ⊎ (first + length g ≤ high)) (sym e)
-          (family_below p (row.0 + 1) rows high first place rising.1 (subst (FollowFrom first place) e follow))
-    ]
+    search (
+      rules,
+      IsRising_ends (row.0 + 1) rows high rising.1,
+      family_below p (row.0 + 1) rows high (first + 1) (place + 1) rising.1,
+      family_below p (row.0 + 1) rows high first place rising.1,
+    )
 
 changed_at-some : (change : Bio → Bio) (rows : List (ℕ × Bio)) (n : ℕ) (x : Bio) → value_at rows n ≡ Some x
     → changed_at change rows n ≡ with_value rows n (change x)
@@ -51,10 +39,7 @@ changed_at-some change rows n x found = ap (λ o. option_map_or (λ (v : Bio). w
 -- a child that goes up, with its parent
 pub child_up : (rows : List (ℕ × Bio)) (next n p k : ℕ) (x : Bio) → IsTable rows next → value_at rows n ≡ Some x
     → is_up x.phase ≡ true → x.owner ≡ owners.Child p k → (y : Bio) × IsChildUp rows n p k x y
-child_up rows next n p k x t found up owner =
-    let w = t.parents n x p k found owner in
-    let facts = up_facts x.phase up in
-    (w.0, record { child = found; owner = owner; busy = facts.0; idle = facts.1; parent = w.1; waits = w.2 })
+child_up rows next n p k x t found up owner = search (rules, t.parents n x p k found owner)
 
 module _ (rows : List (ℕ × Bio)) (next n p k : ℕ) (x y : Bio) (t : IsTable rows next)
     (u : IsChildUp rows n p k x y) where
@@ -75,43 +60,28 @@ module _ (rows : List (ℕ × Bio)) (next n p k : ℕ) (x y : Bio) (t : IsTable 
 
     last_up : y.finished + 1 ≡ y.children → IsRisen (rows_up log rows n p y)
     last_up last =
-        let h = held_from log rows y in
-        let all_gone = gone rows next n p k x y t u last in
-        let stands : value_at (without_all rows y.first_child y.children) p ≡ Some y =
-        ap (λ r. value_at r p) all_gone
-        ∙ value_at-filter (λ row. not (is_child_of row.1.owner p)) rows p y u.parent
-        (ap not (no_child rows next n p k x y t u last)) in
-        let is : is_last y ≡ true = eq-eqb (y.finished + 1) y.children last in
-        let after : rows_up log rows n p y ≡ complete_rows rows next n p k x y t u last h =
-        rw is (changed_at-some (up_holding h) (without_all rows y.first_child y.children) p y stands) in
-        let in_ = are_in-last rows next n p k x y t u last in
-        record {
-          table = subst (λ r. IsTable r next) (sym after) (table_complete rows next n p k x y t u last h);
-          seen_rows = ap (map seen_row) after ∙ sym (completed_is rows next n p k x y t u last log) ∙ rw in_ refl;
-          told = is ∙ sym in_;
-        }
+        search (
+          rules,
+          gone rows next n p k x y t u last,
+          value_at-filter (λ row. not (is_child_of row.1.owner p)) rows p y u.parent
+              (ap not (no_child rows next n p k x y t u last)),
+          are_in-last rows next n p k x y t u last,
+          table_complete rows next n p k x y t u last,
+          completed_is rows next n p k x y t u last log,
+        )
 
     other_up : y.finished + 1 < y.children → IsRisen (rows_up log rows n p y)
     other_up more =
-        let is : is_last y ≡ false = ne_eqb (y.finished + 1) y.children (λ same. omega (arith, same, more)) in
-        let first = changed_at-some (at_phase phases.Done) rows n x u.child in
-        let after : rows_up log rows n p y ≡ counted_rows rows next n p k x y t u =
-        rw is (ap (λ r. changed_at counted r p) first
-        ∙ changed_at-some counted (done_rows rows next n p k x y t u) p y
-        (parent_done rows next n p k x y t u)) in
-        let out = are_in-other rows next n p k x y t u more in
-        record {
-          table = subst (λ r. IsTable r next) (sym after) (table_counted rows next n p k x y t u);
-          seen_rows = ap (map seen_row) after ∙ seen_counted rows next n p k x y t u ∙ rw out refl;
-          told = is ∙ sym out;
-        }
+        search (
+          rules,
+          changed_at-some counted (done_rows rows next n p k x y t u) p y (parent_done rows next n p k x y t u),
+          are_in-other rows next n p k x y t u more,
+          table_counted rows next n p k x y t u,
+          seen_counted rows next n p k x y t u,
+        )
 
     pub is_risen : IsRisen (rows_up log rows n p y)
-    is_risen =
-        elim (cases_eq (y.finished + 1) y.children) [
-          | inl last ↦ last_up last
-          | inr more ↦ other_up (let less = fewer rows next n p k x y t u in omega (arith, more, less))
-        ]
+    is_risen = search (rules, cases_eq (y.finished + 1) y.children, last_up, other_up, fewer rows next n p k x y t u)
 
 -- A root goes up
 
@@ -123,8 +93,7 @@ told_root log bios x _ root = refl
 after_root : (log : ℕ → Option (List ℕ)) (rows : List (ℕ × Bio)) (n : ℕ) (x : BioOf Held) (owner : Owner)
     → x.number ≡ n → is_root owner ≡ true → map seen_row (without rows n) ≡ after_up log (map seen_row rows) x owner
 after_root log rows n x (owners.Child p k) same root = absurd (cc)
-after_root log rows n x _ same root = sym (filter-items seen_row (λ y. y.number) (λ row. refl) n rows)
-    ∙ ap (λ m. filter (λ (y : BioOf Held). not (y.number == m)) (map seen_row rows)) (sym same)
+after_root log rows n x _ same root = search (rules, filter-items seen_row (λ y. y.number) (λ row. refl) n rows)
 
 root_unless_child : (owner : Owner) → ((p k : ℕ) → owner ≡ owners.Child p k → ⊥) → is_root owner ≡ true
 root_unless_child (owners.Child p k) other = absurd (other p k refl)
@@ -160,9 +129,7 @@ module _ (s : SlotsView Bio) {v : BioTableView} {m n : ℕ} {o : Option Bio} {x 
     (table : IsTable s.rows s.next) (same : m ≡ n) (got : o ≡ value_at s.rows m) (some : o ≡ Some x)
     (is : has_phase is_up v.bios n ≡ true) where
   pub up_got : IsGot s v m n x
-  up_got =
-      let there = in_phase is_up s view same is got x some in
-      record { view = view; table = table; same = same; found = there.0; up = there.1 }
+  up_got = search (rules, in_phase is_up s view same is got x some)
 
 -- so that is what became of it, where its going leaves these rows
 module _ {old : SlotsView Bio} {v : BioTableView} {m n : ℕ} {x : Bio} (got : IsGot old v m n x) {E : Type 0}
@@ -178,26 +145,10 @@ module _ {old : SlotsView Bio} {v : BioTableView} {m n : ℕ} {x : Bio} (got : I
   became = either_answer r _ _ rises stays
 
   table_now : IsTable new.rows new.next
-  table_now =
-      elim became [
-        | inl e ↦ subst (λ s. IsTable s.rows s.next) (sym e) table
-        | inr e ↦ subst (λ s. IsTable s.rows s.next) (sym e) got.table
-      ]
+  table_now = search rules
 
   raised : IsRaised log v new n r
-  raised =
-      subst (λ (w : BioTableView). IsRaised log w new n r) got.view (record {
-        table = table_now;
-        ordered = in_order new.rows new.next new.spare table_now.rising;
-        told = subst (λ o. IfSome o (λ z. IfOk r (λ w. w ≡ told_of_up log (map seen_row old.rows) z z.owner)))
-            (sym among) told;
-        rises = subst (λ o. IfSome o
-            (λ z. OnOk r (map seen_row new.rows ≡ after_up log (map seen_row old.rows) z z.owner))) (sym among)
-            (on_ok_weaker r (λ is. ap (λ (s : SlotsView Bio). map seen_row s.rows) is ∙ seen_after) rises);
-        bios_stay = on_err_weaker r (λ same. ap (λ (s : SlotsView Bio). map seen_row s.rows) same) stays;
-        next_stays = elim became [ inl e ↦ ap (λ s. s.next) e | inr e ↦ ap (λ s. s.next) e ];
-        room_stays = elim became [ inl e ↦ ap (λ s. s.spare) e | inr e ↦ ap (λ s. s.spare) e ];
-      })
+  raised = search (rules, in_order new.rows new.next new.spare table_now.rising, among)
 
 -- A child goes up
 
@@ -209,25 +160,15 @@ module _ {old : SlotsView Bio} {v : BioTableView} {m n p k : ℕ} {x : Bio} (got
 
   -- it isn't its own parent
   pub apart : p ≢ m
-  apart = λ same.
-      let w = its_parent in
-      not_it old.rows n x got.found (up_facts x.phase got.up).1 p (w.0, w.1.parent, w.1.waits) (same ∙ got.same)
+  apart = search (rules, its_parent)
 
   -- one more can be counted in the parent
   pub counts : IfSome (value_at old.rows p) (λ y. y.finished + 1 < 2 ^ 32)
-  counts =
-      let w = its_parent in
-      let less = fewer old.rows old.next n p k x w.0 got.table w.1 in
-      let s = split old.rows old.next n p k x w.0 got.table w.1 in
-      subst (λ o. IfSome o (λ (y : Bio). y.finished + 1 < 2 ^ 32)) (sym w.1.parent) (omega (arith, less, s.few))
+  counts = search (rules, its_parent, fewer old.rows old.next n p k x, split old.rows old.next n p k x)
 
   -- and the numbers of its children are below the next one
   pub follow : old.next < 2 ^ 64 → IfSome (value_at old.rows p) (λ y. y.first_child + y.children < 2 ^ 64)
-  follow bound =
-      let w = its_parent in
-      let below = children_below old.rows old.next n p k x w.0 got.table w.1 in
-      subst (λ o. IfSome o (λ (y : Bio). y.first_child + y.children < 2 ^ 64)) (sym w.1.parent)
-      (omega (arith, below, bound))
+  follow bound = search (rules, its_parent, children_below old.rows old.next n p k x)
 
   module _ {E : Type 0} (log : ℕ → Option (List ℕ)) (new : SlotsView Bio) (r : Result Risen E)
       (told : IfSome (value_at old.rows p) (λ y. IfOk r (λ z. z ≡ risen.InParent p (is_last y))))
@@ -235,22 +176,14 @@ module _ {old : SlotsView Bio} {v : BioTableView} {m n p k : ℕ} {x : Bio} (got
       (λ y. OnOk r (new ≡ record old { rows = rows_up log old.rows m p y })))
       (stays : OnErr r (new ≡ old)) where
     rises_there : OnOk r (new ≡ record old { rows = rows_up log old.rows n p its_parent.0 })
-    rises_there =
-        subst (λ l. OnOk r (new ≡ record old { rows = rows_up log old.rows l p its_parent.0 })) got.same
-        (subst (λ o. IfSome o (λ y. OnOk r (new ≡ record old { rows = rows_up log old.rows m p y })))
-        its_parent.1.parent rises)
+    rises_there = search rules
 
     risen_rows : IsRisen old.rows old.next n p k x its_parent.0 got.table its_parent.1 log
         (rows_up log old.rows n p its_parent.0)
     risen_rows = is_risen old.rows old.next n p k x its_parent.0 got.table its_parent.1 log
 
     told_there : IfOk r (λ w. w ≡ told_of_up log (map seen_row old.rows) (as_bio n x) x.owner)
-    told_there =
-        let e : risen.InParent p (is_last its_parent.0)
-        ≡ told_of_up log (map seen_row old.rows) (as_bio n x) x.owner = ap (risen.InParent p) risen_rows.told
-        ∙ ap (told_of_up log (map seen_row old.rows) (as_bio n x)) (sym owner) in
-        subst (λ w. IfOk r (λ z. z ≡ w)) e
-        (subst (λ o. IfSome o (λ y. IfOk r (λ z. z ≡ risen.InParent p (is_last y)))) its_parent.1.parent told)
+    told_there = search (rules, ap (risen.InParent p) risen_rows.told)
 
     -- so that is what became of a child
     pub raised_child : IsRaised log v new n r
