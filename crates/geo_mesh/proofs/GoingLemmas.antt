@@ -1,8 +1,8 @@
 -- What of a geom is free to go, by the rows, after each change of them.
 use Rattle.std.specs.Prelude.{◌≡◌, ◌≢◌, ℕ, suc, ◌+◌, ◌<◌, ◌==◌, Bool, true, false, not, ◌&&◌, ◌||◌, List, [], ◌∷◌, ◌++◌, Option, Some, None, IfSome, filter, length, map, IsSome, option_map, if◌then◌else◌, nat_le, MatchOption, find, is_none, is_some}
 use Rattle.std.specs.List.{list_any, AllByRecursion}
-use Rattle.std.proofs.Common.{refl, sym, ◌∙◌, ap, arith, inl, inr, subst}
-use Rattle.std.proofs.lemmas.Bool.{cases_eq, eq-eqb, ne_eqb, cases_Bool, le-leb}
+use Rattle.std.proofs.Common.{refl, sym, ◌∙◌, ap, arith, rules}
+use Rattle.std.proofs.lemmas.Bool.{eq-eqb, ne_eqb, le-leb}
 use Rattle.geo_model.specs.Words.{names_number}
 use Rattle.geo_slots.specs.Slots.{IsRising, value_at, with_value, without, SlotsView}
 use Rattle.geo_mesh.specs.declared.records.ProvCell.{ProvCell}
@@ -84,19 +84,13 @@ module _ {T : Type 0} (n : ℕ) (P : T → Type 0) where
   only-each : (v : T) → P v → (rows : List (ℕ × T)) → OnlyValue n v rows
       → AllByRecursion (λ row. (row.0 == n) ≡ true → P row.1) rows
   only-each v holds [] is = tt
-  only-each v holds (row ∷ rows) is = (
-    (λ e. let same : row ≡ (n, v) = is.0 e in rw same holds),
-    only-each v holds rows is.1,
-  )
+  only-each v holds (row ∷ rows) is = search (rules, only-each v holds rows is.1)
 
   -- where nothing is under the number, anything holds
   none-each : (rows : List (ℕ × T)) → value_at rows n ≡ None
       → AllByRecursion (λ row. (row.0 == n) ≡ true → P row.1) rows
   none-each [] none = tt
-  none-each (row ∷ rows) none = elim (cases_Bool (row.0 == n)) [
-    | inl e ↦ let never : Some row.1 ≡ None = rw e at none in absurd (cc)
-    | inr e ↦ ((λ t. let no : false ≡ true = sym e ∙ t in absurd (cc)), (none-each rows) (rw e at none))
-  ]
+  none-each (row ∷ rows) none = search (rules, none-each rows)
 
   -- so for what may be there
   pub under-each : (low high : ℕ) (rows : List (ℕ × T)) → IsRising low rows high → IfSome (value_at rows n) P
@@ -112,10 +106,8 @@ module _ {T : Type 0} where
       → row.0 < low → AllByRecursion (λ r. value_at rows r.0 ≡ Some r.1) rest
       → AllByRecursion (λ r. value_at (row ∷ rows) r.0 ≡ Some r.1) rest
   found-behind row rows low high [] rising below there = tt
-  found-behind row rows low high (r ∷ rest) rising below there = (
-    rw (ne_eqb row.0 r.0 (λ same. omega (arith, same, rising.0, below))) there.0,
-    found-behind row rows (r.0 + 1) high rest rising.1 (omega (arith, rising.0, below)) there.1,
-  )
+  found-behind row rows low high (r ∷ rest) rising below there =
+      search (rules, found-behind row rows (r.0 + 1) high rest rising.1 (omega (arith, rising.0, below)) there.1)
 
   -- in rising rows each is found at its number
   pub each-found : (low high : ℕ) (rows : List (ℕ × T)) → IsRising low rows high
@@ -195,17 +187,7 @@ module _ (ps : List (ℕ × ProvCell)) (cs : List (ℕ × ConsCell)) (g : ℕ) w
       → AllByRecursion (λ (row : ℕ × ProvCell). ((row.1.provider.geom == g) && not (has_consumer ds row.0))
       ≡ ((row.1.provider.geom == g) && not (has_consumer cs row.0))) rows
   switched_rows ds p o apart same [] owned = tt
-  switched_rows ds p o apart same (row ∷ rows) owned = (
-    elim (cases_eq row.0 p) [
-      | inl here ↦
-          (let not_it : (row.1.provider.geom == g) ≡ false =
-          ap (λ k. k == g) (owned.0 (eq-eqb row.0 p here)) ∙ other g o apart in
-          ap (λ b. b && not (has_consumer ds row.0)) not_it
-          ∙ sym (ap (λ b. b && not (has_consumer cs row.0)) not_it))
-      | inr elsewhere ↦ ap (λ b. (row.1.provider.geom == g) && not b) (same row.0 elsewhere)
-    ],
-    switched_rows ds p o apart same rows owned.1,
-  )
+  switched_rows ds p o apart same (row ∷ rows) owned = search (rules, switched_rows ds p o apart same rows owned.1)
 
   -- a consumer that is attached to one provider of another geom, or no more, and else as before
   pub free-switched : (n : ℕ) (v w : ConsCell) (p o : ℕ) → w.consumer.geom ≡ v.consumer.geom
@@ -325,15 +307,7 @@ module _ {C : Type 0} where
       → AllByRecursion (λ row. (row.0 == n) ≡ true → row.1.geom.withering ≡ false) rows
       → going_rows old rows ≡ going_rows new rows
   going-unseen old new n same [] stays = refl
-  going-unseen old new n same (row ∷ rows) stays =
-      let first : (row.1.geom.withering && old row.0) ≡ (row.1.geom.withering && new row.0) =
-      elim (cases_eq row.0 n) [
-        | inl here ↦
-            ap (λ b. b && old row.0) (stays.0 (eq-eqb row.0 n here))
-            ∙ sym (ap (λ b. b && new row.0) (stays.0 (eq-eqb row.0 n here)))
-        | inr elsewhere ↦ ap (λ b. row.1.geom.withering && b) (same row.0 elsewhere)
-      ] in
-      λ i. (row.0, first i) ∷ going-unseen old new n same rows stays.1 i
+  going-unseen old new n same (row ∷ rows) stays = search (rules, going-unseen old new n same rows stays.1)
 
   -- what is free changed at a withering geom, whose mark is set by it
   pub going-set : (old new : ℕ → Bool) (n : ℕ) → ((g : ℕ) → g ≢ n → old g ≡ new g)
@@ -362,13 +336,7 @@ pub unused-cell : (cs : List (ℕ × ConsCell)) (n : ℕ)
     → (option_map_or is_zero (value_at (rows_with want_of cs) n) true
     && option_map_or (λ m. m == 0) (value_at (rows_with active_of cs) n) true)
     ≡ option_map_or is_idle_cell (value_at cs n) true
-unused-cell cs n =
-    rw (value_at-rows_with want_of n cs, value_at-rows_with active_of n cs) (at (value_at cs n)) where
-      at : (o : Option ConsCell)
-          → (option_map_or is_zero (option_map want_of o) true
-          && option_map_or (λ m. m == 0) (option_map active_of o) true) ≡ option_map_or is_idle_cell o true
-      at None = refl
-      at (Some x) = refl
+unused-cell cs n = search (rules, value_at-rows_with want_of n cs, value_at-rows_with active_of n cs)
 
 module _ {C : Type 0} (t : Tables C) (rising : IsRising 1 t.edges.consumers.rows t.edges.consumers.next) (g : ℕ) where
   -- providers without a consumer
@@ -376,15 +344,14 @@ module _ {C : Type 0} (t : Tables C) (rising : IsRising 1 t.edges.consumers.rows
       ≡ list_any (is_lone t.edges.consumers.rows g)
       t.edges.providers.rows
   unattached-rows =
-      any-filter (λ (p : Provider). p.geom == g) (λ p. is_unattached (topo_view t) p.number) (graph t).providers
-      ∙ any-map provider_row (λ (p : Provider). (p.geom == g) && is_unattached (topo_view t) p.number)
-      t.edges.providers.rows
-      ∙ (λ i. list_any (λ (row : ℕ × ProvCell). (row.1.provider.geom == g) && none row.0 i) t.edges.providers.rows)
-    where
-      none : (p : ℕ) → is_unattached (topo_view t) p ≡ not (has_consumer t.edges.consumers.rows p)
-      none p =
-          none-kept (λ (x : Consumer). names_number x.provider p) (graph t).consumers
-          ∙ ap not (any-map consumer_row (λ (x : Consumer). names_number x.provider p) t.edges.consumers.rows)
+      search (
+        rules,
+        any-filter (λ (p : Provider). p.geom == g) (λ p. is_unattached (topo_view t) p.number) (graph t).providers,
+        any-map provider_row (λ (p : Provider). (p.geom == g) && is_unattached (topo_view t) p.number)
+            t.edges.providers.rows,
+        none-kept,
+        any-map consumer_row,
+      )
 
   -- each consumer by its row
   unused_each : (rows : List (ℕ × ConsCell))
@@ -392,11 +359,7 @@ module _ {C : Type 0} (t : Tables C) (rising : IsRising 1 t.edges.consumers.rows
       → AllByRecursion (λ (row : ℕ × ConsCell). ((row.1.consumer.geom == g) && is_unused (topo_view t) row.0)
       ≡ ((row.1.consumer.geom == g) && is_idle_cell row.1)) rows
   unused_each [] there = tt
-  unused_each (row ∷ rows) there = (
-    ap (λ b. (row.1.consumer.geom == g) && b)
-        (unused-cell t.edges.consumers.rows row.0 ∙ ap (λ o. option_map_or is_idle_cell o true) there.0),
-    unused_each rows there.1,
-  )
+  unused_each (row ∷ rows) there = search (rules, unused-cell t.edges.consumers.rows row.0, unused_each rows there.1)
 
   -- consumers that are idle
   unused-rows : list_any (λ (c : Consumer). is_unused (topo_view t) c.number) (consumers_of (graph t) g)
@@ -437,22 +400,18 @@ module _ {C : Type 0} (t : Tables C) (n : ℕ) (but : IsWholeBut n t)
     (rising : IsRising 1 t.geoms.rows t.geoms.next) where
   -- the mark of a geom that doesn't wither is right already
   pub settled : passes (withering_of {C = C}) (value_at t.geoms.rows n) ≡ false → IsWhole t
-  settled stays = record {
-    tables = but.tables;
-    ranks = but.ranks;
-    graph = but.graph;
-    going = but.going.rows
-        ∙ going-unseen but.going.free (is_free_in t) n but.going.others t.geoms.rows
-        (under-each n (λ x. x.geom.withering ≡ false) 1 t.geoms.next t.geoms.rows rising
-        (told false (value_at t.geoms.rows n) stays));
-  }
+  settled stays =
+      search (
+        rules,
+        going-unseen but.going.free (is_free_in t) n but.going.others t.geoms.rows
+            (under-each n (λ x. x.geom.withering ≡ false) 1 t.geoms.next t.geoms.rows rising
+            (told false (value_at t.geoms.rows n) stays)),
+      )
 
   -- a withering geom has a mark or none
   pub mark-there : passes (withering_of {C = C}) (value_at t.geoms.rows n) ≡ true
       → IsSome (value_at t.notes.going.rows n)
-  mark-there withers =
-      subst (λ rows. IsSome (value_at rows n)) (sym but.going.rows)
-      (going-there but.going.free n t.geoms.rows withers)
+  mark-there withers = search (rules, going-there but.going.free n t.geoms.rows withers)
 
   -- the mark of a withering geom is right once it is set by what is free
   pub marked : passes (withering_of {C = C}) (value_at t.geoms.rows n) ≡ true → (free : Bool)
@@ -461,36 +420,12 @@ module _ {C : Type 0} (t : Tables C) (n : ℕ) (but : IsWholeBut n t)
   marked withers free is =
       let kin = kin-of t.geoms t.edges but.graph but.tables.indexed in
       let right : free ≡ is_free_in t n = is ∙ free-rows t kin.consumers_rise n in
-      record {
-        tables = record {
-          count = but.tables.count;
-          indexed = but.tables.indexed;
-          room = but.tables.room;
-          names_are = but.tables.names_are;
-          notes = record {
-            risen = but.tables.notes.risen;
-            fallen = but.tables.notes.fallen;
-            named = but.tables.notes.named;
-            risen_next = but.tables.notes.risen_next;
-            fallen_next = but.tables.notes.fallen_next;
-            going_next = but.tables.notes.going_next;
-            named_next = but.tables.notes.named_next;
-            room = record {
-              risen = but.tables.notes.room.risen;
-              fallen = but.tables.notes.room.fallen;
-              going = but.tables.notes.room.going;
-              named = but.tables.notes.room.named;
-            };
-          };
-          names_room = but.tables.names_room;
-        };
-        ranks = but.ranks;
-        graph = but.graph;
-        going = (λ i. with_value (but.going.rows i) n (right i))
-            ∙ going-set but.going.free (is_free_in t) n but.going.others t.geoms.rows
+      search (
+        rules,
+        going-set but.going.free (is_free_in t) n but.going.others t.geoms.rows
             (under-each n (λ x. x.geom.withering ≡ true) 1 t.geoms.next t.geoms.rows rising
-            (told true (value_at t.geoms.rows n) withers));
-      }
+            (told true (value_at t.geoms.rows n) withers)),
+      )
 
 -- Walks
 

@@ -1,15 +1,13 @@
 -- What a mesh keeps makes its graph a sound one.
-use Rattle.std.specs.Prelude.{◌≡◌, ℕ, ◌+◌, ◌<◌, ◌==◌, Bool, true, false, List, [], ◌∷◌, find, filter, map, Option, Some, None, All, AllPairs, Contains, IfSome, IsSome, IsSomeAnd}
+use Rattle.std.specs.Prelude.{◌≡◌, ℕ, ◌+◌, ◌<◌, ◌==◌, true, List, [], ◌∷◌, find, filter, map, Some, None, All, AllPairs, Contains, IfSome, IsSome}
 use Rattle.std.specs.Option.{option_map}
-use Rattle.std.proofs.Common.{refl, sym, ◌∙◌, ap, subst, arith, inl, inr}
-use Rattle.std.proofs.lemmas.Bool.{eq-eqb, cases_Bool}
-use Rattle.std.proofs.lemmas.List.Elements.{recursion_from_All, All-from_recursion}
-use Rattle.std.proofs.lemmas.List.Kept.{AllPairs-cons}
-use Rattle.geo_model.specs.Words.{largest, same_name}
+use Rattle.std.proofs.Common.{refl, sym, ◌∙◌, ap, subst, arith, rules}
+use Rattle.std.proofs.lemmas.Bool.{eq-eqb}
+use Rattle.geo_model.specs.Words.{largest}
 use Rattle.geo_model.specs.Topology.{Provider, Consumer, provider_at, consumers_of, providers_under}
 use Rattle.geo_model.specs.Rank.{rank, geoms_under, Ranked}
 use Rattle.geo_model.specs.Sound.{DifferInName}
-use Rattle.geo_laws_graph.proofs.Members.{Has, has, All-from_contained, at_contained, Contains-filter, Contains-filter_map, Contains-map, largest-above, nothing_in}
+use Rattle.geo_laws_graph.proofs.Members.{Contains-filter, Contains-filter_map, Contains-map, largest-above, nothing_in}
 use Rattle.geo_slots.specs.Slots.{SlotsView}
 use Rattle.geo_mesh.specs.declared.records.GeomCell.{GeomCell}
 use Rattle.geo_mesh.specs.declared.tables.Edges.{Edges}
@@ -19,7 +17,6 @@ use Rattle.geo_mesh.specs.Graph.{IsSoundGraph}
 use Rattle.geo_mesh.specs.Names.{OneEach, is_sound_named}
 use Rattle.geo_mesh.specs.Ranks.{HaveRanks, HaveDevAndTaste, below, rank_from, stored}
 use Rattle.geo_mesh.specs.Whole.{IsWhole}
-use Rattle.geo_names.proofs.Rows.{same_is, is_same}
 use Rattle.geo_mesh.proofs.RankFirst.{first-two, rank_from-local}
 use Rattle.geo_mesh.proofs.RankMesh.{under-graph, rank_from-rank, mesh-low}
 
@@ -73,29 +70,7 @@ module _ {C : Type 0} (gs : SlotsView (GeomCell C)) (edges : Edges) (live : ℕ)
   -- there is no loop, where the providers live
   graph_ranked : All (λ c. IfSome c.provider (λ p. IsSome (provider_at (graph_of gs edges) p)))
       (graph_of gs edges).consumers → Ranked (graph_of gs edges)
-  graph_ranked live_providers =
-      All-from_recursion
-      (λ c. IfSome c.provider
-      (λ p. IsSomeAnd (provider_at (graph_of gs edges) p) (λ x. rank (graph_of gs edges) x.geom
-      < rank (graph_of gs edges) c.geom))) (graph_of gs edges).consumers
-      (All-from_contained
-      (λ c. IfSome c.provider
-      (λ p. IsSomeAnd (provider_at (graph_of gs edges) p) (λ x. rank (graph_of gs edges) x.geom
-      < rank (graph_of gs edges) c.geom))) (graph_of gs edges).consumers
-      (λ c here. each c here c.provider refl
-      (at_contained (λ (d : Consumer). IfSome d.provider (λ p. IsSome (provider_at (graph_of gs edges) p)))
-      (graph_of gs edges).consumers c
-      (recursion_from_All (λ (d : Consumer). IfSome d.provider (λ p. IsSome (provider_at (graph_of gs edges) p)))
-      (graph_of gs edges).consumers live_providers) here)))
-    where
-      each : (c : Consumer) → Contains (graph_of gs edges).consumers c → (o : Option ℕ) → c.provider ≡ o
-          → IfSome o (λ p. IsSome (provider_at (graph_of gs edges) p))
-          → IfSome o (λ p. IsSomeAnd (provider_at (graph_of gs edges) p) (λ x. rank (graph_of gs edges) x.geom
-          < rank (graph_of gs edges) c.geom))
-      each c here None attached there = there
-      each c here (Some p) attached there =
-          let x : Has (provider_at (graph_of gs edges) p) = has (provider_at (graph_of gs edges) p) there in
-          rw x.is (less_below c p x.item here attached x.is)
+  graph_ranked live_providers = search (rules, less_below)
 
 -- Names
 
@@ -109,31 +84,12 @@ alike_found x y ys here passes none =
     -- what isn't found isn't there
     empty : (zs : List Provider) → find (is_sound_named x.name) zs ≡ None → filter (is_sound_named x.name) zs ≡ []
     empty [] none = refl
-    empty (z ∷ zs) none = elim (cases_Bool (is_sound_named x.name z)) [
-      | inl e ↦ let never = rw e at none in absurd (cc)
-      | inr e ↦ rw e (empty zs (rw e at none))
-    ]
+    empty (z ∷ zs) none = search (rules, empty zs)
 
 -- one of a name at most: two providers without an error differ in name
 names_differ : (ps : List Provider) → OneEach ps → AllPairs DifferInName ps
 names_differ [] one = λ i j d less within. absurd (omega arith)
-names_differ (x ∷ xs) one =
-    AllPairs-cons DifferInName x xs
-    (All-from_recursion (DifferInName x) xs
-    (All-from_contained (DifferInName x) xs
-    (λ y here. apart y here x.errored refl y.errored refl (same_name x.name y.name) refl)))
-    (names_differ xs one.1)
-  where
-    apart : (y : Provider) → Contains xs y → (a : Bool) → x.errored ≡ a → (b : Bool) → y.errored ≡ b → (s : Bool)
-        → same_name x.name y.name ≡ s → DifferInName x y
-    apart y here true e b f s g = rw e refl
-    apart y here false e true f s g = rw (e, f) refl
-    apart y here false e false f false g = rw (e, f, g) refl
-    apart y here false e false f true g =
-        let names : x.name ≡ y.name = same_is x.name y.name g in
-        let passes : is_sound_named x.name y ≡ true =
-        rw f (subst (λ n. same_name y.name n ≡ true) (sym names) (is_same y.name)) in
-        alike_found x y xs here passes (one.0 e)
+names_differ (x ∷ xs) one = search (rules, names_differ xs one.1, alike_found x)
 
 -- what a mesh keeps makes its graph a sound one
 pub sound-graph : {C : Type 0} (t : Tables C) → IsWhole t → IsSoundGraph (graph t)

@@ -1,5 +1,5 @@
 -- The index after each change of the graph.
-use Rattle.std.proofs.Common.{arith, ◌≡◌, ℕ, ◌+◌, ◌==◌, List, [], ◌∷◌, map, Bool, true, false, Some, None, Option, sym, refl, ap, ◌∙◌, subst, not, filter, find, IsSome}
+use Rattle.std.proofs.Common.{arith, ◌≡◌, ℕ, ◌+◌, ◌==◌, List, [], ◌∷◌, map, Bool, true, false, Some, None, Option, sym, refl, ap, ◌∙◌, not, filter, find, IsSome, rules}
 use Rattle.std.proofs.lemmas.List.{map-append}
 use Rattle.std.proofs.Math.Bool.{and-false, and-true}
 use Rattle.std.specs.Prelude.{◌++◌, nat_le, IsSomeAnd, if◌then◌else◌, ◌&&◌}
@@ -12,7 +12,7 @@ use Rattle.geo_family.specs.Family.{FamilyView, names, is_parent, has_child, fir
 use Rattle.geo_mesh.specs.declared.index.Index.{Index}
 use Rattle.geo_mesh.specs.Rows.{first_row}
 use Rattle.geo_mesh.specs.Topo.{first_provider, first_consumer}
-use Rattle.geo_mesh.specs.Index.{IsFamilyOf, IsIndexed, unless_dev, consumers_above, consumer_geoms, provider_numbers, family_with_rooms, with_parent, with_child, without_parent, with_rooms, with_geom_index, with_provider_index, with_consumer_index, without_geom_index, without_provider_index, without_consumer_index, attached_index, detached_index, geom_numbers}
+use Rattle.geo_mesh.specs.Index.{IsFamilyOf, IsIndexed, unless_dev, consumers_above, consumer_geoms, provider_numbers, with_parent, with_child, without_parent, with_geom_index, with_provider_index, with_consumer_index, without_geom_index, without_provider_index, without_consumer_index, attached_index, detached_index, geom_numbers}
 
 module _ {X Y : Type 0} (seen : X → Y) (test : X → Bool) (change : X → X) (same : (x : X)
     → seen (change x) ≡ seen x) where
@@ -155,23 +155,19 @@ module _ {C : Type 0} (t : Topology C) (i : Index) (h : IsIndexed t i) where
 
   -- who stands, and who has nobody
   pub offered_parent : (geom : ℕ) → IsSome (geom_at t geom) → is_parent i.offered.parents geom ≡ true
-  offered_parent geom lives = ap (λ xs. is_parent xs geom) h.offered.parents
-      ∙ found_parent (λ (x : Geom C). x.number) geom t.geoms lives
+  offered_parent geom lives = search (rules, found_parent (λ (x : Geom C). x.number) geom t.geoms lives)
 
   -- a geom that is there is a parent of consumers
   pub owned_parent : (geom : ℕ) → IsSome (geom_at t geom) → is_parent i.owned.parents geom ≡ true
-  owned_parent geom lives = ap (λ xs. is_parent xs geom) h.owned.parents
-      ∙ found_parent (λ (x : Geom C). x.number) geom t.geoms lives
+  owned_parent geom lives = search (rules, found_parent (λ (x : Geom C). x.number) geom t.geoms lives)
 
   -- a provider that is there is a parent of consumers that are attached
   pub attached_parent : (prov : ℕ) → IsSome (provider_at t prov) → is_parent i.attached.parents prov ≡ true
-  attached_parent prov lives = ap (λ xs. is_parent xs prov) h.attached.parents
-      ∙ found_parent (λ (x : Provider). x.number) prov t.providers lives
+  attached_parent prov lives = search (rules, found_parent (λ (x : Provider). x.number) prov t.providers lives)
 
   -- and of those that aren't DEV's
   pub above_parent : (prov : ℕ) → IsSome (provider_at t prov) → is_parent i.above.parents prov ≡ true
-  above_parent prov lives = ap (λ xs. is_parent xs prov) h.above.parents
-      ∙ found_parent (λ (x : Provider). x.number) prov t.providers lives
+  above_parent prov lives = search (rules, found_parent (λ (x : Provider). x.number) prov t.providers lives)
 
   -- a geom without providers has no child among them
   pub offered_none : (geom : ℕ) → providers_of t geom ≡ [] → has_child i.offered.children geom ≡ false
@@ -206,66 +202,27 @@ module _ {C : Type 0} (t : Topology C) (i : Index) (h : IsIndexed t i) where
   -- a consumer that is attached to nothing has no parent there
   pub attached_free : (cons : ℕ) → IsSomeAnd (consumer_at t cons) (λ x. x.provider ≡ None)
       → value_at i.attached.children cons ≡ Some None
-  attached_free cons free =
-      ap (λ xs. value_at xs cons) h.attached.children
-      ∙ value_at-map (λ (x : Consumer). x.number) (λ x. x.provider) cons t.consumers
-      ∙ no_provider (consumer_at t cons) free
-    where
-      no_provider : (o : Option Consumer) → IsSomeAnd o (λ x. x.provider ≡ None)
-          → option_map (λ (x : Consumer). x.provider) o ≡ Some None
-      no_provider None never = absurd never
-      no_provider (Some x) none = ap (λ p. Some p) none
+  attached_free cons free = search (rules, value_at-map (λ (x : Consumer). x.number) (λ x. x.provider) cons t.consumers)
 
   -- nor among those that aren't DEV's
   pub above_free : (cons : ℕ) → IsSomeAnd (consumer_at t cons) (λ x. x.provider ≡ None)
       → value_at i.above.children cons ≡ Some None
   above_free cons free =
-      ap (λ xs. value_at xs cons) h.above.children
-      ∙ value_at-map (λ (x : Consumer). x.number) (λ x. unless_dev x.geom x.provider) cons t.consumers
-      ∙ no_provider (consumer_at t cons) free
-    where
-      no_provider : (o : Option Consumer) → IsSomeAnd o (λ x. x.provider ≡ None)
-          → option_map (λ (x : Consumer). unless_dev x.geom x.provider) o ≡ Some None
-      no_provider None never = absurd never
-      no_provider (Some x) none = ap (λ p. Some (unless_dev x.geom p)) none ∙ ap (λ p. Some p) (none-above x.geom)
+      search (rules, value_at-map (λ (x : Consumer). x.number) (λ x. unless_dev x.geom x.provider) cons t.consumers)
 
 module _ {v : FamilyView} {ps : List ℕ} {cs : List (ℕ × Option ℕ)} {p c : ℕ} (is : IsFamilyOf v ps cs p c) where
   -- the parents and the children in other words
   family-same : {qs : List ℕ} {ds : List (ℕ × Option ℕ)} → qs ≡ ps → ds ≡ cs → IsFamilyOf v qs ds p c
-  family-same parents children = record {
-    parents = is.parents ∙ sym parents;
-    children = is.children ∙ sym children;
-    next_parent = is.next_parent;
-    next_child = is.next_child;
-  }
-
-  -- with other room
-  family-rooms : (w : FamilyView) → IsFamilyOf (family_with_rooms v w) ps cs p c
-  family-rooms w = record {
-    parents = is.parents;
-    children = is.children;
-    next_parent = is.next_parent;
-    next_child = is.next_child;
-  }
+  family-same parents children = search rules
 
   -- with a parent more
   family-parent : {qs : List ℕ} → qs ≡ ps ++ p ∷ [] → IsFamilyOf (with_parent v) qs cs (p + 1) c
-  family-parent more = record {
-    parents = rw (is.parents, is.next_parent) (sym more);
-    children = is.children;
-    next_parent = ap (λ n. n + 1) is.next_parent;
-    next_child = is.next_child;
-  }
+  family-parent more = search rules
 
   -- with a child more
   family-child : (o : Option ℕ) {ds : List (ℕ × Option ℕ)} → ds ≡ cs ++ (c, o) ∷ []
       → IsFamilyOf (with_child v o) ps ds p (c + 1)
-  family-child o more = record {
-    parents = is.parents;
-    children = rw (is.children, is.next_child) (sym more);
-    next_parent = is.next_parent;
-    next_child = ap (λ n. n + 1) is.next_child;
-  }
+  family-child o more = search rules
 
   -- with a parent less
   family-without_parent : (n : ℕ) {qs : List ℕ} → filter (λ m. not (m == n)) ps ≡ qs
@@ -280,25 +237,9 @@ module _ {v : FamilyView} {ps : List ℕ} {cs : List (ℕ × Option ℕ)} {p c :
   -- with other children
   family-children : {bs ds : List (ℕ × Option ℕ)} → (v.children ≡ cs → bs ≡ ds)
       → IsFamilyOf (record v { children = bs }) ps ds p c
-  family-children so = record {
-    parents = is.parents;
-    children = so is.children;
-    next_parent = is.next_parent;
-    next_child = is.next_child;
-  }
+  family-children so = search rules
 
 module _ {C : Type 0} (t : Topology C) (i : Index) (h : IsIndexed t i) where
-  -- room changes nothing
-  pub indexed-rooms : (j : Index) → j ≡ with_rooms i j → IsIndexed t j
-  indexed-rooms j same =
-      subst (λ k. IsIndexed t k) (sym same)
-      (record {
-        offered = family-rooms h.offered j.offered;
-        owned = family-rooms h.owned j.owned;
-        attached = family-rooms h.attached j.attached;
-        above = family-rooms h.above j.above;
-      })
-
   -- the index with a new geom is that of the graph with it
   pub indexed-add_geom : (kind : Kind) (name : List ℕ) (config : C) (automatic : Bool)
       → IsIndexed (add_geom t kind name config automatic) (with_geom_index i)
@@ -334,12 +275,8 @@ module _ {C : Type 0} (t : Topology C) (i : Index) (h : IsIndexed t i) where
 
   -- the index without a geom is that of the graph without it
   pub indexed-remove_geom : (geom : ℕ) → IsIndexed (remove_geom t geom) (without_geom_index i geom)
-  indexed-remove_geom geom = record {
-    offered = family-without_parent h.offered geom (map-filter_number (λ (x : Geom C). x.number) geom t.geoms);
-    owned = family-without_parent h.owned geom (map-filter_number (λ (x : Geom C). x.number) geom t.geoms);
-    attached = h.attached;
-    above = h.above;
-  }
+  indexed-remove_geom geom =
+      search (rules, family-without_parent h.owned geom (map-filter_number (λ (x : Geom C). x.number) geom t.geoms))
 
   -- the index without a provider is that of the graph without it
   pub indexed-remove_provider : (prov : ℕ) → IsIndexed (remove_provider t prov) (without_provider_index i prov)
@@ -443,13 +380,7 @@ module _ {C : Type 0} (t : Topology C) (i : Index) (h : IsIndexed t i) where
   pub indexed-geom : (geom : ℕ) (change : Geom C → Geom C) → ((x : Geom C) → (change x).number ≡ x.number)
       → IsIndexed (record t { geoms = change_where (λ x. x.number == geom) change t.geoms }) i
   indexed-geom geom change number =
-      let numbers = map-change_where (λ (x : Geom C). x.number) (λ x. x.number == geom) change number t.geoms in
-      record {
-        offered = family-same h.offered numbers refl;
-        owned = family-same h.owned numbers refl;
-        attached = h.attached;
-        above = h.above;
-      }
+      search (rules, map-change_where (λ (x : Geom C). x.number) (λ x. x.number == geom) change number t.geoms)
 
 -- the first child of a parent is the first row whose value passes
 module _ {T X : Type 0} (seen : ℕ × T → X) (pair : X → ℕ × Option ℕ) (child : T → Option ℕ) (is : (row : ℕ × T)

@@ -2,8 +2,8 @@
 use Rattle.std.specs.Prelude.{◌≡◌, ℕ, ◌==◌, Bool, false, List, [], ◌∷◌, ◌++◌, Option, Some, None, IfSome, find, option_map}
 use Rattle.std.specs.List.{AllByRecursion}
 use Rattle.std.specs.Option.{is_some}
-use Rattle.std.proofs.Common.{refl, arith, inl, inr}
-use Rattle.std.proofs.lemmas.Bool.{eq-eqb, le-leb, cases_Bool}
+use Rattle.std.proofs.Common.{refl, arith, rules}
+use Rattle.std.proofs.lemmas.Bool.{eq-eqb, le-leb}
 use Rattle.std.proofs.lemmas.List.{map-append}
 use Rattle.geo_slots.specs.Slots.{with_value, without}
 use Rattle.geo_family.specs.Family.{names, first_child}
@@ -42,10 +42,7 @@ marks-push rows k = map-append (row_with is_some) rows ((k, None) ∷ [])
 pub under-without : (k : ℕ) (rows : List (ℕ × Option ℕ)) → AllByRecursion IsUnder rows
     → AllByRecursion IsUnder (without rows k)
 under-without k [] under = tt
-under-without k (row ∷ rows) under = elim (cases_Bool (row.0 == k)) [
-  | inl e ↦ rw e (under-without k rows under.1)
-  | inr e ↦ rw e (under.0, under-without k rows under.1)
-]
+under-without k (row ∷ rows) under = search (rules, under-without k rows under.1)
 
 -- so the marks of the others are as before
 pub marks-without : (k : ℕ) (rows : List (ℕ × Option ℕ))
@@ -56,10 +53,7 @@ marks-without k rows = map-without (row_with is_some) k (λ (row : ℕ × Bool).
 pub under-set : (k : ℕ) (o : Option ℕ) (rows : List (ℕ × Option ℕ)) → IfSome o (λ p. p ≡ 1)
     → AllByRecursion IsUnder rows → AllByRecursion IsUnder (with_value rows k o)
 under-set k o [] one under = tt
-under-set k o (row ∷ rows) one under = elim (cases_Bool (row.0 == k)) [
-  | inl e ↦ rw e (one, under-set k o rows one under.1)
-  | inr e ↦ rw e (under.0, under-set k o rows one under.1)
-]
+under-set k o (row ∷ rows) one under = search (rules, under-set k o rows one under.1)
 
 -- from the first number on, the least with a mark is the first with a mark
 pub first-of_all : (rows : List (ℕ × Bool))

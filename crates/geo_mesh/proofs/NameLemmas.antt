@@ -1,6 +1,5 @@
 -- Names after each change of the providers.
-use Rattle.std.proofs.Common.{arith, ◌≡◌, ℕ, ◌==◌, List, [], ◌∷◌, ◌++◌, map, Bool, true, false, Some, None, Option, sym, refl, ap, ◌∙◌, subst, inl, inr, not, filter, filter_map, find, ◌+◌}
-use Rattle.std.proofs.lemmas.Bool.{and_parts, not-true, cases_Bool}
+use Rattle.std.proofs.Common.{arith, ◌≡◌, ℕ, ◌==◌, List, [], ◌∷◌, ◌++◌, map, Bool, true, false, Some, None, Option, sym, refl, ap, ◌∙◌, not, filter, filter_map, find, ◌+◌, rules}
 use Rattle.std.specs.Prelude.{if◌then◌else◌, ◌&&◌}
 use Rattle.std.specs.Option.{option_or, option_map}
 use Rattle.geo_model.specs.Words.{change_where, same_name}
@@ -8,12 +7,11 @@ use Rattle.geo_model.specs.Topology.{Provider}
 use Rattle.geo_mesh.specs.declared.records.ProvCell.{ProvCell}
 use Rattle.geo_mesh.specs.Cells.{provider_row}
 use Rattle.geo_mesh.specs.Names.{is_sound_named, OneEach, AreNames, sound_of, AddsName, RemovesName, SameNames}
-use Rattle.geo_names.proofs.Rows.{same_is, is_same}
+use Rattle.geo_names.proofs.Rows.{is_same}
 use Rattle.geo_mesh.proofs.RowLemmas.{OnlyValue}
 use Rattle.std.proofs.lemmas.List.{map-append}
 use Rattle.std.specs.List.{last_or}
-use Rattle.geo_laws_graph.proofs.Lists.{changed, changed-keeps, find-changed}
-use Rattle.geo_slots.specs.Slots.{without}
+use Rattle.geo_laws_graph.proofs.Lists.{find-changed}
 use Rattle.geo_names.specs.Names.{last_named}
 use Rattle.geo_mesh.specs.declared.names.Names.{Names}
 use Rattle.geo_mesh.proofs.IndexLemmas.{map-change_where, map-filter_row}
@@ -30,14 +28,7 @@ errored_fails name z e = rw e refl
 module _ {X : Type 0} (test : X → Bool) where
   -- where none is found, neither the first passes nor one of the others
   missed : (y : X) (ys : List X) → find test (y ∷ ys) ≡ None → (test y ≡ false) × (find test ys ≡ None)
-  missed y ys none = elim (cases_Bool (test y)) [
-    | inl e ↦ let never : Some y ≡ None = rw e at none in absurd (cc)
-    | inr e ↦ (e, rw e at none)
-  ]
-
-  -- the first is skipped where it doesn't pass
-  skip : (y : X) (ys : List X) → test y ≡ false → find test (y ∷ ys) ≡ find test ys
-  skip y ys e = rw e refl
+  missed y ys none = search rules
 
   -- with one item more at the end: what was found before, else that item if it passes
   find-push : (x : X) (ys : List X)
@@ -49,10 +40,7 @@ module _ {X : Type 0} (test : X → Bool) where
   found_step : (other : X → Bool) (x y : X) (ys : List X) (b : Bool) → test y ≡ b → find test (y ∷ ys) ≡ Some x
       → other x ≡ true → find other (y ∷ ys) ≡ None
       → (find test ys ≡ Some x → find other ys ≡ None → ⊥) → (other y ≡ false) × (find other ys ≡ None) → ⊥
-  found_step other x y ys true e found passes none so miss =
-      let same : Some y ≡ Some x = rw e at found in
-      let is : y ≡ x = cc in
-      let never : true ≡ false = sym passes ∙ ap other (sym is) ∙ miss.0 in cc
+  found_step other x y ys true e found passes none so miss = search rules
   found_step other x y ys false e found passes none so miss = so (rw e at found) miss.1
 
 -- who is found and passes another test is found by that too
@@ -74,38 +62,17 @@ module _ (n : ℕ) (mark : Provider → Option Provider) (marked : (y z : Provid
   abbrev pub retired : List Provider → List Provider
   retired ys = filter_map retire ys
 
-  -- whether it was marked or has gone, the one of the number isn't found
-  marked_step : (name : List ℕ) (y : Provider) (ys : List Provider) (o : Option Provider) → mark y ≡ o
-      → (y.number == n) ≡ true
-      → find (is_sound_named name) (retired (y ∷ ys)) ≡ find (is_sound_named name) (retired ys)
-  marked_step name y ys None e here = rw (here, e) refl
-  marked_step name y ys (Some z) e here = rw (here, e, errored_fails name z (marked y z e)) refl
-
-  -- the one of the number isn't found
-  marked-find : (name : List ℕ) (y : Provider) (ys : List Provider) → (y.number == n) ≡ true
-      → find (is_sound_named name) (retired (y ∷ ys)) ≡ find (is_sound_named name) (retired ys)
-  marked-find name y ys here = marked_step name y ys (mark y) refl here
-
   -- another one is found if it is of the name, else one behind it
   kept-find : (name : List ℕ) (y : Provider) (ys : List Provider) (b : Bool) → (y.number == n) ≡ false
       → is_sound_named name y ≡ b
       → find (is_sound_named name) (retired (y ∷ ys)) ≡ (if b then Some y else find (is_sound_named name) (retired ys))
   kept-find name y ys b apart e = rw (apart, e) refl
 
-  -- none stays none
-  none_step : (name : List ℕ) (y : Provider) (ys : List Provider) (a : Bool) → (y.number == n) ≡ a
-      → is_sound_named name y ≡ false
-      → find (is_sound_named name) (retired ys) ≡ None → find (is_sound_named name) (retired (y ∷ ys)) ≡ None
-  none_step name y ys true e fails so = marked-find name y ys e ∙ so
-  none_step name y ys false e fails so = kept-find name y ys false e fails ∙ so
-
   -- a name that had no provider without an error has none after
   pub retired-none : (name : List ℕ) (ys : List Provider) → find (is_sound_named name) ys ≡ None
       → find (is_sound_named name) (retired ys) ≡ None
   retired-none name [] none = refl
-  retired-none name (y ∷ ys) none =
-      let miss = missed (is_sound_named name) y ys none in
-      none_step name y ys (y.number == n) refl miss.0 (retired-none name ys miss.1)
+  retired-none name (y ∷ ys) none = search (rules, retired-none name ys)
 
   -- one provider more in front: the one of the number, one of the name, or neither
   same_step : (name : List ℕ) (x y : Provider) (ys : List Provider) (a b : Bool) → (y.number == n) ≡ a
@@ -113,11 +80,9 @@ module _ (n : ℕ) (mark : Provider → Option Provider) (marked : (y z : Provid
       → ((y.number == n) ≡ true → y ≡ x) → is_sound_named name x ≡ false
       → find (is_sound_named name) (retired ys) ≡ find (is_sound_named name) ys
       → find (is_sound_named name) (retired (y ∷ ys)) ≡ find (is_sound_named name) (y ∷ ys)
-  same_step name x y ys true b e f is fails so = marked-find name y ys e ∙ so
-      ∙ sym (skip (is_sound_named name) y ys (ap (is_sound_named name) (is e) ∙ fails))
+  same_step name x y ys true b e f is fails so = search rules
   same_step name x y ys false true e f is fails so = kept-find name y ys true e f ∙ rw f refl
-  same_step name x y ys false false e f is fails so = kept-find name y ys false e f ∙ so
-      ∙ sym (skip (is_sound_named name) y ys f)
+  same_step name x y ys false false e f is fails so = search rules
 
   -- what isn't that of the number is found as before
   pub retired-same : (name : List ℕ) (x : Provider) (ys : List Provider) → OnlyProvider n x ys
@@ -133,19 +98,9 @@ module _ (n : ℕ) (mark : Provider → Option Provider) (marked : (y z : Provid
       → OnlyProvider n x (y ∷ ys) → OneEach (y ∷ ys) → find (λ z. z.number == n) (y ∷ ys) ≡ Some x
       → (find (λ z. z.number == n) ys ≡ Some x → find (is_sound_named x.name) (retired ys) ≡ None)
       → find (is_sound_named x.name) (retired (y ∷ ys)) ≡ None
-  gone_step x y ys true b e f sound only one found so =
-      let is : y ≡ x = only.0 e in
-      let none : find (is_sound_named x.name) ys ≡ None =
-      subst (λ z. find (is_sound_named z.name) ys ≡ None) is (one.0 (ap (λ z. z.errored) is ∙ sound)) in
-      marked-find x.name y ys e ∙ retired-none x.name ys none
+  gone_step x y ys true b e f sound only one found so = search (rules, retired-none x.name ys)
   gone_step x y ys false true e f sound only one found so =
-      let parts = and_parts (not y.errored) (same_name y.name x.name) f in
-      let names : y.name ≡ x.name = same_is y.name x.name parts.1 in
-      let none : find (is_sound_named x.name) ys ≡ None =
-      subst (λ m. find (is_sound_named m) ys ≡ None) names (one.0 (not-true y.errored parts.0)) in
-      let later : find (λ z. z.number == n) ys ≡ Some x = rw e at found in
-      let passes : is_sound_named x.name x ≡ true = rw (sound, is_same x.name) refl in
-      absurd (found_too (λ z. z.number == n) (is_sound_named x.name) x ys later passes none)
+      search (rules, found_too (λ z. z.number == n) (is_sound_named x.name) x ys)
   gone_step x y ys false false e f sound only one found so = kept-find x.name y ys false e f ∙ so (rw e at found)
 
   -- the name of the one of the number has none any more
@@ -161,8 +116,7 @@ module _ (n : ℕ) (mark : Provider → Option Provider) (marked : (y z : Provid
   one_marked : (y : Provider) (ys : List Provider) (o : Option Provider) → mark y ≡ o → (y.number == n) ≡ true
       → OneEach (retired ys) → OneEach (retired (y ∷ ys))
   one_marked y ys None e here so = rw (here, e) so
-  one_marked y ys (Some z) e here so =
-      rw (here, e) ((λ sound. let never : true ≡ false = sym (marked y z e) ∙ sound in absurd (cc)), so)
+  one_marked y ys (Some z) e here so = search rules
 
   -- so does one more in front, whether it is that of the number or not
   one_step : (y : Provider) (ys : List Provider) (a : Bool) → (y.number == n) ≡ a
@@ -185,31 +139,18 @@ module _ (x : Provider) (sound : x.errored ≡ false) where
   -- and the others are found as before
   pub pushed-other : (name : List ℕ) (ys : List Provider) → same_name x.name name ≡ false
       → find (is_sound_named name) (ys ++ x ∷ []) ≡ find (is_sound_named name) ys
-  pushed-other name ys other = find-push (is_sound_named name) x ys
-      ∙ rw (sound, other) (or_none (find (is_sound_named name) ys))
-    where
-      or_none : (o : Option Provider) → option_or o None ≡ o
-      or_none None = refl
-      or_none (Some y) = refl
+  pushed-other name ys other = search (rules, find-push (is_sound_named name) x ys)
 
   -- one without an error that isn't found by the new name has another name
   apart : (y : Provider) (b : Bool) → same_name x.name y.name ≡ b → y.errored ≡ false
       → is_sound_named x.name y ≡ false → b ≡ false
   apart y false e clean fails = refl
-  apart y true e clean fails =
-      let names : x.name ≡ y.name = same_is x.name y.name e in
-      let passes : is_sound_named x.name y ≡ true = rw (clean, names, is_same y.name) refl in
-      let never : true ≡ false = sym passes ∙ fails in absurd (cc)
+  apart y true e clean fails = search rules
 
   -- and still there is at most one of each name
   pub pushed-one : (ys : List Provider) → OneEach ys → find (is_sound_named x.name) ys ≡ None → OneEach (ys ++ x ∷ [])
   pushed-one [] one none = ((λ _. refl), tt)
-  pushed-one (y ∷ ys) one none =
-      let miss = missed (is_sound_named x.name) y ys none in (
-        λ clean. pushed-other y.name ys (let b = apart y (same_name x.name y.name) refl clean miss.0 in b)
-            ∙ one.0 clean,
-        pushed-one ys one.1 miss.1,
-      )
+  pushed-one (y ∷ ys) one none = search (rules, pushed-other y.name ys, pushed-one ys one.1)
 
 -- a provider with an error
 abbrev pub with_error : Provider → Provider
@@ -239,63 +180,27 @@ only_provider n v (row ∷ rows) only = ((λ here. ap provider_row (only.0 here)
 module _ (ps : List Provider) (next : ℕ) (old new : Names) (are : AreNames ps next old) where
   -- the same names
   pub names-same : SameNames old new → AreNames ps next new
-  names-same same = record {
-    sound = λ name. same.sound name ∙ are.sound name;
-    one = are.one;
-    all = ap (λ v. v.rows) same.all ∙ are.all;
-    next_all = ap (λ v. v.next) same.all ∙ are.next_all;
-  }
+  names-same same = search rules
 
   module _ (n : ℕ) (change : Provider → Provider) (number : (x : Provider)
       → (change x).number ≡ x.number) (named : (x : Provider) → (change x).name ≡ x.name)
       (errored : (x : Provider) → (change x).errored ≡ x.errored) where
-    -- whether a provider is without an error and of a name is as before
-    still_named : (name : List ℕ) (x : Provider) → is_sound_named name (change x) ≡ is_sound_named name x
-    still_named name x = rw (errored x, named x) refl
-
     -- one provider more, which is changed or not, leaves at most one of each name
     one_changed : (y : Provider) (ys : List Provider) (b : Bool) → (y.number == n) ≡ b
         → (y.errored ≡ false → find (is_sound_named y.name) ys ≡ None)
         → OneEach (change_where (λ z. z.number == n) change ys)
         → OneEach (change_where (λ z. z.number == n) change (y ∷ ys))
-    one_changed y ys b e one rest =
-        let hit : Provider → Bool = λ (z : Provider). z.number == n in
-        let name_stays : (changed hit change y).name ≡ y.name =
-        changed-keeps hit change (λ (z : Provider). z.name) (λ z _. named z) y in
-        let error_stays : (changed hit change y).errored ≡ y.errored =
-        changed-keeps hit change (λ (z : Provider). z.errored) (λ z _. errored z) y in (
-          λ clean. rw (
-            name_stays,
-            find-changed hit change (is_sound_named y.name) (λ z _. still_named y.name z)
-                ys,
-            one (sym error_stays ∙ clean),
-          ) refl,
-          rest,
-        )
+    one_changed y ys b e one rest = search (rules, find-changed)
 
     -- so among all
     one_kept : (ys : List Provider) → OneEach ys → OneEach (change_where (λ z. z.number == n) change ys)
     one_kept [] one = tt
     one_kept (y ∷ ys) one = one_changed y ys (y.number == n) refl one.0 (one_kept ys one.1)
 
-    -- what is found is changed, and keeps its number
-    number_kept : (o : Option Provider)
-        → option_map (λ (x : Provider). x.number) (option_map (changed (λ (z : Provider). z.number == n) change) o)
-        ≡ option_map (λ (x : Provider). x.number) o
-    number_kept None = refl
-    number_kept (Some x) =
-        ap (λ k. Some k) (changed-keeps (λ (z : Provider). z.number == n) change (λ (z : Provider). z.number)
-        (λ z _. number z) x)
-
     -- a provider that is changed but keeps its number, its name and whether it carries an error leaves the names
     pub names-changed : AreNames (change_where (λ y. y.number == n) change ps) next old
     names-changed = record {
-      sound = λ name.
-          are.sound name
-          ∙ sym (ap (option_map (λ (x : Provider). x.number))
-          (find-changed (λ (z : Provider). z.number == n) change (is_sound_named name)
-          (λ z _. still_named name z) ps)
-          ∙ number_kept (find (is_sound_named name) ps));
+      sound = search (rules, find-changed (λ (z : Provider). z.number == n) change);
       one = one_kept ps are.one;
       all = are.all
           ∙ sym (map-change_where (λ (y : Provider). (y.number, y.name)) (λ y. y.number == n) change
@@ -307,12 +212,7 @@ module _ (ps : List Provider) (next : ℕ) (old new : Names) (are : AreNames ps 
   pub names-added : (x : Provider) → x.errored ≡ false → x.number ≡ next → find (is_sound_named x.name) ps ≡ None
       → AddsName old new x.name x.number → AreNames (ps ++ x ∷ []) (next + 1) new
   names-added x sound number free adds = record {
-    sound = λ name. (elim (cases_Bool (same_name x.name name)) [
-      | inl e ↦
-          let same : x.name ≡ name = same_is x.name name e in
-          adds.sound name ∙ rw (e, ← same, pushed-here x sound ps free) refl
-      | inr e ↦ adds.sound name ∙ rw (e, pushed-other x sound name ps e) (are.sound name)
-    ]);
+    sound = search (rules, pushed-here x sound ps free, pushed-other x sound);
     one = pushed-one x sound ps are.one free;
     all =
         ap (λ v. v.rows) adds.all
@@ -331,9 +231,7 @@ module _ (ps : List Provider) (next : ℕ) (old new : Names) (are : AreNames ps 
         ≡ option_map (λ (y : Provider). y.number) (find (is_sound_named name) (retired n mark marked ps))
     retired_step mark marked name true b e f =
         retires name ∙ rw (e, retired-same n mark marked name x ps only (errored_fails name x e)) (are.sound name)
-    retired_step mark marked name false true e f =
-        let same : x.name ≡ name = same_is x.name name f in
-        retires name ∙ rw (e, f, ← same, retired-gone n mark marked x ps e only are.one found) refl
+    retired_step mark marked name false true e f = search (rules, retired-gone n mark marked x ps e only are.one found)
     retired_step mark marked name false false e f =
         retires name ∙ rw (e, f, retired-same n mark marked name x ps only (rw (e, f) refl)) (are.sound name)
 
@@ -345,12 +243,8 @@ module _ (ps : List Provider) (next : ℕ) (old new : Names) (are : AreNames ps 
     pub names-marked : new.all ≡ old.all
         → AreNames (change_where (λ y. y.number == n) (λ y. record y { errored = true }) ps) next new
     names-marked all = record {
-      sound = λ name. retired_step (λ y. Some (with_error y)) error_marked name x.errored
-          (same_name x.name name) refl refl
-          ∙ ap (λ xs. option_map (λ (y : Provider). y.number) (find (is_sound_named name) xs))
-          (retired-change n ps);
-      one = subst (λ xs. OneEach xs) (retired-change n ps)
-          (retired-one n (λ y. Some (with_error y)) error_marked ps are.one);
+      sound = search (rules, retired_step (λ y. Some (with_error y)) error_marked, retired-change n ps);
+      one = search (rules, retired-change n ps, retired-one n (λ y. Some (with_error y)) error_marked ps are.one);
       all = ap (λ v. v.rows) all
           ∙ are.all
           ∙ sym (map-change_where (λ (y : Provider). (y.number, y.name)) (λ y. y.number == n)
@@ -365,17 +259,14 @@ module _ (ps : List Provider) (next : ℕ) (old new : Names) (are : AreNames ps 
     -- a provider that goes
     pub names-removed : RemovesName old new x.name n x.errored
         → AreNames (filter (λ y. not (y.number == n)) ps) next new
-    names-removed removes = record {
-      sound = λ name. retired_step (λ y. None) never_marked name x.errored (same_name x.name name) refl refl
-          ∙ ap (λ xs. option_map (λ (y : Provider). y.number) (find (is_sound_named name) xs))
-          (retired-filter n ps);
-      one = subst (λ xs. OneEach xs) (retired-filter n ps) (retired-one n (λ y. None) never_marked ps are.one);
-      all =
-          ap (λ v. v.rows) removes.all
-          ∙ ap (λ xs. without xs n) are.all
-          ∙ map-filter_row (λ (y : Provider). y.number) (λ y. y.name) n ps;
-      next_all = ap (λ v. v.next) removes.all ∙ are.next_all;
-    }
+    names-removed removes =
+        search (
+          rules,
+          retired_step (λ y. None) never_marked,
+          retired-filter n ps,
+          retired-one n (λ y. None) never_marked ps are.one,
+          map-filter_row (λ (y : Provider). y.number) (λ y. y.name) n ps,
+        )
 
 -- The provider of a name with the greatest number
 
@@ -394,5 +285,4 @@ module _ (name : List ℕ) where
 pub newest-names : (ps : List Provider) (next : ℕ) (n : Names) → AreNames ps next n → (name : List ℕ)
     → last_named n.all.rows name
     ≡ option_map (λ (x : Provider). x.number) (last_or None (filter (λ (x : Provider). same_name x.name name) ps))
-newest-names ps next n are name =
-    ap (λ rows. last_named rows name) are.all ∙ newest_from name ps None None refl
+newest-names ps next n are name = search (rules, newest_from name ps None None)

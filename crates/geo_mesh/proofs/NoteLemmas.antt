@@ -1,10 +1,8 @@
 -- Notes of providers and of geoms, after each change of the tables.
 use Rattle.std.specs.Prelude.{◌≡◌, ℕ, ◌+◌, ◌-◌, ◌≤◌, ◌==◌, Bool, false, List, [], ◌∷◌, ◌++◌, Some, max}
-use Rattle.std.proofs.Common.{refl, sym, ◌∙◌, ap, subst, arith}
+use Rattle.std.proofs.Common.{refl, sym, ◌∙◌, ap, rules}
 use Rattle.std.proofs.lemmas.List.{map-append}
 use Rattle.geo_slots.specs.Slots.{SlotsView, IsRising, value_at, with_value, without, with_insert}
-use Rattle.geo_mesh.specs.declared.records.Scratch.{Scratch}
-use Rattle.geo_mesh.specs.declared.records.GeomRec.{GeomRec}
 use Rattle.geo_mesh.specs.declared.records.GeomCell.{GeomCell}
 use Rattle.geo_mesh.specs.declared.records.ProvCell.{ProvCell}
 use Rattle.geo_mesh.specs.declared.tables.Notes.{Notes}
@@ -32,49 +30,18 @@ module _ {C : Type 0} (n : Notes) (gs : SlotsView (GeomCell C)) (ps : SlotsView 
   -- with a new provider, which isn't noted
   pub notes-provider : (v : ProvCell) → AreNotes n gs ps → v.provider.risen ≡ false → v.provider.fallen ≡ false
       → AreNotes (record n { risen = with_mark n.risen; fallen = with_mark n.fallen }) gs (with_insert ps v)
-  notes-provider v are risen fallen = record {
-    risen =
-        rw (are.risen, are.risen_next)
-        (sym (map-append (row_with risen_of) ps.rows ((ps.next, v) ∷ [])
-        ∙ ap (λ b. rows_with risen_of ps.rows ++ (ps.next, b) ∷ []) risen));
-    fallen =
-        rw (are.fallen, are.fallen_next)
-        (sym (map-append (row_with fallen_of) ps.rows ((ps.next, v) ∷ [])
-        ∙ ap (λ b. rows_with fallen_of ps.rows ++ (ps.next, b) ∷ []) fallen));
-    risen_next = ap (λ k. k + 1) are.risen_next;
-    fallen_next = ap (λ k. k + 1) are.fallen_next;
-    going_next = are.going_next;
-    named = are.named;
-    named_next = are.named_next;
-    room = record {
-      risen = omega (arith, are.room.risen);
-      fallen = omega (arith, are.room.fallen);
-      going = are.room.going;
-      named = are.room.named;
-    };
-  }
+  notes-provider v are risen fallen =
+      search (
+        rules,
+        map-append (row_with risen_of) ps.rows ((ps.next, v) ∷ []),
+        map-append (row_with fallen_of) ps.rows ((ps.next, v) ∷ []),
+      )
 
   -- with a new geom, and its name
   pub notes-geom : (v : GeomCell C) (m : NamesView) → AreNotes n gs ps
       → m ≡ record (with_name n.named v.geom.name) { room = m.room } → n.named.room ≤ m.room + 1
       → AreNotes (record n { going = with_mark n.going; named = m }) (with_insert gs v) ps
-  notes-geom v m are added room = record {
-    risen = are.risen;
-    fallen = are.fallen;
-    risen_next = are.risen_next;
-    fallen_next = are.fallen_next;
-    going_next = ap (λ k. k + 1) are.going_next;
-    named = ap (λ k. k.rows) added
-        ∙
-        (rw (are.named, are.named_next) (sym (map-append (row_with (geom_name {C = C})) gs.rows ((gs.next, v) ∷ []))));
-    named_next = ap (λ k. k.next) added ∙ ap (λ k. k + 1) are.named_next;
-    room = record {
-      risen = are.room.risen;
-      fallen = are.room.fallen;
-      going = omega (arith, are.room.going);
-      named = omega (arith, are.room.named, room);
-    };
-  }
+  notes-geom v m are added room = search (rules, map-append (row_with (geom_name {C = C})) gs.rows ((gs.next, v) ∷ []))
 
   -- without a geom and its name
   pub notes-without_geom : (k : ℕ) (m : NamesView) → AreNotes n gs ps
@@ -91,12 +58,7 @@ module _ {C : Type 0} (n : Notes) (gs : SlotsView (GeomCell C)) (ps : SlotsView 
         ∙ (rw are.named
         (sym (map-without (row_with (geom_name {C = C})) k (λ (row : ℕ × List ℕ). row.0 == k) (λ row. refl) gs.rows)));
     named_next = ap (λ k. k.next) removed ∙ are.named_next;
-    room = record {
-      risen = are.room.risen;
-      fallen = are.room.fallen;
-      going = are.room.going;
-      named = omega (arith, are.room.named, room);
-    };
+    room = search rules;
   }
 
   -- without a provider
@@ -113,12 +75,7 @@ module _ {C : Type 0} (n : Notes) (gs : SlotsView (GeomCell C)) (ps : SlotsView 
     going_next = are.going_next;
     named = are.named;
     named_next = are.named_next;
-    room = record {
-      risen = are.room.risen;
-      fallen = are.room.fallen;
-      going = are.room.going;
-      named = are.room.named;
-    };
+    room = search rules;
   }
 
   -- with another cell of a provider, which may be noted otherwise
@@ -136,12 +93,7 @@ module _ {C : Type 0} (n : Notes) (gs : SlotsView (GeomCell C)) (ps : SlotsView 
     going_next = are.going_next;
     named = are.named;
     named_next = are.named_next;
-    room = record {
-      risen = are.room.risen;
-      fallen = are.room.fallen;
-      going = are.room.going;
-      named = are.room.named;
-    };
+    room = search rules;
   }
 
   -- with another cell of a provider that is noted as before
@@ -182,49 +134,13 @@ pub notes-bare : {C : Type 0} (n : Notes) (gs ns : SlotsView (GeomCell C)) (ps :
 notes-bare {C} n gs ns ps same are =
     let names : rows_with (geom_name {C = C}) ns.rows ≡ rows_with (geom_name {C = C}) gs.rows =
     map-bare (λ row. (row.0, row.1.0.name)) gs ns same in
-    let next : ns.next ≡ gs.next = ap (λ (s : SlotsView (GeomRec C × Scratch)). s.next) same in
-    let spare : ns.spare ≡ gs.spare = ap (λ (s : SlotsView (GeomRec C × Scratch)). s.spare) same in
-    record {
-      risen = are.risen;
-      fallen = are.fallen;
-      risen_next = are.risen_next;
-      fallen_next = are.fallen_next;
-      going_next = are.going_next ∙ sym next;
-      named = are.named ∙ sym names;
-      named_next = are.named_next ∙ sym next;
-      room = record {
-        risen = are.room.risen;
-        fallen = are.room.fallen;
-        going = subst (λ k. k ≤ n.going.room) (sym spare) are.room.going;
-        named = subst (λ k. k ≤ n.named.room) (sym spare) are.room.named;
-      };
-    }
+    search rules
 
 -- notes that aren't touched
 pub unnoted : (n : Notes) → IsSameNotes n n
 unnoted n = record { risen = refl; fallen = refl; going = refl; named = refl }
 
--- notes with other room, where that is enough
-pub notes-reserved : {C : Type 0} (n m : Notes) (gs : SlotsView (GeomCell C)) (ps : SlotsView ProvCell) (g p : ℕ)
-    → IsSameNotes n m → HaveNoteRoom g p m
-    → AreNotes n gs ps → AreNotes m (record gs { spare = g }) (record ps { spare = p })
-notes-reserved n m gs ps g p same room are = record {
-  risen = ap (λ k. k.rows) same.risen ∙ are.risen;
-  fallen = ap (λ k. k.rows) same.fallen ∙ are.fallen;
-  risen_next = ap (λ k. k.next) same.risen ∙ are.risen_next;
-  fallen_next = ap (λ k. k.next) same.fallen ∙ are.fallen_next;
-  going_next = ap (λ k. k.next) same.going ∙ are.going_next;
-  named = ap (λ k. k.rows) same.named ∙ are.named;
-  named_next = ap (λ k. k.next) same.named ∙ are.named_next;
-  room = room;
-}
-
 -- notes with room for what there was room for, and for more of it
 pub note_room_for : (a b d e g p : ℕ) (n : Notes) → HaveNoteRoom a b n → HaveNoteRoom d e n → g ≤ max a d
     → p ≤ max b e → HaveNoteRoom g p n
-note_room_for a b d e g p n one two most_g most_p = record {
-  risen = omega (arith, one.risen, two.risen, most_p);
-  fallen = omega (arith, one.fallen, two.fallen, most_p);
-  going = omega (arith, one.going, two.going, most_g);
-  named = omega (arith, one.named, two.named, most_g);
-}
+note_room_for a b d e g p n one two most_g most_p = search rules

@@ -1,7 +1,7 @@
 -- An orderly graph stays orderly through each change of one thing.
 use Rattle.std.specs.Prelude.{◌≡◌, ◌≢◌, ℕ, ◌+◌, ◌<◌, ◌≤◌, ◌^◌, ◌==◌, Bool, true, not, List, [], ◌∷◌, ◌++◌, find, Option, Some, None, All, IsSome, IsSomeAnd, false, codes}
-use Rattle.std.specs.Option.{option_map, option_or}
-use Rattle.std.proofs.Common.{refl, sym, ◌∙◌, ap, subst, arith}
+use Rattle.std.specs.Option.{option_map}
+use Rattle.std.proofs.Common.{refl, sym, ◌∙◌, ap, subst, arith, rules}
 use Rattle.std.proofs.lemmas.List.Elements.{recursion_from_All, All-from_recursion, All-push, All-filter, All-nil}
 use Rattle.std.proofs.lemmas.List.Folds.{find-append}
 use Rattle.geo_model.specs.Kind.{Kind}
@@ -35,10 +35,7 @@ some_through P f so None never = never
 -- a fact of the first of a list stays where another item comes behind it
 some_behind : {X : Type 0} (P : X → Type 0) (test : X → Bool) (xs ys : List X) → IsSomeAnd (find test xs) P
     → IsSomeAnd (find test (xs ++ ys)) P
-some_behind P test xs ys fact = rw find-append (at (find test xs) fact) where
-  at : (o : Option _) → IsSomeAnd o P → IsSomeAnd (option_or o (find test ys)) P
-  at (Some x) fact = fact
-  at None never = absurd never
+some_behind P test xs ys fact = search (rules, find-append)
 
 -- the number after a number, where it fits
 next_number : (n : ℕ) → n + 1 < 2 ^ 64 → IsNumber (n + 1)
@@ -54,60 +51,21 @@ module _ {C : Type 0} (t : Topology C) (is : IsOrderly t) where
       → All (λ (x : Geom C). 1 ≤ x.number) gs → IsNumber next → PartsLive (record t { geoms = gs; next_geom = next })
       → FirstGeomsStand (record t { geoms = gs; next_geom = next })
       → IsOrderly (record t { geoms = gs; next_geom = next })
-  orderly_geoms order numbers next parts first = record {
-    order = order;
-    numbers = record {
-      geoms = numbers;
-      providers = is.numbers.providers;
-      consumers = is.numbers.consumers;
-      next_geom = next;
-      next_provider = is.numbers.next_provider;
-      next_consumer = is.numbers.next_consumer;
-    };
-    parts = parts;
-    first = first;
-    offers = is.offers;
-  }
+  orderly_geoms order numbers next parts first = search rules
 
   -- so with other providers
   orderly_providers : {ps : List Provider} {next : ℕ} → IsInOrder (record t { providers = ps; next_provider = next })
       → All (λ (x : Provider). 1 ≤ x.number) ps → IsNumber next
       → PartsLive (record t { providers = ps; next_provider = next }) → All IsOffer ps
       → IsOrderly (record t { providers = ps; next_provider = next })
-  orderly_providers order numbers next parts offers = record {
-    order = order;
-    numbers = record {
-      geoms = is.numbers.geoms;
-      providers = numbers;
-      consumers = is.numbers.consumers;
-      next_geom = is.numbers.next_geom;
-      next_provider = next;
-      next_consumer = is.numbers.next_consumer;
-    };
-    parts = parts;
-    first = record { dev = is.first.dev; taste = is.first.taste };
-    offers = offers;
-  }
+  orderly_providers order numbers next parts offers = search rules
 
   -- and with other consumers
   orderly_consumers : {cs : List Consumer} {next : ℕ} → IsInOrder (record t { consumers = cs; next_consumer = next })
       → All (λ (x : Consumer). 1 ≤ x.number) cs → IsNumber next
       → PartsLive (record t { consumers = cs; next_consumer = next })
       → IsOrderly (record t { consumers = cs; next_consumer = next })
-  orderly_consumers order numbers next parts = record {
-    order = order;
-    numbers = record {
-      geoms = is.numbers.geoms;
-      providers = is.numbers.providers;
-      consumers = numbers;
-      next_geom = is.numbers.next_geom;
-      next_provider = is.numbers.next_provider;
-      next_consumer = next;
-    };
-    parts = parts;
-    first = record { dev = is.first.dev; taste = is.first.taste };
-    offers = is.offers;
-  }
+  orderly_consumers order numbers next parts = search rules
 
   module _ (g : ℕ) (change : Geom C → Geom C) (number : (x : Geom C)
       → (change x).number ≡ x.number) (kind : (x : Geom C) → (change x).kind ≡ x.kind) where
@@ -297,11 +255,7 @@ module _ {C : Type 0} where
 
   -- and has no parts
   none_live : PartsLive (no_graph {C = C})
-  none_live = record {
-    offerers = λ k d less. absurd (omega arith);
-    geoms = λ k d less. absurd (omega arith);
-    providers = λ k d less. absurd (omega arith);
-  }
+  none_live = search rules
 
   -- the graph with which a mesh begins is orderly
   pub orderly-first : (dev taste : C) → IsOrderly (with_taste dev taste)
@@ -329,8 +283,4 @@ module _ {C : Type 0} where
 
 -- the two geoms have rank 1, and so has a geom that isn't there
 pub first_ranks : (g : ℕ) → rank_at ((1, 1) ∷ (2, 1) ∷ []) g ≡ 1
-first_ranks g = at (1 == g) refl (2 == g) refl where
-  at : (a : Bool) → (1 == g) ≡ a → (b : Bool) → (2 == g) ≡ b → rank_at ((1, 1) ∷ (2, 1) ∷ []) g ≡ 1
-  at true e b f = rw e refl
-  at false e true f = rw (e, f) refl
-  at false e false f = rw (e, f) refl
+first_ranks g = search rules

@@ -1,16 +1,14 @@
 -- The first two geoms, on whose ranks no geom stands: the ranks of all geoms from those that stand in the cells.
-use Rattle.std.specs.Prelude.{◌≡◌, ◌≢◌, ◌⊎◌, ℕ, ◌+◌, ◌≤◌, ◌==◌, Bool, true, false, not, ◌&&◌, ◌||◌, List, [], ◌∷◌, Option, Some, None, IsSome, IsSomeAnd, map, filter_map, length, All}
+use Rattle.std.specs.Prelude.{◌≡◌, ◌⊎◌, ℕ, ◌+◌, ◌≤◌, Bool, true, false, ◌||◌, List, [], ◌∷◌, Option, Some, None, IsSome, IsSomeAnd, map, filter_map, length, All}
 use Rattle.std.specs.List.{AllByRecursion}
-use Rattle.std.specs.Option.{option_map}
-use Rattle.std.proofs.Common.{refl, sym, ap, ◌∙◌, subst, inl, inr, arith}
-use Rattle.std.proofs.lemmas.Bool.{cases_Bool, eqb-true, eq-eqb, ne_eqb, and_parts, or_parts}
+use Rattle.std.proofs.Common.{refl, sym, ap, ◌∙◌, inl, inr, arith, rules}
+use Rattle.std.proofs.lemmas.Bool.{cases_Bool}
 use Rattle.std.proofs.lemmas.List.Elements.{recursion_from_All}
 use Rattle.std.proofs.Math.Bool.{or-false}
 use Rattle.geo_model.specs.Kind.{Kind}
 use Rattle.geo_model.specs.Kind.TheVariants as kinds
 use Rattle.geo_model.specs.Words.{largest, is_granted_kind, names_number}
 use Rattle.geo_model.specs.Topology.{Provider, Geom, Consumer, geom_at}
-use Rattle.geo_model.proofs.DemandLemmas.{names_some}
 use Rattle.geo_laws_graph.specs.LookupLaws.{EachIsFound}
 use Rattle.geo_laws_graph.proofs.Lists.{Rise, rise-from}
 use Rattle.geo_laws_graph.proofs.Found.{each-found}
@@ -48,13 +46,6 @@ footing-none g = grind arith
 pub footing-unnamed : (g n : ℕ) (o : Option ℕ) → names_number o n ≡ false → names_number (footing g o) n ≡ false
 footing-unnamed g n o e = grind (arith, e)
 
--- where it stands on a provider, the geom is a later one
-pub footing-some : (g p : ℕ) (o : Option ℕ) → footing g o ≡ Some p → (is_dev_or_taste g ≡ false) × (o ≡ Some p)
-footing-some g p o there = elim (cases_Bool (is_dev_or_taste g)) [
-  | inl e ↦ let no : None ≡ Some p = rw e at there in absurd cc
-  | inr e ↦ (e, rw e at there)
-]
-
 module _ (g : ℕ) where
   -- the providers below a later geom, by either table
   links_same : is_dev_or_taste g ≡ false → (rows : List (ℕ × ConsCell))
@@ -74,68 +65,39 @@ module _ (edges : Edges) where
   -- a consumer by which a rank stands on a provider is of a later geom
   pub attached-later : (p c : ℕ) → passes (is_attached p) (value_at (ranked_links edges).rows c) ≡ true
       → is_dev_or_taste (user edges c) ≡ false
-  attached-later p c there =
-      at (value_at edges.consumers.rows c) refl
-      (rw (value_at-rows_with ranked_link_of c edges.consumers.rows) at there) where
-        at : (o : Option ConsCell) → value_at edges.consumers.rows c ≡ o
-            → passes (is_attached p) (option_map ranked_link_of o) ≡ true → is_dev_or_taste (user edges c) ≡ false
-        at None e there = absurd (cc)
-        at (Some v) e there =
-            rw (value_at-rows_with ranked_link_of c edges.consumers.rows, e)
-            (footing-some v.consumer.geom p v.consumer.prov
-            (names_some (footing v.consumer.geom v.consumer.prov) p there)).0
+  attached-later p c there = search (rules, value_at-rows_with ranked_link_of c edges.consumers.rows)
 
   -- so it is one of those that aren't DEV's
   pub attached-above : (p c : ℕ) → passes (is_attached p) (value_at (ranked_links edges).rows c) ≡ true
       → passes (is_above p) (value_at (links edges).rows c) ≡ true
   attached-above p c there =
-      rw (value_at-rows_with links_of c edges.consumers.rows)
-      (at (value_at edges.consumers.rows c)
-      (rw (value_at-rows_with ranked_link_of c edges.consumers.rows) at there)) where
-        at : (o : Option ConsCell) → passes (is_attached p) (option_map ranked_link_of o) ≡ true
-            → passes (is_above p) (option_map links_of o) ≡ true
-        at None there = absurd (cc)
-        at (Some v) there =
-            let stands = footing-some v.consumer.geom p v.consumer.prov
-            (names_some (footing v.consumer.geom v.consumer.prov) p there) in
-            let not_dev : (v.consumer.geom == 1) ≡ false =
-            (or_parts (v.consumer.geom == 1) (v.consumer.geom == 2) stands.0).0 in
-            rw (stands.1, not_dev) (ap (λ b. b && true) (eq-eqb p p refl))
+      search (
+        rules,
+        value_at-rows_with links_of c edges.consumers.rows,
+        value_at-rows_with ranked_link_of c edges.consumers.rows,
+      )
 
   -- those that aren't DEV's are among all that are attached
   pub above-linked : (p c : ℕ) → passes (is_above p) (value_at (links edges).rows c) ≡ true
       → passes (is_attached p) (value_at (links edges).rows c) ≡ true
-  above-linked p c there = at (value_at (links edges).rows c) there where
-    at : (o : Option (ℕ × Option ℕ)) → passes (is_above p) o ≡ true → passes (is_attached p) o ≡ true
-    at None there = there
-    at (Some e) there = (and_parts (names_number e.1 p) (not (e.0 == 1)) there).0
+  above-linked p c there = search rules
 
   -- the rank of a later geom stands on a provider to which its consumer is attached
   pub attached-ranked : (p c : ℕ) → is_dev_or_taste (user edges c) ≡ false
       → passes (is_attached p) (value_at (links edges).rows c) ≡ true
       → passes (is_attached p) (value_at (ranked_links edges).rows c) ≡ true
   attached-ranked p c later there =
-      rw (value_at-rows_with ranked_link_of c edges.consumers.rows)
-      (at (value_at edges.consumers.rows c) refl
-      (rw (value_at-rows_with links_of c edges.consumers.rows) at there)) where
-        at : (o : Option ConsCell) → value_at edges.consumers.rows c ≡ o
-            → passes (is_attached p) (option_map links_of o) ≡ true
-            → passes (is_attached p) (option_map ranked_link_of o) ≡ true
-        at None e there = absurd (cc)
-        at (Some v) e there =
-            let own : user edges c ≡ v.consumer.geom =
-            rw (value_at-rows_with ranked_link_of c edges.consumers.rows, e) refl in
-            let stands : footing v.consumer.geom v.consumer.prov ≡ v.consumer.prov =
-            footing-later v.consumer.geom v.consumer.prov (rw own at later) in
-            rw stands there
+      search (
+        rules,
+        value_at-rows_with ranked_link_of c edges.consumers.rows,
+        value_at-rows_with links_of c edges.consumers.rows,
+      )
 
 -- a provider's geom is a later one
 pub owner-later : (edges : Edges) → AllByRecursion (λ row. is_dev_or_taste row.1 ≡ false) (offers edges).rows
     → (p : ℕ) → IsSome (value_at (offers edges).rows p) → is_dev_or_taste (owner edges p) ≡ false
-owner-later edges bare p there = at (value_at (offers edges).rows p) refl there where
-  at : (o : Option ℕ) → value_at (offers edges).rows p ≡ o → IsSome o → is_dev_or_taste (owner edges p) ≡ false
-  at None e never = absurd (cc)
-  at (Some h) e there = rw e (all-at (λ (row : ℕ × ℕ). is_dev_or_taste row.1 ≡ false) (offers edges).rows p h bare e)
+owner-later edges bare p there =
+    search (rules, all-at (λ (row : ℕ × ℕ). is_dev_or_taste row.1 ≡ false) (offers edges).rows p)
 
 module _ (edges : Edges) where
   -- a later geom stands on all geoms directly below it
@@ -151,18 +113,12 @@ module _ (edges : Edges) where
     offered_later : (qs : List ℕ) (h : ℕ) → IsAmong (filter_map (value_at (offers edges).rows) qs) h
         → is_dev_or_taste h ≡ false
     offered_later [] h there = absurd there
-    offered_later (q ∷ qs) h there = at (value_at (offers edges).rows q) refl there (λ e. offered_later qs h e) where
-      at : (o : Option ℕ) → value_at (offers edges).rows q ≡ o
-          → IsAmong (filter_map (value_at (offers edges).rows) (q ∷ qs)) h
-          → (IsAmong (filter_map (value_at (offers edges).rows) qs) h → is_dev_or_taste h ≡ false)
-          → is_dev_or_taste h ≡ false
-      at None e there so = so (rw e at there)
-      at (Some k) e there so = elim (rw e at there) [
-        | inl same ↦
-            subst (λ n. is_dev_or_taste n ≡ false) same
-            (all-at (λ (row : ℕ × ℕ). is_dev_or_taste row.1 ≡ false) (offers edges).rows q k bare e)
-        | inr rest ↦ so rest
-      ]
+    offered_later (q ∷ qs) h there =
+        search (
+          rules,
+          offered_later qs h,
+          all-at (λ (row : ℕ × ℕ). is_dev_or_taste row.1 ≡ false) (offers edges).rows q,
+        )
 
     -- so what is directly below a geom is one
     pub below-later : (x h : ℕ) → IsAmong (below edges x) h → is_dev_or_taste h ≡ false
@@ -178,26 +134,13 @@ module _ (edges : Edges) where
 
       -- the ranks are one more than the highest directly below
       pub rank_from-local : (x : ℕ) → rank_from f edges x ≡ above (below edges) (rank_from f edges) x
-      rank_from-local x = elim (cases_Bool (is_dev_or_taste x)) [
-        | inl first ↦
-            (let here : rank_from f edges x ≡ 1 + largest (map f (below edges x)) = rw first refl in
-            omega (arith, same_beneath x))
-        | inr later ↦
-            let here : rank_from f edges x ≡ f x = rw later refl in
-            let stands : f x ≡ 1 + largest (map f (below edges x)) =
-            subst (λ ms. f x ≡ 1 + largest (map f ms)) (ranked-below x later) (local x) in
-            omega (arith, same_beneath x)
-      ]
+      rank_from-local x = search (rules, same_beneath x, ranked-below x)
 
       -- and no more than one above the number of geoms
       pub rank_from-few : (numbers : List ℕ) → ((g : ℕ) → is_dev_or_taste g ≡ true → IsAmong numbers g)
           → ((g : ℕ) → 2 ≤ f g → IsAmong numbers g) → (x : ℕ) → rank_from f edges x ≤ length numbers + 1
       rank_from-few numbers listed stood x =
-          local-few (rank_from f edges) (below edges) numbers rank_from-local
-          (λ g high. (elim (cases_Bool (is_dev_or_taste g)) [
-            | inl first ↦ listed g first
-            | inr later ↦ (let here : rank_from f edges g ≡ f g = rw later refl in stood g (omega arith))
-          ])) x
+          search (rules, local-few (rank_from f edges) (below edges) numbers rank_from-local)
 
     -- what stands above a later geom does so by the ranks
     pub stands-down : (x g : ℕ) → is_dev_or_taste x ≡ false → StandsAbove (below edges) x g
@@ -215,24 +158,13 @@ module _ (edges : Edges) where
           up : (has : ℕ → Bool) → ((y h : ℕ) → IsAmong (ranked_below edges y) h → has h ≡ true → has y ≡ true)
               → (y h : ℕ) → IsAmong (below edges y) h → (has h || is_dev_or_taste h) ≡ true
               → (is_dev_or_taste y ≡ true) ⊎ (is_dev_or_taste y ≡ false) → (has y || is_dev_or_taste y) ≡ true
-          up has so y h there is (inl first) = at (has y) where
-            at : (b : Bool) → (b || is_dev_or_taste y) ≡ true
-            at true = refl
-            at false = first
-          up has so y h there is (inr above_later) =
-              let near : IsAmong (ranked_below edges y) h =
-              subst (λ ms. IsAmong ms h) (sym (ranked-below y above_later)) there in
-              let below_later : is_dev_or_taste h ≡ false = below-later y h there in
-              let here : has h ≡ true = sym (or-false (has h)) ∙ (rw below_later at is) in
-              rw (so y h near here) refl
+          up has so y h there is (inl first) = search rules
+          up has so y h there is (inr above_later) = search (rules, ranked-below y above_later, below-later y h there)
 
   -- what stands above a geom by the ranks does so by the graph
   pub stands-up : (x g : ℕ) → StandsAbove (ranked_below edges) x g → StandsAbove (below edges) x g
   stands-up x g stands =
-      λ has here so. stands has here (λ y h there is. (elim (cases_Bool (is_dev_or_taste y)) [
-        | inl first ↦ absurd (subst (λ ms. IsAmong ms h) (ranked_below-first y first) there)
-        | inr later ↦ so y h (subst (λ ms. IsAmong ms h) (ranked-below y later) there) is
-      ]))
+      λ has here so. stands has here (search (rules, ranked_below-first, ranked-below))
 
   -- the classes of the first two have no limit, so only the ranks in the cells can be too great
   pub rank_from-high : (f : ℕ → ℕ) (classes : List (ℕ × Kind))
@@ -250,22 +182,7 @@ numbers-bare = map-bare (λ row. row.0)
 value-listed : {T : Type 0} (rows : List (ℕ × T)) (n : ℕ) → IsSome (value_at rows n)
     → IsAmong (map (λ (row : ℕ × T). row.0) rows) n
 value-listed [] n there = absurd (cc)
-value-listed (row ∷ rows) n there = elim (cases_Bool (row.0 == n)) [
-  | inl e ↦ inl (eqb-true row.0 n e)
-  | inr e ↦ inr (value-listed rows n (rw e at there))
-]
-
--- which are the first two
-first_is : (g : ℕ) → is_dev_or_taste g ≡ true → (g ≡ 1) ⊎ (g ≡ 2)
-first_is g first = at (g == 1) refl (g == 2) refl where
-  at : (a : Bool) → (g == 1) ≡ a → (b : Bool) → (g == 2) ≡ b → (g ≡ 1) ⊎ (g ≡ 2)
-  at true e b f = inl (eqb-true g 1 e)
-  at false e true f = inr (eqb-true g 2 f)
-  at false e false f = let never = rw (e, f) at first in absurd (cc)
-
--- what is none of them is a later one
-later_is : (g : ℕ) → g ≢ 1 → g ≢ 2 → is_dev_or_taste g ≡ false
-later_is g not_dev not_taste = rw (ne_eqb g 1 not_dev, ne_eqb g 2 not_taste) refl
+value-listed (row ∷ rows) n there = search (rules, value-listed rows n)
 
 -- rows rise from 1 on where the numbers of what they stand for do
 module _ {T X : Type 0} (seen : ℕ × T → X) (number : X → ℕ) (is : (row : ℕ × T)
@@ -274,23 +191,13 @@ module _ {T X : Type 0} (seen : ℕ × T → X) (number : X → ℕ) (is : (row 
   behind : (low : ℕ) (rows : List (ℕ × T)) → low ≤ next → Rise low (map number (map seen rows)) next
       → IsRising low rows next
   behind low [] below rise = below
-  behind low (row ∷ rows) below rise =
-      let here : number (seen row) ≡ row.0 = is row in (
-        omega (arith, rise.0),
-        behind (row.0 + 1) rows (omega (arith, rise.1))
-            (subst (λ n. Rise (n + 1) (map number (map seen rows)) next) here rise.2),
-      )
+  behind low (row ∷ rows) below rise = search (rules, behind (row.0 + 1) rows (omega (arith, rise.1)))
 
   -- from the first on
   from_one : (rows : List (ℕ × T)) → AllByRecursion (λ x. 1 ≤ number x) (map seen rows)
       → Rise 0 (map number (map seen rows)) next → IsRising 1 rows next
   from_one [] one rise = some
-  from_one (row ∷ rows) one rise =
-      let here : number (seen row) ≡ row.0 = is row in (
-        omega (arith, one.0),
-        behind (row.0 + 1) rows (omega (arith, rise.1))
-            (subst (λ n. Rise (n + 1) (map number (map seen rows)) next) here rise.2),
-      )
+  from_one (row ∷ rows) one rise = search (rules, behind (row.0 + 1) rows (omega (arith, rise.1)))
 
   -- so for a list in order
   rows-rise : (rows : List (ℕ × T)) → All (λ x. 1 ≤ number x) (map seen rows)
@@ -303,33 +210,21 @@ module _ {C : Type 0} (gs : SlotsView (GeomCell C)) (edges : Edges) (orderly : I
   -- a geom of which something is known is there
   stands_there : (n : ℕ) (P : Geom C → Type 0) → IsSomeAnd (geom_at (graph_of gs edges) n) P
       → IsSome (value_at gs.rows n)
-  stands_there n P fact = at (value_at gs.rows n) (rw (geom_at-view gs edges n) at fact) where
-    at : (o : Option (GeomCell C)) → IsSomeAnd (option_map (λ v. geom_row (n, v)) o) P → IsSome o
-    at None never = absurd never
-    at (Some v) fact = refl
+  stands_there n P fact = search (rules, geom_at-view gs edges n)
 
   -- the first two are there
   first_listed : (g : ℕ) → is_dev_or_taste g ≡ true → IsAmong (map (λ (row : ℕ × GeomCell C). row.0) gs.rows) g
-  first_listed g first = elim (first_is g first) [
-    | inl dev ↦
-        subst (λ n. IsAmong (map (λ (row : ℕ × GeomCell C). row.0) gs.rows) n) (sym dev)
-        (value-listed gs.rows 1 (stands_there 1 (λ x. x.kind ≡ kinds.Dev) orderly.first.dev))
-    | inr taste ↦
-        subst (λ n. IsAmong (map (λ (row : ℕ × GeomCell C). row.0) gs.rows) n) (sym taste)
-        (value-listed gs.rows 2 (stands_there 2 (λ x. x.kind ≡ kinds.Taste) orderly.first.taste))
-  ]
+  first_listed g first =
+      search (
+        rules,
+        value-listed gs.rows 1 (stands_there 1 (λ x. x.kind ≡ kinds.Dev) orderly.first.dev),
+        value-listed gs.rows 2 (stands_there 2 (λ x. x.kind ≡ kinds.Taste) orderly.first.taste),
+      )
 
   -- their classes have no limit
   granted_of : (x : Geom C) → geom_at (graph_of gs edges) x.number ≡ Some x → is_dev_or_taste x.number ≡ true
       → is_granted_kind x.kind ≡ true
-  granted_of x found first = elim (first_is x.number first) [
-    | inl dev ↦
-        (let is : x.kind ≡ kinds.Dev =
-        rw (subst (λ n. geom_at (graph_of gs edges) n ≡ Some x) dev found) at orderly.first.dev in rw is refl)
-    | inr taste ↦
-        (let is : x.kind ≡ kinds.Taste =
-        rw (subst (λ n. geom_at (graph_of gs edges) n ≡ Some x) taste found) at orderly.first.taste in rw is refl)
-  ]
+  granted_of x found first = search rules
 
   -- so for each row
   first_granted : (rows : List (ℕ × GeomCell C))
@@ -343,8 +238,7 @@ module _ {C : Type 0} (gs : SlotsView (GeomCell C)) (edges : Edges) (orderly : I
   first_bare : (rows : List (ℕ × ProvCell)) → AllByRecursion IsOffer (map provider_row rows)
       → AllByRecursion (λ (row : ℕ × ℕ). is_dev_or_taste row.1 ≡ false) (rows_with owner_of rows)
   first_bare [] facts = tt
-  first_bare (row ∷ rows) facts =
-      (later_is row.1.provider.geom facts.0.not_dev facts.0.not_taste, first_bare rows facts.1)
+  first_bare (row ∷ rows) facts = search (rules, first_bare rows facts.1)
 
   -- in an orderly graph the ranks find the first two geoms as they need them
   pub first-two : HaveDevAndTaste gs edges
@@ -365,18 +259,11 @@ module _ {C : Type 0} (gs : SlotsView (GeomCell C)) (edges : Edges) (orderly : I
 
   -- the index tells what is in an orderly graph, and its rows rise
   pub kin-of : IsIndexed (graph_of gs edges) edges.index → IsKin edges
-  kin-of indexed = record {
-    offered = indexed.offered.children;
-    owned = indexed.owned.children;
-    above = indexed.above.children;
-    providers_rise =
+  kin-of indexed =
+      search (
+        rules,
         rows-rise provider_row (λ (x : Provider). x.number) (λ row. refl) edges.providers.next
-        orderly.numbers.next_provider.some edges.providers.rows
-        orderly.numbers.providers orderly.order.providers;
-    providers_few = orderly.numbers.next_provider.fits;
-    consumers_rise =
+            orderly.numbers.next_provider.some edges.providers.rows orderly.numbers.providers orderly.order.providers,
         rows-rise consumer_row (λ (x : Consumer). x.number) (λ row. refl) edges.consumers.next
-        orderly.numbers.next_consumer.some edges.consumers.rows
-        orderly.numbers.consumers orderly.order.consumers;
-    consumers_few = orderly.numbers.next_consumer.fits;
-  }
+            orderly.numbers.next_consumer.some edges.consumers.rows orderly.numbers.consumers orderly.order.consumers,
+      )

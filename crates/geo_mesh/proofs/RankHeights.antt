@@ -2,7 +2,7 @@
 -- the rank; and which geoms are reached downwards.
 use Rattle.std.specs.Prelude.{◌≡◌, ◌⊎◌, ℕ, zero, suc, ◌+◌, ◌≤◌, ◌==◌, nat_le, Bool, true, false, List, [], ◌∷◌, map, flat_map, length, if◌then◌else◌}
 use Rattle.std.specs.List.{list_any}
-use Rattle.std.proofs.Common.{refl, sym, ap, ◌∙◌, inl, inr, arith}
+use Rattle.std.proofs.Common.{refl, sym, ◌∙◌, inl, inr, arith, rules}
 use Rattle.std.proofs.lemmas.Bool.{cases_eq, eqb-true, eq-eqb, leb-true, leb-false, or_left, or_right, or_cases}
 use Rattle.std.proofs.lemmas.List.Folds.{list_any-append}
 use Rattle.std.proofs.Math.Bool.{or-false}
@@ -15,9 +15,7 @@ use Rattle.geo_mesh.proofs.RankMend.{largest-among, largest-most, largest-same, 
 module _ (below : ℕ → List ℕ) (f : ℕ → ℕ) where
   -- a function that is one more than its largest value below climbs
   pub local-climbs : ((g : ℕ) → f g ≡ above below f g) → ExceedsThoseBelow below f
-  local-climbs local x h under =
-      let low : f h ≤ largest (map f (below x)) = largest-among f (below x) h under in
-      omega (arith, local x)
+  local-climbs local x h under = search (rules, largest-among f (below x) h under)
 
   -- such a function is the height over enough levels
   pub local-height : ((g : ℕ) → f g ≡ above below f g) → (k g : ℕ) → f g ≤ k + 1 → height below k g ≡ f g
@@ -45,26 +43,20 @@ module _ (below : ℕ → List ℕ) (f : ℕ → ℕ) where
   pub height-climbs : ExceedsThoseBelow below f → ((g : ℕ) → 1 ≤ f g) → (k : ℕ) → ((g : ℕ) → f g ≤ k + 1)
       → ExceedsThoseBelow below (height below k)
   height-climbs climbs positive k few x h under =
-      let low : height below k h ≤ largest (map (height below k) (below x)) =
-      largest-among (height below k) (below x) h under in
-      let more : height below k x ≡ height below (suc k) x = climbs-more climbs positive k x (few x) in
-      omega arith
+      search (rules, largest-among (height below k) (below x) h under, climbs-more climbs positive k x (few x))
 
 -- a height is at most one more than the levels
 pub height-most : (below : ℕ → List ℕ) (k g : ℕ) → height below k g ≤ k + 1
 height-most below zero g = omega arith
 height-most below (suc k) g =
-    let low : largest (map (height below k) (below g)) ≤ k + 1 =
-    largest-most (height below k) (k + 1) (below g) (λ h under. height-most below k h) in
-    omega arith
+    search (rules, largest-most (height below k) (k + 1) (below g) (λ h under. height-most below k h))
 
 -- the rank over so many levels is the height over what is under the geoms
 pub rank-height : {C : Type 0} (t : Topology C) (below : ℕ → List ℕ) → ((g : ℕ) → geoms_under t g ≡ below g)
     → (k g : ℕ) → rank_within k t g ≡ height below k g
 rank-height t below same zero g = refl
 rank-height t below same (suc k) g =
-    rw (same g) (ap (λ n. 1 + n)
-    (largest-same (rank_within k t) (height below k) (below g) (λ h under. rank-height t below same k h)))
+    search (rules, largest-same (rank_within k t) (height below k) (below g) (λ h under. rank-height t below same k h))
 
 -- how many of the numbers have a value of at most n
 abbrev count_low : (ℕ → ℕ) → ℕ → List ℕ → ℕ
@@ -85,19 +77,10 @@ module _ (f : ℕ → ℕ) where
   count_low-grows n (x ∷ xs) =
       omega (arith, count_low-grows n xs, one_grows n (f x) (nat_le (f x) n) (nat_le (f x) (n + 1)) refl refl)
 
-  -- the next value counts under the next bound, and not before
-  one_more : (n v : ℕ) (a b : Bool) → nat_le v n ≡ a → nat_le v (n + 1) ≡ b → v ≡ n + 1
-      → (if a then 1 else 0) + 1 ≤ (if b then 1 else 0)
-  one_more n v false true e k is = omega arith
-  one_more n v true b e k is = absurd (omega (arith, leb-true v n e))
-  one_more n v false false e k is = absurd (omega (arith, leb-false v (n + 1) k))
-
   -- one with the next value counts
   count_low-more : (n x : ℕ) (xs : List ℕ) → IsAmong xs x → f x ≡ n + 1 → count_low f n xs + 1 ≤ count_low f (n + 1) xs
   count_low-more n x [] there is = absurd there
-  count_low-more n x (y ∷ ys) (inl same) is =
-      let value : f y ≡ n + 1 = ap f same ∙ is in
-      omega (arith, count_low-grows n ys, one_more n (f y) (nat_le (f y) n) (nat_le (f y) (n + 1)) refl refl value)
+  count_low-more n x (y ∷ ys) (inl same) is = search (rules, count_low-grows n ys)
   count_low-more n x (y ∷ ys) (inr later) is =
       omega (arith, count_low-more n x ys later is, one_grows n (f y) (nat_le (f y) n) (nat_le (f y) (n + 1)) refl refl)
 
@@ -116,13 +99,12 @@ module _ (f : ℕ → ℕ) where
       → n ≤ count_low f (n + 1) xs
   count_low-least zero xs taken = omega arith
   count_low-least (suc n) xs taken =
-      let rest : n ≤ count_low f (n + 1) xs = count_low-least n xs (λ m low high. taken m low (omega arith)) in
-      let here : (x : ℕ) × IsAmong xs x × (f x ≡ suc n + 1) = taken (suc n) (omega arith) (omega arith) in
-      let value : f here.0 ≡ (n + 1) + 1 = omega (arith, here.2) in
-      let more : count_low f (n + 1) xs + 1 ≤ count_low f ((n + 1) + 1) xs =
-      count_low-more (n + 1) here.0 xs here.1 value in
-      let same : suc n + 1 ≡ (n + 1) + 1 = omega arith in
-      rw same (omega arith)
+      search (
+        rules,
+        count_low-least n xs (λ m low high. taken m low (omega arith)),
+        taken (suc n) (omega arith) (omega arith),
+        count_low-more (n + 1),
+      )
 
   -- below a geom each smaller value is taken
   taken_below : (below : ℕ → List ℕ) → ((g : ℕ) → f g ≡ above below f g) → (k g m : ℕ) → f g ≤ k → 1 ≤ m → m ≤ f g
@@ -136,8 +118,7 @@ module _ (f : ℕ → ℕ) where
             → ((h : ℕ) → f h ≤ k → m ≤ f h → (x : ℕ) × (f x ≡ m)) → (x : ℕ) × (f x ≡ m)
         pick (inl same) found so = (g, sym same)
         pick (inr differs) (inl none) so = absurd (omega (arith, local g, differs))
-        pick (inr differs) (inr found) so =
-            so found.0 (omega (arith, local g, found.2)) (omega (arith, local g, found.2, differs))
+        pick (inr differs) (inr found) so = search rules
 
   -- a function that is one more than its largest value below, and 1 but for the numbers of a list, is at most one
   -- more than the list's length
@@ -163,9 +144,7 @@ module _ (test : ℕ → Bool) where
   any_flat : (f : ℕ → List ℕ) (ms : List ℕ) (h : ℕ) → IsAmong ms h → list_any test (f h) ≡ true
       → list_any test (flat_map f ms) ≡ true
   any_flat f [] h there passes = absurd there
-  any_flat f (m ∷ ms) h (inl same) passes =
-      list_any-append test (f m) (flat_map f ms)
-      ∙ or_left (list_any test (f m)) (list_any test (flat_map f ms)) (ap (λ n. list_any test (f n)) same ∙ passes)
+  any_flat f (m ∷ ms) h (inl same) passes = search (rules, list_any-append test (f m) (flat_map f ms))
   any_flat f (m ∷ ms) h (inr later) passes =
       list_any-append test (f m) (flat_map f ms)
       ∙ or_right (list_any test (f m)) (list_any test (flat_map f ms)) (any_flat f ms h later passes)
@@ -175,21 +154,18 @@ module _ (test : ℕ → Bool) where
       × (list_any test (f h) ≡ true)
   flat_any f [] passes = absurd cc
   flat_any f (m ∷ ms) passes =
-      elim (or_cases (list_any test (f m)) (list_any test (flat_map f ms))
-      (sym (list_any-append test (f m) (flat_map f ms)) ∙ passes)) [
-        | inl first ↦ (m, inl refl, first)
-        | inr rest ↦
-            let found : (h : ℕ) × IsAmong ms h × (list_any test (f h) ≡ true) = (flat_any f ms rest) in
-            (found.0, inr found.1, found.2)
-      ]
+      search (
+        rules,
+        or_cases (list_any test (f m)) (list_any test (flat_map f ms))
+            (sym (list_any-append test (f m) (flat_map f ms)) ∙ passes),
+        flat_any f ms,
+      )
 
 module _ {C : Type 0} (t : Topology C) where
   -- a geom reaches itself over any number of levels
   reached_self : (k g y : ℕ) → (y ≡ g) → reached_in t k y g ≡ true
   reached_self zero g y same = or_left (y == g) false (eq-eqb y g same)
-  reached_self (suc k) g y same =
-      or_left (y == g) (list_any (λ h. h == g) (flat_map (geoms_reached_within k t) (geoms_under t y)))
-      (eq-eqb y g same)
+  reached_self (suc k) g y same = search rules
 
   -- what a geom directly below reaches is reached over one level more
   reached_under : (k g y h : ℕ) → IsAmong (geoms_under t y) h → reached_in t k h g ≡ true
@@ -200,8 +176,7 @@ module _ {C : Type 0} (t : Topology C) where
 
   -- a geom that reaches another downwards stands above it
   pub reached-stands : (k y g : ℕ) → reached_in t k y g ≡ true → StandsAbove (geoms_under t) y g
-  reached-stands zero y g there =
-      λ has at so. (let same : y ≡ g = eqb-true y g (sym (or-false (y == g)) ∙ there) in rw same at)
+  reached-stands zero y g there = search rules
   reached-stands (suc k) y g there =
       elim (or_cases (y == g) (list_any (λ h. h == g) (flat_map (geoms_reached_within k t) (geoms_under t y))) there) [
         | inl here ↦ λ has at so. (let same : y ≡ g = eqb-true y g here in rw same at)
@@ -216,17 +191,14 @@ module _ {C : Type 0} (t : Topology C) where
     reached_less : (k j y g : ℕ) → f y ≤ j → reached_in t k y g ≡ true → reached_in t j y g ≡ true
     reached_less zero j y g low there = reached_self j g y (eqb-true y g (sym (or-false (y == g)) ∙ there))
     reached_less (suc k) j y g low there =
-        pick (or_cases (y == g) (list_any (λ h. h == g) (flat_map (geoms_reached_within k t) (geoms_under t y)))
-        there) j low (λ i h small e. reached_less k i h g small e) where
+        pick (search rules) j low (λ i h small e. reached_less k i h g small e) where
           pick : ((y == g) ≡ true)
               ⊎ (list_any (λ h. h == g) (flat_map (geoms_reached_within k t) (geoms_under t y)) ≡ true)
               → (j : ℕ) → f y ≤ j → ((i h : ℕ) → f h ≤ i → reached_in t k h g ≡ true → reached_in t i h g ≡ true)
               → reached_in t j y g ≡ true
           pick (inl here) j low deeper = reached_self j g y (eqb-true y g here)
           pick (inr later) zero low deeper =
-              let found : (h : ℕ) × IsAmong (geoms_under t y) h × (reached_in t k h g ≡ true) =
-              flat_any (λ h. h == g) (geoms_reached_within k t) (geoms_under t y) later in
-              absurd (omega (arith, climbs y found.0 found.1))
+              search (rules, flat_any (λ h. h == g) (geoms_reached_within k t) (geoms_under t y) later)
           pick (inr later) (suc j) low deeper =
               let found : (h : ℕ) × IsAmong (geoms_under t y) h × (reached_in t k h g ≡ true) =
               flat_any (λ h. h == g) (geoms_reached_within k t) (geoms_under t y) later in

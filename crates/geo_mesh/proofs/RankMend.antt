@@ -1,70 +1,39 @@
 -- Values that are mended along a graph: how the steps of a walk upwards join, and that at the end each value is one
 -- more than the largest below.
 use Rattle.std.specs.Prelude.{◌≡◌, ◌⊎◌, ℕ, ◌+◌, ◌-◌, ◌<◌, ◌≤◌, nat_le, max, List, [], ◌∷◌, map}
-use Rattle.std.proofs.Common.{refl, sym, ap, inl, inr, arith}
+use Rattle.std.proofs.Common.{refl, inl, inr, arith, rules}
 use Rattle.std.proofs.lemmas.Bool.{cases_eq, le-leb, leb-true}
 use Rattle.geo_model.specs.Words.{largest}
 use Rattle.geo_mesh.specs.Mending.{IsAmong, above, ExceedsThoseBelow, StandsAbove, Lifted, Lowered, Joined, IsJoinable}
 
--- a number is in a list or isn't
-pub among_or_not : (ms : List ℕ) (n : ℕ) → IsAmong ms n ⊎ (IsAmong ms n → ⊥)
-among_or_not [] n = inr (λ h. h)
-among_or_not (m ∷ ms) n =
-    elim (cases_eq m n) [
-      | inl same ↦ inl (inl same)
-      | inr differs ↦ elim (among_or_not ms n) [
-        | inl there ↦ inl (inr there)
-        | inr none ↦ inr (λ h. elim h [ inl e ↦ differs e | inr i ↦ none i ])
-      ]
-    ]
-
 -- a value of the list is at most the largest
 pub largest-among : (f : ℕ → ℕ) (ms : List ℕ) (n : ℕ) → IsAmong ms n → f n ≤ largest (map f ms)
 largest-among f [] n there = absurd there
-largest-among f (m ∷ ms) n there =
-    elim there [
-      | inl same ↦ (let e : f m ≡ f n = ap f same in omega arith)
-      | inr later ↦ (let h : f n ≤ largest (map f ms) = largest-among f ms n later in omega arith)
-    ]
+largest-among f (m ∷ ms) n there = search (rules, largest-among f ms n)
 
 -- a bound of the values is one of the largest
 pub largest-most : (f : ℕ → ℕ) (most : ℕ) (ms : List ℕ) → ((n : ℕ) → IsAmong ms n → f n ≤ most)
     → largest (map f ms) ≤ most
 largest-most f most [] so = omega arith
-largest-most f most (m ∷ ms) so =
-    let first : f m ≤ most = so m (inl refl) in
-    let rest : largest (map f ms) ≤ most = largest-most f most ms (λ n i. so n (inr i)) in
-    omega arith
+largest-most f most (m ∷ ms) so = search (rules, largest-most f most ms (λ n i. so n (inr i)))
 
 -- greater values have a greater largest one
 pub largest-grows : (f r : ℕ → ℕ) (ms : List ℕ) → ((n : ℕ) → IsAmong ms n → f n ≤ r n)
     → largest (map f ms) ≤ largest (map r ms)
 largest-grows f r [] so = omega arith
-largest-grows f r (m ∷ ms) so =
-    let first : f m ≤ r m = so m (inl refl) in
-    let rest : largest (map f ms) ≤ largest (map r ms) = largest-grows f r ms (λ n i. so n (inr i)) in
-    omega arith
+largest-grows f r (m ∷ ms) so = search (rules, largest-grows f r ms (λ n i. so n (inr i)))
 
 -- the same values have the same largest one
 pub largest-same : (f r : ℕ → ℕ) (ms : List ℕ) → ((n : ℕ) → IsAmong ms n → f n ≡ r n)
     → largest (map f ms) ≡ largest (map r ms)
 largest-same f r [] so = refl
-largest-same f r (m ∷ ms) so =
-    let first : f m ≡ r m = so m (inl refl) in
-    let rest : largest (map f ms) ≡ largest (map r ms) = largest-same f r ms (λ n i. so n (inr i)) in
-    omega arith
+largest-same f r (m ∷ ms) so = search (rules, largest-same f r ms (λ n i. so n (inr i)))
 
 -- the largest is none, or a value of the list
 pub largest-is : (f : ℕ → ℕ) (ms : List ℕ) → (largest (map f ms) ≡ 0)
     ⊎ ((n : ℕ) × IsAmong ms n × (f n ≡ largest (map f ms)))
 largest-is f [] = inl refl
-largest-is f (m ∷ ms) = elim (largest-is f ms) [
-  | inl none ↦ inr (m, inl refl, omega arith)
-  | inr found ↦ (elim (cases_eq (max (f m) (largest (map f ms))) (f m)) [
-    | inl first ↦ inr (m, inl refl, sym first)
-    | inr later ↦ inr (found.0, inr found.1, omega (arith, later))
-  ])
-]
+largest-is f (m ∷ ms) = search (rules, largest-is f ms, cases_eq (max (f m) (largest (map f ms))) (f m))
 
 module _ (below : ℕ → List ℕ) where
   -- what stands above another stands above what is below that one
@@ -73,9 +42,7 @@ module _ (below : ℕ → List ℕ) where
 
   -- values that grew leave no less above
   pub above-grows : (f r : ℕ → ℕ) (x : ℕ) → ((y : ℕ) → f y ≤ r y) → above below f x ≤ above below r x
-  above-grows f r x so =
-      let h : largest (map f (below x)) ≤ largest (map r (below x)) = largest-grows f r (below x) (λ n i. so n) in
-      omega arith
+  above-grows f r x so = search (rules, largest-grows f r (below x) (λ n i. so n))
 
   -- nothing is lifted
   pub lifted-none : (g least : ℕ) (f : ℕ → ℕ) → Lifted below g least f f
@@ -94,15 +61,11 @@ module _ (below : ℕ → List ℕ) where
     mended = λ x h i low. mended x h i low (cases_eq (r h) (s h));
     here =
         (let up : above below r g ≤ above below s g = above-grows r s g two.grows in omega (arith, one.here, two.here));
-    bounded = λ x other.
-        (let up : above below r x ≤ above below s x = above-grows r s x two.grows in
-        omega (arith, one.bounded x other, two.bounded x other));
+    bounded = search (rules, above-grows r s);
     reached = λ x low. reached x low (cases_eq (r x) (s x));
   } where
     mended : (x h : ℕ) → IsAmong (below x) h → f h < s h → (r h ≡ s h) ⊎ (r h ≡ s h → ⊥) → s h < s x
-    mended x h i low (inl same) =
-        let first : r h < r x = one.mended x h i (omega arith) in
-        omega (arith, two.grows x)
+    mended x h i low (inl same) = search rules
     mended x h i low (inr differs) = two.mended x h i (omega (arith, two.grows h, differs))
 
     reached : (x : ℕ) → f x < s x → (r x ≡ s x) ⊎ (r x ≡ s x → ⊥) → StandsAbove below x g
@@ -160,60 +123,12 @@ module _ (below : ℕ → List ℕ) where
       → m g ≡ above below f g → ((x : ℕ) → (x ≡ g → ⊥) → m x ≡ f x)
       → ((x : ℕ) → m x ≤ f x) × ((x : ℕ) → above below m x ≤ m x) × (m g ≤ above below m g)
       × ((x : ℕ) → (IsAmong (below x) g → ⊥) → f x ≤ above below f x → m x ≤ above below m x)
-  lowered-store g f m apart enough high at others = (
-    falls,
-    (λ x. (elim (cases_eq x g) [
-      | inl same ↦ rw same (omega (arith, here))
-      | inr differs ↦
-          let less : above below m x ≤ above below f x = above-grows m f x falls in
-          omega (arith, enough x, others x differs)
-    ])),
-    omega (arith, here),
-    λ x far low. stays x far low (cases_eq x g),
-  ) where
-    falls : (x : ℕ) → m x ≤ f x
-    falls x = elim (cases_eq x g) [
-      | inl same ↦ rw same (omega arith)
-      | inr differs ↦ omega (arith, others x differs)
-    ]
-
-    unseen : (x : ℕ) → (IsAmong (below x) g → ⊥) → largest (map m (below x)) ≡ largest (map f (below x))
-    unseen x far = largest-same m f (below x) (λ n i. others n (λ same. far (rw same at i)))
-
-    here : above below m g ≡ above below f g
-    here = ap (λ n. 1 + n) (unseen g apart)
-
-    stays : (x : ℕ) → (IsAmong (below x) g → ⊥) → f x ≤ above below f x → (x ≡ g) ⊎ (x ≡ g → ⊥)
-        → m x ≤ above below m x
-    stays x far low (inl same) = rw same (omega (arith, here))
-    stays x far low (inr differs) = omega (arith, unseen x far, others x differs)
-
-  -- once what stands directly above is lowered too, it is as if nothing had been stored
-  pub lowered-whole : (g : ℕ) (f m r : ℕ → ℕ) → (IsAmong (below g) g → ⊥) → ((x : ℕ) → above below f x ≤ f x)
-      → above below f g < f g
-      → m g ≡ above below f g → ((x : ℕ) → (x ≡ g → ⊥) → m x ≡ f x) → Lowered below m r
-      → ((x : ℕ) → IsAmong (below x) g → r x ≤ above below r x)
-      → Lowered below f r × (r g ≤ above below r g)
-  lowered-whole g f m r apart enough high at others one passed =
-      let stored = lowered-store g f m apart enough high at others in (
-        record {
-          falls = λ x. omega (arith, one.falls x, stored.0 x);
-          enough = one.enough;
-          stays = λ x low. stays x low (among_or_not (below x) g);
-        },
-        one.stays g stored.2,
-      ) where
-        stays : (x : ℕ) → f x ≤ above below f x → IsAmong (below x) g ⊎ (IsAmong (below x) g → ⊥)
-            → r x ≤ above below r x
-        stays x low (inl near) = passed x near
-        stays x low (inr far) = one.stays x ((lowered-store g f m apart enough high at others).3 x far low)
+  lowered-store g f m apart enough high at others = search (rules, above-grows m f, largest-same m f)
 
 module _ (below : ℕ → List ℕ) (f : ℕ → ℕ) where
   -- where each value is enough, what is below has less
   pub enough-climbs : ((x : ℕ) → above below f x ≤ f x) → ExceedsThoseBelow below f
-  enough-climbs enough x h under =
-      let low : f h ≤ largest (map f (below x)) = largest-among f (below x) h under in
-      omega (arith, enough x)
+  enough-climbs enough x h under = search (rules, largest-among f (below x) h under)
 
   -- no geom is directly below itself
   pub climbs-apart : ExceedsThoseBelow below f → (g : ℕ) → IsAmong (below g) g → ⊥
@@ -222,20 +137,12 @@ module _ (below : ℕ → List ℕ) (f : ℕ → ℕ) where
   module _ (g least : ℕ) (r : ℕ → ℕ) (one : Lifted below g least f r) where
     -- after a lift each value is enough again
     pub lifted-enough : ((x : ℕ) → above below f x ≤ f x) → (x : ℕ) → above below r x ≤ r x
-    lifted-enough enough x =
-        let high : largest (map r (below x)) ≤ r x - 1 =
-        largest-most r (r x - 1) (below x) (λ h under. (elim (cases_eq (f h) (r h)) [
-          | inl same ↦ omega (arith, enough-climbs enough x h under, one.grows x)
-          | inr differs ↦ omega (arith, one.mended x h under (omega (arith, one.grows h, differs)))
-        ])) in
-        omega (arith, enough x, one.grows x)
+    lifted-enough enough x = search (rules, largest-most r (r x - 1) (below x), enough-climbs enough x)
 
     module _ (local : (x : ℕ) → f x ≡ above below f x) where
       -- after a lift no other geom has a greater value than it has to have
       lifted-low : (x : ℕ) → (x ≡ g → ⊥) → r x ≤ above below r x
-      lifted-low x other =
-          let up : above below f x ≤ above below r x = above-grows below f r x one.grows in
-          omega (arith, local x, one.bounded x other)
+      lifted-low x other = search (rules, above-grows below f r x one.grows)
 
       -- after a lift of values that are one more than the largest below, each value is enough
       enough_all : (x : ℕ) → above below r x ≤ r x
@@ -243,10 +150,7 @@ module _ (below : ℕ → List ℕ) (f : ℕ → ℕ) where
 
       -- a lift that is taken back leaves values that are one more than the largest below
       pub lifted-undone : (s : ℕ → ℕ) → Lowered below r s → s g ≤ above below s g → (x : ℕ) → s x ≡ above below s x
-      lifted-undone s two low x = elim (cases_eq x g) [
-        | inl same ↦ (let there : s g ≡ above below s g = omega (arith, low, two.enough g) in rw same there)
-        | inr differs ↦ omega (arith, two.stays x (lifted-low x differs), two.enough x)
-      ]
+      lifted-undone s two low x = search (rules, lifted-low x)
 
       module _ (q : ℕ) (asked : least ≡ f q + 1) where
         -- a lift that reached the geom that asked for it: that one stands above
@@ -262,48 +166,29 @@ module _ (below : ℕ → List ℕ) (f : ℕ → ℕ) where
             le-leb (r g) (r y) (omega (arith, leb-true (r g) (r h) there, enough-climbs_of y h under)))) in
             omega arith where
               enough-climbs_of : (y h : ℕ) → IsAmong (below y) h → r h < r y
-              enough-climbs_of y h under =
-                  let low : r h ≤ largest (map r (below y)) = largest-among r (below y) h under in
-                  omega (arith, enough_all y)
+              enough-climbs_of y h under = search (rules, largest-among r (below y) h under, enough_all y)
 
         -- where the geom that asks wasn't reached, the values are one more than the largest below in the graph with
         -- it below
         pub lifted-joined : (joined : ℕ → List ℕ) → Joined below joined g q → least ≤ r g → r q ≡ f q → (x : ℕ)
             → r x ≡ above joined r x
-        lifted-joined joined graph raised kept x = elim (cases_eq x g) [
-          | inl same ↦
-              let up : above below f g ≤ above below r g = above-grows below f r g one.grows in
-              let there : r g ≡ above joined r g = omega (arith, local g, one.here, enough_all g, graph.here r) in
-              rw same there
-          | inr differs ↦ omega (arith, lifted-low x differs, enough_all x, graph.others r x differs)
-        ]
+        lifted-joined joined graph raised kept x =
+            search (rules, above-grows below f r g one.grows, lifted-low x, enough_all x)
 
         -- so that one may be put below
         pub lifted-joinable : least ≤ r g → r q ≡ f q → IsJoinable below g q r
-        lifted-joinable raised kept = record {
-          apart = λ stands. loops-lifted raised stands kept;
-          local = λ joined graph. lifted-joined joined graph raised kept;
-        }
+        lifted-joinable raised kept = search (rules, loops-lifted raised, lifted-joined)
 
 module _ (apart joined : ℕ → List ℕ) (g q : ℕ) (graph : Joined apart joined g q) (f : ℕ → ℕ) (local : (x : ℕ)
     → f x ≡ above joined f x) where
   -- with one geom less below each value is still enough
   pub apart-enough : (x : ℕ) → above apart f x ≤ f x
-  apart-enough x = elim (cases_eq x g) [
-    | inl same ↦ (let there : above apart f g ≤ f g = omega (arith, local g, graph.here f) in rw same there)
-    | inr differs ↦ omega (arith, local x, graph.others f x differs)
-  ]
+  apart-enough x = search rules
 
   -- once the geom is lowered, each is one more than the largest below
   pub apart-lowered : (s : ℕ → ℕ) → Lowered apart f s → s g ≤ above apart s g → (x : ℕ) → s x ≡ above apart s x
-  apart-lowered s one low x = elim (cases_eq x g) [
-    | inl same ↦ (let there : s g ≡ above apart s g = omega (arith, low, one.enough g) in rw same there)
-    | inr differs ↦ omega (arith, one.stays x (omega (arith, local x, graph.others f x differs)), one.enough x)
-  ]
+  apart-lowered s one low x = search rules
 
   -- where what was below was low, nothing changes
   pub apart-kept : f q + 1 < f g → (x : ℕ) → f x ≡ above apart f x
-  apart-kept low x = elim (cases_eq x g) [
-    | inl same ↦ (let there : f g ≡ above apart f g = omega (arith, local g, graph.here f, low) in rw same there)
-    | inr differs ↦ omega (arith, local x, graph.others f x differs)
-  ]
+  apart-kept low x = search rules

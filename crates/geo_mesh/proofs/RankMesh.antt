@@ -1,16 +1,14 @@
 -- The ranks that stand in the cells are the model's, and what an attach and a detach do to them.
-use Rattle.std.specs.Prelude.{◌≡◌, ℕ, ◌+◌, ◌-◌, ◌<◌, ◌≤◌, ◌==◌, nat_lt, max, Bool, true, false, not, ◌&&◌, List, [], ◌∷◌, ◌++◌, Option, Some, None, IsSome, IfSome, map, filter, filter_map, length, option_map}
+use Rattle.std.specs.Prelude.{◌≡◌, ℕ, ◌+◌, ◌-◌, ◌<◌, ◌≤◌, ◌==◌, nat_lt, Bool, true, false, not, ◌&&◌, List, [], ◌∷◌, ◌++◌, Option, Some, None, IsSome, IfSome, map, filter, filter_map, length, option_map}
 use Rattle.std.specs.List.{list_any, AllByRecursion}
-use Rattle.std.proofs.Common.{refl, sym, ap, ◌∙◌, subst, inl, inr, arith}
-use Rattle.std.proofs.lemmas.Bool.{eqb-true, eq-eqb, ne_eqb, cases_Bool}
+use Rattle.std.proofs.Common.{refl, sym, ap, ◌∙◌, subst, arith, rules}
 use Rattle.std.proofs.lemmas.List.{length-map, map-append, length-append}
 use Rattle.geo_model.specs.Kind.{Kind}
 use Rattle.geo_model.proofs.Tests.{filter_map-same}
 use Rattle.geo_model.specs.TheConstants.{MAX_RANK}
-use Rattle.geo_model.specs.Words.{largest, is_granted_kind, names_number}
+use Rattle.geo_model.specs.Words.{is_granted_kind, names_number}
 use Rattle.geo_model.specs.Topology.{Geom, Provider, Consumer, geom_at, provider_at, consumer_at, consumers_of, attached_to}
 use Rattle.geo_model.specs.Rank.{rank, geoms_under, reaches, is_too_deep}
-use Rattle.geo_laws_graph.proofs.Living.{map_there}
 use Rattle.geo_slots.specs.Slots.{SlotsView, IsRising, value_at, with_value, without}
 use Rattle.geo_mesh.specs.declared.records.GeomCell.{GeomCell}
 use Rattle.geo_mesh.specs.declared.records.ProvCell.{ProvCell}
@@ -18,16 +16,15 @@ use Rattle.geo_mesh.specs.declared.records.ConsCell.{ConsCell}
 use Rattle.geo_mesh.specs.declared.tables.Edges.{Edges}
 use Rattle.geo_mesh.specs.declared.tables.Tables.{Tables}
 use Rattle.geo_mesh.specs.Rows.{row_with, rows_with}
-use Rattle.geo_mesh.specs.Cells.{graph_of, topo_view, put_consumer, put_provider, geom_seen, geom_row, provider_row, consumer_row}
+use Rattle.geo_mesh.specs.Cells.{graph_of, topo_view, put_consumer, put_provider, geom_seen, geom_row, consumer_row}
 use Rattle.geo_mesh.specs.Mending.{IsAmong, StandsAbove, ExceedsThoseBelow, Joined, above, height}
 use Rattle.geo_mesh.specs.Index.{no_index}
-use Rattle.geo_mesh.specs.Ranks.{IsKin, provs_of, kind_of, rank_of, owner, owner_of, ranked_link_of, links_of, kinds, ranks, stored, offers, ranked_links, rank_at, under, ranked_below, below, rank_from, footing, is_high, IsWalkable, HaveRanks, HaveDevAndTaste, bare, OwnerLives, UserLives}
-use Rattle.geo_mesh.proofs.RowLemmas.{row_there, rows_kept, map-bare, map-without, rows_with-with_value, value_at-rows_with}
+use Rattle.geo_mesh.specs.Ranks.{IsKin, provs_of, kind_of, rank_of, owner, owner_of, ranked_link_of, links_of, kinds, ranks, stored, offers, ranked_links, rank_at, under, ranked_below, below, rank_from, is_high, IsWalkable, HaveRanks, HaveDevAndTaste, bare, OwnerLives, UserLives}
+use Rattle.geo_mesh.proofs.RowLemmas.{rows_kept, map-bare, map-without, rows_with-with_value, value_at-rows_with}
 use Rattle.geo_mesh.proofs.ViewLemmas.{geom_at-view, provider_at-view, consumer_at-view, count_falls, count-with_value}
 use Rattle.geo_mesh.proofs.RankHeights.{local-climbs, local-height, local-few, height-climbs, rank-height, reached-stands, stands-reached}
-use Rattle.geo_mesh.proofs.RankRows.{peak, peak-is, peak-with, adds, all-at, rising-with, with_value-same, kinds-bare, NotAttached, NotOwned, ranks-new_consumer, ranks-destroy_consumer, ranks-new_provider, ranks-destroy_provider, ranks-new_geom, ranks-destroy_geom}
-use Rattle.geo_mesh.proofs.RankWalk.{some_number}
-use Rattle.geo_mesh.proofs.RankFirst.{footing-none, footing-unnamed, rank_from-local, rank_from-few, rank_from-high}
+use Rattle.geo_mesh.proofs.RankRows.{peak-is, peak-with, all-at, rising-with, with_value-same, kinds-bare, NotAttached, NotOwned, ranks-new_consumer, ranks-destroy_consumer, ranks-new_provider, ranks-destroy_provider, ranks-new_geom, ranks-destroy_geom}
+use Rattle.geo_mesh.proofs.RankFirst.{footing-unnamed, rank_from-local, rank_from-few, rank_from-high}
 use Rattle.geo_slots.proofs.RowLemmas.{value_at_next}
 use Rattle.geo_mesh.specs.declared.records.Scratch.{Scratch}
 
@@ -42,13 +39,7 @@ module _ {C : Type 0} (gs : SlotsView (GeomCell C)) (edges : Edges) where
   -- the geom of a provider, by the rows
   owner_seen : (p : ℕ)
       → option_map (λ (x : Provider). x.geom) (provider_at (graph_of gs edges) p) ≡ value_at (offers edges).rows p
-  owner_seen p =
-      rw (provider_at-view gs edges p, value_at-rows_with owner_of p edges.providers.rows)
-      (at (value_at edges.providers.rows p)) where
-        at : (o : Option ProvCell)
-            → option_map (λ (x : Provider). x.geom) (option_map (λ v. provider_row (p, v)) o) ≡ option_map owner_of o
-        at None = refl
-        at (Some v) = refl
+  owner_seen p = search (rules, provider_at-view gs edges p, value_at-rows_with owner_of p edges.providers.rows)
 
   -- the geoms directly below a geom, by the rows
   pub under-graph : (g : ℕ) → geoms_under (graph_of gs edges) g ≡ below edges g
@@ -63,10 +54,7 @@ module _ {C : Type 0} (gs : SlotsView (GeomCell C)) (edges : Edges) where
   pub stored-listed : (rows : List (ℕ × GeomCell C)) (g : ℕ) → 2 ≤ rank_at (rows_with (rank_of {C = C}) rows) g
       → IsAmong (map (λ row. row.0) rows) g
   stored-listed [] g high = absurd (omega arith)
-  stored-listed (row ∷ rows) g high = elim (cases_Bool (row.0 == g)) [
-    | inl e ↦ inl (eqb-true row.0 g e)
-    | inr e ↦ inr (stored-listed rows g (rw e at high))
-  ]
+  stored-listed (row ∷ rows) g high = search (rules, stored-listed rows g)
 
   -- ranks that are one more than the highest below are at most one more than there are geoms
   pub stored-few : (users : ℕ → List ℕ) → ((x : ℕ) → stored gs x ≡ above users (stored gs) x) → (x : ℕ)
@@ -97,9 +85,7 @@ module _ {C : Type 0} (gs : SlotsView (GeomCell C)) (edges : Edges) where
       → f x ≤ length gs.rows + 1) where
     -- the values, each less by one, still climb
     lowered_climbs : ExceedsThoseBelow (geoms_under (graph_of gs edges)) (λ x. f x - 1)
-    lowered_climbs x h there =
-        let near : IsAmong (below edges x) h = subst (λ ms. IsAmong ms h) (under-graph x) there in
-        omega (arith, local-climbs (below edges) f local x h near, local h)
+    lowered_climbs x h there = search (rules, under-graph x, local-climbs (below edges) f local x h)
 
     -- what stands above a geom reaches it downwards
     pub stands-reaches : (x g : ℕ) → StandsAbove (below edges) x g → reaches (graph_of gs edges) x g ≡ true
@@ -159,43 +145,13 @@ module _ {C : Type 0} (gs : SlotsView (GeomCell C)) (edges : Edges) where
 pub joined-users : (owners : List (ℕ × ℕ)) (users : List (ℕ × (ℕ × Option ℕ))) (c x p q high : ℕ)
     → IsRising 1 users high → IsSome (value_at users c) → value_at owners p ≡ Some q
     → Joined (under owners (with_value users c (x, None))) (under owners (with_value users c (x, Some p))) x q
-joined-users owners users c x p q high rising there owner = record { here = here; others = others } where
-  one : (f : ℕ → ℕ) (o : Option ℕ) (y : ℕ)
-      → largest (map f (under owners (with_value users c (x, o)) y))
-      ≡ max (adds owners f y (x, o)) (peak owners f y (without users c))
-  one f o y = peak-is owners f y (with_value users c (x, o)) ∙ peak-with owners f y c 1 high (x, o) users rising there
-
-  self : (x == x) ≡ true
-  self = eq-eqb x x refl
-
-  here : (f : ℕ → ℕ)
-      → largest (map f (under owners (with_value users c (x, Some p)) x))
-      ≡ max (largest (map f (under owners (with_value users c (x, None)) x))) (f q)
-  here f =
-      let some : adds owners f x (x, Some p) ≡ f q = rw (self, owner) refl in
-      let none : adds owners f x (x, None) ≡ 0 = rw self refl in
-      omega (arith, one f (Some p) x, one f None x)
-
-  others : (f : ℕ → ℕ) (y : ℕ) → (y ≡ x → ⊥)
-      → largest (map f (under owners (with_value users c (x, Some p)) y))
-      ≡ largest (map f (under owners (with_value users c (x, None)) y))
-  others f y differs =
-      let other : (x == y) ≡ false = ne_eqb x y (λ e. differs (sym e)) in
-      let some : adds owners f y (x, Some p) ≡ 0 = rw other refl in
-      let none : adds owners f y (x, None) ≡ 0 = rw other refl in
-      omega (arith, one f (Some p) y, one f None y)
+joined-users owners users c x p q high rising there owner = search (rules, peak-is owners, peak-with owners)
 
 -- a fact of each row, after another value was put under a number
 pub all-with_value : {T : Type 0} (P : ℕ × T → Type 0) (n : ℕ) (w : T) (rows : List (ℕ × T)) → P (n, w)
     → AllByRecursion P rows → AllByRecursion P (with_value rows n w)
 all-with_value P n w [] here facts = tt
-all-with_value P n w (row ∷ rows) here facts = (
-  (elim (cases_Bool (row.0 == n)) [
-    | inl e ↦ rw e here
-    | inr e ↦ rw e facts.0
-  ]),
-  all-with_value P n w rows here facts.1,
-)
+all-with_value P n w (row ∷ rows) here facts = search (rules, all-with_value P n w rows here facts.1)
 
 -- the same bound, by the classes
 pub stored-bound : {C : Type 0} (gs : SlotsView (GeomCell C)) (users : ℕ → List ℕ)
@@ -207,8 +163,7 @@ stored-bound {C} gs users local x =
       consumers = record { rows = []; next = 0; spare = 0 };
       index = no_index;
     } in
-    let few : stored gs x ≤ length gs.rows + 1 = stored-few gs none users local x in
-    rw (length-map gs.rows (row_with (kind_of {C = C}))) few
+    search (rules, stored-few gs none users local x, length-map gs.rows (row_with (kind_of {C = C})))
 
 -- ranks that are one more than the highest below are told by the graph
 pub stored-unique : {C : Type 0} (gs ns : SlotsView (GeomCell C)) (users : ℕ → List ℕ) → bare ns ≡ bare gs
@@ -228,44 +183,32 @@ module _ {C : Type 0} (gs : SlotsView (GeomCell C)) (edges : Edges) (live n : �
   pub mesh-geom : (v w : GeomCell C) → IsRising 1 gs.rows gs.next → Some v ≡ value_at gs.rows n
       → kind_of w ≡ kind_of v → rank_of w ≡ rank_of v
       → HaveRanks (record gs { rows = with_value gs.rows n w }) edges live
-  mesh-geom v w rising at kind rank = record {
-    count = count-with_value n w gs.rows live mesh.count;
-    standing =
-        rw (
-          rows_kept gs n v w rising (sym at) (row_with (kind_of {C = C})) (λ i. (n, kind i)),
-          rows_kept gs n v w rising (sym at) (row_with (rank_of {C = C})) (λ i. (n, rank i)),
-        ) mesh.standing;
-  }
+  mesh-geom v w rising at kind rank =
+      search (
+        rules,
+        count-with_value n w gs.rows live mesh.count,
+        rows_kept gs n v w rising (sym at) (row_with (kind_of {C = C})) (λ i. (n, kind i)),
+        rows_kept gs n v w rising (sym at) (row_with (rank_of {C = C})) (λ i. (n, rank i)),
+      )
 
   -- after a change of a provider that leaves its geom
   pub mesh-provider : (v w : ProvCell) → IsRising 1 edges.providers.rows edges.providers.next
       → Some v ≡ value_at edges.providers.rows n → owner_of w ≡ owner_of v
       → HaveRanks gs (put_provider edges n w) live
-  mesh-provider v w rising at owner = record {
-    count = mesh.count;
-    standing =
-        rw (rows_kept edges.providers n v w rising (sym at) (row_with owner_of) (λ i. (n, owner i))) mesh.standing;
-  }
+  mesh-provider v w rising at owner =
+      search (rules, rows_kept edges.providers n v w rising (sym at) (row_with owner_of) (λ i. (n, owner i)))
 
   -- after a change of a consumer that leaves its geom and where it is attached
   pub mesh-consumer : (v w : ConsCell) → IsRising 1 edges.consumers.rows edges.consumers.next
       → Some v ≡ value_at edges.consumers.rows n → ranked_link_of w ≡ ranked_link_of v
       → HaveRanks gs (put_consumer edges n w) live
-  mesh-consumer v w rising at ends = record {
-    count = mesh.count;
-    standing =
-        rw (rows_kept edges.consumers n v w rising (sym at) (row_with ranked_link_of) (λ i. (n, ends i))) mesh.standing;
-  }
+  mesh-consumer v w rising at ends =
+      search (rules, rows_kept edges.consumers n v w rising (sym at) (row_with ranked_link_of) (λ i. (n, ends i)))
 
 module _ {C : Type 0} (gs : SlotsView (GeomCell C)) (edges : Edges) (live : ℕ) where
   -- a geom that is there has a class
   pub lives-kinds : (g : ℕ) → IsSome (geom_at (graph_of gs edges) g) → IsSome (value_at (kinds gs) g)
-  lives-kinds g lives =
-      let there : IsSome (option_map (λ v. geom_row (g, v)) (value_at gs.rows g)) =
-      rw (geom_at-view gs edges g) at lives in
-      rw (value_at-rows_with (kind_of {C = C}) g gs.rows)
-      (map_there (kind_of {C = C}) (value_at gs.rows g)
-      (row_there (λ v. geom_row (g, v)) (value_at gs.rows g) there))
+  lives-kinds g lives = search (rules, geom_at-view gs edges g, value_at-rows_with (kind_of {C = C}) g gs.rows)
 
   module _ (mesh : HaveRanks gs edges live) where
     -- the mesh stands with a new consumer, which is attached to nothing
@@ -277,16 +220,12 @@ module _ {C : Type 0} (gs : SlotsView (GeomCell C)) (edges : Edges) (live : ℕ)
               record { rows = edges.consumers.rows ++ (n, v) ∷ []; next = next; spare = spare };
         }) live
     mesh-new_consumer n g next spare v is lives =
-        let same : rows_with ranked_link_of (edges.consumers.rows ++ (n, v) ∷ [])
-        ≡ rows_with ranked_link_of edges.consumers.rows ++ (n, (g, None)) ∷ [] =
-        map-append (row_with ranked_link_of) edges.consumers.rows ((n, v) ∷ [])
-        ∙ ap (λ (e : ℕ × Option ℕ). rows_with ranked_link_of edges.consumers.rows ++ (n, e) ∷ []) is in
-        record {
-          count = mesh.count;
-          standing =
-              rw same (ranks-new_consumer (kinds gs) (ranks gs) (offers edges).rows (ranked_links edges).rows
-              mesh.standing n g lives);
-        }
+        search (
+          rules,
+          map-append (row_with ranked_link_of) edges.consumers.rows ((n, v) ∷ []),
+          ranks-new_consumer (kinds gs) (ranks gs) (offers edges).rows (ranked_links edges).rows mesh.standing n g
+              lives,
+        )
 
     -- the mesh stands with a new provider
     pub mesh-new_provider : (n next spare : ℕ) (v : ProvCell)
@@ -296,37 +235,28 @@ module _ {C : Type 0} (gs : SlotsView (GeomCell C)) (edges : Edges) (live : ℕ)
               record { rows = edges.providers.rows ++ (n, v) ∷ []; next = next; spare = spare };
         }) live
     mesh-new_provider n next spare v =
-        let same : rows_with owner_of (edges.providers.rows ++ (n, v) ∷ [])
-        ≡ rows_with owner_of edges.providers.rows ++ (n, owner_of v) ∷ [] =
-        map-append (row_with owner_of) edges.providers.rows ((n, v) ∷ []) in
-        record {
-          count = mesh.count;
-          standing =
-              rw same (ranks-new_provider (kinds gs) (ranks gs) (offers edges).rows (ranked_links edges).rows
-              mesh.standing n (owner_of v));
-        }
+        search (
+          rules,
+          map-append (row_with owner_of) edges.providers.rows ((n, v) ∷ []),
+          ranks-new_provider (kinds gs) (ranks gs) (offers edges).rows (ranked_links edges).rows mesh.standing n
+              (owner_of v),
+        )
 
     -- the mesh stands with a new geom of rank 1
     pub mesh-new_geom : (next spare : ℕ) (v : GeomCell C) → rank_of v ≡ 1 → IsRising 1 gs.rows gs.next
         → live < 4294967294
         → HaveRanks (record { rows = gs.rows ++ (gs.next, v) ∷ []; next = next; spare = spare }) edges (live + 1)
     mesh-new_geom next spare v is rising few =
-        let classes : rows_with (kind_of {C = C}) (gs.rows ++ (gs.next, v) ∷ []) ≡ kinds gs ++ (gs.next, kind_of v)
-        ∷ [] = map-append (row_with (kind_of {C = C})) gs.rows ((gs.next, v) ∷ []) in
-        let standing : rows_with (rank_of {C = C}) (gs.rows ++ (gs.next, v) ∷ []) ≡ ranks gs ++ (gs.next, 1) ∷ [] =
-        map-append (row_with (rank_of {C = C})) gs.rows ((gs.next, v) ∷ [])
-        ∙ ap (λ (r : ℕ). ranks gs ++ (gs.next, r) ∷ []) is in
-        record {
-          count = record {
-            counted =
-                rw (length-append gs.rows ((gs.next, v) ∷ [])) (omega (arith, mesh.count.counted));
-            few = omega arith;
-          };
-          standing = rw (classes, standing)
-              (ranks-new_geom (kinds gs) (ranks gs) (offers edges).rows (ranked_links edges).rows mesh.standing
-              gs.next (kind_of v) (value_at_next gs.next 1 (ranks gs) gs.next
-              (rising-with (rank_of {C = C}) 1 gs.next gs.rows rising) (omega arith)));
-        }
+        search (
+          rules,
+          map-append (row_with (kind_of {C = C})) gs.rows ((gs.next, v) ∷ []),
+          map-append (row_with (rank_of {C = C})) gs.rows ((gs.next, v) ∷ []),
+          length-append gs.rows ((gs.next, v) ∷ []),
+          ranks-new_geom (kinds gs) (ranks gs) (offers edges).rows (ranked_links edges).rows mesh.standing gs.next
+              (kind_of v)
+              (value_at_next gs.next 1 (ranks gs) gs.next (rising-with (rank_of {C = C}) 1 gs.next gs.rows rising)
+              (omega arith)),
+        )
 
     -- the mesh stands without a consumer that is attached to nothing
     pub mesh-destroy_consumer : (n : ℕ) → IsRising 1 edges.consumers.rows edges.consumers.next
@@ -334,26 +264,15 @@ module _ {C : Type 0} (gs : SlotsView (GeomCell C)) (edges : Edges) (live : ℕ)
         → HaveRanks gs
         (record edges { consumers = record edges.consumers { rows = without edges.consumers.rows n } }) live
     mesh-destroy_consumer n rising free =
-        let same : rows_with ranked_link_of (without edges.consumers.rows n)
-        ≡ without (rows_with ranked_link_of edges.consumers.rows) n =
-        map-without (row_with ranked_link_of) n (λ (row : ℕ × (ℕ × Option ℕ)). row.0 == n) (λ row. refl)
-        edges.consumers.rows in
-        record {
-          count = mesh.count;
-          standing =
-              rw same (ranks-destroy_consumer (kinds gs) (ranks gs) (offers edges).rows (ranked_links edges).rows
-              mesh.standing n edges.consumers.next
-              (rising-with ranked_link_of 1 edges.consumers.next edges.consumers.rows rising)
-              (λ e there. free_of e (value_at edges.consumers.rows n)
-              (rw (value_at-rows_with ranked_link_of n edges.consumers.rows) at there)
-              (rw (consumer_at-view gs edges n) at free)));
-        } where
-          free_of : (e : ℕ × Option ℕ) (o : Option ConsCell) → option_map ranked_link_of o ≡ Some e
-              → IfSome (option_map (λ v. consumer_row (n, v)) o) (λ x. x.provider ≡ None) → e.1 ≡ None
-          free_of e None there free = absurd cc
-          free_of e (Some v) there free = let same : ranked_link_of v ≡ e = cc in
-              ap (λ (e : ℕ × Option ℕ). e.1) (sym same) ∙ ap (footing v.consumer.geom) free
-              ∙ footing-none v.consumer.geom
+        search (
+          rules,
+          map-without (row_with ranked_link_of) n (λ (row : ℕ × (ℕ × Option ℕ)). row.0 == n) (λ row. refl)
+              edges.consumers.rows,
+          ranks-destroy_consumer (kinds gs) (ranks gs) (offers edges).rows (ranked_links edges).rows mesh.standing n
+              edges.consumers.next (rising-with ranked_link_of 1 edges.consumers.next edges.consumers.rows rising),
+          value_at-rows_with ranked_link_of n edges.consumers.rows,
+          consumer_at-view gs edges n,
+        )
 
     -- where no consumer passes a test, what follows of each row holds
     none_passes : (test : Consumer → Bool) (P : ℕ × (ℕ × Option ℕ) → Type 0)
@@ -361,43 +280,34 @@ module _ {C : Type 0} (gs : SlotsView (GeomCell C)) (edges : Edges) (live : ℕ)
         → (rows : List (ℕ × ConsCell)) → filter test (map consumer_row rows) ≡ []
         → AllByRecursion P (rows_with ranked_link_of rows)
     none_passes test P so [] none = tt
-    none_passes test P so (row ∷ rows) none = elim (cases_Bool (test (consumer_row row))) [
-      | inl e ↦ let no = rw e at none in absurd cc
-      | inr e ↦ (so row e, none_passes test P so rows (rw e at none))
-    ]
+    none_passes test P so (row ∷ rows) none = search (rules, none_passes test P so rows)
 
     -- the mesh stands without a provider to which nothing is attached
     pub mesh-destroy_provider : (n : ℕ) → attached_to (graph_of gs edges) n ≡ []
         → HaveRanks gs
         (record edges { providers = record edges.providers { rows = without edges.providers.rows n } }) live
     mesh-destroy_provider n none =
-        let same : rows_with owner_of (without edges.providers.rows n)
-        ≡ without (rows_with owner_of edges.providers.rows) n =
-        map-without (row_with owner_of) n (λ (row : ℕ × ℕ). row.0 == n) (λ row. refl) edges.providers.rows in
-        record {
-          count = mesh.count;
-          standing =
-              rw same (ranks-destroy_provider (kinds gs) (ranks gs) (offers edges).rows (ranked_links edges).rows
-              mesh.standing n
+        search (
+          rules,
+          map-without (row_with owner_of) n (λ (row : ℕ × ℕ). row.0 == n) (λ row. refl) edges.providers.rows,
+          ranks-destroy_provider (kinds gs) (ranks gs) (offers edges).rows (ranked_links edges).rows mesh.standing n
               (none_passes (λ x. names_number x.provider n) (NotAttached n)
-              (λ row e. footing-unnamed row.1.consumer.geom n row.1.consumer.prov e) edges.consumers.rows none));
-        }
+              (λ row e. footing-unnamed row.1.consumer.geom n row.1.consumer.prov e) edges.consumers.rows none),
+        )
 
     -- the mesh stands without a geom that has no consumer
     pub mesh-destroy_geom : (n next spare : ℕ) (v : GeomCell C) → IsRising 1 gs.rows gs.next
         → Some v ≡ value_at gs.rows n → consumers_of (graph_of gs edges) n ≡ []
         → HaveRanks (record { rows = without gs.rows n; next = next; spare = spare }) edges (live - 1)
     mesh-destroy_geom n next spare v rising at none =
-        let classes : rows_with (kind_of {C = C}) (without gs.rows n) ≡ without (kinds gs) n =
-        map-without (row_with (kind_of {C = C})) n (λ (row : ℕ × Kind). row.0 == n) (λ row. refl) gs.rows in
-        let standing : rows_with (rank_of {C = C}) (without gs.rows n) ≡ without (ranks gs) n =
-        map-without (row_with (rank_of {C = C})) n (λ (row : ℕ × ℕ). row.0 == n) (λ row. refl) gs.rows in
-        record {
-          count = count_falls gs n live v rising at mesh.count;
-          standing = rw (classes, standing)
-              (ranks-destroy_geom (kinds gs) (ranks gs) (offers edges).rows (ranked_links edges).rows mesh.standing
-              n (none_passes (λ x. x.geom == n) (NotOwned n) (λ row e. e) edges.consumers.rows none));
-        }
+        search (
+          rules,
+          map-without (row_with (kind_of {C = C})) n (λ (row : ℕ × Kind). row.0 == n) (λ row. refl) gs.rows,
+          map-without (row_with (rank_of {C = C})) n (λ (row : ℕ × ℕ). row.0 == n) (λ row. refl) gs.rows,
+          count_falls gs n live v rising,
+          ranks-destroy_geom (kinds gs) (ranks gs) (offers edges).rows (ranked_links edges).rows mesh.standing n
+              (none_passes (λ x. x.geom == n) (NotOwned n) (λ row e. e) edges.consumers.rows none),
+        )
 
     -- another value of a consumer's ends, and other ranks
     pub mesh-switch : (ns : SlotsView (GeomCell C)) (n p : ℕ) (o : Option ℕ) (v w : ConsCell) → bare ns ≡ bare gs
@@ -407,32 +317,19 @@ module _ {C : Type 0} (gs : SlotsView (GeomCell C)) (edges : Edges) (live : ℕ)
         → is_high (kinds gs) (stored ns) ≡ false
         → HaveRanks ns (put_consumer edges n w) live
     mesh-switch ns n p o v w same at ends offered local low =
-        let classes : kinds ns ≡ kinds gs = kinds-bare gs ns same in
-        let count : length (kinds ns) ≡ length (kinds gs) = ap length classes in
-        let here : length (kinds gs) ≡ length gs.rows = length-map gs.rows (row_with (kind_of {C = C})) in
-        let there : length (kinds ns) ≡ length ns.rows = length-map ns.rows (row_with (kind_of {C = C})) in
-        let users : rows_with ranked_link_of (with_value edges.consumers.rows n w)
-        ≡ with_value (rows_with ranked_link_of edges.consumers.rows) n (v.consumer.geom, o) =
-        rows_with-with_value ranked_link_of n w edges.consumers.rows
-        ∙ ap (λ (e : ℕ × Option ℕ). with_value (rows_with ranked_link_of edges.consumers.rows) n e) ends in
-        let found : value_at (rows_with ranked_link_of edges.consumers.rows) n ≡ Some (ranked_link_of v) =
-        rw (value_at-rows_with ranked_link_of n edges.consumers.rows, ← at) refl in
-        record {
-          count = record { counted = omega (arith, mesh.count.counted); few = mesh.count.few };
-          standing = record {
-            local = local;
-            low = rw classes low;
-            owned = rw (users, classes)
-                (all-with_value (UserLives (kinds gs)) n
-                (v.consumer.geom, o) (rows_with ranked_link_of edges.consumers.rows)
-                (all-at (UserLives (kinds gs))
-                (rows_with ranked_link_of edges.consumers.rows) n (ranked_link_of v)
-                mesh.standing.owned found) mesh.standing.owned);
-            attached = rw users
-                (all-with_value (OwnerLives (offers edges).rows) n (v.consumer.geom, o)
-                (rows_with ranked_link_of edges.consumers.rows) offered mesh.standing.attached);
-          };
-        }
+        search (
+          rules,
+          kinds-bare gs ns same,
+          length-map gs.rows (row_with (kind_of {C = C})),
+          length-map ns.rows (row_with (kind_of {C = C})),
+          rows_with-with_value ranked_link_of n w edges.consumers.rows,
+          value_at-rows_with ranked_link_of n edges.consumers.rows,
+          all-with_value (UserLives (kinds gs)) n (v.consumer.geom, o) (rows_with ranked_link_of edges.consumers.rows),
+          all-at (UserLives (kinds gs)) (rows_with ranked_link_of edges.consumers.rows) n (ranked_link_of v)
+              mesh.standing.owned,
+          all-with_value (OwnerLives (offers edges).rows) n (v.consumer.geom, o)
+              (rows_with ranked_link_of edges.consumers.rows) offered mesh.standing.attached,
+        )
 
     -- the graph with a consumer attached, beside the same with it attached to nothing
     pub switch-joined : (n p : ℕ) (v some none : ConsCell) → IsRising 1 edges.consumers.rows edges.consumers.next
@@ -441,22 +338,15 @@ module _ {C : Type 0} (gs : SlotsView (GeomCell C)) (edges : Edges) (live : ℕ)
         → Joined (ranked_below (put_consumer edges n none)) (ranked_below (put_consumer edges n some))
         v.consumer.geom (owner edges p)
     switch-joined n p v some none rising at is_some is_none offered =
-        let one : rows_with ranked_link_of (with_value edges.consumers.rows n some)
-        ≡ with_value (rows_with ranked_link_of edges.consumers.rows) n (v.consumer.geom, Some p) =
-        rows_with-with_value ranked_link_of n some edges.consumers.rows
-        ∙ ap (λ (e : ℕ × Option ℕ). with_value (rows_with ranked_link_of edges.consumers.rows) n
-        e) is_some in
-        let two : rows_with ranked_link_of (with_value edges.consumers.rows n none)
-        ≡ with_value (rows_with ranked_link_of edges.consumers.rows) n (v.consumer.geom, None) =
-        rows_with-with_value ranked_link_of n none edges.consumers.rows
-        ∙ ap (λ (e : ℕ × Option ℕ). with_value (rows_with ranked_link_of edges.consumers.rows) n
-        e) is_none in
-        let found : IsSome (value_at (rows_with ranked_link_of edges.consumers.rows) n) =
-        rw (value_at-rows_with ranked_link_of n edges.consumers.rows, ← at) refl in
-        rw (one, two) (joined-users (offers edges).rows (rows_with ranked_link_of edges.consumers.rows) n
-        v.consumer.geom p (owner edges p) edges.consumers.next
-        (rising-with ranked_link_of 1 edges.consumers.next edges.consumers.rows rising) found
-        (some_number (value_at (offers edges).rows p) offered))
+        search (
+          rules,
+          rows_with-with_value ranked_link_of n some edges.consumers.rows,
+          rows_with-with_value ranked_link_of n none edges.consumers.rows,
+          value_at-rows_with ranked_link_of n edges.consumers.rows,
+          joined-users (offers edges).rows (rows_with ranked_link_of edges.consumers.rows) n v.consumer.geom p
+              (owner edges p) edges.consumers.next
+              (rising-with ranked_link_of 1 edges.consumers.next edges.consumers.rows rising),
+        )
 
 -- the consumers as they stand
 pub same-cells : (edges : Edges) (n : ℕ) (v : ConsCell) → IsRising 1 edges.consumers.rows edges.consumers.next
@@ -468,9 +358,8 @@ same-cells edges n v rising at =
 pub view-bare : {C : Type 0} (t : Tables C) (ns : SlotsView (GeomCell C)) → bare ns ≡ bare t.geoms
     → topo_view (record t { geoms = ns }) ≡ topo_view t
 view-bare {C} t ns same =
-    rw (
+    search (
+      rules,
       map-bare {Y = Geom C} (λ row. geom_seen row.0 row.1.0) t.geoms ns same,
       map-bare {Y = ℕ × Scratch} (λ row. (row.0, row.1.1)) t.geoms ns same,
-      ap (λ s. s.next) same,
-      ap (λ s. s.spare) same,
-    ) refl
+    )

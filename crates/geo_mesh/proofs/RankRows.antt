@@ -1,9 +1,9 @@
 -- The rows in which ranks stand, and the graph below them: after a change of one row, and walked over.
-use Rattle.std.specs.Prelude.{◌≡◌, ◌⊎◌, ℕ, ◌+◌, ◌<◌, ◌≤◌, ◌^◌, ◌==◌, nat_le, nat_lt, max, Bool, true, false, not, ◌&&◌, ◌||◌, List, [], ◌∷◌, Option, Some, None, IsSome, map, option_map, if◌then◌else◌, filter_map, ◌++◌, IfSome}
-use Rattle.std.specs.List.{AllByRecursion, cons_option}
-use Rattle.std.proofs.Common.{refl, sym, ap, ◌∙◌, subst, inl, inr, arith}
-use Rattle.std.proofs.lemmas.Bool.{eqb-true, eqb-false, eq-eqb, ne_eqb, leb-true, leb-false, le-leb, ltb-true, lt-ltb, and_parts, cases_Bool, cases_eq, le-ltb, or_parts}
-use Rattle.std.proofs.Math.Bool.{or_assoc, or-false, and-false}
+use Rattle.std.specs.Prelude.{◌≡◌, ◌⊎◌, ℕ, ◌+◌, ◌<◌, ◌≤◌, ◌^◌, ◌==◌, nat_le, nat_lt, max, Bool, true, false, not, ◌&&◌, ◌||◌, List, [], ◌∷◌, Option, Some, None, IsSome, map, option_map, if◌then◌else◌, ◌++◌, IfSome}
+use Rattle.std.specs.List.{AllByRecursion}
+use Rattle.std.proofs.Common.{refl, sym, ap, ◌∙◌, subst, inl, inr, arith, rules}
+use Rattle.std.proofs.lemmas.Bool.{eqb-true, eqb-false, eq-eqb, ne_eqb, le-leb, cases_Bool, cases_eq, le-ltb}
+use Rattle.std.proofs.Math.Bool.{or_assoc}
 use Rattle.geo_model.specs.Kind.{Kind}
 use Rattle.geo_model.specs.TheConstants.{MAX_RANK}
 use Rattle.geo_model.specs.Words.{largest, is_granted_kind, names_number}
@@ -11,10 +11,10 @@ use Rattle.geo_slots.specs.Slots.{SlotsView, IsRising, value_at, with_value, wit
 use Rattle.geo_mesh.specs.Rows.{row_with, rows_with, first_row, passes}
 use Rattle.geo_mesh.specs.Mending.{IsAmong}
 use Rattle.geo_mesh.specs.declared.records.GeomCell.{GeomCell}
-use Rattle.geo_mesh.proofs.RankMend.{largest-among, largest-most, largest-same}
+use Rattle.geo_mesh.proofs.RankMend.{largest-among, largest-most}
 use Rattle.geo_slots.proofs.RowLemmas.{IsRising_ends, with_value_below, without_below, value_at-set, value_at-kept, value_at-behind, value_at-without, value_at-gone}
 use Rattle.geo_mesh.proofs.RowLemmas.{map-bare, value_at-rows_with, rows_kept}
-use Rattle.geo_mesh.specs.Ranks.{rank_of, without_rank, kinds, bare, stored, number_or, under, rank_through, rank_under, belongs, is_high, IsFirst, FirstIs, provs_of, rank_at, AreRanks, OwnerLives, UserLives}
+use Rattle.geo_mesh.specs.Ranks.{rank_of, without_rank, kinds, bare, stored, number_or, under, rank_through, rank_under, belongs, is_high, IsFirst, FirstIs, rank_at, AreRanks, OwnerLives, UserLives}
 use Rattle.geo_model.proofs.DemandLemmas.{kept_by}
 
 module _ {T : Type 0} where
@@ -23,14 +23,11 @@ module _ {T : Type 0} where
       → passes test (value_at rows m) ≡ true → (low ≤ m) × (m < high)
   passing-between test m low high [] rising there = absurd cc
   passing-between test m low high (row ∷ rows) rising there =
-      elim (cases_Bool (row.0 == m)) [
-        | inl e ↦
-            let same : row.0 ≡ m = eqb-true row.0 m e in let rest = IsRising_ends (row.0 + 1) rows high rising.1 in
-            (omega (arith, rising.0), omega arith)
-        | inr e ↦
-            let later = (passing-between test m (row.0 + 1) high rows rising.1 (rw e at there)) in
-            (omega (arith, rising.0, later.0), later.1)
-      ]
+      search (
+        rules,
+        IsRising_ends (row.0 + 1) rows high rising.1,
+        passing-between test m (row.0 + 1) high rows rising.1,
+      )
 
   -- a value under a number passes the test that all pass
   pub there-passes : (rows : List (ℕ × T)) (m : ℕ) (v : T) → value_at rows m ≡ Some v
@@ -45,11 +42,7 @@ module _ {T : Type 0} where
       elim (cases_Bool (row.0 == n)) [
         | inl e ↦
             let same : row.0 ≡ n = eqb-true row.0 n e in
-            let found : Some row.1 ≡ Some v = rw e at there in
-            let value : row.1 ≡ v = cc in
-            let whole : (n, v) ≡ row = (let k : (n, v) ≡ (row.0, row.1) = rw (same, value) refl in k) in
-            rw (e, with_value_below n (row.0 + 1) v rows high rising.1 (omega arith))
-            (ap (λ (r : ℕ × T). r ∷ rows) whole)
+            search (rules, with_value_below n (row.0 + 1) v rows high rising.1 (omega arith))
         | inr e ↦ rw (e, with_value-same n (row.0 + 1) high v rows rising.1 (rw e at there)) refl
       ]
 
@@ -57,15 +50,7 @@ module _ {T : Type 0} where
   pub all-at : (P : ℕ × T → Type 0) (rows : List (ℕ × T)) (n : ℕ) (v : T) → AllByRecursion P rows
       → value_at rows n ≡ Some v → P (n, v)
   all-at P [] n v all there = absurd cc
-  all-at P (row ∷ rows) n v all there = elim (cases_Bool (row.0 == n)) [
-    | inl e ↦
-        let same : row.0 ≡ n = eqb-true row.0 n e in
-        let found : Some row.1 ≡ Some v = rw e at there in
-        let value : row.1 ≡ v = cc in
-        let whole : (row.0, row.1) ≡ (n, v) = rw (same, value) refl in
-        subst P whole all.0
-    | inr e ↦ all-at P rows n v all.1 (rw e at there)
-  ]
+  all-at P (row ∷ rows) n v all there = search (rules, all-at P rows n v all.1)
 
   -- rows seen otherwise rise too
   pub rising-with : {U : Type 0} (h : T → U) (low high : ℕ) (rows : List (ℕ × T)) → IsRising low rows high
@@ -91,23 +76,7 @@ module _ {T : Type 0} (test : T → Bool) (at : ℕ) where
             → option_map (λ row. row.0) (first_row test (row ∷ rows) at) ≡ Some n
             → (option_map (λ row. row.0) (first_row test rows at) ≡ Some n → IsFirst test rows high at n)
             → IsFirst test (row ∷ rows) high at n
-        here true e found so =
-            let it : Some row.0 ≡ Some n = rw e at found in
-            let number : row.0 ≡ n = cc in
-            let parts = and_parts (nat_le at row.0) (test row.1) e in
-            let same : (row.0 == n) ≡ true = eq-eqb row.0 n number in
-            let passing : passes test (value_at (row ∷ rows) n) ≡ true = rw same parts.1 in
-            record {
-              past = omega (arith, leb-true at row.0 parts.0);
-              passing = passing;
-              least = λ m above there. omega (arith, least m (row.0 == m) refl there);
-              known = (passing-between test n low high (row ∷ rows) rising passing).1;
-              bound = bound;
-            } where
-              least : (m : ℕ) (b : Bool) → (row.0 == m) ≡ b → passes test (value_at (row ∷ rows) m) ≡ true → row.0 ≤ m
-              least m true e there = omega (arith, eqb-true row.0 m e)
-              least m false e there =
-                  omega (arith, (passing-between test m (row.0 + 1) high rows rising.1 (rw e at there)).0)
+        here true e found so = search (rules, passing-between test n low high (row ∷ rows) rising, passing-between test)
         here false e found so =
             let rest : IsFirst test rows high at n = so (rw e at found) in
             let above : row.0 + 1 ≤ n = (passing-between test n (row.0 + 1) high rows rising.1 rest.passing).0 in
@@ -132,22 +101,7 @@ module _ {T : Type 0} (test : T → Bool) (at : ℕ) where
   first-none : (rows : List (ℕ × T)) → option_map (λ row. row.0) (first_row test rows at) ≡ None → (m : ℕ)
       → passes test (value_at rows m) ≡ true → m < at
   first-none [] none m there = absurd cc
-  first-none (row ∷ rows) none m there =
-      here (nat_le at row.0 && test row.1) refl none (λ e k. first-none rows e m k) where
-        here : (b : Bool) → (nat_le at row.0 && test row.1) ≡ b
-            → option_map (λ row. row.0) (first_row test (row ∷ rows) at) ≡ None
-            → (option_map (λ row. row.0) (first_row test rows at) ≡ None → passes test (value_at rows m) ≡ true
-            → m < at) → m < at
-        here true e none so = let no : Some row.0 ≡ None = rw e at none in absurd cc
-        here false e none so = pick (row.0 == m) refl (nat_le at row.0) refl there where
-          pick : (b : Bool) → (row.0 == m) ≡ b → (c : Bool) → nat_le at row.0 ≡ c
-              → passes test (value_at (row ∷ rows) m) ≡ true → m < at
-          pick true k false l there = omega (arith, leb-false at row.0 l, eqb-true row.0 m k)
-          pick true k true l there =
-              let it : test row.1 ≡ true = rw k at there in
-              let no : true ≡ false = rw (l, it) at e in
-              absurd cc
-          pick false k c l there = so (rw e at none) (rw k at there)
+  first-none (row ∷ rows) none m there = search (rules, first-none rows)
 
   -- what a walk finds from a number on
   pub first-is : (o : Option ℕ) (s : SlotsView T) → IsRising 1 s.rows s.next → s.next < 2 ^ 64
@@ -169,27 +123,9 @@ module _ (owners : List (ℕ × ℕ)) where
       ⊎ ((h : ℕ) × (p : ℕ) × (row.1 ≡ (x, Some p)) × (value_at owners p ≡ Some h)
       × (under owners (row ∷ users) x ≡ h ∷ under owners users x))
 
-  -- what it puts there, by whether the provider has a geom
-  step_owner : (row : ℕ × (ℕ × Option ℕ)) (users : List (ℕ × (ℕ × Option ℕ))) (x p : ℕ) (o : Option ℕ)
-      → (row.1.0 == x) ≡ true → row.1.1 ≡ Some p → value_at owners p ≡ o → Step row users x
-  step_owner row users x p None own at offer = inl (rw (own, at, offer) refl)
-  step_owner row users x p (Some h) own at offer =
-      let number : row.1.0 ≡ x = eqb-true row.1.0 x own in
-      let whole : (row.1.0, row.1.1) ≡ (x, Some p) = rw (number, at) refl in
-      inr (h, p, whole, offer, rw (own, at, offer) refl)
-
-  -- what it puts there, by whether its consumer is attached
-  step_prov : (row : ℕ × (ℕ × Option ℕ)) (users : List (ℕ × (ℕ × Option ℕ))) (x : ℕ) (o : Option ℕ)
-      → (row.1.0 == x) ≡ true → row.1.1 ≡ o → Step row users x
-  step_prov row users x None own at = inl (rw (own, at) refl)
-  step_prov row users x (Some p) own at = step_owner row users x p (value_at owners p) own at refl
-
   -- so for any row
   step : (row : ℕ × (ℕ × Option ℕ)) (users : List (ℕ × (ℕ × Option ℕ))) (x : ℕ) → Step row users x
-  step row users x = elim (cases_Bool (row.1.0 == x)) [
-    | inl own ↦ step_prov row users x row.1.1 own refl
-    | inr own ↦ inl (rw own refl)
-  ]
+  step row users x = search rules
 
   -- a geom below another is there by a consumer and a provider
   pub under-way : (low high : ℕ) (users : List (ℕ × (ℕ × Option ℕ))) → IsRising low users high → (x h : ℕ)
@@ -216,8 +152,7 @@ module _ (owners : List (ℕ × ℕ)) where
             let above : row.0 + 1 ≤ way.cons =
             (passing-between (λ e. true) way.cons (row.0 + 1) high users rising.1
             (there-passes users way.cons (x, Some way.prov) way.user)).0 in
-            let other : (row.0 == way.cons) ≡ false = ne_eqb row.0 way.cons (λ k. omega arith) in
-            record { cons = way.cons; prov = way.prov; user = rw other way.user; owner = way.owner }
+            search rules
 
   -- a consumer attached to a provider puts the provider's geom below its own
   pub way-under : (users : List (ℕ × (ℕ × Option ℕ))) (c p x h : ℕ) → value_at users c ≡ Some (x, Some p)
@@ -229,15 +164,8 @@ module _ (owners : List (ℕ × ℕ)) where
         → IsAmong (under owners (row ∷ users) x) h
     at true e user so =
         let found : Some row.1 ≡ Some (x, Some p) = rw e at user in
-        let value : row.1 ≡ (x, Some p) = cc in
-        let geom : row.1.0 ≡ x = ap (λ (e : ℕ × Option ℕ). e.0) value in
-        let prov : row.1.1 ≡ Some p = ap (λ (e : ℕ × Option ℕ). e.1) value in
-        let own : (row.1.0 == x) ≡ true = eq-eqb row.1.0 x geom in
-        rw (own, prov, owner) (inl refl)
-    at false e user so = elim (step row users x) [
-      | inl same ↦ subst (λ ms. IsAmong ms h) (sym same) (so (rw e at user))
-      | inr found ↦ subst (λ ms. IsAmong ms h) (sym found.4) (inr (so (rw e at user)))
-    ]
+        search rules
+    at false e user so = search rules
 
   module _ (f : ℕ → ℕ) (x : ℕ) where
     -- what a row adds below a geom
@@ -249,27 +177,10 @@ module _ (owners : List (ℕ × ℕ)) where
     peak [] = 0
     peak (row ∷ users) = max (adds row.1) (peak users)
 
-    -- the largest with one provider more
-    largest-through : (o : Option ℕ) (qs : List ℕ)
-        → largest (map f (filter_map (value_at owners) (cons_option o qs)))
-        ≡ max (rank_through f owners o) (largest (map f (filter_map (value_at owners) qs)))
-    largest-through None qs = omega arith
-    largest-through (Some p) qs = at (value_at owners p) where
-      at : (o : Option ℕ)
-          → largest (map f (cons_option o (filter_map (value_at owners) qs)))
-          ≡ max (number_or 0 (option_map f o)) (largest (map f (filter_map (value_at owners) qs)))
-      at None = omega arith
-      at (Some h) = refl
-
     -- the largest value below a geom, row by row
     pub peak-is : (users : List (ℕ × (ℕ × Option ℕ))) → largest (map f (under owners users x)) ≡ peak users
     peak-is [] = refl
-    peak-is (row ∷ users) = elim (cases_Bool (row.1.0 == x)) [
-      | inl own ↦
-          rw own (largest-through row.1.1 (provs_of users x)
-          ∙ ap (λ m. max (rank_through f owners row.1.1) m) (peak-is users))
-      | inr own ↦ rw (own, peak-is users) (omega arith)
-    ]
+    peak-is (row ∷ users) = search (rules, peak-is users)
 
     -- with another value in one row
     pub peak-with : (c low high : ℕ) (e : ℕ × Option ℕ) (users : List (ℕ × (ℕ × Option ℕ)))
@@ -296,9 +207,7 @@ module _ {C : Type 0} (gs : SlotsView (GeomCell C)) (n r : ℕ) (v : GeomCell C)
   pub store-here : stored (record gs { rows = with_value gs.rows n (record v { rank = r }) }) n ≡ r
   store-here =
       let w : GeomCell C = record v { rank = r } in
-      let there : value_at gs.rows n ≡ Some v = sym at in
-      let lives : IsSome (value_at gs.rows n) = rw there refl in
-      rw (value_at-rows_with (rank_of {C = C}) n (with_value gs.rows n w), value_at-set n w gs.rows lives) refl
+      search (rules, value_at-rows_with (rank_of {C = C}) n (with_value gs.rows n w), value_at-set n w gs.rows)
 
   -- the other geoms keep their ranks
   pub store-others : (x : ℕ) → (x ≡ n → ⊥)
@@ -317,12 +226,7 @@ module _ (f : ℕ → ℕ) where
       → ((x : ℕ) → (x ≡ n → ⊥) → r x ≡ f x) → is_high classes r ≡ is_high classes f
   high_past [] r n low high rising less others = refl
   high_past (row ∷ classes) r n low high rising less others =
-      let here : r row.0 ≡ f row.0 = others row.0 (λ k. omega (arith, rising.0)) in
-      rw (here, high_past classes r n (row.0 + 1) high rising.1 (omega (arith, rising.0)) others) refl
-
-  -- with a geom in front whose value grew, one is above the limit where one was or this one is now
-  high_same : (k a b : Bool) → (a ≡ true → b ≡ true) → (x : Bool) → ((k && b) || x) ≡ (((k && a) || x) || (b && k))
-  high_same k a b so x = grind arith
+      search (rules, high_past classes r n (row.0 + 1) high rising.1 (omega (arith, rising.0)) others)
 
   -- whether a geom is above the limit, once one has a greater value
   pub high-more : (r : ℕ → ℕ) (n low high : ℕ) (classes : List (ℕ × Kind)) → IsRising low classes high
@@ -334,11 +238,7 @@ module _ (f : ℕ → ℕ) where
       elim (cases_Bool (row.0 == n)) [
         | inl k ↦
             let same : row.0 ≡ n = eqb-true row.0 n k in
-            let rest : is_high classes r ≡ is_high classes f =
-            high_past classes r n (row.0 + 1) high rising.1 (omega arith) others in
-            rw (k, same, rest)
-            (high_same (not (is_granted_kind row.1)) (nat_lt MAX_RANK (f n)) (nat_lt MAX_RANK (r n))
-            (λ e. lt-ltb MAX_RANK (r n) (omega (arith, ltb-true MAX_RANK (f n) e))) (is_high classes f))
+            search (rules, high_past classes r n (row.0 + 1) high rising.1 (omega arith) others)
         | inr k ↦
             let here : r row.0 ≡ f row.0 = others row.0 (eqb-false row.0 n k) in
             rw (k, here, high-more r n (row.0 + 1) high classes rising.1 (rw k at there) more others)
@@ -350,14 +250,7 @@ module _ (f : ℕ → ℕ) where
   pub high-less : (r : ℕ → ℕ) (classes : List (ℕ × Kind)) → ((x : ℕ) → r x ≤ f x) → is_high classes f ≡ false
       → is_high classes r ≡ false
   high-less r [] less none = refl
-  high-less r (row ∷ classes) less none =
-      at (not (is_granted_kind row.1)) (nat_lt MAX_RANK (f row.0)) (nat_lt MAX_RANK (r row.0))
-      (is_high classes f) (is_high classes r)
-      (λ e. lt-ltb MAX_RANK (f row.0) (omega (arith, ltb-true MAX_RANK (r row.0) e, less row.0))) none
-      (λ e. high-less r classes less e) where
-        at : (k a b x y : Bool) → (b ≡ true → a ≡ true) → ((k && a) || x) ≡ false → (x ≡ false → y ≡ false)
-            → ((k && b) || y) ≡ false
-        at k a b x y so none rest = grind arith
+  high-less r (row ∷ classes) less none = search (rules, high-less r classes less)
 
 module _ {C : Type 0} where
   -- the classes stand beside the ranks
@@ -368,31 +261,14 @@ module _ (f : ℕ → ℕ) (owners : List (ℕ × ℕ)) (users : List (ℕ × (�
   -- the value below a consumer of a geom is at most the largest below the geom
   pub rank_under-most : (c : ℕ) → passes (belongs g) (value_at users c) ≡ true
       → rank_under f owners (value_at users c) ≤ largest (map f (under owners users g))
-  rank_under-most c there = at (value_at users c) refl there where
-    through : (p : ℕ) (o : Option ℕ) → value_at owners p ≡ o → value_at users c ≡ Some (g, Some p)
-        → number_or 0 (option_map f o) ≤ largest (map f (under owners users g))
-    through p None offer user = omega arith
-    through p (Some h) offer user = largest-among f (under owners users g) h (way-under owners users c p g h user offer)
-
-    at : (o : Option (ℕ × Option ℕ)) → value_at users c ≡ o → passes (belongs g) o ≡ true
-        → rank_under f owners o ≤ largest (map f (under owners users g))
-    at None e there = absurd cc
-    at (Some (x, None)) e there = omega arith
-    at (Some (x, Some p)) e there =
-        let own : x ≡ g = eqb-true x g there in
-        through p (value_at owners p) refl (e ∙ ap (λ (y : ℕ). Some (y, Some p)) own)
+  rank_under-most c there = search (rules, largest-among f (under owners users g), way-under owners users c)
 
   -- a bound of the values below the consumers of a geom is one of the largest below the geom
   pub under-most : (n low high : ℕ) → IsRising low users high
       → ((c : ℕ) → passes (belongs g) (value_at users c) ≡ true → rank_under f owners (value_at users c) ≤ n)
       → largest (map f (under owners users g)) ≤ n
   under-most n low high rising so =
-      largest-most f n (under owners users g) (λ h there. at h (under-way owners low high users rising g h there)) where
-        at : (h : ℕ) → IsWay owners users g h → f h ≤ n
-        at h way =
-            let own : passes (belongs g) (value_at users way.cons) ≡ true = rw way.user (eq-eqb g g refl) in
-            let value : rank_under f owners (value_at users way.cons) ≡ f h = rw (way.user, way.owner) refl in
-            omega (arith, so way.cons own)
+      search (rules, largest-most f n (under owners users g), under-way owners low high users rising g)
 
 -- The ranks that stand in the cells, after a change of one row that leaves the graph of geoms.
 
@@ -450,14 +326,7 @@ module _ (classes : List (ℕ × Kind)) (standing owners : List (ℕ × ℕ)) (u
       → ((x : ℕ) → rank_at standing2 x ≡ rank_at standing x)
       → is_high classes2 (rank_at standing2) ≡ false
       → AllByRecursion (UserLives classes2) users → AreRanks classes2 standing2 owners users
-  ranks-geoms classes2 standing2 same low owned = record {
-    local = λ x.
-        (let below = largest-same (rank_at standing2) (rank_at standing) (under owners users x) (λ n i. same n) in
-        omega (arith, ranks.local x, same x, below));
-    low = low;
-    owned = owned;
-    attached = ranks.attached;
-  }
+  ranks-geoms classes2 standing2 same low owned = search rules
 
   -- with a new consumer that is attached to nothing
   pub ranks-new_consumer : (n g : ℕ) → IsSome (value_at classes g)
@@ -465,10 +334,8 @@ module _ (classes : List (ℕ × Kind)) (standing owners : List (ℕ × ℕ)) (u
   ranks-new_consumer n g lives =
       ranks-graph owners (users ++ (n, (g, None)) ∷ [])
       (λ f x. peak-is owners f x (users ++ (n, (g, None)) ∷ []) ∙ peak_same f x users ∙ sym (peak-is owners f x users))
-      (all-append (UserLives classes) users ((n, (g, None)) ∷ [])
-      ranks.owned (lives, tt))
-      (all-append (OwnerLives owners) users
-      ((n, (g, None)) ∷ []) ranks.attached (tt, tt)) where
+      (search (rules, all-append (UserLives classes) users ((n, (g, None)) ∷ []) ranks.owned (lives, tt)))
+      (search (rules, all-append (OwnerLives owners) users ((n, (g, None)) ∷ []) ranks.attached (tt, tt))) where
         peak_same : (f : ℕ → ℕ) (x : ℕ) (users : List (ℕ × (ℕ × Option ℕ)))
             → peak owners f x (users ++ (n, (g, None)) ∷ []) ≡ peak owners f x users
         peak_same f x [] = omega (arith, zero_either (g == x) 0 refl)
@@ -567,15 +434,8 @@ module _ (classes : List (ℕ × Kind)) (standing owners : List (ℕ × ℕ)) (u
 
         low : (classes : List (ℕ × Kind)) → is_high classes (rank_at standing) ≡ false
             → is_high (classes ++ (n, k) ∷ []) (rank_at (standing ++ (n, 1) ∷ [])) ≡ false
-        low [] e =
-            let small : nat_lt MAX_RANK (rank_at (standing ++ (n, 1) ∷ []) n) ≡ false =
-            le-ltb MAX_RANK (rank_at (standing ++ (n, 1) ∷ []) n) (omega (arith, here)) in
-            rw small (or-false (not (is_granted_kind k) && false) ∙ and-false (not (is_granted_kind k)))
-        low (row ∷ classes) e =
-            rw (same standing row.0)
-            (let parts = or_parts (not (is_granted_kind row.1) && nat_lt MAX_RANK (rank_at standing row.0))
-            (is_high classes (rank_at standing)) e in
-            rw parts.0 (low classes parts.1))
+        low [] e = search (rules, le-ltb MAX_RANK (rank_at (standing ++ (n, 1) ∷ []) n) (omega (arith, here)))
+        low (row ∷ classes) e = search (rules, same standing row.0, low classes)
 
   -- a geom that has no consumer is taken away
   pub ranks-destroy_geom : (n : ℕ) → AllByRecursion (NotOwned n) users
@@ -591,28 +451,13 @@ module _ (classes : List (ℕ × Kind)) (standing owners : List (ℕ × ℕ)) (u
         nothing f (row ∷ users) facts = rw (facts.0, nothing f users facts.1) (omega arith)
 
         alone : rank_at standing n ≡ 1
-        alone =
-            let below : largest (map (rank_at standing) (under owners users n)) ≡ 0 =
-            peak-is owners (rank_at standing) n users ∙ nothing (rank_at standing) users free in
-            omega (arith, ranks.local n)
+        alone = search (rules, peak-is owners (rank_at standing) n users, nothing (rank_at standing) users free)
 
         same : (x : ℕ) → (x ≡ n) ⊎ (x ≡ n → ⊥) → rank_at (without standing n) x ≡ rank_at standing x
-        same x (inl e) =
-            (let here : rank_at (without standing n) n ≡ rank_at standing n =
-            rw (value_at-gone n standing) (sym alone) in rw e here)
+        same x (inl e) = search (rules, value_at-gone n standing, alone)
         same x (inr differs) = rw (value_at-without n x standing differs) refl
 
         low : (classes : List (ℕ × Kind)) → is_high classes (rank_at standing) ≡ false
             → is_high (without classes n) (rank_at (without standing n)) ≡ false
         low [] e = refl
-        low (row ∷ classes) e =
-            elim (cases_Bool (row.0 == n)) [
-              | inl k ↦
-                  rw k (low classes
-                  (or_parts (not (is_granted_kind row.1) && nat_lt MAX_RANK (rank_at standing row.0))
-                  (is_high classes (rank_at standing)) e).1)
-              | inr k ↦
-                  let parts = or_parts (not (is_granted_kind row.1) && nat_lt MAX_RANK (rank_at standing row.0))
-                  (is_high classes (rank_at standing)) e in
-                  rw (k, same row.0 (inr (eqb-false row.0 n k)), parts.0) (low classes parts.1)
-            ]
+        low (row ∷ classes) e = search (rules, same row.0, low classes)

@@ -1,7 +1,7 @@
 -- The walks that mend ranks, step by step: from a geom to a provider that it offers, from there to the geom of a
 -- consumer that is attached to it; and the rank that a geom is given when it is lowered.
 use Rattle.std.specs.Prelude.{◌≡◌, ℕ, ◌+◌, ◌<◌, ◌≤◌, nat_lt, false, not, ◌&&◌, ◌||◌, List, Option, Some, IsSome, length, map, option_map}
-use Rattle.std.proofs.Common.{refl, sym, ap, ◌∙◌, subst, arith}
+use Rattle.std.proofs.Common.{refl, sym, ap, ◌∙◌, subst, arith, rules}
 use Rattle.geo_model.specs.TheConstants.{MAX_RANK}
 use Rattle.geo_model.specs.Words.{largest, is_granted_kind}
 use Rattle.geo_slots.specs.Slots.{SlotsView, IsRising, value_at}
@@ -10,14 +10,14 @@ use Rattle.geo_mesh.specs.declared.records.ProvCell.{ProvCell}
 use Rattle.geo_mesh.specs.declared.records.ConsCell.{ConsCell}
 use Rattle.geo_mesh.specs.declared.tables.Edges.{Edges}
 use Rattle.geo_mesh.specs.Rows.{passes}
-use Rattle.geo_mesh.specs.Mending.{IsAmong, above, height, AreEnough, AreLocal, IsLow, Lifted, Lowered, IsJoinable}
+use Rattle.geo_mesh.specs.Mending.{IsAmong, height, AreEnough, AreLocal, IsLow, Lifted, Lowered, IsJoinable}
 use Rattle.geo_mesh.specs.Ranks.{kind_of, kinds, bare, owner_of, links_of, offers, links, ranked_links, stored, number_or, rank_through, rank_under, ranked_below, below, owner, user, is_high, is_dev_or_taste, is_offered, is_attached, belongs, IsFirst, IsWalkable}
 use Rattle.geo_mesh.proofs.RowLemmas.{value_at-rows_with}
-use Rattle.geo_mesh.proofs.RankMend.{lowered-store, lowered-whole, enough-climbs, climbs-apart, lifted-joinable}
+use Rattle.geo_mesh.proofs.RankMend.{lowered-store, enough-climbs, climbs-apart, lifted-joinable}
 use Rattle.geo_mesh.proofs.RankHeights.{height-most}
 use Rattle.geo_mesh.proofs.RankRows.{rising-with, high-more, kinds-bare, rank_under-most}
 use Rattle.geo_mesh.proofs.RankFirst.{ranked-below, attached-later}
-use Rattle.geo_mesh.proofs.RankWalk.{walkable-bare, offered-is, owner-is, user-above, user-lives}
+use Rattle.geo_mesh.proofs.RankWalk.{owner-is, user-above, user-lives}
 
 -- the first provider of a geom from a number on has the geom as its owner
 pub first-owned : (edges : Edges) (g p at : ℕ)
@@ -53,35 +53,21 @@ module _ {C : Type 0} (gs ns : SlotsView (GeomCell C)) (edges : Edges) (same : b
   pub at-provider : (g p at : ℕ) → IsFirst (is_offered g) (offers edges).rows edges.providers.next at p
       → IsAtProvider gs ns edges g p
   at-provider g p at first =
-      let own : owner edges p ≡ g = owner-is edges g p first.passing in
-      let classes : kinds ns ≡ kinds gs = kinds-bare gs ns same in
-      record {
-        walkable = walkable-bare gs ns edges same walkable;
-        lives = rw (offered-is g (value_at (offers edges).rows p) first.passing) refl;
-        count = ap length classes;
-        most = height-most (ranked_below edges) (length (kinds gs)) g;
-        tall = rw (own, classes) refl;
-      }
+      search (rules, kinds-bare gs ns same, height-most (ranked_below edges) (length (kinds gs)) g)
 
   -- a step to the first consumer that is attached to a provider from a number on, of the geom that is read there
   pub at-consumer : (p c at g : ℕ) → IsSome (value_at (offers edges).rows p)
       → IsFirst (is_attached p) (ranked_links edges).rows edges.consumers.next at c → g ≡ user edges c
       → IsAtConsumer gs ns edges p c g
   at-consumer p c at g lives first is =
-      let classes : kinds ns ≡ kinds gs = kinds-bare gs ns same in
-      let anew : IsWalkable (kinds ns) edges = walkable-bare gs ns edges same walkable in
-      let near : IsAmong (ranked_below edges (user edges c)) (owner edges p) =
-      user-above edges p c lives first.passing in
-      subst (λ x. IsAtConsumer gs ns edges p c x) (sym is) (record {
-        walkable = anew;
-        lives = user-lives edges (kinds ns) p c anew first.passing;
-        later = attached-later edges p c first.passing;
-        near = near;
-        count = ap length classes;
-        climbs = walkable.climbs (user edges c) (owner edges p) near;
-        most = height-most (ranked_below edges) (length (kinds gs)) (user edges c);
-        tall = rw classes refl;
-      })
+      search (
+        rules,
+        kinds-bare gs ns same,
+        user-above edges p c lives first.passing,
+        user-lives edges (kinds ns) p c,
+        attached-later edges p c first.passing,
+        height-most (ranked_below edges) (length (kinds gs)) (user edges c),
+      )
 
 -- a geom was given the rank that it has to have: no rank is too small, its own is no greater than it has to be, and
 -- once what stands directly above is lowered too, it is as if nothing had been stored
@@ -103,19 +89,12 @@ module _ {C : Type 0} (gs ms : SlotsView (GeomCell C)) (edges : Edges) (g : ℕ)
       → 1 + highest < rank → stored ms g ≡ 1 + highest → ((x : ℕ) → (x ≡ g → ⊥) → stored ms x ≡ stored gs x)
       → IsSettingDown (ranked_below edges) g (stored gs) (stored ms)
   set-down {highest = highest} rank_is highest_is less there others =
-      let apart : IsAmong (ranked_below edges g) g → ⊥ =
-      climbs-apart (ranked_below edges) (stored gs) (enough-climbs (ranked_below edges) (stored gs) enough) g in
-      let most : highest ≡ largest (map (stored gs) (ranked_below edges g)) =
-      highest-ranked gs edges g later highest highest_is in
-      let high : above (ranked_below edges) (stored gs) g < stored gs g = omega arith in
-      let here : stored ms g ≡ above (ranked_below edges) (stored gs) g = omega arith in
-      let parts = lowered-store (ranked_below edges) g (stored gs) (stored ms) apart enough high here others in
-      record {
-        enough = parts.1;
-        low = parts.2;
-        whole = λ r one passed.
-            (lowered-whole (ranked_below edges) g (stored gs) (stored ms) r apart enough high here others one passed).0;
-      }
+      search (
+        rules,
+        climbs-apart (ranked_below edges) (stored gs) (enough-climbs (ranked_below edges) (stored gs) enough) g,
+        highest-ranked gs edges g later highest highest_is,
+        lowered-store (ranked_below edges) g (stored gs) (stored ms),
+      )
 
 -- whether a geom is above the limit, once one that is there was given a greater rank
 pub high-raised : {C : Type 0} (gs ms : SlotsView (GeomCell C)) (g rank : ℕ) → IsRising 1 gs.rows gs.next
@@ -143,8 +122,7 @@ pub below-cells : {C : Type 0} (gs : SlotsView (GeomCell C)) (edges : Edges) (c 
     → rank_under (stored gs) (offers edges).rows (value_at (links edges).rows c)
     ≡ number_or 0 (option_map (stored gs) (option_map owner_of o))
 below-cells gs edges c p n v o at is same there =
-    below-cell gs edges c v (Some p) at is
-    ∙ rw (← same, value_at-rows_with owner_of n edges.providers.rows, ← there) refl
+    search (rules, below-cell gs edges c v (Some p), value_at-rows_with owner_of n edges.providers.rows)
 
 -- the rank below the first consumer of a geom from a number on is at most the highest directly below the geom
 pub under-first : {C : Type 0} (gs : SlotsView (GeomCell C)) (edges : Edges) (g c at : ℕ)

@@ -1,23 +1,21 @@
 -- What an attach and a detach do to the mesh that stands.
-use Rattle.std.specs.Prelude.{◌≡◌, ℕ, ◌+◌, ◌≤◌, ◌==◌, true, false, [], Option, Some, None, IsSome, IfSome, IsSomeAnd, length, map, option_map}
-use Rattle.std.proofs.Common.{refl, sym, ap, ◌∙◌, subst, arith, inl, inr}
+use Rattle.std.specs.Prelude.{◌≡◌, ℕ, ◌+◌, ◌≤◌, ◌==◌, true, false, Option, Some, None, IsSome, IfSome, IsSomeAnd, length, map}
+use Rattle.std.proofs.Common.{refl, sym, ap, ◌∙◌, subst, arith, inl, inr, rules}
 use Rattle.std.proofs.lemmas.Bool.{false_from_ne_true, cases_Bool}
 use Rattle.std.proofs.lemmas.List.{length-map}
 use Rattle.geo_model.specs.Errno.TheVariants.{ELOOP, EDEEP}
-use Rattle.geo_model.specs.Words.{largest}
 use Rattle.geo_model.specs.Topology.{consumer_at, provider_at, attach, is_errored}
 use Rattle.geo_model.specs.Rank.{reaches, is_too_deep, would_loop, attach_refusal}
-use Rattle.geo_slots.specs.Slots.{SlotsView, IsRising, value_at, with_value}
+use Rattle.geo_slots.specs.Slots.{SlotsView, IsRising, value_at}
 use Rattle.geo_mesh.specs.declared.records.AttachRefusal.{AttachRefusal}
 use Rattle.geo_mesh.specs.declared.records.AttachRefusal.TheVariants.{Enxio, Eloop, Edeep}
 use Rattle.geo_mesh.specs.Refusals.{attach_errno}
 use Rattle.geo_mesh.specs.declared.records.GeomCell.{GeomCell}
-use Rattle.geo_mesh.specs.declared.records.ProvCell.{ProvCell}
 use Rattle.geo_mesh.specs.declared.records.ConsCell.{ConsCell}
 use Rattle.geo_mesh.specs.declared.tables.Edges.{Edges}
 use Rattle.geo_mesh.specs.declared.index.Index.{Index}
 use Rattle.geo_mesh.specs.Rows.{row_with, rows_with}
-use Rattle.geo_mesh.specs.Cells.{graph_of, put_consumer, consumer_row, provider_row}
+use Rattle.geo_mesh.specs.Cells.{graph_of, put_consumer, consumer_row}
 use Rattle.geo_mesh.specs.Mending.{IsAmong, StandsAbove, Joined, IsJoinable, Lowered, above}
 use Rattle.geo_mesh.specs.Ranks.{IsKin, kind_of, ranked_link_of, owner_of, kinds, bare, offers, ranked_links, stored, ranked_below, owner, user, ranks, is_dev_or_taste, below, rank_from, is_high, IsRefusedFor, IsWalkable, IsAdmitted, HaveDevAndTaste, HaveRanks, OwnerLives, UserLives}
 use Rattle.geo_mesh.proofs.RowLemmas.{rows_changed, rows_with-with_value, value_at-rows_with}
@@ -32,32 +30,21 @@ use Rattle.geo_mesh.proofs.RankMesh.{all-with_value, same-cells, mesh-consumer, 
 pub mesh-kept : {C : Type 0} (gs ns : SlotsView (GeomCell C)) (edges : Edges) (live : ℕ) → HaveRanks gs edges live
     → bare ns ≡ bare gs → ((x : ℕ) → stored ns x ≡ stored gs x) → HaveRanks ns edges live
 mesh-kept {C} gs ns edges live mesh same kept =
-    let classes : kinds ns ≡ kinds gs = kinds-bare gs ns same in
-    let count : length (kinds ns) ≡ length (kinds gs) = ap length classes in
-    let here : length (kinds gs) ≡ length gs.rows = length-map gs.rows (row_with (kind_of {C = C})) in
-    let there : length (kinds ns) ≡ length ns.rows = length-map ns.rows (row_with (kind_of {C = C})) in
-    record {
-      count = record { counted = omega (arith, mesh.count.counted); few = mesh.count.few };
-      standing =
-          ranks-geoms (kinds gs) (ranks gs) (offers edges).rows (ranked_links edges).rows mesh.standing (kinds ns)
-          (ranks ns) kept
-          (rw classes (high-less (stored gs) (stored ns) (kinds gs) (λ x. omega (arith, kept x)) mesh.standing.low))
-          (rw classes mesh.standing.owned);
-    }
+    search (
+      rules,
+      kinds-bare gs ns same,
+      length-map gs.rows (row_with (kind_of {C = C})),
+      length-map ns.rows (row_with (kind_of {C = C})),
+      ranks-geoms (kinds gs) (ranks gs) (offers edges).rows (ranked_links edges).rows mesh.standing (kinds ns)
+          (ranks ns) kept,
+      high-less (stored gs) (stored ns) (kinds gs) (λ x. omega (arith, kept x)) mesh.standing.low,
+    )
 
 -- a geom that stands just above another in rank is a later one
 pub above-later : {C : Type 0} (gs : SlotsView (GeomCell C)) (edges : Edges) (live : ℕ) → HaveRanks gs edges live
     → (under upper : ℕ) {low high : ℕ} → low ≡ stored gs under → high ≡ stored gs upper → low + 1 ≡ high
     → is_dev_or_taste upper ≡ false
-above-later gs edges live mesh under upper low_is high_is just_above = elim (cases_Bool (is_dev_or_taste upper)) [
-  | inl e ↦
-      let alone : stored gs upper ≡ 1 + largest (map (stored gs) []) =
-      subst (λ ms. stored gs upper ≡ 1 + largest (map (stored gs) ms)) (ranked_below-first edges upper e)
-      (mesh.standing.local upper) in
-      let first : stored gs upper ≡ 1 = alone in
-      absurd (omega (arith, mesh.standing.local under))
-  | inr e ↦ e
-]
+above-later gs edges live mesh under upper low_is high_is just_above = search (rules, ranked_below-first edges upper)
 
 module _ {C : Type 0} (gs : SlotsView (GeomCell C)) (edges : Edges) (live : ℕ) (mesh : HaveRanks gs edges live)
     (n p : ℕ) (v : ConsCell) (rising : IsRising 1 edges.consumers.rows edges.consumers.next) (at : Some v
@@ -94,10 +81,7 @@ module _ {C : Type 0} (gs : SlotsView (GeomCell C)) (edges : Edges) (live : ℕ)
 
   -- the ranks don't see to what a consumer of one of the first two geoms is attached
   pub first-switched : (o : Option ℕ) → is_dev_or_taste v.consumer.geom ≡ true → HaveRanks gs (switched o) live
-  first-switched o first =
-      mesh-consumer gs edges live n mesh v (put o) rising at
-      (ap (λ (o : Option ℕ). (v.consumer.geom, o)) (footing-first v.consumer.geom o first
-      ∙ sym (footing-first v.consumer.geom v.consumer.prov first)))
+  first-switched o first = search (rules, mesh-consumer gs edges live n mesh v, footing-first v.consumer.geom)
 
   module _ (is : v.consumer.prov ≡ Some p) (later : is_dev_or_taste v.consumer.geom ≡ false) where
     -- the provider to which it is attached is there
@@ -124,22 +108,17 @@ module _ {C : Type 0} (gs : SlotsView (GeomCell C)) (edges : Edges) (live : ℕ)
     pub off-walkable : (i : Index) → IsKin (record (switched None) { index = i })
         → IsWalkable (kinds gs) (record (switched None) { index = i })
     off-walkable i kin =
-        let users : rows_with ranked_link_of (with_value edges.consumers.rows n (put None))
-        ≡ with_value (rows_with ranked_link_of edges.consumers.rows) n (v.consumer.geom, None) =
-        rows_with-with_value ranked_link_of n (put None) edges.consumers.rows
-        ∙ ap (λ (e : ℕ × Option ℕ). with_value (rows_with ranked_link_of edges.consumers.rows) n e)
-        ends-free in
-        let count : length (kinds gs) ≡ length gs.rows = length-map gs.rows (row_with (kind_of {C = C})) in
-        record {
-          kin = kin;
-          climbs = height-climbs (ranked_below (switched None)) (stored gs)
+        search (
+          rules,
+          rows_with-with_value ranked_link_of n (put None) edges.consumers.rows,
+          length-map gs.rows (row_with (kind_of {C = C})),
+          height-climbs (ranked_below (switched None)) (stored gs)
               (enough-climbs (ranked_below (switched None)) (stored gs) off-enough)
               (λ x. omega (arith, mesh.standing.local x)) (length (kinds gs))
-              (stored-bound gs (ranked_below edges) mesh.standing.local);
-          owned = rw users (all-with_value (UserLives (kinds gs)) n
-              (v.consumer.geom, None) (rows_with ranked_link_of edges.consumers.rows) user-stands mesh.standing.owned);
-          few = omega (arith, mesh.count.counted, mesh.count.few);
-        }
+              (stored-bound gs (ranked_below edges) mesh.standing.local),
+          all-with_value (UserLives (kinds gs)) n (v.consumer.geom, None)
+              (rows_with ranked_link_of edges.consumers.rows) user-stands mesh.standing.owned,
+        )
 
     -- the mesh stands once the geom is lowered
     pub off-lowered : (ns : SlotsView (GeomCell C)) → bare ns ≡ bare gs
@@ -164,10 +143,7 @@ module _ {C : Type 0} (gs : SlotsView (GeomCell C)) (edges : Edges) (live : ℕ)
   -- the mesh stands after a detach where the geom below wasn't the highest, or the rank doesn't stand on it
   pub off-stays : v.consumer.prov ≡ Some p → (stored gs (owner edges p) + 1 ≡ stored gs v.consumer.geom → ⊥)
       → HaveRanks gs (switched None) live
-  off-stays is differs = elim (cases_Bool (is_dev_or_taste v.consumer.geom)) [
-    | inl e ↦ first-switched None e
-    | inr e ↦ off-kept is e differs
-  ]
+  off-stays is differs = search (rules, first-switched None, off-kept is)
 
   -- the graph with the consumer's row attached is that after an attach
   on-graph : graph_of gs (switched (Some p)) ≡ attach (graph_of gs edges) n p
@@ -180,32 +156,19 @@ module _ {C : Type 0} (gs : SlotsView (GeomCell C)) (edges : Edges) (live : ℕ)
   consumer_seen_at : consumer_at (graph_of gs edges) n ≡ Some (consumer_row (n, v))
   consumer_seen_at = rw (consumer_at-view gs edges n, ← at) refl
 
-  -- whether a loop would arise, by the provider's row: whether its geom reaches the consumer's
-  owned_by : (o : Option ProvCell) → value_at edges.providers.rows p ≡ o → IsSome (option_map owner_of o)
-      → would_loop (graph_of gs edges) (Some (consumer_row (n, v))) (option_map (λ y. provider_row (p, y)) o)
-      ≡ reaches (graph_of gs edges) (owner edges p) v.consumer.geom
-  owned_by None e there = absurd cc
-  owned_by (Some y) e there = let here : owner edges p ≡ y.provider.geom =
-      rw (value_at-rows_with owner_of p edges.providers.rows, e) refl in rw here refl
-
   -- a loop would arise just where the provider's geom reaches the consumer's
   loop_is : IsSome (value_at (offers edges).rows p)
       → would_loop (graph_of gs edges) (consumer_at (graph_of gs edges) n) (provider_at (graph_of gs edges) p)
       ≡ reaches (graph_of gs edges) (owner edges p) v.consumer.geom
   loop_is offered =
-      rw (consumer_seen_at, provider_at-view gs edges p)
-      (owned_by (value_at edges.providers.rows p) refl
-      (rw (value_at-rows_with owner_of p edges.providers.rows) at offered))
+      search (rules, consumer_seen_at, provider_at-view gs edges p, value_at-rows_with owner_of p edges.providers.rows)
 
   module _ (is : v.consumer.prov ≡ None) (offered : IsSome (value_at (offers edges).rows p))
       (first : HaveDevAndTaste gs edges) (later : is_dev_or_taste v.consumer.geom ≡ false) where
     -- the graph after the attach is that before it, with the provider's geom below the consumer's
     on-joined : Joined (ranked_below edges) (ranked_below (switched (Some p))) v.consumer.geom (owner edges p)
     on-joined =
-        subst (λ us. Joined (ranked_below us) (ranked_below (switched (Some p))) v.consumer.geom (owner edges p))
-        (unchanged None is)
-        (switch-joined gs edges live mesh n p v (put (Some p)) (put None) rising at (ends-bound later)
-        ends-free offered)
+        search (rules, unchanged None is, switch-joined gs edges live mesh n p v (put (Some p)) (put None) rising)
 
     -- the mesh stands with the consumer attached
     pub on-mesh : (ns : SlotsView (GeomCell C)) → bare ns ≡ bare gs
@@ -305,10 +268,8 @@ module _ {C : Type 0} (gs : SlotsView (GeomCell C)) (edges : Edges) (live : ℕ)
 
     -- the mesh stands with the consumer attached
     pub admitted-mesh : HaveRanks ns (switched (Some p)) live
-    admitted-mesh = elim (cases_Bool (is_dev_or_taste v.consumer.geom)) [
-      | inl e ↦ mesh-kept gs ns (switched (Some p)) live (first-switched (Some p) e) same (rw e at admitted)
-      | inr e ↦ on-mesh is offered first e ns same (rw e at admitted) low
-    ]
+    admitted-mesh =
+        search (rules, mesh-kept gs ns (switched (Some p)) live, first-switched (Some p), on-mesh is offered first)
 
     -- and the attach isn't refused, where the provider carries no error
     pub admitted-free : is_errored (graph_of gs edges) p ≡ false → attach_refusal (graph_of gs edges) n p ≡ None
@@ -326,21 +287,12 @@ module _ {C : Type 0} (gs : SlotsView (GeomCell C)) (edges : Edges) where
   -- a consumer that is attached to nothing has its cell
   pub free-cell : (n : ℕ) → IsSomeAnd (consumer_at (graph_of gs edges) n) (λ x. x.provider ≡ None)
       → (v : ConsCell) × (Some v ≡ value_at edges.consumers.rows n) × (v.consumer.prov ≡ None)
-  free-cell n there = pick (value_at edges.consumers.rows n) refl (rw (consumer_at-view gs edges n) at there) where
-    pick : (o : Option ConsCell) → value_at edges.consumers.rows n ≡ o
-        → IsSomeAnd (option_map (λ v. consumer_row (n, v)) o) (λ x. x.provider ≡ None)
-        → (v : ConsCell) × (Some v ≡ value_at edges.consumers.rows n) × (v.consumer.prov ≡ None)
-    pick None e there = absurd there
-    pick (Some v) e there = (v, sym e, there)
+  free-cell n there = search (rules, consumer_at-view gs edges n)
 
   -- a provider that is there is offered
   pub provider-offered : (p : ℕ) → IsSome (provider_at (graph_of gs edges) p) → IsSome (value_at (offers edges).rows p)
   provider-offered p there =
-      rw (value_at-rows_with owner_of p edges.providers.rows)
-      (pick (value_at edges.providers.rows p) (rw (provider_at-view gs edges p) at there)) where
-        pick : (o : Option ProvCell) → IsSome (option_map (λ v. provider_row (p, v)) o) → IsSome (option_map owner_of o)
-        pick None there = there
-        pick (Some v) there = refl
+      search (rules, value_at-rows_with owner_of p edges.providers.rows, provider_at-view gs edges p)
 
   -- the geom of a consumer, by its cell
   pub user-cell : (n : ℕ) (v : ConsCell) → Some v ≡ value_at edges.consumers.rows n → user edges n ≡ v.consumer.geom
@@ -354,6 +306,4 @@ module _ {C : Type 0} (gs : SlotsView (GeomCell C)) (edges : Edges) where
   -- a consumer that is attached to something is so by its cell
   pub bound-at : (n : ℕ) (v : ConsCell) → IfSome (consumer_at (graph_of gs edges) n) (λ x. IsSome x.provider)
       → Some v ≡ value_at edges.consumers.rows n → v.consumer.prov ≡ None → ⊥
-  bound-at n v there at none =
-      let here : IsSome v.consumer.prov = rw (consumer_at-view gs edges n, ← at) at there in
-      let no : false ≡ true = rw none at here in cc
+  bound-at n v there at none = search (rules, consumer_at-view gs edges n)

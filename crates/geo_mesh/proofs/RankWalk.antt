@@ -1,7 +1,7 @@
 -- The walks that mend ranks: what their loops keep.
-use Rattle.std.specs.Prelude.{◌≡◌, ℕ, ◌+◌, ◌<◌, ◌==◌, Bool, true, List, Option, Some, None, IsSome, nat_le}
-use Rattle.std.proofs.Common.{refl, sym, ap, subst, inl, inr, arith}
-use Rattle.std.proofs.lemmas.Bool.{cases_eq, eqb-true, eq-eqb, leb-true, leb-false, cases_Bool}
+use Rattle.std.specs.Prelude.{◌≡◌, ℕ, ◌+◌, ◌<◌, ◌==◌, Bool, true, List, Option, Some, None, IsSome}
+use Rattle.std.proofs.Common.{refl, ap, subst, rules}
+use Rattle.std.proofs.lemmas.Bool.{eqb-true, eq-eqb}
 use Rattle.geo_model.specs.Kind.{Kind}
 use Rattle.geo_model.proofs.DemandLemmas.{names_some}
 use Rattle.geo_slots.specs.Slots.{SlotsView, IsRising, value_at}
@@ -15,8 +15,7 @@ use Rattle.geo_mesh.proofs.RankRows.{IsWay, under-way, way-under, kinds-bare, ri
 -- the graph may be walked over whatever the ranks
 pub walkable-bare : {C : Type 0} (gs ns : SlotsView (GeomCell C)) (edges : Edges) → bare ns ≡ bare gs
     → IsWalkable (kinds gs) edges → IsWalkable (kinds ns) edges
-walkable-bare gs ns edges same walkable =
-    subst (λ classes. IsWalkable classes edges) (sym (kinds-bare gs ns same)) walkable
+walkable-bare gs ns edges same walkable = search (rules, kinds-bare gs ns same)
 
 -- a provider that is offered by a geom has it as its owner
 pub offered-is : (g : ℕ) (o : Option ℕ) → passes (is_offered g) o ≡ true → o ≡ Some g
@@ -75,11 +74,4 @@ pub walk-more : {T : Type 0} (test : T → Bool) (rows : List (ℕ × T)) (next 
     → IsFirst test rows next at n
     → ((m : ℕ) → m < at → passes test (value_at rows m) ≡ true → P m) → P n → (m : ℕ) → m < n + 1
     → passes test (value_at rows m) ≡ true → P m
-walk-more test rows next at n P first so here m low there = elim (cases_eq m n) [
-  | inl same ↦ subst P (sym same) here
-  | inr differs ↦
-      elim (cases_Bool (nat_le at m)) [
-        | inl e ↦ absurd (omega (arith, first.least m (leb-true at m e) there, differs))
-        | inr e ↦ so m (leb-false at m e) there
-      ]
-]
+walk-more test rows next at n P first so here m low there = search rules

@@ -1,6 +1,6 @@
 -- Lists of rows after a change of one row, as they are seen.
-use Rattle.std.specs.Prelude.{◌≡◌, ℕ, ◌+◌, ◌<◌, ◌==◌, Bool, true, false, not, List, [], ◌∷◌, Some, map, filter, find, option_map, IsSome, Option, None}
-use Rattle.std.proofs.Common.{refl, ap, sym, ◌∙◌, arith, inl, inr}
+use Rattle.std.specs.Prelude.{◌≡◌, ℕ, ◌+◌, ◌<◌, ◌==◌, Bool, true, not, List, [], ◌∷◌, Some, map, filter, find, option_map, IsSome, Option, None}
+use Rattle.std.proofs.Common.{refl, ap, sym, ◌∙◌, arith, inl, inr, rules}
 use Rattle.std.proofs.lemmas.Bool.{eqb-true, cases_Bool}
 use Rattle.geo_model.specs.Words.{change_where}
 use Rattle.geo_slots.specs.Slots.{SlotsView, IsRising, value_at, with_value, without}
@@ -19,10 +19,8 @@ module _ {T : Type 0} where
   -- past the number there is no row under it
   past : (n low high : ℕ) (v : T) (rows : List (ℕ × T)) → n < low → IsRising low rows high → OnlyValue n v rows
   past n low high v [] above rising = tt
-  past n low high v (row ∷ rows) above rising = (
-    (λ e. let same : row.0 ≡ n = eqb-true row.0 n e in absurd (omega (arith, rising.0))),
-    past n (row.0 + 1) high v rows (omega (arith, rising.0)) rising.1,
-  )
+  past n low high v (row ∷ rows) above rising =
+      search (rules, past n (row.0 + 1) high v rows (omega (arith, rising.0)) rising.1)
 
   -- in rising rows the value under a number is the only one
   pub only_value : (n low high : ℕ) (v : T) (rows : List (ℕ × T)) → IsRising low rows high
@@ -32,16 +30,8 @@ module _ {T : Type 0} where
       elim (cases_Bool (row.0 == n)) [
         | inl e ↦
             let same : row.0 ≡ n = eqb-true row.0 n e in
-            let found : Some row.1 ≡ Some v = rw e at at in
-            let value : row.1 ≡ v = cc in (
-              (λ _. let whole : (row.0, row.1) ≡ (n, v) = rw (same, value) refl in whole),
-              past n (row.0 + 1) high v rows (omega arith) rising.1,
-            )
-        | inr e ↦ (
-          (λ t. let no : false ≡ true = sym e ∙ t in absurd cc),
-          only_value n (row.0 + 1) high v rows rising.1
-              (rw e at at),
-        )
+            search (rules, past n (row.0 + 1) high v rows (omega arith) rising.1)
+        | inr e ↦ search (rules, only_value n (row.0 + 1) high v rows rising.1 (rw e at at))
       ]
 
 module _ {T Y : Type 0} (f : ℕ × T → Y) (n : ℕ) where
@@ -77,12 +67,7 @@ module _ {T Y : Type 0} (f : ℕ × T → Y) (n : ℕ) where
   pub find-map : (test : Y → Bool) → ((row : ℕ × T) → test (f row) ≡ (row.0 == n)) → (rows : List (ℕ × T))
       → find test (map f rows) ≡ option_map (λ v. f (n, v)) (value_at rows n)
   find-map test same [] = refl
-  find-map test same (row ∷ rows) = elim (cases_Bool (row.0 == n)) [
-    | inl e ↦
-        let number : row.0 ≡ n = eqb-true row.0 n e in
-        rw (same row, e, ← number) refl
-    | inr e ↦ rw (same row, e) (find-map test same rows)
-  ]
+  find-map test same (row ∷ rows) = search (rules, find-map test same rows)
 
 module _ {T U : Type 0} (h : T → U) (n : ℕ) where
   -- another value under a number, where what is seen of it is a change of what was seen

@@ -1,18 +1,16 @@
 -- The mesh that the rows stand for, after a change of one row.
-use Rattle.std.specs.Prelude.{◌≡◌, ℕ, ◌+◌, ◌-◌, ◌≤◌, ◌==◌, nat_le, min, max, Bool, false, ◌&&◌, List, [], ◌∷◌, Option, Some, None, IsSome, map, find, filter, option_map, is_some, ◌<◌, length, if◌then◌else◌}
-use Rattle.std.specs.List.{last_or, list_any}
+use Rattle.std.specs.Prelude.{◌≡◌, ℕ, ◌+◌, ◌-◌, ◌≤◌, ◌==◌, nat_le, min, max, Bool, false, ◌&&◌, List, [], ◌∷◌, Option, Some, IsSome, map, find, option_map, is_some, ◌<◌, length, if◌then◌else◌}
+use Rattle.std.specs.List.{list_any}
 use Rattle.std.specs.Option.{option_or}
-use Rattle.std.proofs.Common.{arith, ap, ◌∙◌, subst, refl, sym}
-use Rattle.std.proofs.lemmas.Bool.{ne_eqb}
+use Rattle.std.proofs.Common.{arith, ap, ◌∙◌, refl, rules}
 use Rattle.geo_mesh.specs.Cells.{IsCount, made_provider, made_consumer, geom_row, provider_row, consumer_row, have_of, risen_of, fallen_of, want_of, active_of, geom_scratch_of, provider_scratch_of, consumer_scratch_of, graph_of, graph, topo_view, with_geom_cell, with_provider_cell, with_consumer_cell}
 use Rattle.geo_mesh.specs.declared.names.Names.{Names}
 use Rattle.geo_names.specs.Names.{last_named}
 use Rattle.geo_mesh.specs.Names.{AreNames, sound_of, is_sound_named}
 use Rattle.geo_mesh.proofs.NameLemmas.{newest-names}
 use Rattle.std.proofs.lemmas.List.{map-append, length-map}
-use Rattle.geo_model.specs.Words.{same_name, change_where}
+use Rattle.geo_model.specs.Words.{change_where}
 use Rattle.geo_model.specs.Counts.{Counts}
-use Rattle.geo_model.proofs.Tests.{is_some-map}
 use Rattle.geo_model.specs.Topology.{Geom, Provider, Consumer, geom_at, provider_at, consumer_at, find_provider}
 use Rattle.geo_slots.specs.Slots.{SlotsView, IsRising, value_at, with_value, without, first_from, with_insert}
 use Rattle.geo_mesh.specs.declared.records.Scratch.{Scratch}
@@ -286,25 +284,12 @@ module _ {C : Type 0} (t : Tables C) (n : ℕ) where
       first-map consumer_row (λ (x : Consumer). x.number) (λ (x : Consumer). nat_le low x.number)
       (λ row. nat_le low row.0) (λ row. refl) (λ row. refl) t.edges.consumers.rows
 
--- a value of the first, else of the second
-option_map-or : {X Y : Type 0} (f : X → Y) (o p : Option X)
-    → option_map f (option_or o p) ≡ option_or (option_map f o) (option_map f p)
-option_map-or f None p = refl
-option_map-or f (Some x) p = refl
-
 module _ {C : Type 0} (t : Tables C) where
   -- the provider of a name, by the rows
   pub find-names : (n : Names) → AreNames (map provider_row t.edges.providers.rows) t.edges.providers.next n
       → (name : List ℕ) → find_provider (graph t) name ≡ option_or (sound_of n name) (last_named n.all.rows name)
   find-names n are name =
-      rw (
-        option_map-or (λ (x : Provider). x.number)
-            (find (is_sound_named name) (map provider_row t.edges.providers.rows))
-            (last_or None
-            (filter (λ (x : Provider). same_name x.name name) (map provider_row t.edges.providers.rows))),
-        are.sound name,
-        newest-names (map provider_row t.edges.providers.rows) t.edges.providers.next n are name,
-      ) refl
+      search (rules, newest-names (map provider_row t.edges.providers.rows) t.edges.providers.next n are name)
 
   -- a new consumer, in room that was kept
   pub with_consumer-view : (geom room : ℕ) →
@@ -357,9 +342,7 @@ module _ {C : Type 0} (gs : SlotsView (GeomCell C)) (n : ℕ) where
   -- one geom less
   pub count_falls : (live : ℕ) (v : GeomCell C) → IsRising 1 gs.rows gs.next → Some v ≡ value_at gs.rows n
       → IsCount (length gs.rows) live → IsCount (length (without gs.rows n)) (live - 1)
-  count_falls live v rising at counted =
-      let one : length (without gs.rows n) + 1 ≡ length gs.rows = length-without 1 gs.next v gs.rows rising at in
-      record { counted = omega (arith, one, counted.counted); few = omega (arith, counted.few) }
+  count_falls live v rising at counted = search (rules, length-without 1 gs.next v gs.rows rising)
 
 -- what is seen of a row has its number, and a flag where its value passes
 module _ {T X : Type 0} (seen : ℕ × T → X) (number : X → ℕ) (flag : X → Bool) (test : T → Bool) (n : ℕ)
@@ -369,11 +352,7 @@ module _ {T X : Type 0} (seen : ℕ × T → X) (number : X → ℕ) (flag : X �
       → list_any (λ x. (number x == n) && flag x) (map seen rows) ≡ false
   unflagged low high [] rising below = refl
   unflagged low high (row ∷ rows) rising below =
-      rw (
-        is row,
-        ne_eqb row.0 n (λ same. omega (arith, same, rising.0)),
-        unflagged (row.0 + 1) high rows rising.1 (omega (arith, rising.0)),
-      ) refl
+      search (rules, unflagged (row.0 + 1) high rows rising.1 (omega (arith, rising.0)))
 
   -- whether what is seen of the number has the flag, by its row
   pub flag-rows : (low high : ℕ) (rows : List (ℕ × T)) → IsRising low rows high
@@ -410,16 +389,13 @@ any_found test (x ∷ xs) = grind (arith, any_found test xs)
 -- whether a name is taken, by the names
 pub name_taken : (ps : List Provider) (next : ℕ) (n : Names) → AreNames ps next n → (name : List ℕ)
     → is_some (sound_of n name) ≡ list_any (is_sound_named name) ps
-name_taken ps next n are name =
-    ap is_some (are.sound name) ∙ is_some-map (λ (x : Provider). x.number) (find (is_sound_named name) ps)
-    ∙ sym (any_found (is_sound_named name) ps)
+name_taken ps next n are name = search (rules, any_found (is_sound_named name) ps)
 
 -- another value under a number leaves the count
 pub count-with_value : {C : Type 0} (n : ℕ) (v : GeomCell C) (rows : List (ℕ × GeomCell C)) (live : ℕ)
     → IsCount (length rows) live → IsCount (length (with_value rows n v)) live
 count-with_value {C} n v rows live counted =
-    subst (λ m. IsCount m live)
-    (sym (length-map rows (λ (row : ℕ × GeomCell C). if row.0 == n then (n, v) else row))) counted
+    search (rules, length-map rows (λ (row : ℕ × GeomCell C). if row.0 == n then (n, v) else row))
 
 -- more room shows in the room alone
 pub roomier-view : {C : Type 0} (t u : Tables C) → IsRoomier t u → IsButForRoom (topo_view u) (topo_view t)
@@ -438,10 +414,7 @@ module _ {C : Type 0} (t u : Tables C) {v : TopoView C} (seen : topo_view t ≡ 
         providers = u.edges.providers.spare;
         consumers = u.edges.consumers.spare;
       }) (record v.room { geoms = n })
-  room-geoms n providers_most consumers_most =
-      let providers : u.edges.providers.spare ≡ t.edges.providers.spare = omega (arith, roomier.providers_stay) in
-      let consumers : u.edges.consumers.spare ≡ t.edges.consumers.spare = omega (arith, roomier.consumers_stay) in
-      rw (← seen, providers, consumers) refl
+  room-geoms n providers_most consumers_most = search rules
 
   -- where no more geoms and consumers were
   pub room-providers : (n : ℕ) → u.geoms.spare ≤ max t.geoms.spare 0
@@ -451,10 +424,7 @@ module _ {C : Type 0} (t u : Tables C) {v : TopoView C} (seen : topo_view t ≡ 
         providers = n;
         consumers = u.edges.consumers.spare;
       }) (record v.room { providers = n })
-  room-providers n geoms_most consumers_most =
-      let geoms : u.geoms.spare ≡ t.geoms.spare = omega (arith, roomier.geoms_stay) in
-      let consumers : u.edges.consumers.spare ≡ t.edges.consumers.spare = omega (arith, roomier.consumers_stay) in
-      rw (← seen, roomier.live, geoms, consumers) refl
+  room-providers n geoms_most consumers_most = search rules
 
   -- where no more geoms and providers were
   pub room-consumers : (n : ℕ) → u.geoms.spare ≤ max t.geoms.spare 0
@@ -464,10 +434,7 @@ module _ {C : Type 0} (t u : Tables C) {v : TopoView C} (seen : topo_view t ≡ 
         providers = u.edges.providers.spare;
         consumers = n;
       }) (record v.room { consumers = n })
-  room-consumers n geoms_most providers_most =
-      let geoms : u.geoms.spare ≡ t.geoms.spare = omega (arith, roomier.geoms_stay) in
-      let providers : u.edges.providers.spare ≡ t.edges.providers.spare = omega (arith, roomier.providers_stay) in
-      rw (← seen, roomier.live, geoms, providers) refl
+  room-consumers n geoms_most providers_most = search rules
 
 -- What the mesh shows of a provider and of a consumer, by their cells.
 

@@ -1,6 +1,6 @@
 -- What a mesh keeps as a whole, after each call.
-use Rattle.std.specs.Prelude.{◌≡◌, ℕ, ◌==◌, ◌≤◌, max, Bool, true, Some, map, length}
-use Rattle.std.proofs.Common.{refl, sym, ◌∙◌, ap, subst, ◌+◌, ◌<◌, List, [], ◌∷◌, ◌++◌, false, None, arith, length-append}
+use Rattle.std.specs.Prelude.{◌≡◌, ℕ, ◌==◌, ◌≤◌, max, Bool, true, Some, map}
+use Rattle.std.proofs.Common.{refl, sym, ◌∙◌, ap, subst, List, [], ◌∷◌, false, None, rules}
 use Rattle.std.proofs.lemmas.Bool.{ne_eqb}
 use Rattle.geo_slots.specs.Slots.{IsRising, value_at, with_insert}
 use Rattle.geo_model.specs.Words.{change_where}
@@ -12,18 +12,18 @@ use Rattle.geo_mesh.specs.declared.names.Names.{Names}
 use Rattle.geo_mesh.specs.declared.tables.Tables.{Tables}
 use Rattle.geo_mesh.specs.Topo.{is_provider_size}
 use Rattle.geo_mesh.specs.Graph.{IsOffer, IsOrderly}
-use Rattle.geo_mesh.specs.Cells.{graph, geom_row, provider_row, consumer_row, with_geom_cell, with_provider_cell, with_consumer_cell, IsCount, graph_of, put_consumer}
+use Rattle.geo_mesh.specs.Cells.{graph, geom_row, provider_row, consumer_row, with_geom_cell, with_provider_cell, with_consumer_cell, graph_of, put_consumer}
 use Rattle.geo_mesh.specs.Index.{IsIndexed, HaveRoom, with_rooms, attached_index, detached_index}
 use Rattle.geo_mesh.specs.Names.{AreNames, HaveNameRoom, SameNames, RetiresName}
 use Rattle.geo_mesh.specs.declared.tables.Notes.{Notes}
 use Rattle.geo_mesh.specs.Notes.{AreNotes, HaveNoteRoom, IsSameNotes}
-use Rattle.geo_mesh.proofs.NoteLemmas.{notes-reserved, note_room_for, notes-geom_kept, notes-provider_kept, notes-bare}
+use Rattle.geo_mesh.proofs.NoteLemmas.{note_room_for, notes-geom_kept, notes-provider_kept, notes-bare}
 use Rattle.geo_mesh.specs.Mesh.{IsMesh}
-use Rattle.geo_mesh.specs.Ranks.{HaveRanks, footing, kind_of, kinds, bare}
+use Rattle.geo_mesh.specs.Ranks.{HaveRanks, footing, kind_of, bare}
 use Rattle.geo_mesh.specs.Going.{AreGoing, AreGoingBut, is_idle_cell, is_free_in, going_rows}
 use Rattle.geo_mesh.specs.Whole.{IsWhole, IsWholeBut, IsRoomier}
 use Rattle.geo_mesh.proofs.RowLemmas.{rows_changed, only_value, OnlyValue}
-use Rattle.geo_mesh.proofs.IndexLemmas.{indexed-rooms, indexed-geom, indexed-provider, indexed-set_marks, OnlyOf, indexed-attach, indexed-detach}
+use Rattle.geo_mesh.proofs.IndexLemmas.{indexed-geom, indexed-provider, indexed-set_marks, OnlyOf, indexed-attach, indexed-detach}
 use Rattle.geo_mesh.proofs.ViewLemmas.{count-with_value, provider_at-view, switch-view}
 use Rattle.geo_mesh.proofs.Orderly.{orderly-geom, orderly-provider, orderly-set_marks}
 use Rattle.geo_mesh.proofs.GoingLemmas.{free-provider_cell, free-consumer_kept, free-consumer_cell, going-free, going-cell, going-withers, free_once}
@@ -32,7 +32,7 @@ use Rattle.std.specs.Option.{option_map}
 use Rattle.std.proofs.lemmas.List.{map-append, length-map}
 use Rattle.geo_mesh.specs.declared.index.Index.{Index}
 use Rattle.geo_mesh.specs.Rows.{row_with}
-use Rattle.geo_mesh.proofs.NameLemmas.{only_provider, names-same, names-changed, names-marked}
+use Rattle.geo_mesh.proofs.NameLemmas.{only_provider, names-changed, names-marked}
 use Rattle.geo_mesh.proofs.RankRows.{kinds-bare}
 use Rattle.geo_mesh.proofs.RankMesh.{view-bare}
 
@@ -41,41 +41,21 @@ use Rattle.geo_mesh.proofs.RankMesh.{view-bare}
 -- room for what there was room for, and for more of it
 pub room_for : (a b c d e f g p q : ℕ) (i : Index) → HaveRoom a b c i → HaveRoom d e f i → g ≤ max a d
     → p ≤ max b e → q ≤ max c f → HaveRoom g p q i
-room_for a b c d e f g p q i one two most_g most_p most_q = record {
-  offered_parents = omega (arith, one.offered_parents, two.offered_parents, most_g);
-  offered_children = omega (arith, one.offered_children, two.offered_children, most_p);
-  owned_parents = omega (arith, one.owned_parents, two.owned_parents, most_g);
-  owned_children = omega (arith, one.owned_children, two.owned_children, most_q);
-  attached_parents = omega (arith, one.attached_parents, two.attached_parents, most_p);
-  above_parents = omega (arith, one.above_parents, two.above_parents, most_p);
-  attached_children = omega (arith, one.attached_children, two.attached_children, most_q);
-  above_children = omega (arith, one.above_children, two.above_children, most_q);
-}
+room_for a b c d e f g p q i one two most_g most_p most_q = search rules
 
 -- room for names, for what there was room for, and for more of it
 pub name_room_for : (a b p : ℕ) (m : Names) → HaveNameRoom a m → HaveNameRoom b m → p ≤ max a b → HaveNameRoom p m
-name_room_for a b p m one two most = record {
-  in_sound = omega (arith, one.in_sound, two.in_sound, most);
-  in_all = omega (arith, one.in_all, two.in_all, most);
-}
+name_room_for a b p m one two most = search rules
 
 -- each consumer of the number of the one cell is of its geom
 pub only_of : (n : ℕ) (v : ConsCell) (rows : List (ℕ × ConsCell)) → OnlyValue n v rows
     → OnlyOf n v.consumer.geom (map consumer_row rows)
 only_of n v [] only = tt
-only_of n v (row ∷ rows) only =
-    ((λ here. ap (λ (r : ℕ × ConsCell). r.1.consumer.geom) (only.0 here)), only_of n v rows only.1)
+only_of n v (row ∷ rows) only = search (rules, only_of n v rows only.1)
 
 -- names that aren't touched
 pub untouched : (m : Names) → SameNames m m
 untouched m = record { sound = λ q. refl; all = refl }
-
--- one geom more
-pub count_rises : {C : Type 0} (rows : List (ℕ × GeomCell C)) (row : ℕ × GeomCell C) (live : ℕ)
-    → IsCount (length rows) live → live < 4294967294
-    → IsCount (length (rows ++ row ∷ [])) (live + 1)
-count_rises rows row live count few =
-    record { counted = simp length-append (omega (arith, count.counted)); few = omega arith }
 
 module _ {C : Type 0} (t : Tables C) (mesh : IsMesh t) where
   -- the graph with a new provider's row is the graph with a new provider
@@ -131,17 +111,7 @@ module _ {C : Type 0} (t : Tables C) (mesh : IsMesh t) where
         edges = record (put_consumer t.edges k (record v { consumer = record v.consumer { prov = None } }))
             { index = detached_index t.edges.index k };
       })
-  mesh-detached k v rising at = record {
-    notes = mesh.notes;
-    names_are = mesh.names_are;
-    names_room = mesh.names_room;
-    count = mesh.count;
-    indexed =
-        subst (λ g. IsIndexed g (detached_index t.edges.index k))
-        (sym (ap (λ v. v.topology) (switch-view t k v rising at None)))
-        (indexed-detach (graph t) t.edges.index mesh.indexed k);
-    room = mesh.room;
-  }
+  mesh-detached k v rising at = search (rules, switch-view t k, indexed-detach (graph t) t.edges.index mesh.indexed k)
 
   -- with an error at a provider
   pub names-errored : (k : ℕ) (v : ProvCell) → IsRising 1 t.edges.providers.rows t.edges.providers.next
@@ -159,20 +129,14 @@ module _ {C : Type 0} (t : Tables C) (mesh : IsMesh t) where
   -- other ranks in the cells leave the tables as they are
   pub mesh-bare : (ns : _) → bare ns ≡ bare t.geoms → IsMesh (record t { geoms = ns })
   mesh-bare ns same =
-      let count : length (kinds ns) ≡ length (kinds t.geoms) = ap length (kinds-bare t.geoms ns same) in
-      let here : length (kinds t.geoms) ≡ length t.geoms.rows = length-map t.geoms.rows (row_with (kind_of {C = C})) in
-      let there : length (kinds ns) ≡ length ns.rows = length-map ns.rows (row_with (kind_of {C = C})) in
-      let spare : ns.spare ≡ t.geoms.spare = ap (λ s. s.spare) same in
-      record {
-        notes = notes-bare t.notes t.geoms ns t.edges.providers same mesh.notes;
-        count = record { counted = omega (arith, mesh.count.counted); few = mesh.count.few };
-        indexed = subst (λ g. IsIndexed g t.edges.index) (sym (ap (λ v. v.topology) (view-bare t ns same)))
-            mesh.indexed;
-        room = subst (λ k. HaveRoom k t.edges.providers.spare t.edges.consumers.spare t.edges.index)
-            (sym spare) mesh.room;
-        names_are = mesh.names_are;
-        names_room = mesh.names_room;
-      }
+      search (
+        rules,
+        kinds-bare t.geoms ns same,
+        length-map t.geoms.rows (row_with (kind_of {C = C})),
+        length-map ns.rows (row_with (kind_of {C = C})),
+        notes-bare t.notes t.geoms ns t.edges.providers same mesh.notes,
+        view-bare t ns same,
+      )
 
 -- The whole
 
@@ -209,8 +173,7 @@ module _ {C : Type 0} (t : Tables C) (stands : IsStanding t) where
 
   -- so but for one geom's mark
   pub with_going_but : (geom : ℕ) → AreGoingBut geom t → IsWholeBut geom t
-  with_going_but geom going =
-      record { tables = stands.tables; ranks = stands.ranks; graph = stands.graph; going = going }
+  with_going_but geom going = search rules
 
 -- the tables with other room in each of their parts, of which the rows have no less
 pub roomier : {C : Type 0} {t u : Tables C} → u.geoms ≡ record t.geoms { spare = u.geoms.spare }
@@ -219,18 +182,7 @@ pub roomier : {C : Type 0} {t u : Tables C} → u.geoms ≡ record t.geoms { spa
     → u.edges.index ≡ with_rooms t.edges.index u.edges.index → SameNames t.names u.names → IsSameNotes t.notes u.notes
     → t.geoms.spare ≤ u.geoms.spare → t.edges.providers.spare ≤ u.edges.providers.spare
     → t.edges.consumers.spare ≤ u.edges.consumers.spare → IsRoomier t u
-roomier geoms providers consumers live index names notes geoms_stay providers_stay consumers_stay = record {
-  geoms = geoms;
-  providers = providers;
-  consumers = consumers;
-  live = live;
-  index = index;
-  names = names;
-  notes = notes;
-  geoms_stay = geoms_stay;
-  providers_stay = providers_stay;
-  consumers_stay = consumers_stay;
-}
+roomier geoms providers consumers live index names notes geoms_stay providers_stay consumers_stay = search rules
 
 module _ {C : Type 0} (t : Tables C) (whole : IsWhole t) where
   -- more room changes nothing else
@@ -250,28 +202,7 @@ module _ {C : Type 0} (t : Tables C) (whole : IsWhole t) where
         names = u.names;
         notes = u.notes;
       } in
-      let same : roomy ≡ u = λ i. record {
-        geoms = sym is.geoms i;
-        edges = record { providers = sym is.providers i; consumers = sym is.consumers i; index = u.edges.index };
-        live = sym is.live i;
-        names = u.names;
-        notes = u.notes;
-      } in
-      subst (λ v. IsWhole v) same (record {
-        tables = record {
-          count = whole.tables.count;
-          indexed = indexed-rooms (graph t) t.edges.index whole.tables.indexed u.edges.index is.index;
-          room = room;
-          names_are = names-same (map provider_row t.edges.providers.rows) t.edges.providers.next t.names u.names
-              whole.tables.names_are is.names;
-          names_room = name_room;
-          notes = notes-reserved t.notes u.notes t.geoms t.edges.providers u.geoms.spare u.edges.providers.spare
-              is.notes note_room whole.tables.notes;
-        };
-        ranks = record { count = whole.ranks.count; standing = whole.ranks.standing };
-        graph = whole.graph;
-        going = ap (λ m. m.rows) is.notes.going ∙ whole.going;
-      })
+      search rules
 
   -- so where no more room was made than what was asked for, and index, names and notes have room for that, beside what
   -- they had room for
@@ -405,13 +336,12 @@ module _ {C : Type 0} (t : Tables C) (whole : IsWhole t) where
       → IsWhole (record (with_provider_cell t n w) { notes = notes })
   whole-provider_noted n v w notes rising at keeps are unmarked =
       let change : Provider → Provider = λ x. record x { size = w.provider.size; sector = w.provider.sector } in
-      let seen : provider_row (n, w) ≡ change (provider_row (n, v)) =
-      λ i. record (provider_row (n, w)) { geom = keeps.geom i; name = keeps.name i; errored = keeps.errored i } in
-      provider_changed n v w t.names notes change rising at seen (λ x. refl) (λ x. refl)
-      (λ offer. record { not_dev = offer.not_dev; not_taste = offer.not_taste; sizes = keeps.sizes offer.sizes })
-      (names-changed (graph t).providers t.edges.providers.next t.names t.names whole.tables.names_are n change
-      (λ x. refl) (λ x. refl) (λ x. refl))
-      whole.tables.names_room are unmarked
+      search (
+        rules,
+        provider_changed n v w t.names notes change rising,
+        names-changed (graph t).providers t.edges.providers.next t.names t.names whole.tables.names_are n change
+            (λ x. refl) (λ x. refl) (λ x. refl),
+      )
 
   -- so where the provider is noted as before
   pub whole-provider_cell : (n : ℕ) (v w : ProvCell) → IsRising 1 t.edges.providers.rows t.edges.providers.next

@@ -1,7 +1,7 @@
 -- What a mesh keeps as a whole, where a part comes or goes, and where a consumer is attached or detached.
-use Rattle.std.specs.Prelude.{◌≡◌, ◌≢◌, ℕ, ◌+◌, ◌-◌, ◌<◌, ◌≤◌, ◌^◌, ◌==◌, true, false, [], ◌∷◌, ◌++◌, Option, Some, None, find, map, option_map, IsSome, IfSome, Bool, IsSomeAnd}
+use Rattle.std.specs.Prelude.{◌≡◌, ◌≢◌, ℕ, ◌+◌, ◌-◌, ◌<◌, ◌≤◌, ◌^◌, ◌==◌, true, false, [], ◌∷◌, Option, Some, None, find, map, option_map, IsSome, IfSome, Bool, IsSomeAnd}
 use Rattle.std.specs.List.{AllByRecursion}
-use Rattle.std.proofs.Common.{refl, sym, ◌∙◌, ap, subst, arith}
+use Rattle.std.proofs.Common.{refl, sym, ◌∙◌, ap, subst, rules}
 use Rattle.std.proofs.lemmas.Bool.{ne_eqb}
 use Rattle.geo_model.specs.Words.{names_number}
 use Rattle.geo_slots.specs.Slots.{SlotsView, IsRising, value_at, without, with_insert}
@@ -30,7 +30,7 @@ use Rattle.geo_mesh.proofs.RankMesh as ranks
 use Rattle.geo_mesh.proofs.RankSwitch.{mesh-kept, free-cell, free-at, user-cell, user-stands, provider-offered, admitted-mesh, admitted-free, on-refused}
 use Rattle.geo_mesh.proofs.ViewLemmas.{consumer_at-view, count_falls, without_geom-view, without_provider-view, without_consumer-view, switch-view}
 use Rattle.geo_mesh.proofs.Orderly.{orderly-add_geom, orderly-add_provider, orderly-add_consumer, orderly-remove_geom, orderly-remove_provider, orderly-remove_consumer, orderly-attach, orderly-detach}
-use Rattle.geo_mesh.proofs.WholeLemmas.{graph-geom, graph-provider, graph-consumer, mesh-attached, mesh-detached, mesh-bare, count_rises, found_provider}
+use Rattle.geo_mesh.proofs.WholeLemmas.{graph-geom, graph-provider, graph-consumer, mesh-attached, mesh-detached, mesh-bare, found_provider}
 use Rattle.geo_mesh.proofs.IndexLemmas.{indexed-add_consumer, indexed-add_geom, indexed-add_provider, indexed-remove_consumer, indexed-remove_geom, indexed-remove_provider}
 use Rattle.std.proofs.lemmas.List.{map-append}
 use Rattle.geo_mesh.proofs.NameLemmas.{only_provider, names-added, names-removed}
@@ -55,38 +55,19 @@ module _ {C : Type 0} (t : Tables C) (whole : IsWhole t) where
         live = t.live + 1;
         notes = record t.notes { going = with_mark t.notes.going; named = m };
       })
-  whole-new_geom v m stays none rank rising few fits added room = record {
-    tables = record {
-      notes = notes-geom t.notes t.geoms t.edges.providers v m whole.tables.notes added room;
-      names_are = whole.tables.names_are;
-      names_room = whole.tables.names_room;
-      count = count_rises t.geoms.rows (t.geoms.next, v) t.live whole.tables.count few;
-      indexed =
-          subst (λ g. IsIndexed g (with_geom_index t.edges.index)) (sym (graph-geom t whole.tables v stays none))
-          (indexed-add_geom (graph t) t.edges.index whole.tables.indexed v.geom.kind v.geom.name v.geom.config
-          v.geom.automatic);
-      room = record {
-        offered_parents = omega (arith, whole.tables.room.offered_parents);
-        offered_children = whole.tables.room.offered_children;
-        owned_parents = omega (arith, whole.tables.room.owned_parents);
-        owned_children = whole.tables.room.owned_children;
-        attached_parents = whole.tables.room.attached_parents;
-        above_parents = whole.tables.room.above_parents;
-        attached_children = whole.tables.room.attached_children;
-        above_children = whole.tables.room.above_children;
-      };
-    };
-    ranks =
+  whole-new_geom v m stays none rank rising few fits added room =
+      search (
+        rules,
+        notes-geom t.notes t.geoms t.edges.providers v m whole.tables.notes added room,
+        graph-geom t whole.tables v stays none,
+        indexed-add_geom (graph t) t.edges.index whole.tables.indexed v.geom.kind v.geom.name v.geom.config
+            v.geom.automatic,
         beside_index (with_insert t.geoms v) t.edges (t.live + 1) (with_geom_index t.edges.index)
-        (ranks.mesh-new_geom t.geoms t.edges t.live whole.ranks (t.geoms.next + 1) (t.geoms.spare - 1) v rank
-        rising few);
-    graph =
-        subst (λ g. IsOrderly g) (sym (graph-geom t whole.tables v stays none))
-        (orderly-add_geom (graph t) whole.graph v.geom.kind v.geom.name v.geom.config v.geom.automatic fits);
-    going =
-        (λ i. whole.going i ++ (whole.tables.notes.going_next i, false) ∷ [])
-        ∙ sym (going-push (is_free_in t) t.geoms.next v stays t.geoms.rows);
-  }
+            (ranks.mesh-new_geom t.geoms t.edges t.live whole.ranks (t.geoms.next + 1) (t.geoms.spare - 1) v rank rising
+            few),
+        orderly-add_geom (graph t) whole.graph v.geom.kind v.geom.name v.geom.config v.geom.automatic fits,
+        going-push (is_free_in t) t.geoms.next v stays t.geoms.rows,
+      )
 
   -- with a new provider of a geom other than the first two, of a name that no other has without an error: but for the
   -- geom's mark
@@ -121,16 +102,7 @@ module _ {C : Type 0} (t : Tables C) (whole : IsWhole t) where
           (indexed-add_provider (graph t) t.edges.index whole.tables.indexed v.provider.geom v.provider.name
           v.provider.size
           v.provider.sector);
-      room = record {
-        offered_parents = whole.tables.room.offered_parents;
-        offered_children = omega (arith, whole.tables.room.offered_children);
-        owned_parents = whole.tables.room.owned_parents;
-        owned_children = whole.tables.room.owned_children;
-        attached_parents = omega (arith, whole.tables.room.attached_parents);
-        above_parents = omega (arith, whole.tables.room.above_parents);
-        attached_children = whole.tables.room.attached_children;
-        above_children = whole.tables.room.above_children;
-      };
+      room = search rules;
     };
     ranks =
         beside_index t.geoms (record t.edges { providers = with_insert t.edges.providers v }) t.live
@@ -141,12 +113,7 @@ module _ {C : Type 0} (t : Tables C) (whole : IsWhole t) where
         subst (λ g. IsOrderly g) (sym (graph-provider t whole.tables v sound))
         (orderly-add_provider (graph t) whole.graph v.provider.geom v.provider.name v.provider.size
         v.provider.sector lives not_dev not_taste sizes fits);
-    going = record {
-      free = is_free_in t;
-      others = λ g apart.
-          sym (free-new_provider t.edges.providers.rows t.edges.consumers.rows g t.edges.providers.next v apart);
-      rows = whole.going;
-    };
+    going = search (rules, free-new_provider t.edges.providers.rows t.edges.consumers.rows);
   }
 
   -- with a new consumer, attached to nothing: but for its geom's mark
@@ -160,45 +127,20 @@ module _ {C : Type 0} (t : Tables C) (whole : IsWhole t) where
               index = with_consumer_index t.edges.index v.consumer.geom;
             };
       })
-  whole-new_consumer v free clean lives fits = record {
-    tables = record {
-      notes = whole.tables.notes;
-      names_are = whole.tables.names_are;
-      names_room = whole.tables.names_room;
-      count = whole.tables.count;
-      indexed =
-          subst (λ g. IsIndexed g (with_consumer_index t.edges.index v.consumer.geom))
-          (sym (graph-consumer t whole.tables v free clean))
-          (indexed-add_consumer (graph t) t.edges.index whole.tables.indexed v.consumer.geom);
-      room = record {
-        offered_parents = whole.tables.room.offered_parents;
-        offered_children = whole.tables.room.offered_children;
-        owned_parents = whole.tables.room.owned_parents;
-        owned_children = omega (arith, whole.tables.room.owned_children);
-        attached_parents = whole.tables.room.attached_parents;
-        above_parents = whole.tables.room.above_parents;
-        attached_children = omega (arith, whole.tables.room.attached_children);
-        above_children = omega (arith, whole.tables.room.above_children);
-      };
-    };
-    ranks =
+  whole-new_consumer v free clean lives fits =
+      search (
+        rules,
+        graph-consumer t whole.tables v free clean,
+        indexed-add_consumer (graph t) t.edges.index whole.tables.indexed v.consumer.geom,
         beside_index t.geoms (record t.edges { consumers = with_insert t.edges.consumers v }) t.live
-        (with_consumer_index t.edges.index v.consumer.geom)
-        (ranks.mesh-new_consumer t.geoms t.edges t.live whole.ranks t.edges.consumers.next v.consumer.geom
-        (t.edges.consumers.next + 1)
-        (t.edges.consumers.spare - 1) v
-        (rw free (ap (λ (o : Option ℕ). (v.consumer.geom, o)) (footing-none v.consumer.geom)))
-        (ranks.lives-kinds t.geoms t.edges t.live v.consumer.geom lives));
-    graph =
-        subst (λ g. IsOrderly g) (sym (graph-consumer t whole.tables v free clean))
-        (orderly-add_consumer (graph t) whole.graph v.consumer.geom lives fits);
-    going = record {
-      free = is_free_in t;
-      others = λ g apart.
-          sym (free-new_consumer t.edges.providers.rows t.edges.consumers.rows g t.edges.consumers.next v free apart);
-      rows = whole.going;
-    };
-  }
+            (with_consumer_index t.edges.index v.consumer.geom)
+            (ranks.mesh-new_consumer t.geoms t.edges t.live whole.ranks t.edges.consumers.next v.consumer.geom
+            (t.edges.consumers.next + 1) (t.edges.consumers.spare - 1) v
+            (rw free (ap (λ (o : Option ℕ). (v.consumer.geom, o)) (footing-none v.consumer.geom)))
+            (ranks.lives-kinds t.geoms t.edges t.live v.consumer.geom lives)),
+        orderly-add_consumer (graph t) whole.graph v.consumer.geom lives fits,
+        free-new_consumer t.edges.providers.rows t.edges.consumers.rows,
+      )
 
   -- without a geom that has neither provider nor consumer
   pub whole-without_geom : (n : ℕ) (v : GeomCell C) (m : NamesView) → IsRising 1 t.geoms.rows t.geoms.next
@@ -212,17 +154,13 @@ module _ {C : Type 0} (t : Tables C) (whole : IsWhole t) where
         notes = record t.notes { going = without_mark t.notes.going n; named = m };
       })
   whole-without_geom n v m rising at not_dev not_taste no_provider no_consumer removed room = record {
-    tables = record {
-      notes = notes-without_geom t.notes t.geoms t.edges.providers n m whole.tables.notes removed room;
-      names_are = whole.tables.names_are;
-      names_room = whole.tables.names_room;
-      count = count_falls t.geoms n t.live v rising (sym at) whole.tables.count;
-      indexed =
-          subst (λ g. IsIndexed g (without_geom_index t.edges.index n))
-          (sym (ap (λ v. v.topology) (without_geom-view t n (t.live - 1))))
-          (indexed-remove_geom (graph t) t.edges.index whole.tables.indexed n);
-      room = whole.tables.room;
-    };
+    tables = search (
+      rules,
+      notes-without_geom t.notes t.geoms t.edges.providers n m whole.tables.notes removed room,
+      count_falls t.geoms n t.live,
+      without_geom-view t n (t.live - 1),
+      indexed-remove_geom (graph t) t.edges.index whole.tables.indexed n,
+    );
     ranks =
         beside_index (record t.geoms { rows = without t.geoms.rows n }) t.edges (t.live - 1)
         (without_geom_index t.edges.index n)
@@ -275,8 +213,7 @@ module _ {C : Type 0} (t : Tables C) (whole : IsWhole t) where
         (without_provider_index t.edges.index n)
         (ranks.mesh-destroy_provider t.geoms t.edges t.live whole.ranks n none);
     graph =
-        subst (λ g. IsOrderly g) (sym (ap (λ v. v.topology) (without_provider-view t n)))
-        (orderly-remove_provider (graph t) whole.graph n none);
+        search (rules, without_provider-view t n, orderly-remove_provider (graph t) whole.graph n none);
     going = record {
       free = is_free_in t;
       others = λ g apart.
@@ -296,25 +233,14 @@ module _ {C : Type 0} (t : Tables C) (whole : IsWhole t) where
         };
       })
   whole-without_consumer n v rising at free = record {
-    tables = record {
-      notes = whole.tables.notes;
-      names_are = whole.tables.names_are;
-      names_room = whole.tables.names_room;
-      count = whole.tables.count;
-      indexed =
-          subst (λ g. IsIndexed g (without_consumer_index t.edges.index n))
-          (sym (ap (λ v. v.topology) (without_consumer-view t n)))
-          (indexed-remove_consumer (graph t) t.edges.index whole.tables.indexed n);
-      room = whole.tables.room;
-    };
+    tables = search (rules, without_consumer-view t n, indexed-remove_consumer (graph t) t.edges.index whole.tables.indexed n);
     ranks =
         beside_index t.geoms
         (record t.edges { consumers = record t.edges.consumers { rows = without t.edges.consumers.rows n } }) t.live
         (without_consumer_index t.edges.index n)
         (ranks.mesh-destroy_consumer t.geoms t.edges t.live whole.ranks n rising free);
     graph =
-        subst (λ g. IsOrderly g) (sym (ap (λ v. v.topology) (without_consumer-view t n)))
-        (orderly-remove_consumer (graph t) whole.graph n);
+        search (rules, without_consumer-view t n, orderly-remove_consumer (graph t) whole.graph n);
     going = record {
       free = is_free_in t;
       others = λ g apart.
@@ -430,14 +356,7 @@ pub attach-asked : {C : Type 0} (t : Tables C) {v : TopoView C} {n p k m upper u
     → topo_view t ≡ v → k ≡ n → upper ≡ user t.edges k → m ≡ p → under ≡ owner t.edges m
     → IsSomeAnd (consumer_at v.topology n) (λ x. x.provider ≡ None) → IsSome (provider_at v.topology p)
     → IsAsked t v n p upper under
-attach-asked t whole seen same user_is alike owner_is loose offered = record {
-  whole = whole;
-  seen = seen;
-  loose = loose;
-  offered = offered;
-  user_is = user_is ∙ ap (user t.edges) same;
-  owner_is = owner_is ∙ ap (owner t.edges) alike;
-}
+attach-asked t whole seen same user_is alike owner_is loose offered = search rules
 
 module _ {C : Type 0} {t : Tables C} {v : TopoView C} {n p upper under : ℕ} (asked : IsAsked t v n p upper under) where
   -- the consumer is attached to nothing in the tables too
@@ -486,11 +405,7 @@ module _ {C : Type 0} {t : Tables C} {v : TopoView C} {n p upper under : ℕ} (a
     -- the ranks admit the consumer's geom by its cell
     admitted_there : IsAdmitted (is_dev_or_taste cell.consumer.geom) (ranked_below t.edges) cell.consumer.geom
         (owner t.edges p) (stored t.geoms) (stored ns)
-    admitted_there =
-        subst (λ g. IsAdmitted (is_dev_or_taste cell.consumer.geom) (ranked_below t.edges) cell.consumer.geom g
-        (stored t.geoms) (stored ns)) asked.owner_is
-        (subst (λ g. IsAdmitted (is_dev_or_taste g) (ranked_below t.edges) g under (stored t.geoms) (stored ns))
-        (upper_is cell (sym at)) admitted)
+    admitted_there = search (rules, upper_is cell (sym at))
 
     -- an attach that is admitted isn't refused by the model
     pub admitted-answer : {error : Bool} → error ≡ is_errored v.topology p → error ≡ false

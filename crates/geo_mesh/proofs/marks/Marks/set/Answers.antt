@@ -1,9 +1,8 @@
 use Rattle.std.specs.Prelude.{Some, None}
 use Rattle.std.specs.Option.{is_some}
 use Rattle.std.proofs.Common.{refl}
-use Rattle.geo_mesh.proofs.RowLemmas.{rows_with-with_value}
+use Rattle.geo_mesh.proofs.RowLemmas.{rows_with-with_value, seen-some}
 use Rattle.geo_slots.proofs.RowLemmas.{value_at-set, with_value-twice}
-use Rattle.geo_mesh.proofs.RowLemmas.{seen-some}
 use Rattle.geo_mesh.proofs.MarkLemmas.{under-set}
 use Rattle.geo_mesh.proofs.marks.Marks.set.Goals as goal
 
