@@ -1,8 +1,8 @@
 -- Phases of bios, counts of those that pass, and cursors: what becomes of them when a bio leaves or changes its phase.
-use Rattle.std.proofs.Common.{◌≡◌, ◌≢◌, ℕ, ◌+◌, ◌<◌, nat_le, min, ◌&&◌, List, [], ◌∷◌, ◌++◌, find, cond, Bool, true, false, Option, Some, None, sym, refl, ap, ◌∙◌, arith, option_map, ◌-◌, ◌≤◌, ◌==◌, length, not, subst}
+use Rattle.std.proofs.Common.{◌≡◌, ◌≢◌, ℕ, ◌+◌, ◌<◌, nat_le, min, ◌&&◌, List, [], ◌∷◌, ◌++◌, find, cond, Bool, true, false, Option, Some, None, sym, refl, ap, ◌∙◌, arith, option_map, ◌-◌, ◌≤◌, ◌==◌, length, not, rules}
 use Rattle.std.specs.List.{AllByRecursion}
 use Rattle.std.specs.Option.{option_map_or, option_or, option_eq}
-use Rattle.std.proofs.lemmas.Bool.{le-leb, lt-leb, eqb-true, eq-eqb, ne_eqb, leb-true, leb-false}
+use Rattle.std.proofs.lemmas.Bool.{le-leb, lt-leb, eq-eqb}
 use Rattle.std.proofs.lemmas.List.Folds.{find-append}
 use Rattle.std.proofs.lemmas.List.Sums.{sum_by-append, sum_by-cons, count_by-le-length}
 use Rattle.geo_base.proofs.FindLists.{find_agree}
@@ -25,16 +25,7 @@ pub none_counted : (test : Phase → Bool) (bios : List (BioOf Held)) → count_
     → find (λ (x : BioOf Held). test x.phase) bios ≡ None
 none_counted test [] none = refl
 none_counted test (x ∷ xs) none =
-    at (test x.phase) refl (sym (sum_by-cons (λ (y : BioOf Held). cond (test y.phase) 1 0) x xs) ∙ none)
-    (none_counted test xs)
-  where
-    at : (b : Bool) → test x.phase ≡ b → cond (test x.phase) 1 0 + count_in test xs ≡ 0
-        → (count_in test xs ≡ 0 → find (λ (y : BioOf Held). test y.phase) xs ≡ None)
-        → find (λ (y : BioOf Held). test y.phase) (x ∷ xs) ≡ None
-    at true e whole rest = absurd (let some : 1 + count_in test xs ≡ 0 = rw e at whole in omega (arith, some))
-    at false e whole rest =
-        let left : 0 + count_in test xs ≡ 0 = rw e at whole in
-        rw e (rest (omega (arith, left)))
+    search (rules, sum_by-cons (λ (y : BioOf Held). cond (test y.phase) 1 0) x xs, none_counted test xs)
 
 module _ (test : Phase → Bool) (front back : List (BioOf Held)) where
   -- a search by phase
@@ -76,41 +67,26 @@ module _ (test : Phase → Bool) (front back : List (BioOf Held)) where
         → first_in test (front ++ x ∷ back)
         ≡ Some (option_map_or (λ m. min m n) (first_in test (front ++ back)) n)
     first_with_hit x e number =
-        ap (option_map (λ (y : BioOf Held). y.number)) (find-append (λ (y : BioOf Held). test y.phase) front (x ∷ back))
-        ∙ at (search_in front) (search_in back) refl refl
-        ∙ ap (λ o. Some (option_map_or (λ m. min m n) (option_map (λ (y : BioOf Held). y.number) o) n))
-        (sym (find-append (λ (y : BioOf Held). test y.phase) front back))
-      where
-        at : (o p : Option (BioOf Held)) → search_in front ≡ o → search_in back ≡ p
-            → option_map (λ (y : BioOf Held). y.number) (option_or (search_in front) (search_in (x ∷ back)))
-            ≡ Some (option_map_or (λ m. min m n)
-            (option_map (λ (y : BioOf Held). y.number) (option_or (search_in front) (search_in back))) n)
-        at (Some z) p f b = let less = found_below z f in
-            let least : z.number ≡ min z.number n = omega (arith, less) in
-            rw f (ap Some least)
-        at None (Some z) f b = let more = found_above z b in
-            let least : x.number ≡ min z.number n = omega (arith, more, number) in
-            rw (f, b, e) (ap Some least)
-        at None None f b = rw (f, b, e) (ap Some number)
+        search (
+          rules,
+          find-append (λ (y : BioOf Held). test y.phase) front (x ∷ back),
+          find-append (λ (y : BioOf Held). test y.phase) front back,
+          found_below,
+          found_above,
+        )
 
     -- where another is found first, it is so without the one
     pub first_without_other : (x : BioOf Held) → x.number ≡ n → test x.phase ≡ true
         → first_in test (front ++ x ∷ back) ≢ Some n
         → first_in test (front ++ back) ≡ first_in test (front ++ x ∷ back)
     first_without_other x number e differs =
-        ap (option_map (λ (y : BioOf Held). y.number)) (find-append (λ (y : BioOf Held). test y.phase) front back)
-        ∙ at (search_in front) refl
-        ∙ ap (option_map (λ (y : BioOf Held). y.number))
-        (sym (find-append (λ (y : BioOf Held). test y.phase) front (x ∷ back)))
-      where
-        at : (o : Option (BioOf Held)) → search_in front ≡ o
-            → option_map (λ (y : BioOf Held). y.number) (option_or (search_in front) (search_in back))
-            ≡ option_map (λ y. y.number) (option_or (search_in front) (search_in (x ∷ back)))
-        at (Some z) f = rw f refl
-        at None f = absurd (differs
-            (ap (option_map (λ (y : BioOf Held). y.number))
-            (find-append (λ (y : BioOf Held). test y.phase) front (x ∷ back))
-            ∙ rw (f, e) (ap Some number)))
+        search (
+          rules,
+          find-append (λ (y : BioOf Held). test y.phase) front back,
+          find-append (λ (y : BioOf Held). test y.phase) front (x ∷ back),
+          ap (option_map (λ (y : BioOf Held). y.number))
+              (find-append (λ (y : BioOf Held). test y.phase) front (x ∷ back)),
+        )
 
     -- where the one is found first, the next is the first behind its number
     pub first_without_first : (x : BioOf Held) → x.number ≡ n → test x.phase ≡ true
@@ -127,16 +103,7 @@ module _ (test : Phase → Bool) (front back : List (BioOf Held)) where
         ∙ rw (lt-leb (n + 1) x.number (omega (arith, number))) refl))
       where
         none_before : search_in front ≡ None
-        none_before = at (search_in front) refl where
-          at : (o : Option (BioOf Held)) → search_in front ≡ o → search_in front ≡ None
-          at None f = f
-          at (Some z) f = absurd
-              (let less = found_below z f in
-              let here : search_in (front ++ x ∷ back) ≡ Some z =
-              find-append (λ (y : BioOf Held). test y.phase) front (x ∷ back) ∙ (rw f refl) in
-              let is : Some z.number ≡ Some n = sym (ap (option_map (λ (y : BioOf Held). y.number)) here) ∙ first in
-              let same : z.number ≡ n = cc in
-              omega (arith, less, same))
+        none_before = search (rules, found_below, find-append (λ (y : BioOf Held). test y.phase) front (x ∷ back))
 
         passed : (ys : List (BioOf Held)) → AllByRecursion (λ y. n < y.number) ys
             → AllByRecursion (λ y. test y.phase ≡ (nat_le (n + 1) y.number && test y.phase)) ys
@@ -156,13 +123,7 @@ module _ (test : Phase → Bool) where
   -- the first number from one on isn't below it
   pub reached_above : (low b : ℕ) (bios : List (BioOf Held)) → bio_from bios low ≡ Some b → low ≤ b
   reached_above low b [] first = absurd cc
-  reached_above low b (x ∷ xs) first = at (nat_le low x.number) refl (reached_above low b xs) where
-    at : (d : Bool) → nat_le low x.number ≡ d → (bio_from xs low ≡ Some b → low ≤ b) → low ≤ b
-    at true e later =
-        let here : Some x.number ≡ Some b = rw e at first in
-        let same : x.number ≡ b = cc in
-        subst (λ m. low ≤ m) same (leb-true low x.number e)
-    at false e later = let rest : bio_from xs low ≡ Some b = rw e at first in later rest
+  reached_above low b (x ∷ xs) first = search (rules, reached_above low b xs)
 
   -- it is the number of a bio
   pub reached_there : (low b : ℕ) (bios : List (BioOf Held)) → Rising bios → bio_from bios low ≡ Some b
@@ -176,31 +137,19 @@ module _ (test : Phase → Bool) where
         let here : Some x.number ≡ Some b = rw e at first in
         let same : x.number ≡ b = cc in
         (x, rw (eq-eqb x.number b same) refl)
-    at false e later =
-        let rest : bio_from xs low ≡ Some b = rw e at first in
-        let there = later rest in
-        let above = reached_above low b xs rest in
-        let less = leb-false low x.number e in
-        (there.0, rw (ne_eqb x.number b (λ same. omega (arith, same, less, above))) there.1)
+    at false e later = search (rules, reached_above low b xs)
 
 -- What a comparison of the first tells
 
 -- it is another
 pub is_other : (o : Option ℕ) (m n : ℕ) → m ≡ n → not (option_eq (λ a b. a == b) o (Some m)) ≡ true → o ≢ Some n
 is_other None m n same e = λ here. absurd cc
-is_other (Some k) m n same e =
-    λ here.
-    let number : k ≡ n = cc in
-    let false_is : not true ≡ true = rw (eq-eqb k m (number ∙ sym same)) at e in
-    absurd cc
+is_other (Some k) m n same e = search rules
 
 -- it is the one
 pub is_same : (o : Option ℕ) (m n : ℕ) → m ≡ n → not (option_eq (λ a b. a == b) o (Some m)) ≡ false → o ≡ Some n
 is_same None m n same e = absurd cc
-is_same (Some k) m n same e = at (k == m) refl e where
-  at : (b : Bool) → (k == m) ≡ b → not (k == m) ≡ false → Some k ≡ Some n
-  at true f e = ap Some (eqb-true k m f ∙ same)
-  at false f e = absurd (let never : true ≡ false = rw f at e in cc)
+is_same (Some k) m n same e = search rules
 
 -- A bio leaves
 
@@ -212,15 +161,12 @@ module _ (test : Phase → Bool) (bios : List (BioOf Held)) (n : ℕ) (x : BioOf
 
   -- the others, counted
   pub count_others : count_in test bios ≡ count_in test (others n bios) + cond (test x.phase) 1 0
-  count_others =
-      ap (count_in test) place.is ∙ count_with test place.front place.back x
-      ∙ ap (λ ys. count_in test ys + cond (test x.phase) 1 0) (sym (others_are n bios x place))
+  count_others = search (rules, count_with test place.front place.back x, test x.phase, others_are n bios x place)
 
   module _ (hit : test x.phase ≡ true) (c : Cursor) (is : IsCursor test bios c) where
     -- one less
     pub count_left : count_in test (others n bios) + 1 ≡ c.count
-    count_left = let whole : count_in test bios ≡ count_in test (others n bios) + 1 = count_others ∙ rw hit refl in
-        sym (is.count ∙ whole)
+    count_left = search (rules, count_others)
 
     less_one : c.count - 1 ≡ count_in test (others n bios)
     less_one = omega (arith, count_left)
@@ -238,11 +184,7 @@ module _ (test : Phase → Bool) (bios : List (BioOf Held)) (n : ℕ) (x : BioOf
 
     -- where none is left, there is no first
     pub left_none : c.count - 1 ≡ 0 → IsCursor test (others n bios) (record { count = c.count - 1; first = None })
-    left_none none = record {
-      count = less_one;
-      first = sym (ap (option_map (λ (y : BioOf Held). y.number))
-          (none_counted test (others n bios) (sym less_one ∙ none)));
-    }
+    left_none none = search (rules, less_one, none_counted test (others n bios) (sym less_one ∙ none))
 
     -- where it was the first, the next one is
     pub left_first : c.first ≡ Some n
@@ -259,10 +201,7 @@ module _ (test : Phase → Bool) (bios : List (BioOf Held)) (n : ℕ) (x : BioOf
   pub others_cursor : (c : Cursor) → test x.phase ≡ false → IsCursor test bios c → IsCursor test (others n bios) c
   others_cursor c miss is = record {
     count = is.count ∙ count_others ∙ rw miss (omega arith);
-    first = is.first
-        ∙ ap (λ ys. option_map (λ (y : BioOf Held). y.number) (find (λ (y : BioOf Held). test y.phase) ys)) place.is
-        ∙ ap (option_map (λ (y : BioOf Held). y.number)) (find_with_miss test place.front place.back x miss)
-        ∙ ap (first_in test) (sym (others_are n bios x place));
+    first = search (rules, find_with_miss test place.front place.back x miss, others_are n bios x place);
   }
 
   -- there is one less of the others
@@ -275,9 +214,7 @@ module _ (test : Phase → Bool) (bios : List (BioOf Held)) (n : ℕ) (x : BioOf
   -- where it doesn't pass, there is room for one more that does
   pub room_for_one : test x.phase ≡ false → count_in test bios + 1 ≤ length bios
   room_for_one miss =
-      let same : count_in test bios ≡ count_in test (others n bios) + 0 = count_others ∙ rw miss refl in
-      let few = count_by-le-length (λ (y : BioOf Held). test y.phase) (others n bios) in
-      omega (arith, same, few, length_others)
+      search (rules, count_others, count_by-le-length (λ (y : BioOf Held). test y.phase) (others n bios), length_others)
 
   -- A bio comes to another phase
 
@@ -298,20 +235,13 @@ module _ (test : Phase → Bool) (bios : List (BioOf Held)) (n : ℕ) (x : BioOf
 
     -- a count of those that pass, where the bio passes as before, and where it comes or goes
     pub count_stays : test (g x).phase ≡ test x.phase → count_in test moved ≡ count_in test bios
-    count_stays same =
-        count_moved ∙ ap (λ b. count_in test (others n bios) + cond b 1 0) same ∙ sym count_others
+    count_stays same = search (rules, count_moved, count_others)
 
     pub count_comes : test x.phase ≡ false → test (g x).phase ≡ true → count_in test moved ≡ count_in test bios + 1
-    count_comes before after =
-        let now : count_in test moved ≡ count_in test (others n bios) + 1 = count_moved ∙ rw after refl in
-        let then_ : count_in test bios ≡ count_in test (others n bios) + 0 = count_others ∙ rw before refl in
-        omega (arith, now, then_)
+    count_comes before after = search (rules, count_moved, count_others)
 
     pub count_goes : test x.phase ≡ true → test (g x).phase ≡ false → count_in test moved + 1 ≡ count_in test bios
-    count_goes before after =
-        let now : count_in test moved ≡ count_in test (others n bios) + 0 = count_moved ∙ rw after refl in
-        let then_ : count_in test bios ≡ count_in test (others n bios) + 1 = count_others ∙ rw before refl in
-        omega (arith, now, then_)
+    count_goes before after = search (rules, count_moved, count_others)
 
     -- so it is once the bio has left
     pub left : (c : Cursor) → test (g x).phase ≡ false → IsCursor test (others n bios) c → IsCursor test moved c

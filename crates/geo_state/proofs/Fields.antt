@@ -2,18 +2,17 @@
 use Rattle.std.specs.Prelude.{◌≡◌, ℕ, ◌+◌, ◌≤◌, ◌==◌, Bool, true, false, List, [], ◌∷◌, ◌++◌, map, filter, find, count_by, Option, Some, None, IsTrue, if◌then◌else◌, ◌≢◌, ◌&&◌, IfSome, slice_get, IsSomeAnd, slice_set}
 use Rattle.std.specs.List.{AllByRecursion}
 use Rattle.std.specs.Option.{option_map, option_map_or}
-use Rattle.std.proofs.Common.{refl, sym, ◌∙◌, ap, subst, eq-eqb}
-use Rattle.std.proofs.Math.Bool.{and-false}
-use Rattle.geo_base.proofs.AllLists.{all_weaker, two_facts, of_each}
+use Rattle.std.proofs.Common.{refl, sym, ◌∙◌, ap, subst, eq-eqb, rules}
+use Rattle.geo_base.proofs.AllLists.{all_weaker, two_facts}
 use Rattle.geo_model.specs.declared.step.Phase.{Phase}
 use Rattle.geo_model.specs.declared.step.Phase.TheVariants as phases
 use Rattle.geo_model.specs.Graph.{AreNumbers}
-use Rattle.geo_model.specs.Topology.{Topology, Consumer}
+use Rattle.geo_model.specs.Topology.{Topology}
 use Rattle.geo_model.specs.Words.{change_where, names_number}
 use Rattle.geo_model.specs.World.{BioOf, Config, Handle, is_busy, is_done, is_down, is_sent, is_up, is_waiting, is_taste_root, bio_among, change_number}
 use Rattle.geo_bio.specs.BioTable.{has_phase, BioTableView, with_phase, delivered}
 use Rattle.geo_laws_graph.proofs.Lists.{changed-keeps, all-changed}
-use Rattle.geo_state.specs.Trips.{Trip, trip_of, trips, is_out, out_through, taste_read, is_at_disk, busy_at, is_own, IsOwnCount, can_be_reaped}
+use Rattle.geo_state.specs.Trips.{Trip, trip_of, trips, out_through, taste_read, is_at_disk, busy_at, is_own, IsOwnCount, can_be_reaped}
 use Rattle.geo_state.proofs.Lists.{Around, around, counts, count-step, count-kept, find-kept_by, around-all, found-changed, count-same}
 use Rattle.geo_state.proofs.TripLemmas.{own-kept, reaped-same, trips-changed, trips-same, busy-taken, busy-freed}
 use Rattle.geo_base.proofs.FindLists.{none_passes}
@@ -25,7 +24,7 @@ use Rattle.geo_handles.specs.HandleLaws.{noted_handles}
 use Rattle.geo_handles.proofs.HandleLawLemmas.{notes_follow}
 use Rattle.geo_state.specs.Ready.{is_idle_now, renoted, refreshed}
 use Rattle.std.proofs.lemmas.Bool.{eqb-true}
-use Rattle.geo_base.proofs.Options.{if_some_weaker, at-found, at-some}
+use Rattle.geo_base.proofs.Options.{if_some_weaker}
 use Rattle.geo_base.proofs.PlaceLists.{slot-same, slot-other, slot-seen}
 use Rattle.geo_state.specs.declared.state.State.{State}
 use Rattle.geo_state.specs.declared.state.DiskSeat.{DiskSeat}
@@ -38,7 +37,7 @@ use Rattle.geo_model.specs.Bios.{up_with, disk_at}
 use Rattle.geo_bio.specs.declared.bio.Held.{Held}
 use Rattle.geo_bio.specs.declared.bio.Held.TheVariants as held
 use Rattle.geo_state.specs.Bios.{OnlyBios, GoesTo, IsFree, IsAloneAt}
-use Rattle.geo_model.proofs.BioLemmas.{phase_down, phase_sent, phase_waiting}
+use Rattle.geo_model.proofs.BioLemmas.{phase_down, phase_waiting}
 use Rattle.geo_state.proofs.OrderLemmas.{phase_up, phase_done}
 
 -- Changes of requests that the other parts don't see, or only where a request is at a disk
@@ -52,11 +51,7 @@ pub record SameReads (xs ys : List Trip) : Type 0 where
       → IsOwnCount handles ys actor count low
 
 pub reads-same : (xs ys : List Trip) → ys ≡ xs → SameReads xs ys
-reads-same xs ys same = record {
-  out = λ c. ap (λ zs. out_through zs c) same;
-  read = ap taste_read same;
-  own = λ handles actor count low is. rw same is;
-}
+reads-same xs ys same = search rules
 
 -- as many pass after a change that the test doesn't see
 pub count-changed : {X : Type 0} (hit : X → Bool) (change : X → X) (p : X → Bool)
@@ -76,24 +71,14 @@ pub reads-changed : (hit : Trip → Bool) (change : Trip → Trip)
     → ((z : Trip) → (change z).number ≡ z.number) → ((z : Trip) → (change z).source ≡ z.source)
     → ((z : Trip) → (change z).owner ≡ z.owner) → ((z : Trip) → (change z).done ≡ z.done)
     → (xs : List Trip) → SameReads xs (change_where hit change xs)
-reads-changed hit change number source owner done xs = record {
-  out = λ c. count-changed hit change (is_out c)
-      (λ z e. rw (source z, done z) refl) xs;
-  read =
+reads-changed hit change number source owner done xs =
+    search (
+      rules,
+      count-changed hit change,
       found-changed hit change (λ z. is_taste_root z.owner) (option_map (λ (z : Trip). z.number))
-      (λ z e. ap is_taste_root (owner z)) (λ z e. ap Some (number z)) xs;
-  own = λ handles actor count low is. record {
-    count_is =
-        is.count_is
-        ∙ sym (count-changed hit change (is_own handles actor) (λ z e. same handles actor z) xs);
-    low_is =
-        all-changed hit change (λ z. is_own handles actor z ≡ true → low ≤ z.number)
-        (λ z e above own. rw (number z) (above (sym (same handles actor z) ∙ own))) xs is.low_is;
-  };
-}
-  where
-    same : (handles : List Handle) (actor : ℕ) (z : Trip) → is_own handles actor (change z) ≡ is_own handles actor z
-    same handles actor z = rw (owner z) refl
+          (λ z e. ap is_taste_root (owner z)) (λ z e. ap Some (number z)) xs,
+      all-changed hit change,
+    )
 
 -- children that are done go
 pub record IsGoneChild (x : Trip) : Type 0 where
@@ -106,9 +91,7 @@ module _ (keep : Trip → Bool) (xs : List Trip) (gone : AllByRecursion (λ x. k
   pub reads-gone : SameReads xs (filter keep xs)
   reads-gone = record {
     out =
-        λ c. count-kept (is_out c) keep xs
-        (all_weaker (λ (x : Trip). keep x ≡ false → IsGoneChild x) (λ x. keep x ≡ false → is_out c x ≡ false)
-        (λ x so e. rw (so e).done (and-false (x.source == c))) xs gone);
+        search (rules, count-kept, all_weaker (λ (x : Trip). keep x ≡ false → IsGoneChild x));
     read =
         ap (option_map (λ (z : Trip). z.number))
         (find-kept_by (λ z. is_taste_root z.owner) keep xs
@@ -146,12 +129,7 @@ module _ {R : Type 0} where
       on : (o : Option (BioOf R)) → bio_among bios b ≡ o
           → IsTrue (option_map_or (λ (x : BioOf R). test x.phase) o false) → InPhase test bios b
       on None e never = absurd cc
-      on (Some x) e passes = record {
-        bio = x;
-        found = e;
-        passes = passes;
-        alone = around (λ (y : BioOf R). y.number) next b x bios are e;
-      }
+      on (Some x) e passes = search (rules, around (λ (y : BioOf R). y.number) next b x bios are e)
 
   -- the trips around it
   pub trips-around : (b : ℕ) (x : BioOf R) (bios : List (BioOf R)) → Around (λ (y : BioOf R). y.number) b x bios
@@ -178,9 +156,6 @@ module _ {R : Type 0} where
 pub down-is : (p : Phase) → is_down p ≡ true → (is_done p ≡ false) × (is_busy p ≡ false)
 down-is p e = rw (phase_down p e) (refl, refl)
 
-pub sent-is : (p : Phase) → is_sent p ≡ true → (is_done p ≡ false) × (is_busy p ≡ false)
-sent-is p e = rw (phase_sent p e) (refl, refl)
-
 pub busy-is : (p : Phase) → is_busy p ≡ true → is_done p ≡ false
 busy-is phases.Down e = absurd cc
 busy-is phases.Sent e = absurd cc
@@ -203,26 +178,12 @@ done-is p e = rw (phase_done p e) refl
 -- notes by another test that gives the same
 pub noted-same : (test other : Handle → Bool) (handles : List Handle)
     → AllByRecursion (λ h. other h ≡ test h) handles → noted_handles other handles ≡ noted_handles test handles
-noted-same test other handles same =
-    map_same (λ (h : Handle). let row : ℕ × Bool = (h.number, other h) in row)
-    (λ (h : Handle). let row : ℕ × Bool = (h.number, test h) in row) handles
-    (all_weaker (λ (h : Handle). other h ≡ test h)
-    (λ (h : Handle). ◌≡◌ {A = ℕ × Bool} (h.number, other h) (h.number, test h))
-    (λ h e. ap (λ b. let row : ℕ × Bool = (h.number, b) in row) e) handles same)
+noted-same test other handles same = search (rules, map_same, all_weaker)
 
 -- where as many are out, the same handles can be reaped
 pub ready-same : (v : HandlesView) (xs ys : List Trip) → ((c : ℕ) → out_through ys c ≡ out_through xs c)
     → v.ready ≡ noted_handles (can_be_reaped xs) v.handles → v.ready ≡ noted_handles (can_be_reaped ys) v.handles
-ready-same v xs ys same ready =
-    ready
-    ∙ sym (noted-same (can_be_reaped xs) (can_be_reaped ys) v.handles
-    (of_each (λ (h : Handle). can_be_reaped ys h ≡ can_be_reaped xs h) (λ h. ap (λ b. h.dead && b) (one h.consumer))
-    v.handles))
-  where
-    one : (o : Option ℕ) → option_map_or (λ c. out_through ys c == 0) o false
-        ≡ option_map_or (λ c. out_through xs c == 0) o false
-    one None = refl
-    one (Some c) = ap (λ n. n == 0) (same c)
+ready-same v xs ys same ready = search (rules, same)
 
 -- where only the requests through a consumer differ, whose handles aren't dead
 pub ready-alive : (v : HandlesView) (c : ℕ) (xs ys : List Trip)
@@ -282,9 +243,6 @@ holder v c h numbers alone is found names =
 module _ (v : HandlesView) (t : TopoView Config) (c : ℕ) (ys : List Trip) (before : Handle → Bool)
     (others : AllByRecursion (λ h. names_number h.consumer c ≡ false → can_be_reaped ys h ≡ before h) v.handles)
     (out : value_at t.active c ≡ Some (out_through ys c)) where
-  idle_is : is_idle_now t c ≡ (out_through ys c == 0)
-  idle_is = ap (λ o. option_map_or (λ n. n == 0) o false) out
-
   pub refreshed-none : holding_handle v.handles c ≡ None → v.ready ≡ noted_handles before v.handles
       → refreshed v t c ≡ noted_handles (can_be_reaped ys) v.handles
   refreshed-none none ready =
@@ -318,9 +276,7 @@ module _ (v : HandlesView) (t : TopoView Config) (c : ℕ) (ys : List Trip) (bef
       (λ k. names_number k.consumer c ≡ false → can_be_reaped ys k ≡ before k) v.handles one.alone others))))
     where
       mine : can_be_reaped ys h ≡ (h.dead && is_idle_now t c)
-      mine =
-          ap (λ o. h.dead && option_map_or (λ d. out_through ys d == 0) o false) one.has
-          ∙ ap (λ b. h.dead && b) (sym idle_is)
+      mine = search rules
 
       by : (k : Handle) (b : Bool) → (k.number == h.number) ≡ b → ((k.number == h.number) ≡ true → k ≡ h)
           → ((k.number == h.number) ≡ false → names_number k.consumer c ≡ false)
@@ -338,13 +294,7 @@ apart m n e same = let never : true ≡ false = sym (eq-eqb m n same) ∙ e in c
 -- as many are out
 pub out-same : (t : TopoView Config) (xs ys : List Trip) → ((c : ℕ) → out_through ys c ≡ out_through xs c)
     → OutAreCounted t xs → OutAreCounted t ys
-out-same t xs ys same out = out ∙ rows t.topology.consumers
-  where
-    rows : (cs : List Consumer)
-        → map (λ (c : Consumer). let row : ℕ × ℕ = (c.number, out_through xs c.number) in row) cs
-        ≡ map (λ (c : Consumer). let row : ℕ × ℕ = (c.number, out_through ys c.number) in row) cs
-    rows [] = refl
-    rows (c ∷ cs) = rw (same c.number, rows cs) refl
+out-same t xs ys same out = search (rules, same)
 
 -- what is kept of each actor's own requests
 pub owns-same : (owns : List OwnBios) (handles : List Handle) (xs ys : List Trip) → SameReads xs ys
@@ -374,11 +324,7 @@ owns-alike_at owns hs ks xs same own actor =
 -- the seats, where the same is at each disk
 pub seats-same : (seats : List DiskSeat) (t : Topology Config) (xs ys : List Trip)
     → ((disk : ℕ) → busy_at t ys disk ≡ busy_at t xs disk) → AreSeats seats t xs → AreSeats seats t ys
-seats-same seats t xs ys same are disk =
-    if_some_weaker (λ (seat : DiskSeat). IsSeat t xs disk seat.geom seat.busy)
-    (λ (seat : DiskSeat). IsSeat t ys disk seat.geom seat.busy)
-    (λ seat is. record { geom_is = is.geom_is; busy_is = is.busy_is ∙ sym (same disk) }) (slice_get seats disk)
-    (are disk)
+seats-same seats t xs ys same are disk = search rules
 
 -- what holds at each place of a list, after the item of one place changed, if there is one
 module _ {X : Type 0} (xs ys : List X) (k : ℕ) (change : X → X) (none : slice_get xs k ≡ None → ys ≡ xs)
@@ -391,20 +337,10 @@ module _ {X : Type 0} (xs ys : List X) (k : ℕ) (change : X → X) (none : slic
       kept e = if_some_weaker (P i) (Q i) (λ x. others i x e) (slice_get xs i) (all i)
 
       at : (o : Option X) → slice_get xs k ≡ o → (b : Bool) → (i == k) ≡ b → IfSome (slice_get ys i) (Q i)
-      at None is true e =
-          let nothing : slice_get ys i ≡ None =
-          ap (λ zs. slice_get zs i) (none is) ∙ ap (slice_get xs) (eqb-true i k e) ∙ is in
-          rw nothing tt
+      at None is true e = search rules
       at None is false e = subst (λ zs. IfSome (slice_get zs i) (Q i)) (sym (none is)) (kept e)
-      at (Some x) is true e =
-          let new : slice_get ys k ≡ Some (change x) =
-          ap (λ zs. slice_get zs k) (some x is) ∙ slot-same xs k (change x) x is in
-          subst (λ j. IfSome (slice_get ys j) (Q j)) (sym (eqb-true i k e))
-          (subst (λ o. IfSome o (Q k)) (sym new) (here x (at-found (slice_get xs k) (P k) x is (all k))))
-      at (Some x) is false e =
-          let stays : slice_get ys i ≡ slice_get xs i =
-          ap (λ zs. slice_get zs i) (some x is) ∙ slot-other xs k i (change x) (apart i k e) in
-          subst (λ o. IfSome o (Q i)) (sym stays) (kept e)
+      at (Some x) is true e = search (rules, slot-same xs k (change x) x is)
+      at (Some x) is false e = search (rules, slot-other xs k i (change x) (apart i k e))
 
 -- the seats, where another is at one disk
 pub seats-busy : (seats : List DiskSeat) (t : Topology Config) (xs ys : List Trip) (disk : ℕ) (busy : Option ℕ)
@@ -455,20 +391,12 @@ pub holds-unseen : (s new : State) → new ≡ record s { traffic = new.traffic;
     → AreSeats new.disks.items s.topo.topology (trips new.traffic.bios)
     → Holds s → Holds new
 holds-unseen s new is same seats h =
-    subst Holds (sym is)
-    (record {
-      counted = h.counted;
-      quiet = h.quiet;
-      numbers = h.numbers;
-      grants = h.grants;
-      active = out-same s.topo (trips s.traffic.bios) (trips new.traffic.bios) same.out h.active;
-      ready = ready-same s.handles (trips s.traffic.bios) (trips new.traffic.bios) same.out h.ready;
-      own = owns-same s.own.items s.handles.handles (trips s.traffic.bios) (trips new.traffic.bios) same h.own;
-      read = h.read ∙ sym same.read;
-      seats = seats;
-      providers = h.providers;
-      room = h.room;
-    })
+    search (
+      rules,
+      out-same s.topo (trips s.traffic.bios) (trips new.traffic.bios) same.out h.active,
+      ready-same s.handles (trips s.traffic.bios) (trips new.traffic.bios) same.out h.ready,
+      owns-same s.own.items s.handles.handles (trips s.traffic.bios) (trips new.traffic.bios) same h.own,
+    )
 
 -- Requests that went on: bounced, sent, taken by a seat or answered by their disk
 
@@ -481,25 +409,19 @@ pub holds-turned : (s new : State) (next b : ℕ) (test : Phase → Bool) (chang
     → Holds s → Holds new
 holds-turned s new next b test change are has same is bios h =
     let at : InPhase test s.traffic.bios b = in-phase test s.traffic.bios next b are has in
-    let trips_are : trips new.traffic.bios ≡ trips s.traffic.bios =
-    ap trips bios
-    ∙ trips-same b change s.traffic.bios
-    (around-all (λ (x : BioOf Held). x.number) b at.bio s.traffic.bios at.alone
-    (λ x. trip_of (change x) ≡ trip_of x) (same at.bio at.passes)) in
-    let disks : new.disks ≡ s.disks = ap (λ (z : State). z.disks) is in
-    holds-unseen s new (is ∙ ap (λ d. record s { traffic = new.traffic; disks = d }) (sym disks))
-    (reads-same (trips s.traffic.bios) (trips new.traffic.bios) trips_are)
-    (rw (ap (λ (z : State). z.disks.items) is)
-    (seats-same s.disks.items s.topo.topology (trips s.traffic.bios) (trips new.traffic.bios)
-    (λ disk. ap (λ xs. busy_at s.topo.topology xs disk) trips_are) h.seats))
-    h
+    search (
+      rules,
+      ap trips bios,
+      trips-same b change s.traffic.bios
+          (around-all (λ (x : BioOf Held). x.number) b at.bio s.traffic.bios at.alone
+          (λ x. trip_of (change x) ≡ trip_of x) (same at.bio at.passes)),
+      is,
+    )
 
 -- a trip shows of a phase only whether it is done and whether it is busy
 pub trip-unseen : (x : BioOf Held) → (is_done x.phase ≡ false) × (is_busy x.phase ≡ false)
     → (let z : Trip = record (trip_of x) { done = false; busy = false } in z) ≡ trip_of x
-trip-unseen x p =
-    ap (λ (d : Bool × Bool). let z : Trip = record (trip_of x) { done = d.0; busy = d.1 } in z)
-    (λ i. (sym p.0 i, sym p.1 i))
+trip-unseen x p = search rules
 
 -- a bounce
 pub bounce-unseen : (e : Errno) (x : BioOf Held) → is_down x.phase ≡ true
@@ -513,14 +435,12 @@ send-unseen x down = trip-unseen x (down-is x.phase down)
 -- a bio that is taken
 taken-seen : (seat : ℕ) (x : BioOf Held) → is_sent x.phase ≡ true
     → trip_of (with_phase (phases.Busy seat) x) ≡ (let z : Trip = record (trip_of x) { busy = true } in z)
-taken-seen seat x sent =
-    ap (λ d. let z : Trip = record (trip_of x) { done = d; busy = true } in z) (sym (sent-is x.phase sent).0)
+taken-seen seat x sent = search rules
 
 -- a bio that is answered
 answered-seen : (place : ℕ) (errno : Option Errno) (x : BioOf Held) → is_busy x.phase ≡ true
     → trip_of (delivered place errno x) ≡ (let z : Trip = record (trip_of x) { busy = false } in z)
-answered-seen place errno x busy =
-    ap (λ d. let z : Trip = record (trip_of x) { done = d; busy = false } in z) (sym (busy-is x.phase busy))
+answered-seen place errno x busy = search rules
 
 module _ (s new : State) (v : BioTableView) (next b disk : ℕ)
     (are : AreNumbers (map (λ (x : BioOf Held). x.number) s.traffic.bios) next)
@@ -531,16 +451,12 @@ module _ (s new : State) (v : BioTableView) (next b disk : ℕ)
 
   -- and the other parts stay
   is : new ≡ record s { traffic = new.traffic; disks = new.disks }
-  is =
-      set
-      ∙ ap (λ (w : BioTableView). let z : State = record s { traffic = w; disks = new.disks } in z) (sym from_table)
+  is = search rules
 
   -- where the bio goes
   there : (test : Phase → Bool) → (at : InPhase test s.traffic.bios b)
       → disk_at s.topo.topology (trip_of at.bio).target ≡ Some disk
-  there test at =
-      at-some (bio_among s.traffic.bios b) (λ (x : BioOf Held). disk_at s.topo.topology x.target ≡ Some disk)
-      at.bio at.found goes
+  there test at = search rules
 
   -- it is taken
   pub holds-taken : (seat : ℕ) → IsTrue (has_phase is_sent s.traffic.bios b) → IsFree s disk
@@ -549,34 +465,29 @@ module _ (s new : State) (v : BioTableView) (next b disk : ℕ)
   holds-taken seat sent free turned disks =
       let at : InPhase is_sent s.traffic.bios b = in-phase is_sent s.traffic.bios next b are sent in
       let xs : List Trip = trips s.traffic.bios in
-      let ys : List Trip = change_where (λ (z : Trip). z.number == b) (λ z. record z { busy = true }) xs in
-      let seen : trips new.traffic.bios ≡ ys =
-      ap (λ (w : BioTableView). trips w.bios) (from_table ∙ turned)
-      ∙ trips-changed b (with_phase (phases.Busy seat)) (λ z. record z { busy = true }) s.traffic.bios
-      (around-all (λ (x : BioOf Held). x.number) b at.bio s.traffic.bios at.alone
-      (λ x. trip_of (with_phase (phases.Busy seat) x) ≡ (let z : Trip = record (trip_of x) { busy = true } in z))
-      (taken-seen seat at.bio at.passes)) in
-      let none : busy_at s.topo.topology xs disk ≡ None = nothing (slice_get s.disks.items disk) refl free in
-      let number : at.bio.number ≡ b = eqb-true at.bio.number b at.alone.here in
-      holds-unseen s new is
-      (rw seen
-      (reads-changed (λ (z : Trip). z.number == b) (λ z. record z { busy = true }) (λ z. refl) (λ z. refl) (λ z. refl)
-      (λ z. refl) xs))
-      (rw (disks, seen)
-      (seats-busy s.disks.items s.topo.topology xs ys disk (Some b)
-      (λ d. busy-taken s.topo.topology disk b (trip_of at.bio) xs
-      (trips-around b at.bio s.traffic.bios at.alone) (there is_sent at) none d
-      ∙ ap (λ n. if d == disk then Some n else busy_at s.topo.topology xs d) number) h.seats))
-      h
+      search (
+        rules,
+        trips-changed b (with_phase (phases.Busy seat)) (λ z. record z { busy = true }) s.traffic.bios
+            (around-all (λ (x : BioOf Held). x.number) b at.bio s.traffic.bios at.alone
+            (λ x. trip_of (with_phase (phases.Busy seat) x) ≡ (let z : Trip = record (trip_of x) { busy = true } in z))
+            (taken-seen seat at.bio at.passes)),
+        nothing (slice_get s.disks.items disk),
+        eqb-true at.bio.number b at.alone.here,
+        holds-unseen s new is,
+        is,
+        reads-changed (λ (z : Trip). z.number == b) (λ z. record z { busy = true }) (λ z. refl) (λ z. refl) (λ z. refl)
+            (λ z. refl) xs,
+        seats-busy s.disks.items s.topo.topology xs,
+        Some b,
+        busy-taken s.topo.topology disk b (trip_of at.bio) xs (trips-around b at.bio s.traffic.bios at.alone)
+            (there is_sent at),
+        trips-around b at.bio s.traffic.bios at.alone,
+      )
     where
       nothing : (o : Option DiskSeat) → slice_get s.disks.items disk ≡ o → IsSomeAnd o (λ seat. seat.busy ≡ None)
           → busy_at s.topo.topology (trips s.traffic.bios) disk ≡ None
       nothing None e never = absurd never
-      nothing (Some seat) e idle =
-          sym
-          (at-found (slice_get s.disks.items disk)
-          (λ (x : DiskSeat). IsSeat s.topo.topology (trips s.traffic.bios) disk x.geom x.busy) seat e
-          (h.seats disk)).busy_is ∙ idle
+      nothing (Some seat) e idle = search rules
 
   -- its disk has answered
   pub holds-answered : (place : ℕ) (errno : Option Errno) → IsTrue (has_phase is_busy s.traffic.bios b)
@@ -604,7 +515,4 @@ module _ (s new : State) (v : BioTableView) (next b disk : ℕ)
 
   -- nothing but requests changed, and the header's disks stayed
   pub only-taken : (busy : Option ℕ) → new.disks.items ≡ with_busy_at s.disks.items disk busy → OnlyBios s new
-  only-taken busy disks = record {
-    rest = rest-is s new is refl;
-    disks = ap (map disk_of_seat) disks ∙ disks-busy s.disks.items disk busy;
-  }
+  only-taken busy disks = search (rules, disks-busy s.disks.items disk busy)

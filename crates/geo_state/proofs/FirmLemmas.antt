@@ -1,22 +1,20 @@
 -- What a sound world says of the requests on their way, of consumers and of handles.
-use Rattle.std.specs.Prelude.{◌≡◌, ℕ, ◌≤◌, ◌==◌, Bool, true, false, List, [], ◌∷◌, map, find, Option, Some, None, IsSome, IsSomeAnd, MatchOption}
+use Rattle.std.specs.Prelude.{◌≡◌, ℕ, ◌≤◌, ◌==◌, Bool, true, false, List, [], ◌∷◌, map, find, Option, Some, None, IsSome}
 use Rattle.std.specs.List.{AllByRecursion}
-use Rattle.std.proofs.Common.{refl, sym, ◌∙◌, ap, subst, eq-eqb, inr}
-use Rattle.std.proofs.lemmas.Bool.{eqb-true}
+use Rattle.std.proofs.Common.{refl, sym, ◌∙◌, ap, subst, inr, rules}
 use Rattle.std.proofs.lemmas.List.Elements.{recursion_from_All}
 use Rattle.geo_base.proofs.AllLists.{all_weaker, two_facts}
-use Rattle.geo_base.proofs.Options.{there_with_fact, some_weaker}
 use Rattle.geo_base.specs.declared.request.Counts.{Counts}
 use Rattle.geo_model.specs.declared.command.LineCommand.{LineCommand}
 use Rattle.geo_model.specs.declared.step.Entry.{Entry}
 use Rattle.geo_model.specs.declared.step.Owner.{Owner}
 use Rattle.geo_model.specs.declared.step.Owner.TheVariants as owners
 use Rattle.geo_model.specs.Graph.{AreNumbers, IsInOrder}
-use Rattle.geo_model.specs.Topology.{Topology, Consumer, consumer_at, provider_at}
-use Rattle.geo_model.specs.World.{Bio, BioOf, Config, Handle, is_root, is_of_handle, granted_of}
+use Rattle.geo_model.specs.Topology.{Topology, Consumer, consumer_at}
+use Rattle.geo_model.specs.World.{Bio, BioOf, Config, Handle, is_of_handle, granted_of}
 use Rattle.geo_model.specs.Fitting.{Firm}
 use Rattle.geo_model.specs.Sound.{HasItsConsumer}
-use Rattle.geo_model.specs.SoundBios.{IsBioInOrder, IsFamilyInOrder, HasCountFor}
+use Rattle.geo_model.specs.SoundBios.{IsBioInOrder, IsFamilyInOrder}
 use Rattle.geo_model.specs.Steady.{ComesFromItsOwner}
 use Rattle.geo_bio.specs.declared.bio.Held.{Held}
 use Rattle.geo_handles.specs.Handles.{handle_at}
@@ -24,7 +22,7 @@ use Rattle.geo_log.specs.Places.{delivered_at}
 use Rattle.geo_state.specs.Shown.{shown_bio, shown_bios}
 use Rattle.geo_laws_graph.proofs.Lists.{rise-from, none_outside}
 use Rattle.geo_state.specs.declared.state.State.{State}
-use Rattle.geo_state.specs.Parts.{IsUnderWay, AreUnderWay, HasLineHandle}
+use Rattle.geo_state.specs.Parts.{IsUnderWay, AreUnderWay}
 use Rattle.geo_state.specs.Trips.{Trip, trip_of, trips, is_out, out_through}
 use Rattle.geo_state.specs.World.{world, StandsFirm}
 use Rattle.geo_state.proofs.Lists.{count-none, find-none}
@@ -40,21 +38,7 @@ module _ (log : List Entry) (s : State) (actors : List (List LineCommand)) where
       → ComesFromItsOwner s.handles.handles s.taste (shown_bio (delivered_at log) x) x.owner
       → IsFamilyInOrder s.topo.topology (world actors log s).bios (shown_bio (delivered_at log) x)
       → IsUnderWay s.topo.topology s.handles.handles (trip_of x)
-  one x order owner family = record {
-    source =
-        some_weaker (λ (c : Consumer). (c.provider ≡ Some x.target)
-        × HasCountFor granted s.topo.topology (shown_bio (delivered_at log) x) c) (λ c. c.provider ≡ Some x.target)
-        (λ c facts. facts.0) (consumer_at s.topo.topology x.source) order.source;
-    target = there_with_fact _ (provider_at s.topo.topology x.target) order.target;
-    owner = of x.owner owner;
-    root = family.root;
-  }
-    where
-      of : (o : Owner) → ComesFromItsOwner s.handles.handles s.taste (shown_bio (delivered_at log) x) o
-          → HasLineHandle s.handles.handles x.source o
-      of (owners.Line hd line) fact = fact
-      of owners.Taste fact = tt
-      of (owners.Child parent index) fact = tt
+  one x order owner family = search rules
 
   each : (bios : List (BioOf Held))
       → AllByRecursion (IsBioInOrder granted s.topo.topology) (shown_bios (delivered_at log) bios)
@@ -63,8 +47,7 @@ module _ (log : List Entry) (s : State) (actors : List (List LineCommand)) where
       → AllByRecursion (IsFamilyInOrder s.topo.topology (world actors log s).bios) (shown_bios (delivered_at log) bios)
       → AreUnderWay s.topo.topology s.handles.handles (trips bios)
   each [] order owners_are families = tt
-  each (x ∷ xs) order owners_are families =
-      (one x order.0 owners_are.0 families.0, each xs order.1 owners_are.1 families.1)
+  each (x ∷ xs) order owners_are families = search (rules, each xs order.1 owners_are.1 families.1)
 
   pub under-way_in : Firm (world actors log s) → AreUnderWay s.topo.topology s.handles.handles (trips s.traffic.bios)
   under-way_in firm =
@@ -80,17 +63,12 @@ module _ (log : List Entry) (s : State) (actors : List (List LineCommand)) where
       → AllByRecursion (λ (h : Handle). (c : ℕ) → h.consumer ≡ Some c → IsSome (consumer_at s.topo.topology c))
       s.handles.handles
   holders-live firm =
-      all_weaker (HasItsConsumer s.topo.topology)
-      (λ h. (c : ℕ) → h.consumer ≡ Some c → IsSome (consumer_at s.topo.topology c))
-      (λ h has c is. lives h c is has) s.handles.handles
-      (recursion_from_All (HasItsConsumer s.topo.topology) s.handles.handles firm.handles.handles)
-    where
-      lives : (h : Handle) (c : ℕ) → h.consumer ≡ Some c → HasItsConsumer s.topo.topology h
-          → IsSome (consumer_at s.topo.topology c)
-      lives h c is has =
-          there_with_fact (λ (x : Consumer). x.geom ≡ 1) (consumer_at s.topo.topology c)
-          (subst (λ o. MatchOption o (h.dead ≡ true) (λ d. IsSomeAnd (consumer_at s.topo.topology d) (λ x. x.geom ≡ 1)))
-          is has)
+      search (
+        rules,
+        all_weaker (HasItsConsumer s.topo.topology)
+            (λ h. (c : ℕ) → h.consumer ≡ Some c → IsSome (consumer_at s.topo.topology c)),
+        recursion_from_All (HasItsConsumer s.topo.topology) s.handles.handles firm.handles.handles,
+      )
 
 -- where some commands are left
 module _ (log : List Entry) (s : State) (firm : StandsFirm log s) where
@@ -114,41 +92,12 @@ unknown number next n xs are past =
 module _ (t : Topology Config) (handles : List Handle) (xs : List Trip) where
   -- nothing is out through a consumer that isn't there
   pub none-out : (c : ℕ) → consumer_at t c ≡ None → AreUnderWay t handles xs → out_through xs c ≡ 0
-  none-out c none are =
-      count-none (is_out c) xs
-      (all_weaker (IsUnderWay t handles) (λ x. is_out c x ≡ false)
-      (λ x way. at x way (x.source == c) refl) xs are)
-    where
-      at : (x : Trip) → IsUnderWay t handles x → (b : Bool) → (x.source == c) ≡ b → is_out c x ≡ false
-      at x way true e =
-          let same : x.source ≡ c = eqb-true x.source c e in
-          absurd
-          (subst (λ o. IsSomeAnd o (λ (y : Consumer). y.provider ≡ Some x.target)) (ap (consumer_at t) same ∙ none)
-          way.source)
-      at x way false e = rw e refl
+  none-out c none are = search (rules, count-none (is_out c) xs, all_weaker (IsUnderWay t handles))
 
   -- no request is of a handle that isn't there
   pub none-of : (n : ℕ) → handle_at handles n ≡ None → AreUnderWay t handles xs
       → AllByRecursion (λ (x : Trip). is_of_handle x.owner n ≡ false) xs
-  none-of n none are =
-      all_weaker (IsUnderWay t handles) (λ (x : Trip). is_of_handle x.owner n ≡ false)
-      (λ x way. of x x.owner refl way) xs are
-    where
-      on : (x : Trip) (hd line : ℕ) → IsSomeAnd (handle_at handles hd) (λ h. h.consumer ≡ Some x.source) → (b : Bool)
-          → (hd == n) ≡ b → (hd == n) ≡ false
-      on x hd line has true e =
-          let same : hd ≡ n = eqb-true hd n e in
-          absurd
-          (subst (λ o. IsSomeAnd o (λ (h : Handle). h.consumer ≡ Some x.source)) (ap (handle_at handles) same ∙ none)
-          has)
-      on x hd line has false e = e
-
-      of : (x : Trip) (o : Owner) → x.owner ≡ o → IsUnderWay t handles x → is_of_handle x.owner n ≡ false
-      of x (owners.Line hd line) is way =
-          ap (λ w. is_of_handle w n) is
-          ∙ on x hd line (subst (HasLineHandle handles x.source) is way.owner) (hd == n) refl
-      of x owners.Taste is way = ap (λ w. is_of_handle w n) is
-      of x (owners.Child parent index) is way = ap (λ w. is_of_handle w n) is
+  none-of n none are = search (rules, all_weaker (IsUnderWay t handles))
 
   -- nor of one through whose consumer nothing is out, or that has none
   pub idle-of : (n : ℕ) (h : Handle) → handle_at handles n ≡ Some h
@@ -182,31 +131,19 @@ module _ (t : Topology Config) (handles : List Handle) (xs : List Trip) where
       -- a root that is out
       out : (x : Trip) (line : ℕ) → x.owner ≡ owners.Line n line → IsUnderWay t handles x
           → h.consumer ≡ Some x.source → is_out x.source x ≡ true
-      out x line is way has =
-          let going : x.done ≡ false = way.root (ap is_root is) in
-          rw (going, eq-eqb x.source x.source refl) refl
+      out x line is way has = search rules
 
       on : (x : Trip) (hd line : ℕ) → x.owner ≡ owners.Line hd line → IsUnderWay t handles x
           → ((c : ℕ) → h.consumer ≡ Some c → is_out c x ≡ false) → (b : Bool) → (hd == n) ≡ b → (hd == n) ≡ false
-      on x hd line is way none true e =
-          let same : hd ≡ n = eqb-true hd n e in
-          let of_n : x.owner ≡ owners.Line n line = is ∙ ap (λ m. owners.Line m line) same in
-          let has : h.consumer ≡ Some x.source =
-          subst (λ o. IsSomeAnd o (λ (k : Handle). k.consumer ≡ Some x.source)) found
-          (subst (HasLineHandle handles x.source) of_n way.owner) in
-          let never : true ≡ false = sym (out x line of_n way has) ∙ none x.source has in
-          absurd cc
+      on x hd line is way none true e = search (rules, out x line)
       on x hd line is way none false e = e
 
       of : (x : Trip) (o : Owner) → x.owner ≡ o → IsUnderWay t handles x
           → ((c : ℕ) → h.consumer ≡ Some c → is_out c x ≡ false) → is_of_handle x.owner n ≡ false
-      of x (owners.Line hd line) is way none =
-          ap (λ w. is_of_handle w n) is ∙ on x hd line is way none (hd == n) refl
+      of x (owners.Line hd line) is way none = search (rules, on x hd line is way none (hd == n))
       of x owners.Taste is way none = ap (λ w. is_of_handle w n) is
       of x (owners.Child parent index) is way none = ap (λ w. is_of_handle w n) is
 
 -- the graph is in order
 pub firm-order : (log : List Entry) (s : State) → StandsFirm log s → IsInOrder s.topo.topology
-firm-order log s firm =
-    let numbers = firm.1.graph.numbers in
-    record { geoms = numbers.geoms; providers = numbers.providers; consumers = numbers.consumers }
+firm-order log s firm = search rules

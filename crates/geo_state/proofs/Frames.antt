@@ -2,7 +2,7 @@
 use Rattle.std.specs.Prelude.{◌≡◌, ℕ, ◌==◌, Bool, true, false, not, List, [], ◌∷◌, length, map, filter, find, fold, Option, Some, None, if◌then◌else◌}
 use Rattle.std.specs.List.{AllByRecursion}
 use Rattle.std.specs.Option.{option_map, option_map_or, option_and_then, option_flatten}
-use Rattle.std.proofs.Common.{refl, sym, ◌∙◌, ap}
+use Rattle.std.proofs.Common.{refl, ◌∙◌, ap, rules}
 use Rattle.std.proofs.lemmas.List.{length-map}
 use Rattle.geo_base.specs.declared.request.Counts.{Counts}
 use Rattle.geo_model.specs.Words.{change_where}
@@ -19,11 +19,7 @@ pub parts-self : (t : Topology Config) → SameParts t t
 parts-self t = record { geoms = refl; providers = refl; consumers = refl }
 
 pub parts-trans : (t u v : Topology Config) → SameParts t u → SameParts u v → SameParts t v
-parts-trans t u v first second = record {
-  geoms = second.geoms ∙ first.geoms;
-  providers = second.providers ∙ first.providers;
-  consumers = second.consumers ∙ first.consumers;
-}
+parts-trans t u v first second = search rules
 
 -- What is read of them
 
@@ -35,19 +31,10 @@ pub first_read : (gs : List (Geom Config)) (disk : ℕ)
     → option_map (λ (g : Geom Config). g.number) (find (is_geom_of_disk disk) gs)
     ≡ first_of (map disk_row gs) disk
 first_read [] disk = refl
-first_read (g ∷ gs) disk = at (is_geom_of_disk disk g) refl (first_read gs disk)
-  where
-    at : (b : Bool) → is_geom_of_disk disk g ≡ b
-        → option_map (λ (g : Geom Config). g.number) (find (is_geom_of_disk disk) gs)
-        ≡ first_of (map disk_row gs) disk
-        → option_map (λ (g : Geom Config). g.number) (find (is_geom_of_disk disk) (g ∷ gs))
-        ≡ first_of (map disk_row (g ∷ gs)) disk
-    at true e rest = rw e refl
-    at false e rest = rw e rest
+first_read (g ∷ gs) disk = search (rules, first_read gs disk)
 
 pub parts-geom : (t u : Topology Config) → SameParts t u → (disk : ℕ) → geom_of_disk u disk ≡ geom_of_disk t disk
-parts-geom t u same disk =
-    first_read u.geoms disk ∙ ap (λ rows. first_of rows disk) same.geoms ∙ sym (first_read t.geoms disk)
+parts-geom t u same disk = search (rules, first_read u.geoms disk, first_read t.geoms disk)
 
 -- what stands under a number
 abbrev pub under : {V : Type 0} → List (ℕ × V) → ℕ → Option V
@@ -57,15 +44,7 @@ pub under_read : {X V : Type 0} (number : X → ℕ) (see : X → V) (n : ℕ) (
     → option_map see (find (λ x. number x == n) xs)
     ≡ under (map (λ x. let row : ℕ × V = (number x, see x) in row) xs) n
 under_read number see n [] = refl
-under_read {X} {V} number see n (x ∷ xs) = at (number x == n) refl (under_read number see n xs)
-  where
-    at : (b : Bool) → (number x == n) ≡ b
-        → option_map see (find (λ y. number y == n) xs)
-        ≡ under (map (λ y. let row : ℕ × V = (number y, see y) in row) xs) n
-        → option_map see (find (λ y. number y == n) (x ∷ xs))
-        ≡ under (map (λ y. let row : ℕ × V = (number y, see y) in row) (x ∷ xs)) n
-    at true e rest = rw e refl
-    at false e rest = rw e rest
+under_read {X} {V} number see n (x ∷ xs) = search (rules, under_read number see n xs)
 
 -- the disk of a provider, by these numbers
 abbrev pub disk_under : List (ℕ × ℕ) → List (ℕ × Option ℕ) → ℕ → Option ℕ
@@ -97,54 +76,41 @@ disk_read t p =
         ∙ ap option_flatten (under_read (λ (g : Geom Config). g.number) (λ g. disk_of g.config) x.geom t.geoms)
 
 pub parts-disk : (t u : Topology Config) → SameParts t u → (p : ℕ) → disk_at u p ≡ disk_at t p
-parts-disk t u same p =
-    disk_read u p
-    ∙ ap (λ rows. disk_under rows (map disk_row u.geoms) p) same.providers
-    ∙ ap (λ rows. disk_under (map owner_row t.providers) rows p) same.geoms
-    ∙ sym (disk_read t p)
+parts-disk t u same p = search (rules, disk_read u p, disk_read t p)
 
 pub parts-count : (t u : Topology Config) → SameParts t u → length u.providers ≡ length t.providers
-parts-count t u same =
-    sym (length-map u.providers owner_row)
-    ∙ ap (λ rows. length rows) same.providers
-    ∙ length-map t.providers owner_row
+parts-count t u same = search (rules, length-map u.providers owner_row, length-map t.providers owner_row)
 
 -- Changes of one thing
 
 module _ (t : Topology Config) where
   pub parts-marks : (test : Consumer → Bool) (mark : Bool) → SameParts t (set_marks t test mark)
-  parts-marks test mark = record {
-    geoms = refl;
-    providers = refl;
-    consumers = map-changed test (λ x. record x { spoiled = mark }) (λ x. x.number) (λ x e. refl) t.consumers;
-  }
+  parts-marks test mark =
+      search (rules, map-changed test (λ x. record x { spoiled = mark }) (λ x. x.number) (λ x e. refl) t.consumers)
 
   pub parts-error : (p : ℕ) → SameParts t (set_error t p)
-  parts-error p = record {
-    geoms = refl;
-    providers =
-        map-changed (λ (x : Provider). x.number == p) (λ x. record x { errored = true })
-        owner_row (λ x e. refl) t.providers;
-    consumers = refl;
-  }
+  parts-error p =
+      search (
+        rules,
+        map-changed (λ (x : Provider). x.number == p) (λ x. record x { errored = true }) owner_row (λ x e. refl)
+            t.providers,
+      )
 
   pub parts-size : (p size : ℕ) → SameParts t (set_size t p size)
-  parts-size p size = record {
-    geoms = refl;
-    providers =
-        map-changed (λ (x : Provider). x.number == p) (λ x. record x { size = size })
-        owner_row (λ x e. refl) t.providers;
-    consumers = refl;
-  }
+  parts-size p size =
+      search (
+        rules,
+        map-changed (λ (x : Provider). x.number == p) (λ x. record x { size = size }) owner_row (λ x e. refl)
+            t.providers,
+      )
 
   pub parts-withering : (g : ℕ) → SameParts t (set_withering t g)
-  parts-withering g = record {
-    geoms =
-        map-changed (λ (x : Geom Config). x.number == g) (λ x. record x { withering = true })
-        disk_row (λ x e. refl) t.geoms;
-    providers = refl;
-    consumers = refl;
-  }
+  parts-withering g =
+      search (
+        rules,
+        map-changed (λ (x : Geom Config). x.number == g) (λ x. record x { withering = true }) disk_row (λ x e. refl)
+            t.geoms,
+      )
 
   -- another configuration of the same disk, or of none as before
   pub parts-config : (g : ℕ) (config : Config)
@@ -158,17 +124,7 @@ module _ (t : Topology Config) where
           (change_where (λ (x : Geom Config). x.number == g) (λ x. record x { config = config }) gs)
           ≡ map disk_row gs
       on [] all = refl
-      on (x ∷ xs) all = at (x.number == g) refl (on xs all.1)
-        where
-          at : (b : Bool) → (x.number == g) ≡ b
-              → map disk_row
-              (change_where (λ (x : Geom Config). x.number == g) (λ x. record x { config = config }) xs)
-              ≡ map disk_row xs
-              → map disk_row
-              (change_where (λ (x : Geom Config). x.number == g) (λ x. record x { config = config }) (x ∷ xs))
-              ≡ map disk_row (x ∷ xs)
-          at true e rest = rw (e, all.0 e, rest) refl
-          at false e rest = rw (e, rest) refl
+      on (x ∷ xs) all = search (rules, on xs all.1)
 
 -- Effects
 

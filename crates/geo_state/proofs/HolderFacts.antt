@@ -1,7 +1,7 @@
 -- What a sound world says of the consumer of a handle.
 use Rattle.std.specs.Prelude.{◌≡◌, ℕ, ◌==◌, Bool, true, false, ◌&&◌, List, [], ◌∷◌, filter, find, count_by, Option, Some, None, IsSomeAnd, MatchOption, Contains, if◌then◌else◌}
 use Rattle.std.specs.List.{AllByRecursion}
-use Rattle.std.proofs.Common.{refl, sym, ◌∙◌, ap, subst, arith}
+use Rattle.std.proofs.Common.{refl, sym, ◌∙◌, ap, subst, arith, rules}
 use Rattle.std.proofs.lemmas.Bool.{eqb-true}
 use Rattle.std.proofs.lemmas.List.Elements.{recursion_from_All}
 use Rattle.geo_base.specs.declared.kind.Kind.{Kind}
@@ -11,7 +11,7 @@ use Rattle.geo_model.specs.declared.command.LineCommand.{LineCommand}
 use Rattle.geo_model.specs.declared.step.Entry.{Entry}
 use Rattle.geo_model.specs.Demand.{no_counts, one_read}
 use Rattle.geo_model.specs.Words.{is_kind, is_granted_kind, names_number}
-use Rattle.geo_model.specs.Topology.{Geom, Consumer, consumer_at, consumers_of, geom_at}
+use Rattle.geo_model.specs.Topology.{Geom, Consumer, consumer_at, consumers_of}
 use Rattle.geo_model.specs.World.{Config, Handle, Taste, is_read_out, taste_grant}
 use Rattle.geo_model.specs.Fitting.{Firm}
 use Rattle.geo_model.specs.Sound.{HasItsConsumer, IsHandleConsumer, IsOfItsClass, IsTasting}
@@ -37,19 +37,9 @@ kept-fact {X} P keep p (y ∷ ys) x all found kept =
   where
     at : (a : Bool) → p y ≡ a → (b : Bool) → keep y ≡ b → find p (y ∷ ys) ≡ Some x
         → (AllByRecursion P (filter keep ys) → find p ys ≡ Some x → P x) → P x
-    at true e true f is rest =
-        let here : Some y ≡ Some x = (rw e at is) in
-        let same : y ≡ x = cc in
-        let facts : AllByRecursion P (y ∷ filter keep ys) = (rw f at all) in
-        subst P same facts.0
-    at true e false f is rest =
-        let here : Some y ≡ Some x = (rw e at is) in
-        let same : y ≡ x = cc in
-        let never : false ≡ true = sym f ∙ ap keep same ∙ kept in
-        absurd cc
-    at false e true f is rest =
-        let facts : AllByRecursion P (y ∷ filter keep ys) = (rw f at all) in
-        rest facts.1 (rw e at is)
+    at true e true f is rest = search rules
+    at true e false f is rest = search rules
+    at false e true f is rest = search rules
     at false e false f is rest = rest (rw f at all) (rw e at is)
 
 -- geom 1 is DEV
@@ -69,17 +59,14 @@ pub record IsHeld (s : State) (c : ℕ) : Type 0 where
 module _ (log : List Entry) (s : State) (actors : List (List LineCommand)) (firm : Firm (world actors log s)) where
   -- geom 1 holds what was granted to its consumers
   pub dev-holds_in : HoldsGrants s.topo.topology 1
-  dev-holds_in = on (geom_at s.topo.topology 1) refl firm.graph.ranks.dev.stands
-    where
-      on : (o : Option (Geom Config)) → geom_at s.topo.topology 1 ≡ o → IsSomeAnd o (λ x. x.withering ≡ false)
-          → IsSomeAnd o (λ x. is_granted_kind x.kind ≡ true)
-      on None e never = absurd never
-      on (Some g) e stays =
-          let class : IsOfItsClass g =
-          found-fact IsOfItsClass (λ (x : Geom Config). x.number == 1) s.topo.topology.geoms g
-          (recursion_from_All IsOfItsClass s.topo.topology.geoms firm.graph.numbers.classes) e in
-          dev-granted g.kind
-          (class.dev ∙ found_passes (λ (x : Geom Config). x.number == 1) s.topo.topology.geoms g e)
+  dev-holds_in =
+      search (
+        rules,
+        found-fact IsOfItsClass (λ (x : Geom Config). x.number == 1) s.topo.topology.geoms,
+        recursion_from_All IsOfItsClass s.topo.topology.geoms firm.graph.numbers.classes,
+        dev-granted,
+        found_passes (λ (x : Geom Config). x.number == 1) s.topo.topology.geoms,
+      )
 
   -- a consumer of DEV isn't the taste's
   untasted_in : (c : ℕ) (x : Consumer) → consumer_at s.topo.topology c ≡ Some x → x.geom ≡ 1
@@ -129,26 +116,18 @@ module _ (log : List Entry) (s : State) (actors : List (List LineCommand)) (firm
       on : (o : Option Consumer) → consumer_at s.topo.topology c ≡ o → IsSomeAnd o (λ x. x.geom ≡ 1) → IsHeld s c
       on None e never = absurd never
       on (Some x) e dev =
-          let number : x.number ≡ c =
-          eqb-true x.number c (found_passes (λ (y : Consumer). y.number == c) s.topo.topology.consumers x e) in
-          let of_one : (x.geom == 1) ≡ true = ap (λ g. g == 1) dev in
-          let facts : IsHandleConsumer s.handles.handles x =
-          kept-fact (IsHandleConsumer s.handles.handles) (λ (y : Consumer). y.geom == 1) (λ y. y.number == c)
-          s.topo.topology.consumers x
-          (recursion_from_All (IsHandleConsumer s.handles.handles) (consumers_of s.topo.topology 1)
-          firm.handles.consumers) e of_one in
-          record {
-            consumer = x;
-            found = e;
-            dev = dev;
-            once =
-                subst (λ m. count_by (λ (k : Handle). names_number k.consumer m) s.handles.handles ≡ 1) number
-                facts.one_handle;
-            untasted = untasted_in c x e dev;
-            holds =
-                subst (λ o. IsSomeAnd o (λ (y : Consumer). HoldsGrants s.topo.topology y.geom)) (sym e)
-                (subst (HoldsGrants s.topo.topology) (sym dev) dev-holds_in);
-          }
+          search (
+            rules,
+            eqb-true x.number c (found_passes (λ (y : Consumer). y.number == c) s.topo.topology.consumers x e),
+            kept-fact (IsHandleConsumer s.handles.handles) (λ (y : Consumer). y.geom == 1) (λ y. y.number == c)
+                s.topo.topology.consumers x
+                (recursion_from_All (IsHandleConsumer s.handles.handles) (consumers_of s.topo.topology 1)
+                firm.handles.consumers) e,
+            recursion_from_All (IsHandleConsumer s.handles.handles) (consumers_of s.topo.topology 1)
+                firm.handles.consumers,
+            untasted_in c x e dev,
+            dev-holds_in,
+          )
 
 -- where some commands are left
 module _ (log : List Entry) (s : State) (firm : StandsFirm log s) where

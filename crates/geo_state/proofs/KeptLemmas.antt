@@ -1,8 +1,8 @@
 -- All is kept after handles were opened, closed and reaped.
-use Rattle.std.specs.Prelude.{◌≡◌, ℕ, ◌+◌, ◌==◌, Bool, true, false, not, List, [], ◌∷◌, ◌++◌, map, find, count_by, Option, Some, None, if◌then◌else◌, ◌≢◌, length, IsSome, IsSomeAnd, unwrap_or}
+use Rattle.std.specs.Prelude.{◌≡◌, ℕ, ◌+◌, ◌==◌, Bool, true, false, not, List, [], ◌∷◌, ◌++◌, map, find, count_by, Option, Some, None, if◌then◌else◌, ◌≢◌, length, IsSome, IsSomeAnd}
 use Rattle.std.specs.List.{AllByRecursion}
-use Rattle.std.specs.Option.{option_map, option_map_or}
-use Rattle.std.proofs.Common.{refl, sym, ◌∙◌, ap, arith, eq-eqb, subst}
+use Rattle.std.specs.Option.{option_map_or}
+use Rattle.std.proofs.Common.{refl, sym, ◌∙◌, ap, arith, eq-eqb, subst, rules}
 use Rattle.std.proofs.Math.Bool.{and-false}
 use Rattle.std.proofs.lemmas.Bool.{eqb-true, ne_eqb, not-false}
 use Rattle.geo_base.proofs.FindLists.{none_passes}
@@ -18,7 +18,7 @@ use Rattle.geo_handles.specs.HandleLaws.{noted_handles}
 use Rattle.geo_handles.proofs.HandleLawLemmas.{notes_follow}
 use Rattle.geo_laws_graph.proofs.Lists.{found_fresh, numbers-push, numbers-kept, numbers-changed}
 use Rattle.geo_state.specs.Trips.{Trip, can_be_reaped, is_own, trips, out_through}
-use Rattle.geo_state.specs.Holds.{AreOwn, Holds, OutAreCounted, ReapableAreNoted, owed_events}
+use Rattle.geo_state.specs.Holds.{AreOwn, Holds, OutAreCounted, ReapableAreNoted}
 use Rattle.geo_state.proofs.Lists.{Around, around, around-all, count-append, counts, find-before, find-kept_by, find-past, find-none, found-changed, around-with}
 use Rattle.geo_state.proofs.TripLemmas.{none-counted}
 use Rattle.geo_state.proofs.GrantLaws.{grant-at, granted-after}
@@ -26,19 +26,18 @@ use Rattle.std.proofs.lemmas.List.{map-append}
 use Rattle.geo_base.specs.declared.request.Counts.{Counts}
 use Rattle.geo_model.specs.Topology.{Topology, Consumer, consumer_at}
 use Rattle.geo_model.specs.Bios.{disk_at}
-use Rattle.geo_model.proofs.DemandLemmas.{names_some}
 use Rattle.geo_event.specs.EventQueue.{Queued}
 use Rattle.geo_mesh.specs.Topo.{TopoView}
 use Rattle.geo_laws_counts.specs.CountWords.{HoldsGrants}
-use Rattle.geo_access.specs.Access.{granted_by, holds_grants, granted_view}
+use Rattle.geo_access.specs.Access.{granted_by, granted_view}
 use Rattle.geo_access.proofs.Gone.{refused_consumers_go}
 use Rattle.geo_state.specs.declared.state.State.{State}
 use Rattle.geo_state.specs.Parts.{SameParts, DisksStay, disk_row, owner_row}
 use Rattle.geo_state.specs.Changes.{Effects, IsSettled, HasGoer, with_consumer_at, coming, KeptAfterOpen, KeptAfterRefusal, KeptAfterClose, KeptAfterForget, KeptAfterReap, KeptWithHandles}
 use Rattle.geo_state.proofs.Frames.{parts-geom, parts-disk, parts-count}
-use Rattle.geo_state.proofs.Fields.{apart, owns-alike_at}
+use Rattle.geo_state.proofs.Fields.{owns-alike_at}
 use Rattle.geo_state.proofs.Rises.{active-at}
-use Rattle.geo_state.proofs.LawLemmas.{fields_follow, rows_out, row_out, seats-stay}
+use Rattle.geo_state.proofs.LawLemmas.{fields_follow, rows_out, seats-stay}
 use Rattle.geo_state.proofs.FirmLemmas.{under-way, holders, consumer-numbers, none-out, none-of, idle-of}
 use Rattle.geo_state.proofs.HolderFacts.{IsHeld, held, dev-holds}
 
@@ -60,30 +59,17 @@ module _ (hs : List Handle) (h : Handle) where
   pub came-granted : (taste : Option Taste) (n : ℕ) → h.consumer ≡ Some n
       → find (λ (k : Handle). names_number k.consumer n) hs ≡ None → (d : ℕ)
       → granted_of (hs ++ h ∷ []) taste d ≡ with_grant (granted_of hs taste) n h.grant d
-  came-granted taste n has nobodys d = by (d == n) refl
-    where
-      named : (b : Bool) → (n == d) ≡ b → names_number h.consumer d ≡ b
-      named b e = ap (λ o. names_number o d) has ∙ e
-
-      one : (b : Bool) → names_number h.consumer d ≡ b
-          → find (λ (k : Handle). names_number k.consumer d) (h ∷ []) ≡ (if b then Some h else None)
-      one true e = rw e refl
-      one false e = rw e refl
-
-      by : (b : Bool) → (d == n) ≡ b → granted_of (hs ++ h ∷ []) taste d ≡ with_grant (granted_of hs taste) n h.grant d
-      by true e =
-          let same : d ≡ n = eqb-true d n e in
-          ap (λ o. option_map_or (λ (k : Handle). k.grant) o (taste_grant taste d))
-          (find-past (λ (k : Handle). names_number k.consumer d) hs (h ∷ [])
-          (none_passes (λ (k : Handle). names_number k.consumer d) hs
-          (ap (λ m. find (λ (k : Handle). names_number k.consumer m) hs) same ∙ nobodys))
-          ∙ one true (named true (eq-eqb n d (sym same))))
-          ∙ sym (grant-at (granted_of hs taste) n h.grant d true e)
-      by false e =
-          ap (λ o. option_map_or (λ (k : Handle). k.grant) o (taste_grant taste d))
-          (find-before (λ (k : Handle). names_number k.consumer d) hs (h ∷ [])
-          (named false (ne_eqb n d (λ same. let never : true ≡ false = sym (eq-eqb d n (sym same)) ∙ e in cc)), tt))
-          ∙ sym (grant-at (granted_of hs taste) n h.grant d false e)
+  came-granted taste n has nobodys d =
+      search (
+        rules,
+        find-past,
+        none_passes,
+        eq-eqb n d,
+        grant-at (granted_of hs taste) n h.grant d,
+        find-before,
+        ne_eqb n d,
+        eq-eqb d n,
+      )
 
 -- One is closed
 
@@ -160,54 +146,25 @@ module _ (hs : List Handle) (n c : ℕ) (h : Handle) (it : IsOnly hs n c h) wher
       by : (k : Handle) (b : Bool) → (k.number == n) ≡ b → ((k.number == n) ≡ true → k ≡ h)
           → ((k.number == n) ≡ false → names_number k.consumer c ≡ false)
           → names_number k.consumer c ≡ (k.number == n)
-      by k true e mine other =
-          ap (λ (j : Handle). names_number j.consumer c) (mine e)
-          ∙ ap (λ o. names_number o c) it.has ∙ eq-eqb c c refl ∙ sym e
+      by k true e mine other = search rules
       by k false e mine other = other e ∙ sym e
 
   -- once it is gone nobody has the consumer
   closed-none : (ks : List Handle) → AllByRecursion (λ (k : Handle). names_number k.consumer c ≡ (k.number == n)) ks
       → find (λ (k : Handle). names_number k.consumer c) (closed ks n) ≡ None
   closed-none [] all = refl
-  closed-none (k ∷ ks) all = at (k.number == n) refl (closed-none ks all.1)
-    where
-      at : (b : Bool) → (k.number == n) ≡ b → find (λ (j : Handle). names_number j.consumer c) (closed ks n) ≡ None
-          → find (λ (j : Handle). names_number j.consumer c) (closed (k ∷ ks) n) ≡ None
-      at true e rest = rw e rest
-      at false e rest = rw (e, all.0 ∙ e) rest
+  closed-none (k ∷ ks) all = search (rules, closed-none ks all.1)
 
   -- another consumer is had by the same
   closed-other : (d : ℕ) → (d == c) ≡ false
       → find (λ (k : Handle). names_number k.consumer d) (closed hs n)
       ≡ find (λ (k : Handle). names_number k.consumer d) hs
-  closed-other d other =
-      find-kept_by (λ (k : Handle). names_number k.consumer d) (λ k. not (k.number == n)) hs
-      (all_weaker (λ (k : Handle). (k.number == n) ≡ true → k ≡ h)
-      (λ k. not (k.number == n) ≡ false → names_number k.consumer d ≡ false)
-      (λ k mine e. ap (λ (j : Handle). names_number j.consumer d) (mine (not-false (k.number == n) e)) ∙ not_it)
-      hs it.mine)
-    where
-      not_it : names_number h.consumer d ≡ false
-      not_it =
-          ap (λ o. names_number o d) it.has
-          ∙ ne_eqb c d (λ same. let never : true ≡ false = sym (eq-eqb d c (sym same)) ∙ other in cc)
+  closed-other d other = search (rules, find-kept_by, all_weaker)
 
   -- the grants after it was closed
   pub closed-granted : (taste : Option Taste) → taste_grant taste c ≡ no_counts → (d : ℕ)
       → granted_of (closed hs n) taste d ≡ with_grant (granted_of hs taste) c no_counts d
-  closed-granted taste nothing d = by (d == c) refl
-    where
-      by : (b : Bool) → (d == c) ≡ b
-          → granted_of (closed hs n) taste d ≡ with_grant (granted_of hs taste) c no_counts d
-      by true e =
-          let same : d ≡ c = eqb-true d c e in
-          ap (λ m. granted_of (closed hs n) taste m) same
-          ∙ ap (λ o. option_map_or (λ (k : Handle). k.grant) o (taste_grant taste c)) (closed-none hs named-it)
-          ∙ nothing
-          ∙ sym (grant-at (granted_of hs taste) c no_counts d true e)
-      by false e =
-          ap (λ o. option_map_or (λ (k : Handle). k.grant) o (taste_grant taste d)) (closed-other d e)
-          ∙ sym (grant-at (granted_of hs taste) c no_counts d false e)
+  closed-granted taste nothing d = search (rules, closed-none hs named-it, closed-other d)
 
   -- Reaped
 
@@ -217,13 +174,7 @@ module _ (hs : List Handle) (n c : ℕ) (h : Handle) (it : IsOnly hs n c h) wher
   -- its consumer is nobody's
   released-none : (ks : List Handle) → find (λ (k : Handle). names_number k.consumer c) (released ks c) ≡ None
   released-none [] = refl
-  released-none (k ∷ ks) = at (names_number k.consumer c) refl (released-none ks)
-    where
-      at : (b : Bool) → names_number k.consumer c ≡ b
-          → find (λ (j : Handle). names_number j.consumer c) (released ks c) ≡ None
-          → find (λ (j : Handle). names_number j.consumer c) (released (k ∷ ks) c) ≡ None
-      at true e rest = rw e rest
-      at false e rest = rw (e, e) rest
+  released-none (k ∷ ks) = search (rules, released-none ks)
 
   -- the grants after it was reaped
   pub released-granted : (taste : Option Taste) → taste_grant taste c ≡ no_counts → (d : ℕ)
@@ -232,22 +183,11 @@ module _ (hs : List Handle) (n c : ℕ) (h : Handle) (it : IsOnly hs n c h) wher
     where
       hit : (k : Handle) → names_number k.consumer c ≡ true → (d == c) ≡ false
           → names_number (reap_one k).consumer d ≡ names_number k.consumer d
-      hit k named other = sym (miss k.consumer named)
-        where
-          miss : (o : Option ℕ) → names_number o c ≡ true → names_number o d ≡ false
-          miss None never = absurd cc
-          miss (Some m) e =
-              let same : m ≡ c = eqb-true m c e in
-              ne_eqb m d (λ is. let never : true ≡ false = sym (eq-eqb d c (sym is ∙ same)) ∙ other in cc)
+      hit k named other = search rules
 
       by : (b : Bool) → (d == c) ≡ b
           → granted_of (released hs c) taste d ≡ with_grant (granted_of hs taste) c no_counts d
-      by true e =
-          let same : d ≡ c = eqb-true d c e in
-          ap (λ m. granted_of (released hs c) taste m) same
-          ∙ ap (λ o. option_map_or (λ (k : Handle). k.grant) o (taste_grant taste c)) (released-none hs)
-          ∙ nothing
-          ∙ sym (grant-at (granted_of hs taste) c no_counts d true e)
+      by true e = search (rules, released-none hs)
       by false e =
           found-changed (λ (k : Handle). names_number k.consumer c) reap_one (λ k. names_number k.consumer d)
           (λ o. option_map_or (λ (k : Handle). k.grant) o (taste_grant taste d)) (λ k named. hit k named e)
@@ -267,19 +207,7 @@ module _ (hs : List Handle) (n c : ℕ) (h : Handle) (it : IsOnly hs n c h) wher
           → noted_handles (λ k. if k.number == n then false else can_be_reaped xs k) ks
           ≡ noted_handles (can_be_reaped xs) (released ks c)
       rows [] all = refl
-      rows (k ∷ ks) all = at (k.number == n) refl (rows ks all.1)
-        where
-          at : (b : Bool) → (k.number == n) ≡ b
-              → noted_handles (λ j. if j.number == n then false else can_be_reaped xs j) ks
-              ≡ noted_handles (can_be_reaped xs) (released ks c)
-              → noted_handles (λ j. if j.number == n then false else can_be_reaped xs j) (k ∷ ks)
-              ≡ noted_handles (can_be_reaped xs) (released (k ∷ ks) c)
-          at true e rest =
-              let named : names_number k.consumer c ≡ true = all.0 ∙ e in
-              rw (e, named, rest, none_can k) refl
-          at false e rest =
-              let named : names_number k.consumer c ≡ false = all.0 ∙ e in
-              rw (e, named, rest) refl
+      rows (k ∷ ks) all = search (rules, rows ks all.1)
 
 -- a reaped handle has the actor that it had
 pub released-own : (hs : List Handle) (c : ℕ) (actor : ℕ) (x : Trip)
@@ -298,8 +226,7 @@ pub record SameSites (t u : Topology Config) : Type 0 where
   pub providers : map owner_row u.providers ≡ map owner_row t.providers
 
 pub sites-trans : (t u v : Topology Config) → SameSites t u → SameSites u v → SameSites t v
-sites-trans t u v first second =
-    record { geoms = second.geoms ∙ first.geoms; providers = second.providers ∙ first.providers }
+sites-trans t u v first second = search rules
 
 pub sites-self : (t : Topology Config) → SameSites t t
 sites-self t = record { geoms = refl; providers = refl }
@@ -331,29 +258,16 @@ pub holds-with : (s : State) (u : TopoView Config) (q : Queued) {v w : HandlesVi
     → OutAreCounted u (trips s.traffic.bios) → ReapableAreNoted v (trips s.traffic.bios)
     → AreOwn s.own.items v.handles (trips s.traffic.bios) → Holds (record s { topo = u; queue = q; handles = w })
 holds-with s u q same h settled sites numbers grants active ready own =
-    subst (λ (x : HandlesView). Holds (record s { topo = u; queue = q; handles = x })) (sym same)
-    (record {
-      counted = settled.counted;
-      quiet = settled.quiet;
-      numbers = numbers;
-      grants = λ i c. grants c i;
-      active = active;
-      ready = ready;
-      own = own;
-      read = h.read;
-      seats =
-          seats-stay s.disks.items s.topo.topology u.topology (trips s.traffic.bios)
-          (sites-stay s.topo.topology u.topology (trips s.traffic.bios) sites) h.seats;
-      providers = h.providers ∙ sym (sites-count s.topo.topology u.topology sites);
-      room = settled.room;
-    })
+    search (
+      rules,
+      seats-stay s.disks.items s.topo.topology u.topology (trips s.traffic.bios)
+          (sites-stay s.topo.topology u.topology (trips s.traffic.bios) sites) h.seats,
+      sites-count s.topo.topology u.topology sites,
+    )
 
 -- effects leave the requests out
 pub effects-out : (t u : TopoView Config) (xs : List Trip) → Effects t u → OutAreCounted t xs → OutAreCounted u xs
-effects-out t u xs e out =
-    e.active ∙ out ∙ rows_out xs t.topology.consumers
-    ∙ ap (map (row_out xs)) (sym e.parts.consumers)
-    ∙ sym (rows_out xs u.topology.consumers)
+effects-out t u xs e out = search (rules, rows_out xs t.topology.consumers, rows_out xs u.topology.consumers)
 
 -- what was granted, of a handle or of the taste
 granted-is : (s : State) → Holds s → (c : ℕ) → granted_by s.topo c ≡ granted_of s.handles.handles s.taste c
@@ -362,11 +276,7 @@ granted-is s h c = ap (λ (g : ℕ → Counts). g c) h.grants
 -- one grant more, by two functions that agree
 grant-same : (f g : ℕ → Counts) (c : ℕ) (add : Counts) (d : ℕ) → (d ≢ c → f d ≡ g d)
     → with_grant f c add d ≡ with_grant g c add d
-grant-same f g c add d same = by (d == c) refl
-  where
-    by : (b : Bool) → (d == c) ≡ b → with_grant f c add d ≡ with_grant g c add d
-    by true e = grant-at f c add d true e ∙ sym (grant-at g c add d true e)
-    by false e = grant-at f c add d false e ∙ same (apart d c e) ∙ sym (grant-at g c add d false e)
+grant-same f g c add d same = search rules
 
 -- Opened
 
@@ -384,27 +294,16 @@ module _ (t : TopoView Config) (prov : ℕ) (fresh : consumer_at t.topology (com
 
   comer_kind : IsSomeAnd (consumer_at (with_consumer_at t 1 prov).topology (coming t))
       (λ x. HoldsGrants (with_consumer_at t 1 prov).topology x.geom)
-  comer_kind =
-      subst (λ o. IsSomeAnd o (λ (x : Consumer). HoldsGrants (with_consumer_at t 1 prov).topology x.geom))
-      (sym comer_found) dev
+  comer_kind = search (rules, comer_found)
 
   -- the others hold what they held
   others_hold : (d : ℕ) → d ≢ coming t → granted_by (with_consumer_at t 1 prov) d ≡ granted_by t d
   others_hold d other =
-      ap (λ o. option_map_or
-      (λ (x : Consumer). if holds_grants t.topology x.geom
-      then unwrap_or
-      (value_at (t.wants ++ (coming t, no_counts) ∷ []) d) no_counts else no_counts) o no_counts)
-      (find-before (λ (c : Consumer). c.number == d) t.topology.consumers (comer ∷ []) (not_it, tt))
-      ∙ ap (λ w. option_map_or
-      (λ (x : Consumer). if holds_grants t.topology x.geom
-      then unwrap_or w no_counts else no_counts) (consumer_at t.topology d) no_counts)
-      (ap (option_map (λ (row : ℕ × Counts). row.1))
-      (find-before (λ (row : ℕ × Counts). row.0 == d) t.wants ((coming t, no_counts) ∷ [])
-      (not_it, tt)))
-    where
-      not_it : (coming t == d) ≡ false
-      not_it = ne_eqb (coming t) d (λ same. other (sym same))
+      search (
+        rules,
+        find-before (λ (c : Consumer). c.number == d) t.topology.consumers (comer ∷ []),
+        find-before (λ (row : ℕ × Counts). row.0 == d) t.wants ((coming t, no_counts) ∷ []),
+      )
 
   -- what is granted then
   comer_granted : (grant : Counts) (d : ℕ)
@@ -468,34 +367,21 @@ kept_after_open log s t u q v prov actor name grant h firm came settled opened =
         → ((c : ℕ) → j.consumer ≡ Some c → IsSome (consumer_at s.topo.topology c)) → (b : Bool)
         → names_number j.consumer n ≡ b → names_number j.consumer n ≡ false
     nobody s n fresh j lives false e = e
-    nobody s n fresh j lives true e =
-        let there : IsSome (consumer_at s.topo.topology n) =
-        lives n (names_some j.consumer n e) in
-        absurd (subst (λ o. IsSome o → ⊥) (sym fresh) (λ no. cc) there)
+    nobody s n fresh j lives true e = search rules
 
 -- Refused
 
 pub kept_after_refusal : KeptAfterRefusal
 kept_after_refusal s u q v h used events room same =
-    let xs : List Trip = trips s.traffic.bios in
-    let consumers : u.topology.consumers ≡ s.topo.topology.consumers =
-    ap (λ (w : TopoView Config). w.topology.consumers) used in
-    let owed : owed_events u ≡ owed_events s.topo = ap (λ (w : TopoView Config). owed_events w) used in
-    let was = h.room in
-    holds-with s u q same h
-    (record {
-      counted = (refused_consumers_go {C = Config}).counted s.topo u used h.counted;
-      quiet = (refused_consumers_go {C = Config}).quiet s.topo u used h.quiet;
-      room = omega (arith, owed, was, room);
-    })
-    (record {
-      geoms = ap (λ (w : TopoView Config). map disk_row w.topology.geoms) used;
-      providers = ap (λ (w : TopoView Config). map owner_row w.topology.providers) used;
-    })
-    h.numbers (λ d. ap (λ (w : TopoView Config). granted_by w d) used ∙ granted-is s h d)
-    (ap (λ (w : TopoView Config). w.active) used ∙ h.active
-    ∙ ap (map (λ (c : Consumer). let row : ℕ × ℕ = (c.number, out_through xs c.number) in row)) (sym consumers))
-    h.ready h.own
+    search (
+      rules,
+      holds-with s u q same h,
+      refused_consumers_go {C = Config},
+      ap (λ (w : TopoView Config). map disk_row w.topology.geoms) used,
+      ap (λ (w : TopoView Config). map owner_row w.topology.providers) used,
+      granted-is s h,
+      ap (λ (w : TopoView Config). w.active) used,
+    )
 
 -- Closed and reaped
 
@@ -503,17 +389,7 @@ module _ (s : State) (t f u : TopoView Config) (c : ℕ) (h : Holds s) (is : IsH
   where
     -- the sites stay
     goer_sites : SameSites s.topo.topology u.topology
-    goer_sites =
-        sites-trans s.topo.topology t.topology u.topology
-        (record {
-          geoms = ap (λ (w : TopoView Config). map disk_row w.topology.geoms) gone.released;
-          providers = ap (λ (w : TopoView Config). map owner_row w.topology.providers) gone.released;
-        })
-        (sites-trans t.topology f.topology u.topology (sites-of t.topology f.topology gone.followed.parts)
-        (record {
-          geoms = ap (λ (w : TopoView Config). map disk_row w.topology.geoms) gone.goes;
-          providers = ap (λ (w : TopoView Config). map owner_row w.topology.providers) gone.goes;
-        }))
+    goer_sites = search rules
 
     -- nothing is granted to the one that went, and the others hold what they held
     goer_granted : (d : ℕ) → granted_by u d ≡ with_grant (granted_of s.handles.handles s.taste) c no_counts d
@@ -527,13 +403,12 @@ module _ (s : State) (t f u : TopoView Config) (c : ℕ) (h : Holds s) (is : IsH
     -- as many are out through the others
     goer_out : OutAreCounted u (trips s.traffic.bios)
     goer_out =
-        (fields_follow f u (trips s.traffic.bios)).goes c
-        (record {
-          consumers = ap (λ (w : TopoView Config). w.topology.consumers) gone.goes;
-          active = ap (λ (w : TopoView Config). w.active) gone.goes;
-        })
-        (effects-out t f (trips s.traffic.bios) gone.followed
-        (subst (λ (w : TopoView Config). OutAreCounted w (trips s.traffic.bios)) (sym gone.released) h.active))
+        search (
+          rules,
+          fields_follow f u (trips s.traffic.bios),
+          effects-out t f (trips s.traffic.bios) gone.followed
+              (subst (λ (w : TopoView Config). OutAreCounted w (trips s.traffic.bios)) (sym gone.released) h.active),
+        )
 
 -- what is out through a consumer, by what is kept of it
 out-none : (s : State) (c : ℕ) → Holds s → IsHeld s c → value_at s.topo.active c ≡ Some 0
@@ -547,10 +422,7 @@ out-none s c h is idle =
 -- so it is of a handle whose one consumer it is
 idle-only : (s : State) (c : ℕ) (h : Handle) → h.consumer ≡ Some c → out_through (trips s.traffic.bios) c ≡ 0
     → (d : ℕ) → h.consumer ≡ Some d → out_through (trips s.traffic.bios) d ≡ 0
-idle-only s c h has none d is =
-    let e : Some c ≡ Some d = sym has ∙ is in
-    let same : c ≡ d = cc in
-    subst (λ m. out_through (trips s.traffic.bios) m ≡ 0) same none
+idle-only s c h has none d is = search rules
 
 pub kept_after_close : KeptAfterClose
 kept_after_close log s t f u q v k c h firm found has idle gone settled same =
@@ -607,10 +479,5 @@ kept_after_reap log s t f u q v k c h firm found has idle gone settled same =
     h.own)
 
 pub kept_with_handles : KeptWithHandles
-kept_with_handles = record {
-  opened = kept_after_open;
-  refused = kept_after_refusal;
-  closed = kept_after_close;
-  forgotten = kept_after_forget;
-  reaped = kept_after_reap;
-}
+kept_with_handles =
+    search (rules, kept_after_open, kept_after_refusal, kept_after_close, kept_after_forget, kept_after_reap)

@@ -1,7 +1,7 @@
 -- What is kept beside the parts follows each change of a part.
-use Rattle.std.specs.Prelude.{◌≡◌, ℕ, ◌==◌, Bool, true, false, not, ◌&&◌, List, [], ◌∷◌, ◌++◌, map, filter, slice_get}
+use Rattle.std.specs.Prelude.{◌≡◌, ℕ, ◌==◌, false, not, ◌&&◌, List, [], ◌∷◌, map, filter, slice_get}
 use Rattle.std.specs.Option.{option_map, option_map_or}
-use Rattle.std.proofs.Common.{refl, sym, ◌∙◌, ap}
+use Rattle.std.proofs.Common.{refl, sym, ◌∙◌, ap, rules}
 use Rattle.std.proofs.lemmas.List.{map-append}
 use Rattle.geo_base.proofs.AllLists.{all_weaker, of_each}
 use Rattle.geo_base.proofs.Options.{if_some_weaker}
@@ -85,8 +85,7 @@ holds_after_effects s u q h same active granted counted quiet room =
       numbers = h.numbers;
       grants = (λ i c. granted c i) ∙ h.grants;
       active =
-          active ∙ h.active ∙ rows_out xs s.topo.topology.consumers
-          ∙ ap (map (row_out xs)) (sym same.consumers) ∙ sym (rows_out xs u.topology.consumers);
+          search (rules, rows_out xs s.topo.topology.consumers, rows_out xs u.topology.consumers);
       ready = h.ready;
       own = h.own;
       read = h.read;
@@ -103,32 +102,15 @@ rows_without : (xs : List Trip) (c : ℕ) (cs : List Consumer)
     ≡ map (λ (x : Consumer). let row : ℕ × ℕ = (x.number, out_through xs x.number) in row)
     (filter (λ (x : Consumer). not (x.number == c)) cs)
 rows_without xs c [] = refl
-rows_without xs c (y ∷ ys) = at (y.number == c) refl (rows_without xs c ys)
-  where
-    at : (b : Bool) → (y.number == c) ≡ b
-        → without (map (λ (x : Consumer). let row : ℕ × ℕ = (x.number, out_through xs x.number) in row) ys) c
-        ≡ map (λ (x : Consumer). let row : ℕ × ℕ = (x.number, out_through xs x.number) in row)
-        (filter (λ (x : Consumer). not (x.number == c)) ys)
-        → without (map (λ (x : Consumer). let row : ℕ × ℕ = (x.number, out_through xs x.number) in row) (y ∷ ys)) c
-        ≡ map (λ (x : Consumer). let row : ℕ × ℕ = (x.number, out_through xs x.number) in row)
-        (filter (λ (x : Consumer). not (x.number == c)) (y ∷ ys))
-    at true e rest = rw (e, rest) refl
-    at false e rest = rw (e, rest) refl
+rows_without xs c (y ∷ ys) = search (rules, rows_without xs c ys)
 
 pub fields_follow : (t u : TopoView Config) (xs : List Trip) → FieldsFollow t u xs
-fields_follow t u xs = record {
-  comes = λ c came none out.
-      came.active
-      ∙ ap (λ rows. rows ++ (c, 0) ∷ []) (out ∙ rows_out xs t.topology.consumers)
-      ∙ ap (λ n. let row : ℕ × ℕ = (c, n) in map (row_out xs) (map (λ (x : Consumer). x.number) t.topology.consumers)
-      ++ row ∷ []) (sym none)
-      ∙ sym (map-append (row_out xs) (map (λ (x : Consumer). x.number) t.topology.consumers) (c ∷ []))
-      ∙ ap (map (row_out xs)) (sym came.consumers)
-      ∙ sym (rows_out xs u.topology.consumers);
-  goes = λ c gone out.
-      gone.active
-      ∙ ap (λ rows. without rows c) out
-      ∙ rows_without xs c t.topology.consumers
-      ∙ ap (map (λ (x : Consumer). let row : ℕ × ℕ = (x.number, out_through xs x.number) in row)) (sym gone.consumers);
-  seats = λ seats stay are. seats-stay seats t.topology u.topology xs stay are;
-}
+fields_follow t u xs =
+    search (
+      rules,
+      rows_out xs t.topology.consumers,
+      map-append (row_out xs),
+      rows_out xs u.topology.consumers,
+      rows_without xs,
+      seats-stay,
+    )

@@ -1,14 +1,13 @@
 -- Counts and searches in lists, after one more item, after some are gone, and around the one item of a number.
 use Rattle.std.specs.Prelude.{◌≡◌, ℕ, ◌+◌, ◌==◌, Bool, true, false, not, List, [], ◌∷◌, ◌++◌, map, filter, find, count_by, Some, None, if◌then◌else◌, Option}
 use Rattle.std.specs.List.{AllByRecursion}
-use Rattle.std.proofs.Common.{refl, sym, ◌∙◌, ap, arith, inl}
+use Rattle.std.proofs.Common.{refl, sym, ◌∙◌, ap, arith, inl, rules}
 use Rattle.std.proofs.lemmas.Bool.{eqb-true}
 use Rattle.std.proofs.lemmas.List.Sums.{sum_by-append}
 use Rattle.geo_base.proofs.AllLists.{all_appended}
 use Rattle.geo_model.specs.Graph.{AreNumbers}
 use Rattle.geo_model.specs.Words.{change_where}
-use Rattle.geo_laws_graph.proofs.Lists.{Rise, rise-from, none_outside, unhit, find-changed, changed-keeps}
-use Rattle.std.specs.Option.{option_map}
+use Rattle.geo_laws_graph.proofs.Lists.{Rise, rise-from, none_outside, unhit, find-changed}
 
 module _ {X : Type 0} (p : X → Bool) where
   -- how many pass of two lists
@@ -21,22 +20,17 @@ module _ {X : Type 0} (p : X → Bool) where
 
   -- how many pass with one in front
   pub count-step : (x : X) (xs : List X) → count_by p (x ∷ xs) ≡ counts x + count_by p xs
-  count-step x xs = let e : count_by p (x ∷ [] ++ xs) ≡ count_by p (x ∷ []) + count_by p xs =
-      count-append (x ∷ []) xs in
-      let one : count_by p (x ∷ []) ≡ counts x = omega arith in
-      e ∙ ap (λ n. n + count_by p xs) one
+  count-step x xs = search (rules, count-append (x ∷ []) xs)
 
   pub count-skip : (x : X) (xs : List X) → p x ≡ false → count_by p (x ∷ xs) ≡ count_by p xs
   count-skip x xs fails =
       let e : counts x ≡ 0 = ap (λ b. if b then 1 else 0) fails in
-      let step = count-step x xs in
-      omega (arith, e, step)
+      search rules
 
   -- none passes
   pub count-none : (xs : List X) → AllByRecursion (λ x. p x ≡ false) xs → count_by p xs ≡ 0
   count-none [] none = refl
-  count-none (x ∷ xs) none =
-      count-skip x xs none.0 ∙ count-none xs none.1
+  count-none (x ∷ xs) none = search (rules, count-none xs none.1)
 
   pub find-none : (xs : List X) → AllByRecursion (λ x. p x ≡ false) xs → find p xs ≡ None
   find-none [] none = refl
@@ -50,36 +44,20 @@ module _ {X : Type 0} (p : X → Bool) where
   -- where none of the last passes, it is found among the first
   pub find-before : (xs ys : List X) → AllByRecursion (λ x. p x ≡ false) ys → find p (xs ++ ys) ≡ find p xs
   find-before [] ys none = find-none ys none
-  find-before (x ∷ xs) ys none = at (p x) refl (find-before xs ys none)
-    where
-      at : (b : Bool) → p x ≡ b → find p (xs ++ ys) ≡ find p xs → find p ((x ∷ xs) ++ ys) ≡ find p (x ∷ xs)
-      at true e rest = rw e refl
-      at false e rest = rw e rest
+  find-before (x ∷ xs) ys none = search (rules, find-before xs ys none)
 
   module _ (keep : X → Bool) where
     -- where only what doesn't pass goes, as many pass, and the same is found
     pub count-kept : (xs : List X) → AllByRecursion (λ x. keep x ≡ false → p x ≡ false) xs
         → count_by p (filter keep xs) ≡ count_by p xs
     count-kept [] gone = refl
-    count-kept (x ∷ xs) gone = at (keep x) refl (count-kept xs gone.1)
-      where
-        at : (b : Bool) → keep x ≡ b → count_by p (filter keep xs) ≡ count_by p xs
-            → count_by p (filter keep (x ∷ xs)) ≡ count_by p (x ∷ xs)
-        at true e rest =
-            rw e
-            (count-step x (filter keep xs) ∙ ap (λ n. counts x + n) rest ∙ sym (count-step x xs))
-        at false e rest =
-            rw e (rest ∙ sym (count-skip x xs (gone.0 e)))
+    count-kept (x ∷ xs) gone =
+        search (rules, count-kept xs gone.1, count-step x (filter keep xs), count-step x xs, count-skip x xs)
 
     pub find-kept_by : (xs : List X) → AllByRecursion (λ x. keep x ≡ false → p x ≡ false) xs
         → find p (filter keep xs) ≡ find p xs
     find-kept_by [] gone = refl
-    find-kept_by (x ∷ xs) gone = at (keep x) refl (find-kept_by xs gone.1)
-      where
-        at : (b : Bool) → keep x ≡ b → find p (filter keep xs) ≡ find p xs
-            → find p (filter keep (x ∷ xs)) ≡ find p (x ∷ xs)
-        at true e rest = rw (e, rest) refl
-        at false e rest = rw (e, gone.0 e) rest
+    find-kept_by (x ∷ xs) gone = search (rules, find-kept_by xs gone.1)
 
 -- as many pass another test that gives the same at each
 pub count-same : {X : Type 0} (p q : X → Bool) (xs : List X) → AllByRecursion (λ x. q x ≡ p x) xs
@@ -88,8 +66,7 @@ count-same p q [] same = refl
 count-same p q (x ∷ xs) same =
     count-step q x xs
     ∙ (let e : counts q x ≡ counts p x = ap (λ b. if b then 1 else 0) same.0 in
-    let rest : count_by q xs ≡ count_by p xs = count-same p q xs same.1 in
-    ap (λ n. n + count_by q xs) e ∙ ap (λ n. counts p x + n) rest)
+    search (rules, count-same p q xs same.1))
     ∙ sym (count-step p x xs)
 
 module _ {X : Type 0} (P : X → Type 0) where
@@ -106,12 +83,7 @@ pub found-changed : {X Y : Type 0} (hit : X → Bool) (change : X → X) (test :
     → ((x : X) → hit x ≡ true → test (change x) ≡ test x)
     → ((x : X) → hit x ≡ true → read (Some (change x)) ≡ read (Some x)) → (xs : List X)
     → read (find test (change_where hit change xs)) ≡ read (find test xs)
-found-changed {X} hit change test read same kept xs =
-    ap read (find-changed hit change test same xs) ∙ on (find test xs)
-  where
-    on : (o : Option X) → read (option_map (λ x. if hit x then change x else x) o) ≡ read o
-    on None = refl
-    on (Some x) = changed-keeps hit change (λ y. read (Some y)) kept x
+found-changed {X} hit change test read same kept xs = search (rules, find-changed hit change test same xs)
 
 -- The one item of a number
 

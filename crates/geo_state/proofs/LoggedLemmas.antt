@@ -1,8 +1,8 @@
 -- Places that bios name stay in the log.
-use Rattle.std.proofs.Common.{◌≡◌, ℕ, ◌+◌, ◌<◌, ◌≤◌, ◌==◌, List, [], ◌∷◌, ◌++◌, length, filter, not, Bool, true, false, Option, Some, None, unwrap_or, refl, ap, arith, cond}
+use Rattle.std.proofs.Common.{◌≡◌, ℕ, ◌+◌, ◌<◌, ◌==◌, List, [], ◌∷◌, ◌++◌, length, filter, not, Bool, true, false, Option, Some, None, refl, cond, rules}
 use Rattle.std.specs.List.{AllByRecursion}
 use Rattle.std.specs.Option.{option_map_or}
-use Rattle.std.proofs.lemmas.List.Elements.{All-append, All-filter, All-from_recursion, recursion_from_All, All-cons, All-nil}
+use Rattle.std.proofs.lemmas.List.Elements.{All-append, All-filter, All-from_recursion, recursion_from_All}
 use Rattle.geo_base.specs.declared.request.BioCmd.{BioCmd}
 use Rattle.geo_base.specs.declared.errno.Errno.{Errno}
 use Rattle.geo_model.specs.declared.span.Piece.{Piece}
@@ -12,12 +12,11 @@ use Rattle.geo_model.specs.declared.step.Entry.{Entry}
 use Rattle.geo_model.specs.declared.step.Owner.{Owner}
 use Rattle.geo_model.specs.declared.step.Owner.TheVariants as owners
 use Rattle.geo_model.specs.declared.step.Phase.TheVariants as phases
-use Rattle.geo_model.specs.Words.{is_read}
 use Rattle.geo_model.specs.World.{BioOf, change_number, is_child_of, bio_among}
-use Rattle.geo_model.specs.Bios.{new_bio, up_with}
+use Rattle.geo_model.specs.Bios.{up_with}
 use Rattle.geo_bio.specs.declared.bio.Held.{Held}
 use Rattle.geo_bio.specs.declared.bio.Held.TheVariants as held
-use Rattle.geo_bio.specs.BioTable.{with_phase, delivered, delivered_result}
+use Rattle.geo_bio.specs.BioTable.{with_phase, delivered_result}
 use Rattle.geo_bio.specs.Split.{split_into}
 use Rattle.geo_bio.specs.Up.{held_as, gathered, are_in, completed, after_up}
 use Rattle.geo_laws_graph.proofs.Lists.{all-changed}
@@ -36,9 +35,7 @@ same_result entries more x None below = refl
 same_result entries more x (Some held.Done) below = refl
 same_result entries more x (Some (held.Bytes bytes)) below = refl
 same_result entries more x (Some (held.Failed errno)) below = refl
-same_result entries more x (Some (held.AtPlace place)) below =
-    ap (λ o. record (shown_bio (delivered_at entries) x) { result = Some (results.Bytes (unwrap_or o [])) })
-    (places_stay entries more place below)
+same_result entries more x (Some (held.AtPlace place)) below = search (rules, places_stay entries more place below)
 
 -- so for all
 same_results : (entries more : List Entry) (bios : List (BioOf Held))
@@ -54,14 +51,6 @@ grown_log_shows_the_same entries more bios logged =
 
 -- What each call leaves
 
--- a place among some is among more
-more_places : (places n : ℕ) → places ≤ n → (o : Option Held) → IsBelow places o → IsBelow n o
-more_places places n under None below = tt
-more_places places n under (Some held.Done) below = tt
-more_places places n under (Some (held.Bytes bytes)) below = tt
-more_places places n under (Some (held.Failed errno)) below = tt
-more_places places n under (Some (held.AtPlace place)) below = omega (arith, under, below)
-
 -- a result that is held names no place
 held_below : (places : ℕ) (r : BioResult) → IsBelow places (Some (held_as r))
 held_below places results.Done = tt
@@ -72,10 +61,7 @@ held_below places (results.Failed errno) = tt
 delivered_below : (places place : ℕ) (cmd : BioCmd) (errno : Option Errno) → place < places
     → IsBelow places (Some (delivered_result cmd place errno))
 delivered_below places place cmd (Some errno) less = tt
-delivered_below places place cmd None less = at (is_read cmd) where
-  at : (b : Bool) → IsBelow places (Some (cond b (held.AtPlace place) held.Done))
-  at true = less
-  at false = tt
+delivered_below places place cmd None less = search rules
 
 module _ (places : ℕ) where
   -- the place of a bio is in the log
@@ -117,12 +103,6 @@ module _ (places : ℕ) where
   done_logged log bios p logged true = completed_logged log bios p logged
   done_logged log bios p logged false = logged
 
-  -- places among some are among more
-  weaker : (n : ℕ) → places ≤ n → (ys : List (BioOf Held)) → AllByRecursion Fits ys
-      → AllByRecursion (λ x. IsBelow n x.result) ys
-  weaker n under [] all = tt
-  weaker n under (y ∷ ys) all = (more_places places n under y.result all.0, weaker n under ys all.1)
-
   module _ (bios : List (BioOf Held)) (logged : AreLogged places bios) where
     -- after a bio went up
     up_logged : (log : ℕ → Option (List ℕ)) (x : BioOf Held) (owner : Owner)
@@ -142,24 +122,15 @@ module _ (places : ℕ) where
     logged_stay : LoggedStay places bios
     logged_stay = record {
       more =
-          λ n under.
-          All-from_recursion (λ (x : BioOf Held). IsBelow n x.result) bios
-          (weaker n under bios (recursion_from_All Fits bios logged));
+          search rules;
       submits =
-          λ number cmd offset len bytes source target owner.
-          let x : BioOf Held = new_bio number cmd offset len bytes source target owner in
-          All-append Fits bios (x ∷ []) logged (All-cons Fits x [] tt (All-nil Fits));
+          search (rules, All-append Fits bios);
       bounces = λ b e. change_logged b (up_with (held.Failed e)) (λ y below. tt) bios logged;
       moves = λ b phase. change_logged b (with_phase phase) (λ y below. below) bios logged;
       splits =
-          λ b first x pieces targets.
-          All-append Fits (split b) (split_into first x 0 pieces targets)
-          (change_logged b (with_phase phases.Waiting) (λ y below. below) bios logged)
-          (All-from_recursion Fits (split_into first x 0 pieces targets) (split_logged first x 0 pieces targets));
+          search (rules, All-append Fits, change_logged, All-from_recursion Fits, split_logged);
       delivers =
-          λ b place errno less.
-          change_logged b (delivered place errno) (λ y below. delivered_below places place y.cmd errno less) bios
-          logged;
+          search (rules, change_logged, delivered_below places);
       rises = up_logged;
     }
 

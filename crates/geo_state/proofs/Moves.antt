@@ -1,14 +1,13 @@
 -- What is kept beside the parts, after a request came, and after one was split into children.
-use Rattle.std.specs.Prelude.{◌≡◌, ◌≢◌, ℕ, ◌+◌, ◌≤◌, ◌==◌, Bool, true, false, List, [], ◌∷◌, ◌++◌, length, map, find, Option, Some, None, IfSome, slice_get, if◌then◌else◌, ◌<◌, ◌^◌, IsTrue, drop, get_or, IsSome}
+use Rattle.std.specs.Prelude.{◌≡◌, ◌≢◌, ℕ, ◌+◌, ◌≤◌, ◌==◌, true, false, List, [], ◌∷◌, ◌++◌, length, map, find, Option, Some, None, IfSome, slice_get, if◌then◌else◌, ◌<◌, ◌^◌, IsTrue, drop, get_or, IsSome}
 use Rattle.std.specs.List.{AllByRecursion}
 use Rattle.std.specs.Option.{option_map, option_map_or}
-use Rattle.std.proofs.Common.{refl, sym, ◌∙◌, ap, subst, arith, eq-eqb, append_assoc}
-use Rattle.std.proofs.lemmas.Bool.{eqb-true, ne_eqb}
-use Rattle.std.proofs.lemmas.List.{map-append, append-nil}
-use Rattle.geo_base.proofs.AllLists.{all_weaker, two_facts, of_each}
-use Rattle.geo_base.proofs.Options.{if_some_weaker, at-found}
+use Rattle.std.proofs.Common.{refl, sym, ◌∙◌, ap, subst, arith, eq-eqb, append_assoc, rules}
+use Rattle.std.proofs.lemmas.Bool.{eqb-true}
+use Rattle.std.proofs.lemmas.List.{map-append}
+use Rattle.geo_base.proofs.AllLists.{all_weaker, two_facts}
+use Rattle.geo_base.proofs.Options.{if_some_weaker}
 use Rattle.geo_base.proofs.PlaceLists.{first_left}
-use Rattle.geo_base.proofs.FindLists.{find_agree}
 use Rattle.geo_base.specs.declared.request.BioCmd.{BioCmd}
 use Rattle.geo_model.specs.declared.span.Piece.{Piece}
 use Rattle.geo_model.specs.declared.step.Owner.{Owner}
@@ -27,7 +26,7 @@ use Rattle.geo_handles.specs.Handles.{HandlesView, HoldsAlone, holding_handle, h
 use Rattle.geo_state.specs.declared.state.State.{State}
 use Rattle.geo_state.specs.declared.state.DiskSeat.{DiskSeat}
 use Rattle.geo_state.specs.declared.state.OwnBios.{OwnBios}
-use Rattle.geo_state.specs.Trips.{Trip, trip_of, trips, out_through, handle_of_owner, is_own, taste_read, IsOwnCount}
+use Rattle.geo_state.specs.Trips.{Trip, trip_of, trips, out_through, is_own, taste_read, IsOwnCount}
 use Rattle.geo_state.specs.Own.{with_bio, change_own, entered}
 use Rattle.geo_state.specs.Bios.{all_out, IsNoHandles, OnlyBios}
 use Rattle.geo_state.specs.Holds.{Holds, OutAreCounted, ReapableAreNoted, AreOwn, AreSeats}
@@ -62,16 +61,7 @@ pub holds-moved : (s new : State)
     → Holds s → Holds new
 holds-moved s new is kept h =
     let v : State = with_bios_of s new in
-    let counted : IsCounted v.topo = record {
-      kinds = h.counted.kinds;
-      haves = h.counted.haves;
-      wants = h.counted.wants;
-      exclusive = h.counted.exclusive;
-      limit = h.counted.limit;
-      risen = h.counted.risen;
-      fallen = h.counted.fallen;
-      clear = h.counted.clear;
-    } in
+    let counted : IsCounted v.topo = search rules in
     let quiet : IsQuiet v.topo = record { risen = h.quiet.risen; fallen = h.quiet.fallen } in
     record {
       counted = subst (λ (z : State). IsCounted z.topo) (sym is) counted;
@@ -109,10 +99,7 @@ module _ (t : TopoView Config) (v : HandlesView) (xs : List Trip) (z : Trip) (c 
 
   -- through the others as many as before
   others_out : (d : ℕ) → d ≢ c → out_through (xs ++ z ∷ []) d ≡ out_through xs d
-  others_out d other =
-      out-more xs z new.done d
-      ∙ ap (λ b. if b then out_through xs d + 1 else out_through xs d)
-      (ne_eqb d z.source (λ same. other (same ∙ new.source)))
+  others_out d other = search (rules, out-more xs z new.done d)
 
   pub ready-more : AllByRecursion (λ h. names_number h.consumer c ≡ true → h.dead ≡ false) v.handles
       → ReapableAreNoted v xs → ReapableAreNoted v (xs ++ z ∷ [])
@@ -166,17 +153,12 @@ asker-alive v c hd h numbers alone found has lives =
   where
     one : (p : Option ℕ) (m : ℕ) → is_at p m ≡ true → is_at p h.number ≡ true → h.number ≡ hd → (m == hd) ≡ true
     one None m never too same = absurd cc
-    one (Some q) m first second same =
-        eq-eqb m hd (eqb-true m q first ∙ sym (eqb-true h.number q second) ∙ same)
+    one (Some q) m first second same = search rules
 
 -- whose a line's request is
 pub own-of_line : (handles : List Handle) (hd line : ℕ) (h : Handle) (z : Trip) → handle_at handles hd ≡ Some h
     → z.owner ≡ owners.Line hd line → (a : ℕ) → is_own handles a z ≡ (h.actor == a)
-own-of_line handles hd line h z found owner a =
-    ap (λ o. option_map_or (λ (k : Handle). k.actor == a) (handle_of_owner handles o) false) owner
-    ∙ ap (λ o. option_map_or (λ (k : Handle). k.actor == a) o false)
-    (find_agree (λ (k : Handle). hd == k.number) (λ (k : Handle). k.number == hd) handles
-    (of_each (λ (k : Handle). (hd == k.number) ≡ (k.number == hd)) (λ k. eqb_sym hd k.number) handles) ∙ found)
+own-of_line handles hd line h z found owner a = search rules
 
 -- a request of no line is nobody's own
 pub own-of_nobody : (handles : List Handle) (z : Trip) → ((n : ℕ) → is_of_handle z.owner n ≡ false) → (a : ℕ)
@@ -237,8 +219,7 @@ pub kept-children : (v : HandlesView) (owns : List OwnBios) (read : Option ℕ) 
     → AllByRecursion (λ (target : ℕ × ℕ). holding_handle v.handles target.0 ≡ None) targets
     → Kept t v owns read seats xs
     → Kept (all_out t targets) v owns read seats (xs ++ trips (split_into first x index pieces targets))
-kept-children v owns read seats first x [] [] t xs index same nobodys k =
-    rw (append-nil xs) k
+kept-children v owns read seats first x [] [] t xs index same nobodys k = search rules
 kept-children v owns read seats first x [] (target ∷ targets) t xs index same nobodys k = absurd (omega (arith, same))
 kept-children v owns read seats first x (piece ∷ pieces) [] t xs index same nobodys k = absurd (omega (arith, same))
 kept-children v owns read seats first x (piece ∷ pieces) (target ∷ targets) t xs index same nobodys k =
@@ -282,15 +263,13 @@ module _ (s new : State) (c : ℕ) (x : BioOf Held) (bios : new.traffic.bios ≡
       → new ≡ record s { traffic = new.traffic; topo = with_active s.topo c (λ n. n + 1); own = new.own }
       → Holds new
   holds-line hd line k owner alone found has lives own is =
-      let topo : new.topo ≡ with_active s.topo c (λ n. n + 1) = ap (λ (z : State). z.topo) is in
-      let handles : new.handles ≡ s.handles = ap (λ (z : State). z.handles) is in
-      let read : new.read ≡ s.read = ap (λ (z : State). z.read) is in
-      let disks : new.disks.items ≡ s.disks.items = ap (λ (z : State). z.disks.items) is in
-      holds-moved s new (rest-is s new is refl)
-      (rw (seen, topo, handles, read, disks, own)
-      (kept-line s.topo s.handles s.own.items s.read s.disks.items (trips s.traffic.bios) (trip_of x) c hd line k fresh
-      owner h.numbers alone found has lives (kept-of s h)))
-      h
+      search (
+        rules,
+        holds-moved s new (rest-is s new is refl),
+        seen,
+        kept-line s.topo s.handles s.own.items s.read s.disks.items (trips s.traffic.bios) (trip_of x) c hd line k fresh
+            owner h.numbers alone found has lives (kept-of s h),
+      )
 
   pub holds-read : x.owner ≡ owners.Taste → holding_handle s.handles.handles c ≡ None → s.read ≡ None
       → new ≡ record s {
@@ -300,16 +279,13 @@ module _ (s new : State) (c : ℕ) (x : BioOf Held) (bios : new.traffic.bios ≡
       }
       → Holds new
   holds-read owner nobodys none is =
-      let topo : new.topo ≡ with_active s.topo c (λ n. n + 1) = ap (λ (z : State). z.topo) is in
-      let handles : new.handles ≡ s.handles = ap (λ (z : State). z.handles) is in
-      let read : new.read ≡ Some x.number = ap (λ (z : State). z.read) is in
-      let disks : new.disks.items ≡ s.disks.items = ap (λ (z : State). z.disks.items) is in
-      let own : new.own.items ≡ s.own.items = ap (λ (z : State). z.own.items) is in
-      holds-moved s new (rest-is s new is refl)
-      (rw (seen, topo, handles, read, disks, own)
-      (kept-read s.topo s.handles s.own.items s.read s.disks.items (trips s.traffic.bios) (trip_of x) c fresh owner
-      nobodys none (kept-of s h)))
-      h
+      search (
+        rules,
+        holds-moved s new (rest-is s new is refl),
+        seen,
+        kept-read s.topo s.handles s.own.items s.read s.disks.items (trips s.traffic.bios) (trip_of x) c fresh owner
+            nobodys none (kept-of s h),
+      )
 
 -- A request that was split into children
 
@@ -352,18 +328,15 @@ module _ (s new : State) (next b : ℕ) (x : BioOf Held) (pieces : List Piece) (
 
   pub holds-split : Holds s → Holds new
   holds-split h =
-      let topo : new.topo ≡ all_out s.topo targets = ap (λ (z : State). z.topo) is in
-      let handles : new.handles ≡ s.handles = ap (λ (z : State). z.handles) is in
-      let read : new.read ≡ s.read = ap (λ (z : State). z.read) is in
-      let disks : new.disks.items ≡ s.disks.items = ap (λ (z : State). z.disks.items) is in
-      let own : new.own.items ≡ s.own.items = ap (λ (z : State). z.own.items) is in
-      holds-moved s new rest
-      (rw (seen_split, topo, handles, read, disks, own)
-      (kept-children s.handles s.own.items s.read s.disks.items next x pieces targets s.topo (trips s.traffic.bios) 0
-      same
-      (all_weaker (λ (z : ℕ × ℕ). IsNoHandles s z.0) (λ z. holding_handle s.handles.handles z.0 ≡ None)
-      (λ z of. of.nobodys) targets through) (kept-of s h)))
-      h
+      search (
+        rules,
+        holds-moved s new rest,
+        seen_split,
+        kept-children s.handles s.own.items s.read s.disks.items next x pieces targets s.topo (trips s.traffic.bios) 0
+            same
+            (all_weaker (λ (z : ℕ × ℕ). IsNoHandles s z.0) (λ z. holding_handle s.handles.handles z.0 ≡ None)
+            (λ z of. of.nobodys) targets through) (kept-of s h),
+      )
 
 -- The table split the request, and then the mesh noted the children
 
@@ -385,15 +358,10 @@ module _ (s : State) (v : BioTableView) (u : TopoView Config) (b : ℕ) (pieces 
   -- what became of it
   bios_are : v.bios ≡ change_number b (with_phase phases.Waiting) s.traffic.bios
       ++ split_into s.traffic.next request.bio 0 pieces targets
-  bios_are =
-      at-found (bio_among s.traffic.bios b) (λ (x : BioOf Held). v.bios
-      ≡ change_number b (with_phase phases.Waiting) s.traffic.bios ++ split_into s.traffic.next x 0 pieces targets)
-      request.bio request.found split
+  bios_are = search rules
 
   after_is : after ≡ record s { traffic = v; topo = all_out s.topo targets }
-  after_is =
-      ap (λ (t : TopoView Config). let z : State = record s { traffic = v; topo = t } in z)
-      (noted ∙ ap (all_out s.topo) pairs_are)
+  after_is = search rules
 
   -- nothing but requests changed
   pub split-only : OnlyBios s after
@@ -411,25 +379,7 @@ module _ (s : State) (v : BioTableView) (u : TopoView Config) (b : ℕ) (pieces 
 more_at : (rows : List (ℕ × ℕ)) (c d k : ℕ) → IfSome (value_at rows d) (λ n. n + (1 + k) ≤ 2 ^ 63)
     → IfSome (value_at (change_at (λ n. n + 1) rows c) d) (λ n. n + k ≤ 2 ^ 63)
 more_at [] c d k fits = fits
-more_at (row ∷ rows) c d k fits = at (row.0 == d) refl (row.0 == c) refl (more_at rows c d k)
-  where
-    at : (a : Bool) → (row.0 == d) ≡ a → (b : Bool) → (row.0 == c) ≡ b
-        → (IfSome (value_at rows d) (λ n. n + (1 + k) ≤ 2 ^ 63)
-        → IfSome (value_at (change_at (λ n. n + 1) rows c) d) (λ n. n + k ≤ 2 ^ 63))
-        → IfSome (value_at (change_at (λ n. n + 1) (row ∷ rows) c) d) (λ n. n + k ≤ 2 ^ 63)
-    at true e true f rest =
-        let it : c ≡ row.0 = sym (eqb-true row.0 c f) in
-        let here : (c == d) ≡ true = ap (λ n. n == d) it ∙ e in
-        let old : row.1 + (1 + k) ≤ 2 ^ 63 = (rw e at fits) in
-        rw (f, here) (omega (arith, old))
-    at true e false f rest =
-        let old : row.1 + (1 + k) ≤ 2 ^ 63 = (rw e at fits) in
-        rw (f, e) (omega (arith, old))
-    at false e true f rest =
-        let it : c ≡ row.0 = sym (eqb-true row.0 c f) in
-        let here : (c == d) ≡ false = ap (λ n. n == d) it ∙ e in
-        rw (f, here) (rest (rw e at fits))
-    at false e false f rest = rw (f, e) (rest (rw e at fits))
+more_at (row ∷ rows) c d k fits = search (rules, more_at rows c d k)
 
 pub few-after : (rows : List (ℕ × ℕ)) (c k : ℕ) (zs : List (ℕ × ℕ))
     → AllByRecursion (λ (z : ℕ × ℕ). IfSome (value_at rows z.0) (λ n. n + (1 + k) ≤ 2 ^ 63)) zs
@@ -442,12 +392,11 @@ pub few-enough : (rows : List (ℕ × ℕ)) (k : ℕ) (zs : List (ℕ × ℕ)) �
     → AllByRecursion (λ (z : ℕ × ℕ). IfSome (value_at rows z.0) (λ n. n < 2 ^ 62)) zs
     → AllByRecursion (λ (z : ℕ × ℕ). IfSome (value_at rows z.0) (λ n. n + k ≤ 2 ^ 63)) zs
 few-enough rows k zs few all =
-    all_weaker (λ (z : ℕ × ℕ). IfSome (value_at rows z.0) (λ n. n < 2 ^ 62))
-    (λ z. IfSome (value_at rows z.0) (λ n. n + k ≤ 2 ^ 63)) (λ z. on (value_at rows z.0)) zs all
-  where
-    on : (o : Option ℕ) → IfSome o (λ n. n < 2 ^ 62) → IfSome o (λ n. n + k ≤ 2 ^ 63)
-    on None fact = fact
-    on (Some n) fact = omega (arith, few, fact)
+    search (
+      rules,
+      all_weaker (λ (z : ℕ × ℕ). IfSome (value_at rows z.0) (λ n. n < 2 ^ 62))
+          (λ z. IfSome (value_at rows z.0) (λ n. n + k ≤ 2 ^ 63)),
+    )
 
 -- The requests of a split, noted one after another
 
@@ -491,13 +440,7 @@ module _ (t u : TopoView Config) (i : ℕ) (zs : List (ℕ × ℕ)) where
 
   pub noted_few : (z : ℕ × ℕ) → i < length zs → z ≡ get_or zs i z → NotedSoFar t u (drop i zs) zs
       → IfSome (value_at u.active z.0) (λ n. n < 2 ^ 63)
-  noted_few z less is far =
-      on (value_at u.active z.0) (subst (λ xs. NotedSoFar t u xs zs) (first_left zs i z less is) far).few.0
-    where
-      on : (o : Option ℕ) → IfSome o (λ n. n + length (z ∷ drop (i + 1) zs) ≤ 2 ^ 63)
-          → IfSome o (λ n. n < 2 ^ 63)
-      on None fact = tt
-      on (Some n) fact = omega (arith, fact)
+  noted_few z less is far = search (rules, first_left zs i z less is)
 
   -- at the end all are noted
   pub noted_end : length zs ≤ i → NotedSoFar t u (drop i zs) zs → u ≡ all_out t zs

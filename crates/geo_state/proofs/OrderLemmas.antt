@@ -1,5 +1,5 @@
 -- Bios in order of their numbers, and the one of a number among them.
-use Rattle.std.proofs.Common.{◌≡◌, ℕ, suc, ◌+◌, ◌<◌, ◌≤◌, ◌==◌, List, [], ◌∷◌, ◌++◌, length, map, not, cond, Bool, true, false, Option, Some, None, sym, refl, ap, ◌∙◌, subst, arith}
+use Rattle.std.proofs.Common.{◌≡◌, ℕ, suc, ◌+◌, ◌<◌, ◌≤◌, ◌==◌, List, [], ◌∷◌, ◌++◌, length, map, not, cond, Bool, true, false, Some, sym, refl, ap, ◌∙◌, subst, arith, rules}
 use Rattle.std.specs.List.{AllByRecursion}
 use Rattle.std.specs.List.Sorted.{IsStrictlyIncreasing}
 use Rattle.std.proofs.lemmas.Bool.{eqb-true, eq-eqb, ne_eqb}
@@ -45,8 +45,7 @@ higher a b less (y ∷ ys) above = (omega (arith, less, above.0), higher a b les
 
 -- increasing numbers increase behind the first
 later : (n : ℕ) (ns : List ℕ) → IsStrictlyIncreasing (n ∷ ns) → IsStrictlyIncreasing ns
-later n ns up k less = let e : suc k + 1 ≡ suc (k + 1) = omega arith in
-    rw e at (up (suc k) (omega (arith, less)))
+later n ns up k less = search (rules, up (suc k) (omega (arith, less)))
 
 -- bios whose numbers increase
 rising_from : (bios : List (BioOf Held)) → IsStrictlyIncreasing (map (λ x. x.number) bios) → Rising bios
@@ -90,8 +89,7 @@ number_below t order n x found =
     let fact = found_fact (λ (y : BioOf Held). y.number < t.next) (λ (y : BioOf Held). y.number == n) t.bios x
     (by_number t.bios (recursion_from_All (λ (m : ℕ). m < t.next) (map (λ y. y.number) t.bios) order.numbers.1))
     found in
-    let is : x.number ≡ n = eqb-true x.number n fact.1 in
-    subst (λ m. m < t.next) is fact.0
+    search rules
   where
     by_number : (ys : List (BioOf Held)) → AllByRecursion (λ m. m < t.next) (map (λ y. y.number) ys)
         → AllByRecursion (λ y. y.number < t.next) ys
@@ -101,11 +99,7 @@ number_below t order n x found =
 -- a bio that is there in a phase that passes
 pub bio_in : (test : Phase → Bool) (bios : List (BioOf Held)) (n : ℕ) → has_phase test bios n ≡ true
     → (x : BioOf Held) × (bio_among bios n ≡ Some x) × (test x.phase ≡ true)
-bio_in test bios n passes = at (bio_among bios n) refl where
-  at : (o : Option (BioOf Held)) → bio_among bios n ≡ o
-      → (x : BioOf Held) × (bio_among bios n ≡ Some x) × (test x.phase ≡ true)
-  at None e = absurd (let never = rw e at passes in cc)
-  at (Some x) e = (x, e, rw e at passes)
+bio_in test bios n passes = search rules
 
 -- where the bio of a number stands: those before it have lower numbers, those behind it higher ones
 pub record StandsAt (bios : List (BioOf Held)) (n : ℕ) (x : BioOf Held) : Type 0 where

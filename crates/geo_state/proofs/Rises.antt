@@ -2,11 +2,11 @@
 use Rattle.std.specs.Prelude.{◌≡◌, ◌≢◌, ℕ, ◌-◌, ◌≤◌, ◌==◌, Bool, true, false, not, List, [], ◌∷◌, map, filter, find, count_by, Option, Some, None, IsTrue, IsSome, IsSomeAnd, IfSome, slice_get, if◌then◌else◌}
 use Rattle.std.specs.List.{AllByRecursion}
 use Rattle.std.specs.Option.{option_map, option_map_or}
-use Rattle.std.proofs.Common.{refl, sym, ◌∙◌, ap, eq-eqb, subst}
+use Rattle.std.proofs.Common.{refl, sym, ◌∙◌, ap, eq-eqb, subst, rules}
 use Rattle.std.proofs.lemmas.Bool.{eqb-true, ne_eqb, not-false}
 use Rattle.geo_base.proofs.FindLists.{found_passes, none_passes}
 use Rattle.geo_base.proofs.AllLists.{all_weaker, two_facts, of_each}
-use Rattle.geo_base.proofs.Options.{if_some_weaker, at-found, if-found, at-some}
+use Rattle.geo_base.proofs.Options.{if_some_weaker, at-found, if-found}
 use Rattle.geo_model.specs.declared.step.Owner.{Owner}
 use Rattle.geo_model.specs.declared.step.Owner.TheVariants as owners
 use Rattle.geo_model.specs.declared.step.Phase.TheVariants as phases
@@ -17,7 +17,7 @@ use Rattle.geo_model.specs.World.{BioOf, Config, Handle, change_number, is_done,
 use Rattle.geo_model.specs.Bios.{up_with}
 use Rattle.geo_bio.specs.declared.bio.Held.{Held}
 use Rattle.geo_bio.specs.BioTable.{HasParent, has_phase, with_phase, BioTableView}
-use Rattle.geo_bio.specs.Up.{after_up, are_in, completed, gathered}
+use Rattle.geo_bio.specs.Up.{after_up, are_in, completed}
 use Rattle.geo_slots.specs.Slots.{value_at, with_value}
 use Rattle.geo_mesh.specs.Topo.{TopoView, with_active}
 use Rattle.geo_mesh.specs.Rows.{change_at}
@@ -36,7 +36,6 @@ use Rattle.geo_state.proofs.Lists.{Around, around-all, found-changed}
 use Rattle.geo_state.proofs.TripLemmas.{trips-changed, trips-same, trips-kept, rows-changed, out-back, out-gone, out-some, reaped-same, own-gone, own-some, own-kept, only-fails, read-kept, read-gone, busy-kept, eqb_sym}
 use Rattle.geo_state.proofs.Fields.{SameReads, reads-same, reads-gone, busy-gone, IsGoneChild, count-changed, InPhase, in-phase, trips-around, up-is, waiting-is, done-is, holder, refreshed-none, refreshed-one, seats-same, IsHolder, owns-alike_at, each-slot, rest-is, with_bios_of, trip-unseen}
 use Rattle.geo_state.proofs.Moves.{holds-moved, own-of_line, own-of_nobody}
-use Rattle.geo_state.proofs.OrderLemmas.{phase_up}
 use Rattle.geo_state.proofs.TrafficLemmas.{each_done}
 
 -- A request that went up to its owner
@@ -145,19 +144,11 @@ module _ (s : State) (b : ℕ) (x : BioOf Held) (at : InPhase is_up s.traffic.bi
         → Rise s z (change_where (λ (y : Trip). y.number == b) (λ y. record y { done = true }) xs)
     rise-child parent index owner = record {
       out = λ d. out-back b z xs r going d;
-      own = rw owner (λ actor.
-          if_some_weaker (λ (o : OwnBios). IsOwnCount s.handles.handles xs actor o.count o.low)
-          (λ (o : OwnBios). IsOwnCount s.handles.handles
-          (change_where (λ (y : Trip). y.number == b) (λ y. record y { done = true }) xs) actor o.count o.low)
-          (λ o own. record {
-            count_is =
-                own.count_is
-                ∙ sym (count-changed (λ (y : Trip). y.number == b) (λ y. record y { done = true })
-                (is_own s.handles.handles actor) (λ y e. refl) xs);
-            low_is =
-                all-changed (λ (y : Trip). y.number == b) (λ y. record y { done = true })
-                (λ y. is_own s.handles.handles actor y ≡ true → o.low ≤ y.number) (λ y e above. above) xs own.low_is;
-          }) (slice_get s.own.items actor) (h.own actor));
+      own = rw owner search (
+        rules,
+        count-changed (λ (y : Trip). y.number == b) (λ y. record y { done = true }),
+        all-changed (λ (y : Trip). y.number == b) (λ y. record y { done = true }),
+      );
       taste =
           rw owner
           (h.read
@@ -224,36 +215,23 @@ module _ (log : ℕ → Option (List ℕ)) (bios : List (BioOf Held)) (parent : 
       ∙ ap (filter (λ (w : Trip). not (is_child_of w.owner parent))) (up_trips result)
 
   pub complete-reads : SameReads (trips bios) (trips (completed log bios parent))
-  complete-reads = on (bio_among bios parent)
-    where
-      on : (o : Option (BioOf Held))
-          → SameReads (trips bios)
-          (trips
-          (option_map_or
-          (λ x. filter (λ y. not (is_child_of y.owner parent))
-          (change_number parent (up_with (gathered log bios x)) bios))
-          o bios))
-      on None = reads-same (trips bios) (trips bios) refl
-      on (Some y) =
-          rw (left_trips (gathered log bios y))
-          (reads-gone (λ (w : Trip). not (is_child_of w.owner parent)) (trips bios)
-          (all-gone parent bios (each_done parent bios all)))
+  complete-reads =
+      search (
+        rules,
+        reads-same (trips bios) (trips bios),
+        left_trips,
+        reads-gone (λ (w : Trip). not (is_child_of w.owner parent)) (trips bios)
+            (all-gone parent bios (each_done parent bios all)),
+      )
 
   pub complete-busy : (disk : ℕ) → busy_at t (trips (completed log bios parent)) disk ≡ busy_at t (trips bios) disk
-  complete-busy disk = on (bio_among bios parent)
-    where
-      on : (o : Option (BioOf Held))
-          → busy_at t
-          (trips
-          (option_map_or
-          (λ x. filter (λ y. not (is_child_of y.owner parent))
-          (change_number parent (up_with (gathered log bios x)) bios))
-          o bios)) disk ≡ busy_at t (trips bios) disk
-      on None = refl
-      on (Some y) =
-          ap (λ ws. busy_at t ws disk) (left_trips (gathered log bios y))
-          ∙ busy-gone (λ (w : Trip). not (is_child_of w.owner parent)) (trips bios)
-          (all-gone parent bios (each_done parent bios all)) t disk
+  complete-busy disk =
+      search (
+        rules,
+        left_trips,
+        busy-gone (λ (w : Trip). not (is_child_of w.owner parent)) (trips bios)
+            (all-gone parent bios (each_done parent bios all)) t disk,
+      )
 
 -- Each owner
 
@@ -298,13 +276,7 @@ module _ (s : State) (next b : ℕ) (x : BioOf Held) (log : ℕ → Option (List
       (λ y. is_waiting y.phase ≡ true) w.passes)
     where
       never : (w : InPhase is_waiting s.traffic.bios parent) → parent ≡ b → ⊥
-      never w same =
-          let found : bio_among s.traffic.bios b ≡ Some w.bio = ap (bio_among s.traffic.bios) (sym same) ∙ w.found in
-          let it : Some w.bio ≡ Some x = sym found ∙ at.found ∙ ap (λ y. Some y) is in
-          let one : w.bio ≡ x = cc in
-          let waiting : is_waiting x.phase ≡ true = rw one at w.passes in
-          let no : false ≡ true = sym (ap is_waiting (phase_up x.phase up)) ∙ waiting in
-          cc
+      never w same = search rules
 
   -- it has gone up
   pub rises : (o : Owner) → x.owner ≡ o → HasParent s.traffic.bios o → IsOfItsOwner s x.source o
@@ -331,10 +303,7 @@ module _ (s : State) (next b : ℕ) (x : BioOf Held) (log : ℕ → Option (List
           else change_number x.number (with_phase phases.Done) s.traffic.bios))
       on false e = first
       on true e =
-          let bios : List (BioOf Held) = change_number x.number (with_phase phases.Done) s.traffic.bios in
-          rise-on s (trip_of x) (trips bios) (trips (completed log bios parent))
-          (complete-reads log bios parent s.topo.topology (parent_waits parent waits) e)
-          (complete-busy log bios parent s.topo.topology (parent_waits parent waits) e) first
+          search (rules, rise-on s (trip_of x), complete-reads log, parent_waits parent waits, complete-busy log, first)
 
   -- there was one out through its consumer, and one of its actor
   pub some-out : 1 ≤ out_through (trips s.traffic.bios) x.source
@@ -366,16 +335,7 @@ active-at t xs c out lives = ap (λ rows. value_at rows c) out ∙ on t.topology
         → value_at (map (λ (y : Consumer). let row : ℕ × ℕ = (y.number, out_through xs y.number) in row) cs) c
         ≡ Some (out_through xs c)
     on [] never = absurd cc
-    on (y ∷ ys) lives = step (y.number == c) refl (on ys)
-      where
-        step : (d : Bool) → (y.number == c) ≡ d
-            → (IsSome (find (λ (y : Consumer). y.number == c) ys)
-            → value_at (map (λ (y : Consumer). let row : ℕ × ℕ = (y.number, out_through xs y.number) in row) ys) c
-            ≡ Some (out_through xs c))
-            → value_at (map (λ (y : Consumer). let row : ℕ × ℕ = (y.number, out_through xs y.number) in row) (y ∷ ys)) c
-            ≡ Some (out_through xs c)
-        step true e rest = rw e (ap (λ n. Some (out_through xs n)) (eqb-true y.number c e))
-        step false e rest = rw e (rest (rw e at lives))
+    on (y ∷ ys) lives = search (rules, on ys)
 
 -- the notes follow when the handle of a consumer is looked at again
 pub refreshed-ready : (v : HandlesView) (t : TopoView Config) (c : ℕ) (xs ys : List Trip)
@@ -387,9 +347,7 @@ pub refreshed-ready : (v : HandlesView) (t : TopoView Config) (c : ℕ) (xs ys :
 refreshed-ready v t c xs ys numbers alone others out ready = on (holding_handle v.handles c) refl
   where
     each : AllByRecursion (λ k. names_number k.consumer c ≡ false → can_be_reaped ys k ≡ can_be_reaped xs k) v.handles
-    each =
-        of_each (λ (k : Handle). names_number k.consumer c ≡ false → can_be_reaped ys k ≡ can_be_reaped xs k)
-        (λ k no. reaped-same c xs ys others k (λ yes. let never : false ≡ true = sym no ∙ yes in absurd cc)) v.handles
+    each = search (rules, of_each, reaped-same c xs ys others)
 
     on : (o : Option Handle) → holding_handle v.handles c ≡ o
         → refreshed v t c ≡ noted_handles (can_be_reaped ys) v.handles
@@ -450,10 +408,7 @@ module _ (s : State) (b : ℕ) (x : BioOf Held) (log : ℕ → Option (List ℕ)
   is = let e : Some at.bio ≡ Some x = sym at.found ∙ sym told in cc
 
   through : IsSome (consumer_at s.topo.topology x.source) × IsOfItsOwner s x.source x.owner
-  through =
-      at-some (bio_among s.traffic.bios b)
-      (λ (y : BioOf Held). IsSome (consumer_at s.topo.topology y.source) × IsOfItsOwner s y.source y.owner) x
-      (sym told) came
+  through = search rules
 
   -- its consumer is there
   pub back-lives : IsSome (consumer_at s.topo.topology x.source)
@@ -504,10 +459,7 @@ module _ (s : State) (b : ℕ) (x : BioOf Held) (log : ℕ → Option (List ℕ)
 
     -- what became of it
     bios : new.traffic.bios ≡ after_up log s.traffic.bios x x.owner
-    bios =
-        ap (λ (w : BioTableView). w.bios) from_table
-        ∙ at-found (bio_among s.traffic.bios b)
-        (λ (y : BioOf Held). v.bios ≡ after_up log s.traffic.bios y y.owner) x (sym told) rose
+    bios = search rules
 
     -- all is kept
     pub holds-back : Holds new
@@ -548,10 +500,6 @@ module _ (hs : List Handle) (c : ℕ) where
       (none_passes (λ (h : Handle). names_number h.consumer c) hs none)
 
   module _ (h : Handle) (xs : List Trip) (has : h.consumer ≡ Some c) where
-    -- what is noted of the dead one
-    dead_can : can_be_reaped xs (record h { dead = true }) ≡ (out_through xs c == 0)
-    dead_can = ap (λ o. option_map_or (λ d. out_through xs d == 0) o false) has
-
     -- the note of each, after it became dead
     rows_killed : (ks : List Handle)
         → AllByRecursion (λ (k : Handle). ((k.number == h.number) ≡ true → k ≡ h)
@@ -559,23 +507,7 @@ module _ (hs : List Handle) (c : ℕ) where
         → with_value (noted_handles (can_be_reaped xs) ks) h.number (out_through xs c == 0)
         ≡ noted_handles (can_be_reaped xs) (killed ks c)
     rows_killed [] all = refl
-    rows_killed (k ∷ ks) all = at (k.number == h.number) refl (rows_killed ks all.1)
-      where
-        at : (b : Bool) → (k.number == h.number) ≡ b
-            → with_value (noted_handles (can_be_reaped xs) ks) h.number (out_through xs c == 0)
-            ≡ noted_handles (can_be_reaped xs) (killed ks c)
-            → with_value (noted_handles (can_be_reaped xs) (k ∷ ks)) h.number (out_through xs c == 0)
-            ≡ noted_handles (can_be_reaped xs) (killed (k ∷ ks) c)
-        at true e rest =
-            let named : names_number k.consumer c ≡ true = all.0.1 ∙ e in
-            let same : k ≡ h = all.0.0 e in
-            let can : can_be_reaped xs (record k { dead = true }) ≡ (out_through xs c == 0) =
-            ap (λ (j : Handle). can_be_reaped xs (record j { dead = true })) same ∙ dead_can in
-            let number : k.number ≡ h.number = eqb-true k.number h.number e in
-            rw (e, named, rest, can, number) refl
-        at false e rest =
-            let named : names_number k.consumer c ≡ false = all.0.1 ∙ e in
-            rw (e, named, rest) refl
+    rows_killed (k ∷ ks) all = search (rules, rows_killed ks all.1)
 
 -- the notes follow
 pub killed-ready : (v : HandlesView) (t : TopoView Config) (c : ℕ) (xs : List Trip)
@@ -600,12 +532,7 @@ killed-ready v t c xs numbers alone out ready = on (holding_handle v.handles c) 
     on : (o : Option Handle) → holding_handle v.handles c ≡ o
         → refreshed (record v { handles = killed v.handles c }) t c
         ≡ noted_handles (can_be_reaped xs) (killed v.handles c)
-    on None is =
-        let same : killed v.handles c ≡ v.handles = killed-none v.handles c is in
-        ap (λ ks. renoted v.ready (is_idle_now t c) (holding_handle ks c)) same
-        ∙ ap (renoted v.ready (is_idle_now t c)) is
-        ∙ ready
-        ∙ ap (noted_handles (can_be_reaped xs)) (sym same)
+    on None is = search (rules, killed-none v.handles c is)
     on (Some h) is =
         let named : names_number h.consumer c ≡ true =
         found_passes (λ (j : Handle). names_number j.consumer c) v.handles h is in

@@ -1,7 +1,6 @@
 -- What is found among the bios of a world, and what becomes of them, is what is of the table's.
-use Rattle.std.proofs.Common.{◌≡◌, ℕ, List, [], ◌∷◌, map, find, count_by, length, cond, ◌+◌, ◌==◌, Bool, true, false, Option, Some, None, sym, refl, ap, ◌∙◌, suc}
+use Rattle.std.proofs.Common.{◌≡◌, ℕ, List, [], ◌∷◌, map, count_by, length, cond, ◌+◌, ◌==◌, Bool, true, Option, sym, refl, ap, ◌∙◌, suc, rules}
 use Rattle.std.specs.List.{AllByRecursion}
-use Rattle.std.specs.Option.{option_map}
 use Rattle.std.proofs.lemmas.List.{map-append}
 use Rattle.std.proofs.lemmas.List.Folds.{list_all-map}
 use Rattle.std.proofs.lemmas.List.Sums.{sum_by-cons}
@@ -35,24 +34,13 @@ module _ {X Y : Type 0} (f : X → Y) where
       → map f (map (λ x. cond (hit x) (change x) x) xs) ≡ map (λ y. cond (also y) (other y) y) (map f xs)
   changed-map hit also change other same [] goes = refl
   changed-map hit also change other same (x ∷ xs) goes =
-      (λ i. one (hit x) refl i ∷ changed-map hit also change other same xs goes.1 i)
-    where
-      one : (b : Bool) → hit x ≡ b → f (cond (hit x) (change x) x) ≡ cond (also (f x)) (other (f x)) (f x)
-      one true e = rw (same x, e) (goes.0 e)
-      one false e = rw (same x, e) refl
+      search (rules, changed-map hit also change other same xs goes.1, change x)
 
 module _ (log : ℕ → Option (List ℕ)) where
   -- the first number in a phase
   first_shown : (test : Phase → Bool) (bios : List (BioOf Held)) → first_in test (shown_bios log bios)
       ≡ first_in test bios
-  first_shown test bios =
-      ap (option_map (λ (x : Bio). x.number)) (find-map (λ (x : Bio). test x.phase) (shown_bio log) bios)
-      ∙ at (find (λ (x : BioOf Held). test x.phase) bios)
-    where
-      at : (o : Option (BioOf Held))
-          → option_map (λ (x : Bio). x.number) (option_map (shown_bio log) o) ≡ option_map (λ x. x.number) o
-      at (Some x) = refl
-      at None = refl
+  first_shown test bios = search (rules, find-map (λ (x : Bio). test x.phase) (shown_bio log) bios)
 
   -- a change of the bio of a number
   pub change_shown : (b : ℕ) (f : BioOf Held → BioOf Held) (g : Bio → Bio)
@@ -75,9 +63,4 @@ module _ (log : ℕ → Option (List ℕ)) where
   }
 
   pub shown_change : (bios : List (BioOf Held)) → ShownChanges log bios
-  shown_change bios = record {
-    appends = λ more. map-append (shown_bio log) bios more;
-    moves = λ b phase. change_shown b _ _ (λ x. refl) bios;
-    ends = λ b h. change_shown b _ _ (λ x. refl) bios;
-    changes = λ b f g goes. change_shown b f g goes bios;
-  }
+  shown_change bios = search (rules, map-append (shown_bio log) bios, change_shown)

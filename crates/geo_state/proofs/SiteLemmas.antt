@@ -2,13 +2,13 @@
 use Rattle.std.specs.Prelude.{◌≡◌, ℕ, ◌+◌, ◌==◌, Bool, true, false, not, List, [], ◌∷◌, ◌++◌, length, map, filter, find, Option, Some, None, IsSome, IsSomeAnd, AllPairs, if◌then◌else◌}
 use Rattle.std.specs.List.{AllByRecursion}
 use Rattle.std.specs.Option.{option_map, option_map_or, option_and_then, option_flatten}
-use Rattle.std.proofs.Common.{refl, sym, ◌∙◌, ap, subst, eq-eqb}
+use Rattle.std.proofs.Common.{refl, sym, ◌∙◌, ap, subst, eq-eqb, rules}
 use Rattle.std.proofs.lemmas.Bool.{eqb-true, ne_eqb, not-false}
 use Rattle.std.proofs.lemmas.List.{map-append, length-append, length-map}
 use Rattle.std.proofs.lemmas.List.Elements.{recursion_from_All}
 use Rattle.geo_base.specs.declared.request.Counts.{Counts}
 use Rattle.geo_base.proofs.AllLists.{pairs_head, pairs_tail, all_appended, all_weaker, of_each}
-use Rattle.geo_base.proofs.Options.{none-mapped, map_there}
+use Rattle.geo_base.proofs.Options.{none-mapped}
 use Rattle.geo_base.proofs.FindLists.{none_passes, found-before}
 use Rattle.geo_model.specs.declared.step.Entry.{Entry}
 use Rattle.geo_model.specs.Words.{names_number}
@@ -18,7 +18,6 @@ use Rattle.geo_model.specs.Place.{disk_of}
 use Rattle.geo_model.specs.Bios.{disk_at}
 use Rattle.geo_model.specs.GeomCommands.{is_geom_of_disk}
 use Rattle.geo_model.specs.Sound.{DifferInDisk}
-use Rattle.geo_slots.specs.Slots.{value_at}
 use Rattle.geo_event.specs.EventQueue.{Queued}
 use Rattle.geo_mesh.specs.Topo.{TopoView}
 use Rattle.geo_access.specs.Access.{granted_by}
@@ -63,20 +62,12 @@ seats-geom seats t u xs disk geom same stay are =
 -- what stands under a number stands there with more rows behind
 under-more : {V : Type 0} (rows more : List (ℕ × V)) (n : ℕ) → IsSome (under rows n)
     → under (rows ++ more) n ≡ under rows n
-under-more {V} rows more n there = on (find (λ (row : ℕ × V). row.0 == n) rows) refl there
-  where
-    on : (o : Option (ℕ × V)) → find (λ (row : ℕ × V). row.0 == n) rows ≡ o
-        → IsSome (option_map (λ (row : ℕ × V). row.1) o)
-        → under (rows ++ more) n ≡ under rows n
-    on None e never = absurd cc
-    on (Some row) e lives =
-        ap (option_map (λ (r : ℕ × V). r.1)) (found-before (λ (r : ℕ × V). r.0 == n) rows more row e ∙ sym e)
+under-more {V} rows more n there = search (rules, found-before (λ (r : ℕ × V). r.0 == n) rows more)
 
 -- what is found is found among the rows
 under-some : {X V : Type 0} (number : X → ℕ) (see : X → V) (n : ℕ) (xs : List X) → IsSome (find (λ x. number x == n) xs)
     → IsSome (under (map (λ x. let row : ℕ × V = (number x, see x) in row) xs) n)
-under-some number see n xs there =
-    subst IsSome (under_read number see n xs) (map_there see (find (λ x. number x == n) xs) there)
+under-some number see n xs there = search (rules, under_read number see n xs)
 
 module _ (t u : Topology Config) (gs : List (ℕ × Option ℕ)) (ps : List (ℕ × ℕ))
     (geoms : map disk_row u.geoms ≡ map disk_row t.geoms ++ gs)
@@ -137,17 +128,15 @@ come-geoms t u disk geom geoms none d = first_read u.geoms d ∙ ap (λ rows. fi
     by : (b : Bool) → (d == disk) ≡ b
         → first_of (map disk_row t.geoms ++ (geom, Some disk) ∷ []) d ≡ (if b then Some geom else geom_of_disk t d)
     by true e =
-        let same : d ≡ disk = eqb-true d disk e in
-        rw same
-        (ap (option_map (λ (row : ℕ × Option ℕ). row.0))
-        (find-past (λ (row : ℕ × Option ℕ). option_map_or (λ m. m == disk) row.1 false) (map disk_row t.geoms)
-        ((geom, Some disk) ∷ [])
-        (none_passes (λ (row : ℕ × Option ℕ). option_map_or (λ m. m == disk) row.1 false) (map disk_row t.geoms)
-        (none-mapped (λ (row : ℕ × Option ℕ). row.0)
-        (find (λ (row : ℕ × Option ℕ). option_map_or (λ m. m == disk) row.1 false) (map disk_row t.geoms))
-        (sym (first_read t.geoms disk) ∙ none))))
-        ∙ ap (λ b. option_map (λ (row : ℕ × Option ℕ). row.0)
-        (if b then Some (let r : ℕ × Option ℕ = (geom, Some disk) in r) else None)) (eq-eqb disk disk refl))
+        search (
+          rules,
+          find-past (λ (row : ℕ × Option ℕ). option_map_or (λ m. m == disk) row.1 false) (map disk_row t.geoms)
+              ((geom, Some disk) ∷ [])
+              (none_passes (λ (row : ℕ × Option ℕ). option_map_or (λ m. m == disk) row.1 false) (map disk_row t.geoms)
+              (none-mapped (λ (row : ℕ × Option ℕ). row.0)
+              (find (λ (row : ℕ × Option ℕ). option_map_or (λ m. m == disk) row.1 false) (map disk_row t.geoms))
+              (sym (first_read t.geoms disk) ∙ none))),
+        )
     by false e =
         let other : (disk == d) ≡ false = ne_eqb disk d (λ same. apart d disk e (sym same)) in
         ap (option_map (λ (row : ℕ × Option ℕ). row.0))
@@ -171,27 +160,19 @@ grown-out s u cs xs consumers active none out =
   where
     zeros : (ds : List ℕ) → AllByRecursion (λ c. out_through xs c ≡ 0) ds → map no_row ds ≡ map (row_out xs) ds
     zeros [] all = refl
-    zeros (d ∷ ds) all =
-        ap (λ n. let row : ℕ × ℕ = (d, n) in row ∷ map no_row ds) (sym all.0)
-        ∙ ap (λ rows. row_out xs d ∷ rows) (zeros ds all.1)
+    zeros (d ∷ ds) all = search (rules, zeros ds all.1)
 
 -- nothing is out through one that isn't there yet
 fresh-none : (log : List Entry) (s : State) (cs : List ℕ) → Holds s → StandsFirm log s → AreFresh s.topo cs
     → AllByRecursion (λ c. out_through (trips s.traffic.bios) c ≡ 0) cs
 fresh-none log s cs h firm fresh =
-    all_weaker (λ c. value_at s.topo.active c ≡ None) (λ c. out_through (trips s.traffic.bios) c ≡ 0)
-    (λ c e. none-out s.topo.topology s.handles.handles (trips s.traffic.bios) c (absent c e) (under-way log s firm)) cs
-    fresh
-  where
-    absent : (c : ℕ) → value_at s.topo.active c ≡ None → consumer_at s.topo.topology c ≡ None
-    absent c e = on (consumer_at s.topo.topology c) refl
-      where
-        on : (o : Option Consumer) → consumer_at s.topo.topology c ≡ o → o ≡ None
-        on None is = refl
-        on (Some x) is =
-            let never : Some (out_through (trips s.traffic.bios) c) ≡ None =
-            sym (active-at s.topo (trips s.traffic.bios) c h.active (subst IsSome (sym is) refl)) ∙ e in
-            absurd cc
+    search (
+      rules,
+      all_weaker,
+      none-out s.topo.topology s.handles.handles (trips s.traffic.bios),
+      under-way log s firm,
+      active-at s.topo (trips s.traffic.bios),
+    )
 
 -- how many providers there are
 grown-count : (t u : Topology Config) (ps : List (ℕ × ℕ))
@@ -228,21 +209,7 @@ with-mesh : (s new : State) → new ≡ changed_in s new → Holds s → IsSettl
     → OutAreCounted new.topo (trips s.traffic.bios)
     → AreSeats new.disks.items new.topo.topology (trips s.traffic.bios)
     → new.providers ≡ length new.topo.topology.providers → Holds new
-with-mesh s new is h settled granted out seats count =
-    subst Holds (sym is)
-    (record {
-      counted = settled.counted;
-      quiet = settled.quiet;
-      numbers = h.numbers;
-      grants = λ i c. granted c i;
-      active = out;
-      ready = h.ready;
-      own = h.own;
-      read = h.read;
-      seats = seats;
-      providers = count;
-      room = settled.room;
-    })
+with-mesh s new is h settled granted out seats count = search rules
 
 -- what was granted, of a handle or of the taste
 granted-still : (s : State) (u : TopoView Config) → Holds s → ((c : ℕ) → granted_by u c ≡ granted_by s.topo c)
@@ -306,9 +273,7 @@ module _ (t u : Topology Config) (prov : ℕ)
             ≡ find (λ (x : Provider). x.number == p) t.providers
             → disk_at (record t { providers = filter (λ (x : Provider). not (x.number == prov)) t.providers }) p
             ≡ disk_at t p
-        seen e =
-            ap (λ (o : Option Provider). option_and_then (λ (g : Geom Config). disk_of g.config)
-            (option_and_then (λ (x : Provider). geom_at t x.geom) o)) e
+        seen e = search rules
 
 -- no request goes to a provider to which nothing is attached
 unused : (t : Topology Config) (handles : List Handle) (prov : ℕ) (xs : List Trip) → AreUnderWay t handles xs
@@ -332,34 +297,20 @@ pub kept_after_provider : KeptAfterProvider
 kept_after_provider log s u q prov h firm none gone granted settled =
     let xs : List Trip = trips s.traffic.bios in
     let t : Topology Config = s.topo.topology in
-    let v : Topology Config = u.topology in
-    let geoms : v.geoms ≡ t.geoms = ap (λ (w : TopoView Config). w.topology.geoms) gone in
-    let rest : v.providers ≡ filter (λ (p : Provider). not (p.number == prov)) t.providers =
-    ap (λ (w : TopoView Config). w.topology.providers) gone in
-    let consumers : v.consumers ≡ t.consumers = ap (λ (w : TopoView Config). w.topology.consumers) gone in
-    with-mesh s (record s { topo = u; queue = q; providers = length v.providers }) refl h settled
-    (granted-still s u h granted)
-    (ap (λ (w : TopoView Config). w.active) gone ∙ h.active
-    ∙ ap (map (λ (c : Consumer). let row : ℕ × ℕ = (c.number, out_through xs c.number) in row)) (sym consumers))
-    (seats-stay s.disks.items t v xs
-    (record {
-      geoms = λ disk. ap (λ (gs : List (Geom Config)). option_map (λ (g : Geom Config). g.number)
-          (find (is_geom_of_disk disk) gs)) geoms;
-      targets =
-          all_weaker (λ (x : Trip). (x.target == prov) ≡ false) (λ x. disk_at v x.target ≡ disk_at t x.target)
-          (λ x other. provider-gone t v prov rest geoms x.target other) xs
-          (unused t s.handles.handles prov xs (under-way log s firm) none);
-    }) h.seats) refl
+    search (
+      rules,
+      granted-still s u h granted,
+      seats-stay s.disks.items t,
+      all_weaker (λ (x : Trip). (x.target == prov) ≡ false),
+      provider-gone t,
+      unused t s.handles.handles prov xs (under-way log s firm) none,
+    )
 
 pub kept_after_consumer : KeptAfterConsumer
 kept_after_consumer s u q taste cons h gone granted settled =
     let xs : List Trip = trips s.traffic.bios in
     with-mesh s (record s { topo = u; queue = q; taste = taste }) refl h settled granted
-    ((fields_follow s.topo u xs).goes cons
-    (record {
-      consumers = ap (λ (w : TopoView Config). w.topology.consumers) gone;
-      active = ap (λ (w : TopoView Config). w.active) gone;
-    }) h.active)
+    (search (rules, fields_follow s.topo u xs))
     (seats-stay s.disks.items s.topo.topology u.topology xs
     (record {
       geoms = λ disk. ap (λ (w : TopoView Config). geom_of_disk w.topology disk) gone;
@@ -434,15 +385,7 @@ module _ (t : Topology Config) (geom : ℕ) (g : Geom Config) (r : Around (λ (x
           → AllByRecursion (λ (x : Geom Config). (x.number == geom) ≡ false → DifferInDisk g x) xs
           → find (is_geom_of_disk d) (filter (λ (x : Geom Config). not (x.number == geom)) xs) ≡ None
       gone [] all = refl
-      gone (x ∷ xs) all = at (x.number == geom) refl (gone xs all.1)
-        where
-          at : (b : Bool) → (x.number == geom) ≡ b
-              → find (is_geom_of_disk d) (filter (λ (y : Geom Config). not (y.number == geom)) xs) ≡ None
-              → find (is_geom_of_disk d) (filter (λ (y : Geom Config). not (y.number == geom)) (x ∷ xs)) ≡ None
-          at true e rest = rw e rest
-          at false e rest =
-              let fails : is_geom_of_disk d x ≡ false = on x (disk_of x.config) refl (all.0 e) in
-              rw (e, fails) rest
+      gone (x ∷ xs) all = search (rules, gone xs all.1)
 
 -- the geom of a provider isn't one that has no provider
 module _ (t u : Topology Config) (geom : ℕ)
@@ -458,14 +401,12 @@ module _ (t u : Topology Config) (geom : ℕ)
       ∙ on (provider_at t p) refl
     where
       its : (x : Provider) → provider_at t p ≡ Some x → (x.geom == geom) ≡ false
-      its x found = by (x.geom == geom) refl
-        where
-          by : (b : Bool) → (x.geom == geom) ≡ b → (x.geom == geom) ≡ false
-          by false e = e
-          by true e =
-              absurd
-              (kept-fact (λ (y : Provider). ⊥) (λ y. y.geom == geom) (λ y. y.number == p) t.providers x
-              (subst (AllByRecursion (λ (y : Provider). ⊥)) (sym bare) tt) found e)
+      its x found =
+          search (
+            rules,
+            kept-fact (λ (y : Provider). ⊥) (λ y. y.geom == geom) (λ y. y.number == p) t.providers x
+                (subst (AllByRecursion (λ (y : Provider). ⊥)) (sym bare) tt) found,
+          )
 
       same : (m : ℕ) → (m == geom) ≡ false
           → find (λ (x : Geom Config). x.number == m) (filter (λ (x : Geom Config). not (x.number == geom)) t.geoms)
@@ -473,17 +414,8 @@ module _ (t u : Topology Config) (geom : ℕ)
       same m other = others-found (λ (x : Geom Config). x.number) geom m other t.geoms
 
       on : (o : Option Provider) → provider_at t p ≡ o → disk_at without_it p ≡ disk_at t p
-      on None e =
-          ap (λ (o : Option Provider). option_and_then (λ (g : Geom Config). disk_of g.config)
-          (option_and_then (λ (x : Provider). geom_at without_it x.geom) o)) e
-          ∙ sym (ap (λ (o : Option Provider). option_and_then (λ (g : Geom Config). disk_of g.config)
-          (option_and_then (λ (x : Provider). geom_at t x.geom) o)) e)
-      on (Some x) e =
-          ap (λ (o : Option Provider). option_and_then (λ (g : Geom Config). disk_of g.config)
-          (option_and_then (λ (y : Provider). geom_at without_it y.geom) o)) e
-          ∙ ap (option_and_then (λ (g : Geom Config). disk_of g.config)) (same x.geom (its x e))
-          ∙ sym (ap (λ (o : Option Provider). option_and_then (λ (g : Geom Config). disk_of g.config)
-          (option_and_then (λ (y : Provider). geom_at t y.geom) o)) e)
+      on None e = search rules
+      on (Some x) e = search (rules, same x.geom (its x e))
 
 pub kept_after_geom : KeptAfterGeom
 kept_after_geom log s new geom g h firm found bare gone granted settled disks is =
@@ -512,8 +444,7 @@ kept_after_geom log s new geom g h firm found bare gone granted settled disks is
         → Around (λ (x : Geom Config). x.number) geom g t.geoms → AllPairs DifferInDisk t.geoms
         → (d : ℕ) → is_geom_of_disk d g ≡ false → geom_of_disk u d ≡ geom_of_disk t d
     seen t u rest r apart_all d other =
-        ap (λ (gs : List (Geom Config)). option_map (λ (x : Geom Config). x.number) (find (is_geom_of_disk d) gs)) rest
-        ∙ ap (option_map (λ (x : Geom Config). x.number)) (other-disk t geom g r apart_all d other)
+        search (rules, ap (option_map (λ (x : Geom Config). x.number)) (other-disk t geom g r apart_all d other))
 
     seats : (t u : Topology Config) → u.geoms ≡ filter (λ (x : Geom Config). not (x.number == geom)) t.geoms
         → Around (λ (x : Geom Config). x.number) geom g t.geoms → AllPairs DifferInDisk t.geoms
@@ -530,22 +461,12 @@ kept_after_geom log s new geom g h firm found bare gone granted settled disks is
         seats-geom s.disks.items t u (trips s.traffic.bios) disk None (λ d. by d (d == disk) refl) targets are
       where
         by : (d : ℕ) (b : Bool) → (d == disk) ≡ b → geom_of_disk u d ≡ (if b then None else geom_of_disk t d)
-        by d true f =
-            let same : d ≡ disk = eqb-true d disk f in
-            ap (λ (gs : List (Geom Config)). option_map (λ (x : Geom Config). x.number) (find (is_geom_of_disk d) gs))
-            rest
-            ∙ ap (option_map (λ (x : Geom Config). x.number))
-            (none-left t geom g r apart_all d (e ∙ ap (λ n. Some n) (sym same)))
+        by d true f = search (rules, none-left t geom g r apart_all d)
         by d false f =
             seen t u rest r apart_all d
             (ap (λ o. option_map_or (λ m. m == d) o false) e
             ∙ ne_eqb disk d (λ same. apart d disk f (sym same)))
 
 pub kept_with_sites : KeptWithSites
-kept_with_sites = record {
-  comers = kept_after_comers;
-  inserted = kept_after_insert;
-  provider = kept_after_provider;
-  consumer = kept_after_consumer;
-  geom = kept_after_geom;
-}
+kept_with_sites =
+    search (rules, kept_after_comers, kept_after_insert, kept_after_provider, kept_after_consumer, kept_after_geom)

@@ -1,5 +1,5 @@
 -- Steps of bios in a world that has the shown bios.
-use Rattle.std.proofs.Common.{◌≡◌, ℕ, ◌+◌, ◌==◌, List, [], ◌∷◌, ◌++◌, map, filter, find, length, Bool, true, false, not, Option, Some, None, unwrap_or, sym, refl, ap, ◌∙◌, subst, cond, IsTrue}
+use Rattle.std.proofs.Common.{◌≡◌, ℕ, ◌+◌, ◌==◌, List, [], ◌∷◌, ◌++◌, map, filter, find, length, Bool, true, false, not, Option, Some, None, unwrap_or, sym, refl, ap, ◌∙◌, cond, IsTrue, rules}
 use Rattle.std.specs.List.{list_all, enumerate_from, AllByRecursion}
 use Rattle.std.specs.Option.{option_map, option_map_or}
 use Rattle.std.proofs.lemmas.Bool.{eqb-true}
@@ -18,17 +18,16 @@ use Rattle.geo_model.specs.declared.step.Phase.TheVariants as phases
 use Rattle.geo_model.specs.Topology.{Topology}
 use Rattle.geo_model.specs.World.{World, Config, Bio, BioOf, bio_at, children_among, change_number, is_done, is_child_of, bio_among}
 use Rattle.geo_model.specs.Words.{is_read}
-use Rattle.geo_model.specs.Bios.{PieceTarget, new_bio, piece_child, up_with, split_bio, take_bio, deliver, up_to, is_complete, complete_parent, child_results, joined_result, taste_with, reply_of_result, request_of_bio, result_of_device, fits_bio}
+use Rattle.geo_model.specs.Bios.{PieceTarget, piece_child, up_with, split_bio, take_bio, deliver, up_to, is_complete, complete_parent, child_results, joined_result, request_of_bio, result_of_device, fits_bio}
 use Rattle.geo_bio.specs.declared.bio.Held.{Held}
 use Rattle.geo_bio.specs.declared.bio.Held.TheVariants as held
-use Rattle.geo_bio.specs.BioTable.{with_phase, delivered, delivered_result}
+use Rattle.geo_bio.specs.BioTable.{with_phase, delivered}
 use Rattle.geo_bio.specs.PieceLaws.{target_in}
 use Rattle.geo_bio.specs.Split.{split_into}
 use Rattle.geo_bio.specs.Up.{resolved, held_as, gathered, are_in, completed, after_up}
 use Rattle.geo_model.proofs.DemandLemmas.{find_passes}
 use Rattle.geo_laws_graph.proofs.Numbered.{unique}
 use Rattle.geo_log.proofs.PlaceLemmas.{delivered_is_result}
-use Rattle.geo_log.specs.Places.{delivered_at}
 use Rattle.geo_state.specs.Shown.{shown_bios, shown_bio, errno_of}
 use Rattle.geo_state.specs.ShownLaws.{BiosAreOfWorld, WorldShowsBios, DeliveriesAreShown, PlaceIsAnswer}
 use Rattle.geo_state.proofs.ShownLemmas.{length-of_map, changed-map, change_shown}
@@ -51,8 +50,7 @@ split_shown : (log : ℕ → Option (List ℕ)) (t : Topology Config) (first : �
     → shown_bios log (split_into first x k (map (λ z. z.piece) zs) (map (target_in t) zs))
     ≡ map (λ item. piece_child t first (shown_bio log x) item.0 item.1) (enumerate_from k zs)
 split_shown log t first x k [] = refl
-split_shown log t first x k (z ∷ zs) =
-    ap (λ ys. piece_child t first (shown_bio log x) k z ∷ ys) (split_shown log t first x (k + 1) zs)
+split_shown log t first x k (z ∷ zs) = search (rules, split_shown log t first x (k + 1) zs)
 
 -- the results of the children of a bio
 results_shown : (log : ℕ → Option (List ℕ)) (bios : List (BioOf Held))
@@ -98,16 +96,13 @@ module _ (log : ℕ → Option (List ℕ)) (w : World) (bios : List (BioOf Held)
   parent_shown p y is =
       let got : joined_result y.cmd (child_results with_shown y.number) ≡ resolved log (Some (gathered log bios y)) =
       gathers y.number y ∙ sym (resolved_as log _) in
-      (λ i. record w {
-        bios = filter (λ (z : Bio). not (is_child_of z.owner (is i)))
-            (change_number (is i) (up_with (got i)) (shown_bios log bios));
-      })
-      ∙ ap (λ xs. record w { bios = filter (λ (z : Bio). not (is_child_of z.owner p)) xs })
-      (sym (change_shown log p (up_with (gathered log bios y)) (up_with (resolved log (Some (gathered log bios y))))
-      (λ x. refl) bios))
-      ∙ ap (λ xs. record w { bios = xs })
-      (filter-map (λ (z : Bio). not (is_child_of z.owner p)) (shown_bio log)
-      (change_number p (up_with (gathered log bios y)) bios))
+      search (
+        rules,
+        change_shown log p (up_with (gathered log bios y)) (up_with (resolved log (Some (gathered log bios y))))
+            (λ x. refl) bios,
+        filter-map (λ (z : Bio). not (is_child_of z.owner p)) (shown_bio log)
+            (change_number p (up_with (gathered log bios y)) bios),
+      )
 
   -- the parent, if it is there
   completed_shown : (p : ℕ)
@@ -148,9 +143,7 @@ module _ (log : ℕ → Option (List ℕ)) (bios : List (BioOf Held)) (w : World
   -- a bio less
   without_shown : (b : ℕ)
       → filter (λ (y : Bio). not (y.number == b)) w.bios ≡ shown_bios log (filter (λ y. not (y.number == b)) bios)
-  without_shown b =
-      ap (filter (λ (y : Bio). not (y.number == b))) is
-      ∙ filter-map (λ (y : Bio). not (y.number == b)) (shown_bio log) bios
+  without_shown b = search (rules, filter-map (λ (y : Bio). not (y.number == b)) (shown_bio log) bios)
 
   split_is : (x : BioOf Held) (zs : List PieceTarget)
       → split_bio w (shown_bio log x) zs
@@ -203,41 +196,19 @@ module _ (log : ℕ → Option (List ℕ)) (bios : List (BioOf Held)) (w : World
   bios_are = record {
     finds = λ b. ap (find (λ (x : Bio). x.number == b)) is ∙ find-map (λ (x : Bio). x.number == b) (shown_bio log) bios;
     children =
-        λ b.
-        ap (filter (λ (x : Bio). is_child_of x.owner b)) is
-        ∙ filter-map (λ (x : Bio). is_child_of x.owner b) (shown_bio log) bios;
+        search (rules, filter-map);
     submits =
-        λ cmd offset len bytes source target owner.
-        ap (λ xs. record w {
-          bios = xs ++ new_bio w.next_bio cmd offset len bytes source target owner ∷ [];
-          next_bio = w.next_bio + 1;
-        }) is
-        ∙ ap (λ xs. record w { bios = xs; next_bio = w.next_bio + 1 })
-        (sym (map-append (shown_bio log) bios
-        (new_bio w.next_bio cmd offset len bytes source target owner ∷ [])));
+        search (rules, map-append (shown_bio log) bios);
     bounces =
-        λ x e.
-        ap (λ xs. (record w { bios = xs }, outcomes.Bounced))
-        (changed x.number (up_with (held.Failed e)) (up_with (results.Failed e)) (λ y. refl));
+        search (rules, changed);
     sends =
-        λ x disk.
-        ap (λ xs. (record w { bios = xs }, outcomes.Queued disk))
-        (changed x.number (with_phase phases.Sent) (with_phase phases.Sent) (λ y. refl));
+        search (rules, changed);
     splits = split_is;
     takes = take_is;
     rises_to_line =
-        λ x handle line i. (
-          record w { bios = without_shown x.number i },
-          outcomes.Replied line (reply_of_result (got_is log x.result i)),
-        );
+        search (rules, without_shown);
     rises_to_taste =
-        λ x i. (
-          record w {
-            bios = without_shown x.number i;
-            taste = taste_with (got_is log x.result i) w.taste;
-          },
-          outcomes.TasteBack,
-        );
+        search (rules, without_shown);
     rises_to_parent = child_is;
   }
 
@@ -259,12 +230,7 @@ deliveries_are_shown log bios w x place got next is numbers found same =
         → AllByRecursion (λ y. (y.number == x.number) ≡ true
         → shown_bio log (delivered place (errno_of got) y) ≡ up_with (result_of_device got) (shown_bio log y)) ys
     goes [] all = tt
-    goes (y ∷ ys) all = (
-      λ e. subst (λ (z : BioOf Held). shown_bio log (delivered place (errno_of got) z)
-          ≡ up_with (result_of_device got) (shown_bio log z)) (sym (all.0 e))
-          (ap (λ r. up_with r (shown_bio log x)) same),
-      goes ys all.1,
-    )
+    goes (y ∷ ys) all = search (rules, goes ys all.1)
 
 -- the place of a Deliver
 pub place_is_answer : PlaceIsAnswer
@@ -275,12 +241,5 @@ place_is_answer entries more e bio sector x (devices.Bytes bytes) is fits =
     at : (b : Bool) → is_read x.cmd ≡ b → IsTrue (fits_bio sector x (devices.Bytes bytes)) → is_read x.cmd ≡ true
     at true e fits = e
     at false e fits = absurd (let never = rw e at fits in cc)
-place_is_answer entries more e bio sector x devices.Done is fits =
-    at (is_read x.cmd) refl fits
-  where
-    at : (b : Bool) → is_read x.cmd ≡ b → IsTrue (fits_bio sector x devices.Done)
-        → resolved (delivered_at (entries ++ e ∷ more)) (Some (delivered_result x.cmd (length entries) None))
-        ≡ results.Done
-    at true e fits = absurd (let never = rw e at fits in cc)
-    at false e fits = rw e refl
+place_is_answer entries more e bio sector x devices.Done is fits = search rules
 place_is_answer entries more e bio sector x (devices.Failed done) is fits = refl

@@ -1,7 +1,6 @@
 -- What is kept beside the bios of the table stays so when one comes, changes its phase, is split and goes up.
-use Rattle.std.proofs.Common.{◌≡◌, ℕ, ◌+◌, ◌-◌, ◌≤◌, List, [], ◌∷◌, ◌++◌, length, find, cond, Bool, true, false, Option, Some, None, sym, refl, ap, ◌∙◌, arith, option_map, ◌≢◌, ◌<◌, ◌==◌, filter, not, subst, IfSome, ◌^◌}
+use Rattle.std.proofs.Common.{◌≡◌, ℕ, ◌+◌, ◌-◌, ◌≤◌, List, [], ◌∷◌, ◌++◌, length, cond, Bool, true, false, Option, Some, sym, refl, ap, ◌∙◌, arith, option_map, ◌≢◌, ◌<◌, ◌==◌, filter, not, subst, IfSome, ◌^◌, rules}
 use Rattle.std.specs.List.{AllByRecursion}
-use Rattle.std.specs.Option.{option_map_or, option_or}
 use Rattle.std.proofs.lemmas.List.{length-append, length-map}
 use Rattle.std.proofs.lemmas.List.Folds.{find-append}
 use Rattle.std.proofs.lemmas.List.Sums.{sum_by-append, sum_by-cons, length-filter, count_by-le-length}
@@ -16,7 +15,6 @@ use Rattle.geo_state.specs.Traffic.{first_in, count_in}
 use Rattle.geo_state.specs.Cursors.{others, IsCursor, with_one, with_last, IsCounted, up_after, family_size, gone_by, IsKept}
 use Rattle.geo_state.proofs.OrderLemmas.{Rising, stands_at, StandsAt, change_is, bio_in, fewer_than_next, number_below, table_rises, phase_up, phase_done}
 use Rattle.geo_state.proofs.CursorLemmas.{stays, left, entered, count_stays, count_comes, count_goes, length_moved, others_cursor, count_others, length_others, reached_above, reached_there, room_for_one}
-use Rattle.std.proofs.lemmas.Bool.{and_parts}
 use Rattle.std.proofs.lemmas.List.Filters.{length-filter_both}
 use Rattle.geo_model.proofs.BioLemmas.{phase_waiting, phase_down}
 use Rattle.geo_model.specs.declared.step.Owner.{Owner}
@@ -31,7 +29,7 @@ use Rattle.geo_laws_graph.proofs.Spared.{find-spared, filter-spared}
 use Rattle.geo_state.proofs.ShownLemmas.{count-map}
 use Rattle.geo_bio.specs.declared.bio.Risen.{Risen}
 use Rattle.geo_base.proofs.AllLists.{all_appended, of_each, all_weaker}
-use Rattle.geo_state.proofs.Lists.{all-front, all-back, count-same, count-none, find-before}
+use Rattle.geo_state.proofs.Lists.{all-front, all-back, count-none, find-before}
 
 -- A bio comes, or comes to another phase
 
@@ -133,9 +131,7 @@ module _ (bios : List (BioOf Held)) (n : ℕ) (x : BioOf Held) (rising : Rising 
 
     -- there is a Busy one
     pub some_busy : is_busy x.phase ≡ true → (g x).phase ≡ phases.Up → 1 ≤ busy
-    some_busy was now =
-        let less = count_goes is_busy bios n x rising found g (same ∙ number) was (ap is_busy now) in
-        omega (arith, is.taken, less)
+    some_busy was now = search (rules, count_goes is_busy bios n x rising found g (same ∙ number) was (ap is_busy now))
 
     -- from Up to Done
     pub from_up_done : (u : Cursor) → x.phase ≡ phases.Up → (g x).phase ≡ phases.Done
@@ -171,17 +167,8 @@ module _ (test : Phase → Bool) (bios more : List (BioOf Held)) where
   pub appended : (c : Cursor) (first k : ℕ) → IsCursor test bios c → count_in test more ≡ k
       → first_in test more ≡ Some first
       → IsCursor test (bios ++ more) (with_last c first k)
-  appended c first k is count head = record {
-    count = (λ i. is.count i + sym count i) ∙ sym count_both;
-    first = ap (λ o. Some (option_map_or (λ m. m) o first)) is.first ∙ at (find (λ (y : BioOf Held). test y.phase) bios)
-        ∙ ap (option_map (λ (y : BioOf Held). y.number))
-        (sym (find-append (λ (y : BioOf Held). test y.phase) bios more));
-  } where
-    at : (o : Option (BioOf Held))
-        → Some (option_map_or (λ m. m) (option_map (λ (y : BioOf Held). y.number) o) first)
-        ≡ option_map (λ (y : BioOf Held). y.number) (option_or o (find (λ (y : BioOf Held). test y.phase) more))
-    at (Some z) = refl
-    at None = sym head
+  appended c first k is count head =
+      search (rules, count_both, find-append (λ (y : BioOf Held). test y.phase) bios more)
 
   -- bios that don't pass come
   pub appended_others : (c : Cursor) → IsCursor test bios c
@@ -199,10 +186,7 @@ module _ (test : Phase → Bool) where
       → test phases.Down ≡ true → count_in test more ≡ length more
   down_counted [] all e = refl
   down_counted (y ∷ ys) all e =
-      let rest = down_counted ys all.1 e in
-      let head = sum_by-cons (λ (z : BioOf Held). cond (test z.phase) 1 0) y ys in
-      let one : cond {A = ℕ} (test y.phase) 1 0 ≡ 1 = rw (all.0, e) refl in
-      omega (arith, rest, head, one)
+      search (rules, down_counted ys all.1 e, sum_by-cons (λ (z : BioOf Held). cond (test z.phase) 1 0) y ys)
 
   pub down_found : (y : BioOf Held) (ys : List (BioOf Held)) → y.phase ≡ phases.Down → test phases.Down ≡ true
       → first_in test (y ∷ ys) ≡ Some y.number
@@ -227,8 +211,7 @@ pub split_length : (first : ℕ) (x : BioOf Held) (k : ℕ) (pieces : List Piece
 split_length first x k [] targets same = refl
 split_length first x k (piece ∷ pieces) [] same = absurd (omega (arith, same))
 split_length first x k (piece ∷ pieces) (target ∷ targets) same =
-    let rest = split_length first x (k + 1) pieces targets (omega (arith, same)) in
-    omega (arith, rest)
+    search (rules, split_length first x (k + 1) pieces targets (omega (arith, same)))
 
 -- the first of them has the next number
 pub split_first : (first : ℕ) (x : BioOf Held) (pieces : List Piece) (targets : List (ℕ × ℕ))
@@ -236,9 +219,7 @@ pub split_first : (first : ℕ) (x : BioOf Held) (pieces : List Piece) (targets 
     → first_in is_down (split_into first x 0 pieces targets) ≡ Some first
 split_first first x [] targets same some = absurd (omega (arith, some))
 split_first first x (piece ∷ pieces) [] same some = absurd (omega (arith, same))
-split_first first x (piece ∷ pieces) (target ∷ targets) same some =
-    let number : first + 0 ≡ first = omega arith in
-    ap Some number
+split_first first x (piece ∷ pieces) (target ∷ targets) same some = search rules
 
 -- bios that are Down come
 pub down_come : (bios more : List (BioOf Held)) (down sent up : Cursor) (busy live first k : ℕ)
@@ -281,17 +262,13 @@ children_stay : (p n : ℕ) (g : BioOf Held → BioOf Held) → ((y : BioOf Held
     → (bios : List (BioOf Held))
     → length (children_among (change_number n g bios) p) ≡ length (children_among bios p)
 children_stay p n g same bios =
-    length-filter (λ (y : BioOf Held). is_child_of y.owner p) (change_number n g bios)
-    ∙ count-map (λ (y : BioOf Held). cond (y.number == n) (g y) y) (λ (y : BioOf Held). is_child_of y.owner p) bios
-    ∙ count-same (λ (y : BioOf Held). is_child_of y.owner p)
-    (λ y. is_child_of (cond (y.number == n) (g y) y).owner p) bios
-    (of_each (λ (y : BioOf Held). is_child_of (cond (y.number == n) (g y) y).owner p ≡ is_child_of y.owner p)
-    (λ y. ap (λ o. is_child_of o p) (owner_stays y (y.number == n))) bios)
-    ∙ sym (length-filter (λ (y : BioOf Held). is_child_of y.owner p) bios)
-  where
-    owner_stays : (y : BioOf Held) (b : Bool) → (cond b (g y) y).owner ≡ y.owner
-    owner_stays y true = same y
-    owner_stays y false = refl
+    search (
+      rules,
+      length-filter (λ (y : BioOf Held). is_child_of y.owner p) (change_number n g bios),
+      count-map (λ (y : BioOf Held). cond (y.number == n) (g y) y) (λ (y : BioOf Held). is_child_of y.owner p) bios,
+      of_each (λ (y : BioOf Held). is_child_of (cond (y.number == n) (g y) y).owner p ≡ is_child_of y.owner p),
+      length-filter (λ (y : BioOf Held). is_child_of y.owner p) bios,
+    )
 
 -- Children go
 
@@ -302,15 +279,7 @@ ChildIsDone p z = is_child_of z.owner p ≡ true → is_done z.phase ≡ true
 -- where all are in, each is done
 pub each_done : (p : ℕ) (zs : List (BioOf Held)) → are_in zs p ≡ true → AllByRecursion (ChildIsDone p) zs
 each_done p [] all = tt
-each_done p (z ∷ zs) all = at (is_child_of z.owner p) refl (each_done p zs) where
-  at : (b : Bool) → is_child_of z.owner p ≡ b → (are_in zs p ≡ true → AllByRecursion (ChildIsDone p) zs)
-      → AllByRecursion (ChildIsDone p) (z ∷ zs)
-  at true e rest =
-      let parts = and_parts (is_done z.phase) (are_in zs p) (rw e at all) in
-      (λ child. parts.0, rest parts.1)
-  at false e rest =
-      let later : are_in zs p ≡ true = rw e at all in
-      (λ child. absurd (let never : false ≡ true = sym e ∙ child in cc), rest later)
+each_done p (z ∷ zs) all = search (rules, each_done p zs)
 
 -- a cursor of a phase in which no child is, once the children are gone
 module _ (p : ℕ) (bios : List (BioOf Held)) (all : AllByRecursion (ChildIsDone p) bios) where
@@ -322,8 +291,7 @@ module _ (p : ℕ) (bios : List (BioOf Held)) (all : AllByRecursion (ChildIsDone
     spared : (zs : List (BioOf Held)) → AllByRecursion (ChildIsDone p) zs
         → AllByRecursion (λ (z : BioOf Held). is_child_of z.owner p ≡ true → test z.phase ≡ false) zs
     spared [] each = tt
-    spared (z ∷ zs) each =
-        (λ child. ap test (phase_done z.phase (each.0 child)) ∙ fails, spared zs each.1)
+    spared (z ∷ zs) each = search (rules, spared zs each.1)
 
     pub count_spared : count_in test childless ≡ count_in test bios
     count_spared =
@@ -342,12 +310,8 @@ module _ (p : ℕ) (bios : List (BioOf Held)) (all : AllByRecursion (ChildIsDone
 
   -- there are so many less
   pub length_spared : length childless + length (children_among bios p) ≡ length bios
-  length_spared = length-filter_both (λ (z : BioOf Held). not (is_child_of z.owner p))
-      (λ z. is_child_of z.owner p) (λ z. twice (is_child_of z.owner p)) bios
-    where
-      twice : (b : Bool) → b ≡ not (not b)
-      twice true = refl
-      twice false = refl
+  length_spared =
+      search (rules, length-filter_both (λ (z : BioOf Held). not (is_child_of z.owner p)) (λ z. is_child_of z.owner p))
 
 -- A bio goes up
 
@@ -380,11 +344,7 @@ module _ (bios : List (BioOf Held)) (x : BioOf Held) (rising : Rising bios) (fou
   -- the parent
   module _ (p : ℕ) (y : BioOf Held) (there : bio_among bios p ≡ Some y) (waits : is_waiting y.phase ≡ true) where
     apart : p ≢ x.number
-    apart same =
-        let both : Some y ≡ Some x = sym there ∙ ap (bio_among bios) same ∙ found in
-        let one : y ≡ x = cc in
-        let never : phases.Waiting ≡ phases.Up = sym (phase_waiting y.phase waits) ∙ ap (λ z. z.phase) one ∙ was in
-        cc
+    apart same = search rules
 
     still_there : bio_among gathering p ≡ Some y
     still_there =
@@ -447,9 +407,7 @@ module _ (bios : List (BioOf Held)) (x : BioOf Held) (rising : Rising bios) (fou
           let h = gathered log gathering y in
           let gone = length_gone h e in
           (rw still_there (complete_counted h e), omega (arith, gone))
-      child_goes false e =
-          let same : live ≡ live - 0 = omega arith in
-          (subst (IsCounted gathering down sent u busy) same still_counted, omega arith)
+      child_goes false e = search (rules, still_counted)
 
   -- each owner
   pub goes_up : (log : ℕ → Option (List ℕ)) (owner : Owner) → HasParent bios owner
@@ -467,26 +425,19 @@ module _ (bios : List (BioOf Held)) (x : BioOf Held) (rising : Rising bios) (fou
 -- a bio in a phase, by what contracts see of the table
 pub bio_seen : (test : Phase → Bool) (t : BioTableView) {v : BioTableView} → t ≡ v → (n : ℕ)
     → has_phase test v.bios n ≡ true → (x : BioOf Held) × (bio_among t.bios n ≡ Some x) × (test x.phase ≡ true)
-bio_seen test t view n is =
-    bio_in test t.bios n (subst (λ (w : BioTableView). has_phase test w.bios n ≡ true) (sym view) is)
+bio_seen test t view n is = search rules
 
 -- with one more bio in a phase in which this one isn't, there are still fewer than numbers
 pub room_in_phase : (test : Phase → Bool) (t : BioTableView) → AreInOrder t → (n : ℕ) (x : BioOf Held)
     → bio_among t.bios n ≡ Some x → test x.phase ≡ false → count_in test t.bios + 2 ≤ t.next
 room_in_phase test t order n x found miss =
-    let room = room_for_one test t.bios n x (table_rises t order) found miss in
-    let few = fewer_than_next t order in
-    omega (arith, room, few)
+    search (rules, room_for_one test t.bios n x (table_rises t order) found miss, fewer_than_next t order)
 
 -- all is kept once bios have changed, where what is counted is right for them
 pub kept_turned : (t u : BioTableView) {bios : List (BioOf Held)} → u ≡ record t { bios = bios } → AreInOrder u
     → t.next < 2 ^ 64 → {down sent up : Cursor} {busy live : ℕ} → IsCounted bios down sent up busy live
     → IsKept u down sent up busy live
-kept_turned t u is order bound counted = record {
-  in_order = order;
-  bound = rw (ap (λ (v : BioTableView). v.next) is) bound;
-  counted = rw (ap (λ (v : BioTableView). v.bios) is) counted;
-}
+kept_turned t u is order bound counted = search rules
 
 -- where the bios and the next number stay, all is kept
 module _ (t u : BioTableView) (bios : u.bios ≡ t.bios) (next : u.next ≡ t.next) where
@@ -508,10 +459,7 @@ module _ (t u : BioTableView) (bios : u.bios ≡ t.bios) (next : u.next ≡ t.ne
 -- with one bio more there are still fewer than numbers
 pub fewer_with_one : (bios : List (BioOf Held)) (x : BioOf Held) (u : BioTableView) → AreInOrder u
     → u.bios ≡ bios ++ x ∷ [] → length bios + 2 ≤ u.next
-fewer_with_one bios x u order more =
-    let few = fewer_than_next u order in
-    let all : length u.bios ≡ length bios + 1 = ap length more ∙ length-append bios (x ∷ []) in
-    omega (arith, few, all)
+fewer_with_one bios x u order more = search (rules, fewer_than_next u order, length-append bios (x ∷ []))
 
 -- the number that a walk reaches isn't below the one from which it goes on, and is below the next one
 module _ (t : BioTableView) (low n : ℕ) {o : Option ℕ} (order : AreInOrder t) (reached : o ≡ bio_from t.bios low)
@@ -532,17 +480,12 @@ module _ (t : BioTableView) {v : BioTableView} (view : t ≡ v) (n : ℕ) (down 
   -- there is one bio more for each piece
   pub split_all : length t.bios + length pieces ≡ length new
   split_all =
-      let x = bio_seen is_down t view n down in
-      let children = split_into t.next x.0 0 pieces targets in
-      let after : new ≡ change_number n (with_phase phases.Waiting) t.bios ++ children =
-      subst (λ o. IfSome o (λ (y : BioOf Held). new
-      ≡ change_number n (with_phase phases.Waiting) t.bios ++ split_into t.next y 0 pieces targets)) x.1 split in
-      let all : length new ≡ length t.bios + length children =
-      ap length after ∙ length-append (change_number n (with_phase phases.Waiting) t.bios) children
-      ∙ ap (λ k. k + length children)
-      (length-map t.bios (λ (y : BioOf Held). cond (y.number == n) (with_phase phases.Waiting y) y)) in
-      let count = split_length t.next x.0 0 pieces targets same in
-      omega (arith, all, count)
+      search (
+        rules,
+        length-append (change_number n (with_phase phases.Waiting) t.bios),
+        length-map t.bios (λ (y : BioOf Held). cond (y.number == n) (with_phase phases.Waiting y) y),
+        split_length t.next,
+      )
 
 module _ (t : BioTableView) {v : BioTableView} (view : t ≡ v) (order : AreInOrder t) (n : ℕ)
     (down : has_phase is_down v.bios n ≡ true) {d sent up e : Cursor} {busy live : ℕ}
@@ -570,8 +513,7 @@ module _ (t : BioTableView) {v : BioTableView} (view : t ≡ v) (order : AreInOr
   pub split_fewer : e.count + length pieces ≤ length new
   split_fewer =
       let count : e.count + length pieces ≡ count_in is_down new = split_counted.starts.count in
-      let few = count_by-le-length (λ (y : BioOf Held). is_down y.phase) new in
-      omega (arith, count, few)
+      search (rules, count_by-le-length (λ (y : BioOf Held). is_down y.phase) new)
 
 -- A bio goes up
 

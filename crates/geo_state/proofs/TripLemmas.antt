@@ -1,15 +1,15 @@
 -- Trips of requests: how changes show in them, how many are out, whose they are, and which are at disks.
 use Rattle.std.specs.Prelude.{◌≡◌, ℕ, ◌==◌, Bool, true, false, List, [], ◌∷◌, filter, ◌≢◌, ◌+◌, ◌-◌, ◌≤◌, not, ◌++◌, map, count_by, Option, Some, None, if◌then◌else◌, min, find}
 use Rattle.std.specs.List.{AllByRecursion}
-use Rattle.std.proofs.Common.{refl, sym, ◌∙◌, ap, arith, eq-eqb, inl, inr}
+use Rattle.std.proofs.Common.{refl, sym, ◌∙◌, ap, arith, eq-eqb, rules}
 use Rattle.geo_model.specs.Words.{change_where, names_number}
 use Rattle.geo_model.specs.World.{BioOf, is_taste_root, change_number, Handle, Config}
 use Rattle.geo_state.specs.Trips.{Trip, trip_of, trips, is_out, out_through, can_be_reaped, taste_read, is_at_disk, busy_at, is_own, IsOwnCount}
 use Rattle.std.specs.Option.{option_map_or, option_map}
 use Rattle.std.proofs.Math.Bool.{and-false}
-use Rattle.std.proofs.lemmas.Bool.{eqb-true, cases_eq, ne_eqb, not-false}
+use Rattle.std.proofs.lemmas.Bool.{eqb-true, not-false}
 use Rattle.geo_mesh.specs.Rows.{change_at}
-use Rattle.geo_state.proofs.Lists.{Around, around-changed, around-gone, around-count, count-append, counts, around-all, count-step, count-skip, count-kept, count-none, find-none, find-past, find-before, find-kept_by, all-front, all-back, around-with}
+use Rattle.geo_state.proofs.Lists.{Around, around-changed, around-gone, around-count, count-append, counts, around-all, count-step, count-skip, count-kept, find-none, find-past, find-before, find-kept_by, all-front, all-back, around-with}
 use Rattle.geo_base.proofs.Options.{none-mapped}
 use Rattle.geo_base.proofs.FindLists.{none_passes}
 use Rattle.geo_base.proofs.AllLists.{all_appended, all_kept, all_weaker}
@@ -24,46 +24,26 @@ module _ {R : Type 0} where
       → AllByRecursion (λ x. (x.number == b) ≡ true → trip_of (change x) ≡ g (trip_of x)) bios
       → trips (change_number b change bios) ≡ change_where (λ z. z.number == b) g (trips bios)
   trips-changed b change g [] all = refl
-  trips-changed b change g (x ∷ xs) all = at (x.number == b) refl (trips-changed b change g xs all.1)
-    where
-      at : (c : Bool) → (x.number == b) ≡ c
-          → trips (change_number b change xs) ≡ change_where (λ z. z.number == b) g (trips xs)
-          → trips (change_number b change (x ∷ xs)) ≡ change_where (λ z. z.number == b) g (trips (x ∷ xs))
-      at true e rest = rw (e, all.0 e, rest) refl
-      at false e rest = rw (e, rest) refl
+  trips-changed b change g (x ∷ xs) all = search (rules, trips-changed b change g xs all.1)
 
   -- a change that no trip shows
   pub trips-same : (b : ℕ) (change : BioOf R → BioOf R) (bios : List (BioOf R))
       → AllByRecursion (λ x. (x.number == b) ≡ true → trip_of (change x) ≡ trip_of x) bios
       → trips (change_number b change bios) ≡ trips bios
   trips-same b change [] all = refl
-  trips-same b change (x ∷ xs) all = at (x.number == b) refl (trips-same b change xs all.1)
-    where
-      at : (c : Bool) → (x.number == b) ≡ c → trips (change_number b change xs) ≡ trips xs
-          → trips (change_number b change (x ∷ xs)) ≡ trips (x ∷ xs)
-      at true e rest = rw (e, all.0 e, rest) refl
-      at false e rest = rw (e, rest) refl
+  trips-same b change (x ∷ xs) all = search (rules, trips-same b change xs all.1)
 
   -- what a filter keeps
   pub trips-kept : (keep : BioOf R → Bool) (seen : Trip → Bool) → ((x : BioOf R) → seen (trip_of x) ≡ keep x)
       → (bios : List (BioOf R)) → trips (filter keep bios) ≡ filter seen (trips bios)
   trips-kept keep seen same [] = refl
-  trips-kept keep seen same (x ∷ xs) = at (keep x) refl (trips-kept keep seen same xs)
-    where
-      at : (c : Bool) → keep x ≡ c → trips (filter keep xs) ≡ filter seen (trips xs)
-          → trips (filter keep (x ∷ xs)) ≡ filter seen (trips (x ∷ xs))
-      at true e rest = rw (same x, e, rest) refl
-      at false e rest = rw (same x, e, rest) refl
+  trips-kept keep seen same (x ∷ xs) = search (rules, trips-kept keep seen same xs)
 
 -- Requests out through a consumer: how many are, and which handles can be reaped
 
 -- equal numbers, either way
 pub eqb_sym : (m n : ℕ) → (m == n) ≡ (n == m)
-eqb_sym m n =
-    elim (cases_eq m n) [
-      | inl same ↦ rw (eq-eqb m n same, eq-eqb n m (sym same)) refl
-      | inr other ↦ rw (ne_eqb m n other, ne_eqb n m (λ e. other (sym e))) refl
-    ]
+eqb_sym m n = search rules
 
 -- rows of numbers with a count, where one count changes
 pub rows-changed : {X : Type 0} (key : X → ℕ) (f g change : ℕ → ℕ) (c : ℕ)
@@ -71,41 +51,12 @@ pub rows-changed : {X : Type 0} (key : X → ℕ) (f g change : ℕ → ℕ) (c 
     → change_at change (map (λ x. let row : ℕ × ℕ = (key x, f (key x)) in row) xs) c
     ≡ map (λ x. let row : ℕ × ℕ = (key x, g (key x)) in row) xs
 rows-changed key f g change c so [] = refl
-rows-changed {X} key f g change c so (x ∷ xs) = at (key x == c) refl (rows-changed key f g change c so xs)
-  where
-    at : (b : Bool) → (key x == c) ≡ b
-        → change_at change (map (λ x. let row : ℕ × ℕ = (key x, f (key x)) in row) xs) c
-        ≡ map (λ x. let row : ℕ × ℕ = (key x, g (key x)) in row) xs
-        → change_at change (map (λ x. let row : ℕ × ℕ = (key x, f (key x)) in row) (x ∷ xs)) c
-        ≡ map (λ x. let row : ℕ × ℕ = (key x, g (key x)) in row) (x ∷ xs)
-    at true e rest =
-        let same : key x ≡ c = eqb-true (key x) c e in
-        let new : g (key x) ≡ change (f (key x)) =
-        so (key x) ∙ ap (λ b. if b then change (f (key x)) else f (key x)) e in
-        rw (e, rest, new, same) refl
-    at false e rest =
-        let new : g (key x) ≡ f (key x) =
-        so (key x) ∙ ap (λ b. if b then change (f (key x)) else f (key x)) e in
-        rw (e, rest, new) refl
+rows-changed {X} key f g change c so (x ∷ xs) = search (rules, rows-changed key f g change c so xs)
 
 -- one more that is out through its consumer
 pub out-more : (xs : List Trip) (z : Trip) → z.done ≡ false → (d : ℕ)
     → out_through (xs ++ z ∷ []) d ≡ (if d == z.source then out_through xs d + 1 else out_through xs d)
-out-more xs z going d =
-    let all : out_through (xs ++ z ∷ []) d ≡ out_through xs d + count_by (is_out d) (z ∷ []) =
-    count-append (is_out d) xs (z ∷ []) in
-    all ∙ one (d == z.source) refl
-  where
-    one : (b : Bool) → (d == z.source) ≡ b
-        → out_through xs d + count_by (is_out d) (z ∷ []) ≡ (if b then out_through xs d + 1 else out_through xs d)
-    one true e =
-        let is : is_out d z ≡ true = rw (eqb_sym z.source d, e, going) refl in
-        let c : counts (is_out d) z ≡ 1 = ap (λ b. if b then 1 else 0) is in
-        omega (arith, c)
-    one false e =
-        let is : is_out d z ≡ false = rw (eqb_sym z.source d, e) refl in
-        let c : counts (is_out d) z ≡ 0 = ap (λ b. if b then 1 else 0) is in
-        omega (arith, c)
+out-more xs z going d = search (rules, count-append (is_out d) xs (z ∷ []))
 
 -- one that was out through its consumer, and isn't any more: it has come back, or is gone
 module _ (b : ℕ) (x : Trip) (xs : List Trip) (r : Around (λ (z : Trip). z.number) b x xs) (going : x.done ≡ false)
@@ -116,20 +67,7 @@ module _ (b : ℕ) (x : Trip) (xs : List Trip) (r : Around (λ (z : Trip). z.num
 
     less_by : (d : ℕ) (ys : List Trip) → out_through ys d ≡ out_through (r.front ++ r.back) d
         → out_through ys d ≡ (if d == x.source then out_through xs d - 1 else out_through xs d)
-    less_by d ys e = one (d == x.source) refl
-      where
-        one : (c : Bool) → (d == x.source) ≡ c
-            → out_through ys d ≡ (if c then out_through xs d - 1 else out_through xs d)
-        one true f =
-            let is : is_out d x ≡ true = rw (eqb_sym x.source d, f, going) refl in
-            let n : counts (is_out d) x ≡ 1 = ap (λ b. if b then 1 else 0) is in
-            let w = with_it d in
-            omega (arith, e, n, w)
-        one false f =
-            let is : is_out d x ≡ false = rw (eqb_sym x.source d, f) refl in
-            let n : counts (is_out d) x ≡ 0 = ap (λ b. if b then 1 else 0) is in
-            let w = with_it d in
-            omega (arith, e, n, w)
+    less_by d ys e = search (rules, with_it d)
 
     -- it has come back
     pub out-back : (d : ℕ)
@@ -155,11 +93,7 @@ module _ (b : ℕ) (x : Trip) (xs : List Trip) (r : Around (λ (z : Trip). z.num
 
     -- there was one at least
     pub out-some : 1 ≤ out_through xs x.source
-    out-some =
-        let is : is_out x.source x ≡ true = rw (eq-eqb x.source x.source refl, going) refl in
-        let n : counts (is_out x.source) x ≡ 1 = ap (λ b. if b then 1 else 0) is in
-        let w = with_it x.source in
-        omega (arith, n, w)
+    out-some = search (rules, with_it x.source)
 
 -- Handles that can be reaped
 
@@ -173,8 +107,7 @@ reaped-same c xs ys others h alive = at h.dead refl
         → option_map_or (λ d. out_through ys d == 0) o false ≡ option_map_or (λ d. out_through xs d == 0) o false
     rest None lives dead = refl
     rest (Some d) lives dead =
-        ap (λ n. n == 0)
-        (others d (λ same. let never : true ≡ false = sym dead ∙ lives (eq-eqb d c same) in cc))
+        search (rules, others d (λ same. let never : true ≡ false = sym dead ∙ lives (eq-eqb d c same) in cc))
 
     at : (b : Bool) → h.dead ≡ b → can_be_reaped ys h ≡ can_be_reaped xs h
     at true dead = rw dead (rest h.consumer alive dead)
@@ -185,15 +118,7 @@ reaped-same c xs ys others h alive = at h.dead refl
 -- where none is counted none passes
 pub none-counted : {X : Type 0} (p : X → Bool) (xs : List X) → count_by p xs ≡ 0 → AllByRecursion (λ x. p x ≡ false) xs
 none-counted p [] none = tt
-none-counted p (x ∷ xs) none = at (p x) refl (none-counted p xs)
-  where
-    at : (b : Bool) → p x ≡ b → (count_by p xs ≡ 0 → AllByRecursion (λ y. p y ≡ false) xs)
-        → AllByRecursion (λ y. p y ≡ false) (x ∷ xs)
-    at true e rest =
-        let one : counts p x ≡ 1 = ap (λ c. if c then 1 else 0) e in
-        let step = count-step p x xs in
-        absurd (omega (arith, one, step, none))
-    at false e rest = (e, rest (sym (count-skip p x xs e) ∙ none))
+none-counted p (x ∷ xs) none = search (rules, none-counted p xs, count-step p x xs, count-skip p x xs)
 
 -- An actor's own requests
 
@@ -201,55 +126,27 @@ module _ (handles : List Handle) (actor : ℕ) where
   -- a request that isn't one came
   pub own-other : (xs : List Trip) (z : Trip) (count low : ℕ) → is_own handles actor z ≡ false
       → IsOwnCount handles xs actor count low → IsOwnCount handles (xs ++ z ∷ []) actor count low
-  own-other xs z count low other is = record {
-    count_is =
-        is.count_is
-        ∙ (let all : count_by (is_own handles actor) (xs ++ z ∷ [])
-        ≡ count_by (is_own handles actor) xs + count_by (is_own handles actor) (z ∷ []) =
-        count-append (is_own handles actor) xs (z ∷ []) in
-        let none : count_by (is_own handles actor) (z ∷ []) ≡ 0 =
-        count-none (is_own handles actor) (z ∷ []) (other, tt) in
-        omega (arith, all, none));
-    low_is =
+  own-other xs z count low other is =
+      search (
+        rules,
+        count-append (is_own handles actor) xs (z ∷ []),
         all_appended (λ x. is_own handles actor x ≡ true → low ≤ x.number) xs (z ∷ []) is.low_is
-        ((λ e. let never : true ≡ false = sym e ∙ other in absurd cc), tt);
-  }
+            ((λ e. let never : true ≡ false = sym e ∙ other in absurd cc), tt),
+      )
 
   -- one more came
   pub own-more : (xs : List Trip) (z : Trip) (count low : ℕ) → is_own handles actor z ≡ true
       → IsOwnCount handles xs actor count low
       → IsOwnCount handles (xs ++ z ∷ []) actor (count + 1) (if count == 0 then z.number else min low z.number)
-  own-more xs z count low own is = record {
-    count_is =
-        let all : count_by (is_own handles actor) (xs ++ z ∷ [])
-        ≡ count_by (is_own handles actor) xs + count_by (is_own handles actor) (z ∷ []) =
-        count-append (is_own handles actor) xs (z ∷ []) in
-        let step = count-step (is_own handles actor) z [] in
-        let one : counts (is_own handles actor) z ≡ 1 = ap (λ b. if b then 1 else 0) own in
-        let was = is.count_is in
-        omega (arith, all, step, one, was);
-    low_is = by (count == 0) refl;
-  }
-    where
-      by : (b : Bool) → (count == 0) ≡ b
-          → AllByRecursion
-          (λ x. is_own handles actor x ≡ true → (if count == 0 then z.number else min low z.number) ≤ x.number)
-          (xs ++ z ∷ [])
-      by true e =
-          rw e
-          (all_appended (λ x. is_own handles actor x ≡ true → z.number ≤ x.number) xs (z ∷ [])
-          (all_weaker (λ (x : Trip). is_own handles actor x ≡ false)
-          (λ x. is_own handles actor x ≡ true → z.number ≤ x.number)
-          (λ x no e. let never : false ≡ true = sym no ∙ e in absurd cc) xs
-          (none-counted (is_own handles actor) xs (sym is.count_is ∙ eqb-true count 0 e)))
-          ((λ e. omega arith), tt))
-      by false e =
-          rw e
-          (all_appended (λ x. is_own handles actor x ≡ true → min low z.number ≤ x.number) xs (z ∷ [])
-          (all_weaker (λ (x : Trip). is_own handles actor x ≡ true → low ≤ x.number)
-          (λ x. is_own handles actor x ≡ true → min low z.number ≤ x.number)
-          (λ x above e. let l = above e in omega (arith, l)) xs is.low_is)
-          ((λ e. omega arith), tt))
+  own-more xs z count low own is =
+      search (
+        rules,
+        count-append (is_own handles actor) xs (z ∷ []),
+        all_appended,
+        all_weaker,
+        none-counted (is_own handles actor) xs,
+        eqb-true count 0,
+      )
 
   -- one is gone
   pub own-gone : (b : ℕ) (x : Trip) (xs : List Trip) (count low : ℕ) → Around (λ (z : Trip). z.number) b x xs
@@ -272,8 +169,7 @@ module _ (handles : List Handle) (actor : ℕ) where
   own-some b x xs count low r own is =
       let with_it = around-with (λ (z : Trip). z.number) b x xs r (is_own handles actor) in
       let one : counts (is_own handles actor) x ≡ 1 = ap (λ b. if b then 1 else 0) own in
-      let was = is.count_is in
-      omega (arith, with_it, one, was)
+      search rules
 
   -- some that aren't own are gone
   pub own-kept : (keep : Trip → Bool) (xs : List Trip) (count low : ℕ)
@@ -296,20 +192,17 @@ only-fails b x xs p r fails =
 
 -- another request came, or the first read
 pub read-other : (xs : List Trip) (z : Trip) → is_taste_root z.owner ≡ false → taste_read (xs ++ z ∷ []) ≡ taste_read xs
-read-other xs z other =
-    ap (option_map (λ (x : Trip). x.number)) (find-before (λ x. is_taste_root x.owner) xs (z ∷ []) (other, tt))
+read-other xs z other = search (rules, find-before (λ x. is_taste_root x.owner) xs (z ∷ []) (other, tt))
 
 pub read-first : (xs : List Trip) (z : Trip) → is_taste_root z.owner ≡ true → taste_read xs ≡ None
     → taste_read (xs ++ z ∷ []) ≡ Some z.number
 read-first xs z reads none =
-    ap (option_map (λ (x : Trip). x.number))
-    (find-past (λ x. is_taste_root x.owner) xs (z ∷ [])
-    (none_passes (λ (x : Trip). is_taste_root x.owner) xs
-    (none-mapped (λ (x : Trip). x.number) (find (λ (x : Trip). is_taste_root x.owner) xs) none))
-    ∙ found)
-  where
-    found : find (λ (x : Trip). is_taste_root x.owner) (z ∷ []) ≡ Some z
-    found = rw reads refl
+    search (
+      rules,
+      find-past (λ x. is_taste_root x.owner) xs (z ∷ [])
+          (none_passes (λ (x : Trip). is_taste_root x.owner) xs
+          (none-mapped (λ (x : Trip). x.number) (find (λ (x : Trip). is_taste_root x.owner) xs) none)),
+    )
 
 -- another request is gone, or the only read
 pub read-kept : (b : ℕ) (x : Trip) (xs : List Trip) → Around (λ (z : Trip). z.number) b x xs
@@ -337,9 +230,7 @@ read-gone b x xs r reads one =
 module _ (t : Topology Config) (disk : ℕ) where
   -- one came that isn't at its disk
   pub busy-other : (xs : List Trip) (z : Trip) → z.busy ≡ false → busy_at t (xs ++ z ∷ []) disk ≡ busy_at t xs disk
-  busy-other xs z idle =
-      ap (option_map (λ (x : Trip). x.number))
-      (find-before (is_at_disk t disk) xs (z ∷ []) (rw idle refl, tt))
+  busy-other xs z idle = search (rules, find-before (is_at_disk t disk) xs (z ∷ []) (rw idle refl, tt))
 
   -- one is gone that wasn't
   pub busy-kept : (b : ℕ) (x : Trip) (xs : List Trip) → Around (λ (z : Trip). z.number) b x xs → x.busy ≡ false
@@ -353,12 +244,7 @@ module _ (t : Topology Config) (disk : ℕ) where
 pub find-skip : {X : Type 0} (p : X → Bool) (front back : List X) (x : X) → p x ≡ false
     → find p (front ++ x ∷ back) ≡ find p (front ++ back)
 find-skip p [] back x fails = rw fails refl
-find-skip p (y ∷ ys) back x fails = at (p y) refl (find-skip p ys back x fails)
-  where
-    at : (b : Bool) → p y ≡ b → find p (ys ++ x ∷ back) ≡ find p (ys ++ back)
-        → find p ((y ∷ ys) ++ x ∷ back) ≡ find p ((y ∷ ys) ++ back)
-    at true e rest = rw e refl
-    at false e rest = rw e rest
+find-skip p (y ∷ ys) back x fails = search (rules, find-skip p ys back x fails)
 
 module _ (t : Topology Config) (disk b : ℕ) (x : Trip) (xs : List Trip) (r : Around (λ (z : Trip). z.number) b x xs)
     (there : disk_at t x.target ≡ Some disk) where
@@ -369,28 +255,25 @@ module _ (t : Topology Config) (disk b : ℕ) (x : Trip) (xs : List Trip) (r : A
   changed_to : (busy : Bool) (d : ℕ)
       → busy_at t (change_where (λ z. z.number == b) (λ z. record z { busy = busy }) xs) d
       ≡ option_map (λ (z : Trip). z.number) (find (is_at_disk t d) (r.front ++ moved busy ∷ r.back))
-  changed_to busy d =
-      ap (λ zs. busy_at t zs d) (around-changed (λ (z : Trip). z.number) b x xs r (λ z. record z { busy = busy }))
+  changed_to busy d = search (rules, around-changed (λ (z : Trip). z.number) b x xs r (λ z. record z { busy = busy }))
 
   -- it is at no other disk
   elsewhere : (busy : Bool) (d : ℕ) → (d == disk) ≡ false → is_at_disk t d (moved busy) ≡ false
   elsewhere false d other = refl
-  elsewhere true d other =
-      ap (λ o. option_map_or (λ n. n == d) o false) there ∙ eqb_sym disk d ∙ other
+  elsewhere true d other = search rules
 
   -- so at another disk nothing changes
   at_others : (busy : Bool) (d : ℕ) → (d == disk) ≡ false
       → busy_at t (change_where (λ z. z.number == b) (λ z. record z { busy = busy }) xs) d ≡ busy_at t xs d
   at_others busy d other =
-      changed_to busy d
-      ∙ ap (option_map (λ (z : Trip). z.number))
-      (find-skip (is_at_disk t d) r.front r.back (moved busy) (elsewhere busy d other)
-      ∙ sym (find-skip (is_at_disk t d) r.front r.back x (was x.busy refl)))
-      ∙ sym (ap (λ zs. busy_at t zs d) r.is)
-    where
-      was : (c : Bool) → x.busy ≡ c → is_at_disk t d x ≡ false
-      was true e = rw e (elsewhere true d other)
-      was false e = rw e refl
+      search (
+        rules,
+        changed_to busy d,
+        find-skip (is_at_disk t d) r.front r.back (moved busy) (elsewhere busy d other),
+        find-skip (is_at_disk t d) r.front r.back x,
+        ap (λ zs. busy_at t zs d) r.is,
+        elsewhere,
+      )
 
   -- it came to the disk, at which nothing was
   pub busy-taken : busy_at t xs disk ≡ None → (d : ℕ)
@@ -427,12 +310,7 @@ module _ (t : Topology Config) (disk b : ℕ) (x : Trip) (xs : List Trip) (r : A
       apart : (zs : List Trip) → AllByRecursion (λ z. is_at_disk t disk z ≡ true → (z.number == b) ≡ true) zs
           → AllByRecursion (λ z. (z.number == b) ≡ false) zs → AllByRecursion (λ z. is_at_disk t disk z ≡ false) zs
       apart [] so others = tt
-      apart (z ∷ zs) so others = (one (is_at_disk t disk z) refl so.0 others.0, apart zs so.1 others.1)
-        where
-          one : (c : Bool) → is_at_disk t disk z ≡ c → (is_at_disk t disk z ≡ true → (z.number == b) ≡ true)
-              → (z.number == b) ≡ false → is_at_disk t disk z ≡ false
-          one true e so other = let never : true ≡ false = sym (so e) ∙ other in absurd cc
-          one false e so other = e
+      apart (z ∷ zs) so others = search (rules, apart zs)
 
       whole : AllByRecursion (λ z. is_at_disk t disk z ≡ true → (z.number == b) ≡ true) (r.front ++ x ∷ r.back)
       whole = rw r.is at alone

@@ -1,11 +1,10 @@
 -- What is kept beside the parts is what the mesh's definitions search for.
-use Rattle.std.specs.Prelude.{◌≡◌, ℕ, ◌+◌, ◌==◌, Bool, true, false, not, ◌&&◌, ◌||◌, List, [], ◌∷◌, map, find, count_by, cond, Option, Some, None, IsSome, slice_get, if◌then◌else◌}
+use Rattle.std.specs.Prelude.{◌≡◌, ℕ, ◌+◌, ◌==◌, Bool, false, not, ◌&&◌, ◌||◌, List, [], ◌∷◌, map, find, count_by, Option, Some, None, IsSome, slice_get}
 use Rattle.std.specs.List.{AllByRecursion, list_any}
 use Rattle.std.specs.Option.{option_map, option_map_or}
-use Rattle.std.proofs.Common.{refl, sym, ◌∙◌, ap, subst, arith, inl}
+use Rattle.std.proofs.Common.{refl, sym, ◌∙◌, ap, subst, rules}
 use Rattle.std.proofs.Math.Bool.{and-false, and-true, or-false, not-not}
-use Rattle.std.proofs.lemmas.Bool.{eqb-true, ne_eqb}
-use Rattle.geo_base.proofs.Options.{at-found}
+use Rattle.std.proofs.lemmas.Bool.{ne_eqb}
 use Rattle.geo_base.specs.declared.request.Counts.{Counts}
 use Rattle.geo_model.specs.declared.step.Owner.{Owner}
 use Rattle.geo_model.specs.declared.step.Owner.TheVariants as owners
@@ -27,8 +26,7 @@ use Rattle.geo_state.specs.Trips.{Trip, trip_of, trips, is_out, out_through, can
 use Rattle.geo_state.specs.World.{world}
 use Rattle.geo_state.specs.Holds.{Holds, IsSeat}
 use Rattle.geo_state.specs.Views.{StatesShow}
-use Rattle.geo_state.proofs.Lists.{counts, count-skip, count-step}
-use Rattle.geo_state.proofs.TripLemmas.{eqb_sym}
+use Rattle.geo_state.proofs.Lists.{count-skip, count-step}
 use Rattle.geo_state.proofs.Fields.{noted-same}
 use Rattle.geo_state.proofs.FirmLemmas.{under-way_in, none-out}
 use Rattle.geo_state.proofs.Rises.{active-at}
@@ -37,18 +35,8 @@ use Rattle.geo_base.proofs.AllLists.{of_each}
 -- whether any passes, by how many pass
 any-counted : {X : Type 0} (p : X → Bool) (xs : List X) → list_any p xs ≡ not (count_by p xs == 0)
 any-counted p [] = refl
-any-counted p (x ∷ xs) = at (p x) refl (any-counted p xs)
-  where
-    at : (b : Bool) → p x ≡ b → list_any p xs ≡ not (count_by p xs == 0)
-        → list_any p (x ∷ xs) ≡ not (count_by p (x ∷ xs) == 0)
-    at true e rest =
-        let one : counts p x ≡ 1 = ap (λ c. if c then 1 else 0) e in
-        let step : count_by p (x ∷ xs) ≡ counts p x + count_by p xs = count-step p x xs in
-        let some : (count_by p (x ∷ xs) == 0) ≡ false =
-        ne_eqb (count_by p (x ∷ xs)) 0 (λ same. omega (arith, one, step, same)) in
-        ap (λ c. c || list_any p xs) e ∙ sym (ap not some)
-    at false e rest =
-        ap (λ c. c || list_any p xs) e ∙ rest ∙ ap (λ n. not (n == 0)) (sym (count-skip p x xs e))
+any-counted p (x ∷ xs) =
+    search (rules, any-counted p xs, count-step p x xs, ne_eqb (count_by p (x ∷ xs)) 0, count-skip p x xs)
 
 module _ (log : ℕ → Option (List ℕ)) where
   -- a test of trips among the bios of a world
@@ -56,8 +44,7 @@ module _ (log : ℕ → Option (List ℕ)) where
       → ((x : BioOf Held) → p (shown_bio log x) ≡ q (trip_of x)) → (bios : List (BioOf Held))
       → list_any p (shown_bios log bios) ≡ list_any q (trips bios)
   any-shown p q same [] = refl
-  any-shown p q same (x ∷ xs) =
-      ap (λ c. c || list_any p (shown_bios log xs)) (same x) ∙ ap (λ c. q (trip_of x) || c) (any-shown p q same xs)
+  any-shown p q same (x ∷ xs) = search (rules, ap (λ c. q (trip_of x) || c) (any-shown p q same xs))
 
   -- the number of the first
   first-shown : (p : Bio → Bool) (q : Trip → Bool)
@@ -65,22 +52,7 @@ module _ (log : ℕ → Option (List ℕ)) where
       → option_map (λ (x : Bio). x.number) (find p (shown_bios log bios))
       ≡ option_map (λ (x : Trip). x.number) (find q (trips bios))
   first-shown p q same [] = refl
-  first-shown p q same (x ∷ xs) = at (q (trip_of x)) refl (first-shown p q same xs)
-    where
-      at : (b : Bool) → q (trip_of x) ≡ b
-          → option_map (λ (x : Bio). x.number) (find p (shown_bios log xs))
-          ≡ option_map (λ (x : Trip). x.number) (find q (trips xs))
-          → option_map (λ (x : Bio). x.number) (find p (shown_bios log (x ∷ xs)))
-          ≡ option_map (λ (x : Trip). x.number) (find q (trips (x ∷ xs)))
-      at true e rest =
-          ap (λ c. option_map (λ (y : Bio). y.number) (cond c (Some (shown_bio log x)) (find p (shown_bios log xs))))
-          (same x ∙ e)
-          ∙ sym (ap (λ c. option_map (λ (y : Trip). y.number) (cond c (Some (trip_of x)) (find q (trips xs)))) e)
-      at false e rest =
-          ap (λ c. option_map (λ (y : Bio). y.number) (cond c (Some (shown_bio log x)) (find p (shown_bios log xs))))
-          (same x ∙ e)
-          ∙ rest
-          ∙ sym (ap (λ c. option_map (λ (y : Trip). y.number) (cond c (Some (trip_of x)) (find q (trips xs)))) e)
+  first-shown p q same (x ∷ xs) = search (rules, first-shown p q same xs)
 
 -- a handle of the actor with the number, by the one that has the number
 any-none : (p : Handle → Bool) (hs : List Handle) → AllByRecursion (λ h. p h ≡ false) hs → list_any p hs ≡ false
@@ -91,32 +63,23 @@ module _ (actor : ℕ) (hd : ℕ) where
   rest-none : (ks : List Handle) → AllByRecursion (λ (k : Handle). (k.number == hd) ≡ false) ks
       → AllByRecursion (λ (k : Handle). ((k.actor == actor) && (hd == k.number)) ≡ false) ks
   rest-none [] none = tt
-  rest-none (k ∷ ks) none = (no (k.actor == actor), rest-none ks none.1)
-    where
-      no : (b : Bool) → (b && (hd == k.number)) ≡ false
-      no true = eqb_sym hd k.number ∙ none.0
-      no false = refl
+  rest-none (k ∷ ks) none = search (rules, rest-none ks none.1)
 
   any-of : (low high : ℕ) (hs : List Handle) → Rise low (map (λ (h : Handle). h.number) hs) high
       → list_any (λ (h : Handle). (h.actor == actor) && (hd == h.number)) hs
       ≡ option_map_or (λ (h : Handle). h.actor == actor) (find (λ (h : Handle). hd == h.number) hs) false
   any-of low high [] rise = refl
-  any-of low high (h ∷ hs) rise = at (hd == h.number) refl (any-of (h.number + 1) high hs rise.2)
-    where
-      at : (b : Bool) → (hd == h.number) ≡ b
-          → list_any (λ (k : Handle). (k.actor == actor) && (hd == k.number)) hs
-          ≡ option_map_or (λ (k : Handle). k.actor == actor) (find (λ (k : Handle). hd == k.number) hs) false
-          → list_any (λ (k : Handle). (k.actor == actor) && (hd == k.number)) (h ∷ hs)
-          ≡ option_map_or (λ (k : Handle). k.actor == actor) (find (λ (k : Handle). hd == k.number) (h ∷ hs)) false
-      at true e rest =
-          let same : hd ≡ h.number = eqb-true hd h.number e in
-          let none : list_any (λ (k : Handle). (k.actor == actor) && (hd == k.number)) hs ≡ false =
-          any-none (λ (k : Handle). (k.actor == actor) && (hd == k.number)) hs
-          (rest-none hs
-          (none_outside (λ (k : Handle). k.number) (h.number + 1) high hd hs rise.2
-          (inl (omega (arith, same))))) in
-          rw (e, none) (or-false ((h.actor == actor) && true) ∙ and-true (h.actor == actor))
-      at false e rest = rw (e, and-false (h.actor == actor)) rest
+  any-of low high (h ∷ hs) rise =
+      search (
+        rules,
+        any-of (h.number + 1) high hs rise.2,
+        any-none (λ (k : Handle). (k.actor == actor) && (hd == k.number)) hs,
+        rest-none hs,
+        none_outside (λ (k : Handle). k.number) (h.number + 1) high hd hs rise.2,
+        or-false,
+        and-true (h.actor == actor),
+        and-false (h.actor == actor),
+      )
 
 -- whether the bio is of a line of the actor
 of-actor : (handles : List Handle) (next : ℕ) → AreNumbers (map (λ (h : Handle). h.number) handles) next
@@ -152,27 +115,13 @@ active-is s c h none = on (consumer_at s.topo.topology c) refl
         (map (λ (y : Consumer). let row : ℕ × ℕ = (y.number, out_through (trips s.traffic.bios) y.number) in row) cs) c
         ≡ None
     lost [] e = refl
-    lost (y ∷ ys) e = at (y.number == c) refl (lost ys)
-      where
-        at : (b : Bool) → (y.number == c) ≡ b
-            → (find (λ (z : Consumer). z.number == c) ys ≡ None
-            → value_at (map (λ (z : Consumer). let row : ℕ × ℕ =
-            (z.number, out_through (trips s.traffic.bios) z.number) in row) ys) c ≡ None)
-            → value_at (map (λ (z : Consumer). let row : ℕ × ℕ =
-            (z.number, out_through (trips s.traffic.bios) z.number) in row) (y ∷ ys)) c ≡ None
-        at true f rest = let never : Some y ≡ None = (rw f at e) in absurd cc
-        at false f rest = rw f (rest (rw f at e))
+    lost (y ∷ ys) e = search (rules, lost ys)
 
     on : (o : Option Consumer) → consumer_at s.topo.topology c ≡ o
         → option_map_or (λ n. not (n == 0)) (value_at s.topo.active c) false
         ≡ not (out_through (trips s.traffic.bios) c == 0)
-    on None e =
-        ap (λ rows. option_map_or (λ n. not (n == 0)) (value_at rows c) false) h.active
-        ∙ ap (λ o. option_map_or (λ n. not (n == 0)) o false) (lost s.topo.topology.consumers e)
-        ∙ ap (λ n. not (n == 0)) (sym (none e))
-    on (Some x) e =
-        ap (λ o. option_map_or (λ n. not (n == 0)) o false)
-        (active-at s.topo (trips s.traffic.bios) c h.active (subst IsSome (sym e) refl))
+    on None e = search (rules, lost s.topo.topology.consumers e)
+    on (Some x) e = search (rules, active-at s.topo (trips s.traffic.bios) c h.active (subst IsSome (sym e) refl))
 
 pub states_show : StatesShow
 states_show log s actors h firm =
@@ -220,6 +169,4 @@ states_show log s actors h firm =
 
     seat_of : (disk : ℕ) (seat : DiskSeat) → slice_get s.disks.items disk ≡ Some seat
         → IsSeat s.topo.topology (trips s.traffic.bios) disk seat.geom seat.busy
-    seat_of disk seat at =
-        at-found (slice_get s.disks.items disk)
-        (λ (x : DiskSeat). IsSeat s.topo.topology (trips s.traffic.bios) disk x.geom x.busy) seat at (h.seats disk)
+    seat_of disk seat at = search rules

@@ -1,11 +1,9 @@
 -- The first bio from a number on that passes a test.
-use Rattle.std.specs.Prelude.{◌≡◌, ℕ, ◌+◌, ◌<◌, ◌≤◌, ◌==◌, nat_le, Bool, true, false, ◌&&◌, List, [], ◌∷◌, find, count_by, Some, None, slice_get}
+use Rattle.std.specs.Prelude.{◌≡◌, ℕ, ◌+◌, ◌<◌, ◌≤◌, nat_le, Bool, true, false, ◌&&◌, List, [], ◌∷◌, find, count_by, Some, None, slice_get}
 use Rattle.std.specs.List.{AllByRecursion}
 use Rattle.std.specs.Option.{option_map}
-use Rattle.std.proofs.Common.{refl, sym, ◌∙◌, ap, subst, arith}
-use Rattle.std.proofs.Math.Bool.{and-false}
-use Rattle.std.proofs.lemmas.Bool.{eq-eqb, ne_eqb, le-leb, lt-leb, leb-true, leb-false}
-use Rattle.geo_base.proofs.Options.{at-found}
+use Rattle.std.proofs.Common.{refl, sym, ◌∙◌, ap, subst, arith, rules}
+use Rattle.std.proofs.lemmas.Bool.{eq-eqb, ne_eqb, lt-leb, leb-true, leb-false}
 use Rattle.geo_base.proofs.FindLists.{find_agree}
 use Rattle.geo_model.specs.declared.step.Owner.TheVariants as owners
 use Rattle.geo_model.specs.World.{BioOf, Handle}
@@ -20,7 +18,7 @@ use Rattle.geo_state.specs.Trips.{Trip, trip_of, trips, handle_of_owner, is_own,
 use Rattle.geo_state.specs.Oldest.{passes, first_passing}
 use Rattle.geo_state.specs.Holds.{Holds}
 use Rattle.geo_state.proofs.Lists.{find-none}
-use Rattle.geo_state.proofs.TripLemmas.{eqb_sym, none-counted}
+use Rattle.geo_state.proofs.TripLemmas.{none-counted}
 use Rattle.geo_base.proofs.AllLists.{of_each}
 
 -- The walk from a number on
@@ -33,11 +31,7 @@ module _ (test : BioOf Held → Bool) where
   -- where no number is reached, nothing is found
   none_reached : (low : ℕ) (bios : List (BioOf Held)) → bio_from bios low ≡ None → find (from_on low) bios ≡ None
   none_reached low [] none = refl
-  none_reached low (x ∷ xs) none = at (nat_le low x.number) refl (none_reached low xs) where
-    at : (b : Bool) → nat_le low x.number ≡ b → (bio_from xs low ≡ None → find (from_on low) xs ≡ None)
-        → find (from_on low) (x ∷ xs) ≡ None
-    at true e later = absurd (let never : Some x.number ≡ None = rw e at none in cc)
-    at false e later = let rest : bio_from xs low ≡ None = rw e at none in rw e (later rest)
+  none_reached low (x ∷ xs) none = search (rules, none_reached low xs)
 
   pub walk_ends : (low : ℕ) (bios : List (BioOf Held)) → bio_from bios low ≡ None → first_passing test bios low ≡ None
   walk_ends low bios none = ap (option_map (λ (x : BioOf Held). x.number)) (none_reached low bios none)
@@ -46,22 +40,8 @@ module _ (test : BioOf Held → Bool) where
   pub walk_hits : (low b : ℕ) (bios : List (BioOf Held)) → Rising bios → bio_from bios low ≡ Some b
       → passes test bios b ≡ true → first_passing test bios low ≡ Some b
   walk_hits low b [] rising first hits = absurd cc
-  walk_hits low b (x ∷ xs) rising first hits = at (nat_le low x.number) refl (walk_hits low b xs rising.1) where
-    at : (d : Bool) → nat_le low x.number ≡ d
-        → (bio_from xs low ≡ Some b → passes test xs b ≡ true → first_passing test xs low ≡ Some b)
-        → first_passing test (x ∷ xs) low ≡ Some b
-    at true e later =
-        let here : Some x.number ≡ Some b = rw e at first in
-        let same : x.number ≡ b = cc in
-        let hit : test x ≡ true = rw (eq-eqb x.number b same) at hits in
-        rw (e, hit) here
-    at false e later =
-        let rest : bio_from xs low ≡ Some b = rw e at first in
-        let above = reached_above (λ p. true) low b xs rest in
-        let less = leb-false low x.number e in
-        let differs = ne_eqb x.number b (λ same. omega (arith, same, less, above)) in
-        let there : passes test xs b ≡ true = rw differs at hits in
-        rw e (later rest there)
+  walk_hits low b (x ∷ xs) rising first hits =
+      search (rules, walk_hits low b xs rising.1, reached_above, leb-false low x.number, ne_eqb x.number b)
 
   -- from one that doesn't pass the walk goes on behind it
   pub walk_goes_on : (low b : ℕ) (bios : List (BioOf Held)) → Rising bios → bio_from bios low ≡ Some b
@@ -73,10 +53,7 @@ module _ (test : BioOf Held → Bool) where
       behind : low ≤ b → (ys : List (BioOf Held)) → AllByRecursion (λ y. b < y.number) ys
           → AllByRecursion (λ y. from_on (b + 1) y ≡ from_on low y) ys
       behind under [] all = tt
-      behind under (y ∷ ys) all = (
-        rw (le-leb (b + 1) y.number (omega (arith, all.0)), le-leb low y.number (omega (arith, under, all.0))) refl,
-        behind under ys all.1,
-      )
+      behind under (y ∷ ys) all = search (rules, behind under ys all.1)
 
       at : (d : Bool) → nat_le low x.number ≡ d
           → (bio_from xs low ≡ Some b → passes test xs b ≡ false
@@ -90,13 +67,7 @@ module _ (test : BioOf Held → Bool) where
           rw (e, miss, lt-leb (b + 1) x.number (omega (arith, same)))
           (ap (option_map (λ (y : BioOf Held). y.number)) (find_agree (from_on (b + 1)) (from_on low) xs
           (behind under xs (subst (λ m. AllByRecursion (λ y. m < y.number) xs) same rising.0))))
-      at false e later =
-          let rest : bio_from xs low ≡ Some b = rw e at first in
-          let above = reached_above (λ p. true) low b xs rest in
-          let less = leb-false low x.number e in
-          let differs = ne_eqb x.number b (λ same. omega (arith, same, less, above)) in
-          let there : passes test xs b ≡ false = rw differs at fails in
-          rw (e, lt-leb (b + 1) x.number (omega (arith, less, above))) (later rest there)
+      at false e later = search (rules, reached_above (λ p. true) low b xs)
 
 -- the first that passes, by trips
 first-trips : (handles : List Handle) (actor low : ℕ) (bios : List (BioOf Held))
@@ -104,29 +75,17 @@ first-trips : (handles : List Handle) (actor low : ℕ) (bios : List (BioOf Held
     → first_passing (λ (x : BioOf Held). is_own handles actor (trip_of x)) bios low
     ≡ own_first handles (trips bios) actor
 first-trips handles actor low [] above = refl
-first-trips handles actor low (x ∷ xs) above =
-    at (is_own handles actor (trip_of x)) refl (first-trips handles actor low xs above.1)
-  where
-    at : (b : Bool) → is_own handles actor (trip_of x) ≡ b
-        → first_passing (λ (y : BioOf Held). is_own handles actor (trip_of y)) xs low
-        ≡ own_first handles (trips xs) actor
-        → first_passing (λ (y : BioOf Held). is_own handles actor (trip_of y)) (x ∷ xs) low
-        ≡ own_first handles (trips (x ∷ xs)) actor
-    at true e rest = rw (e, le-leb low x.number (above.0 e)) refl
-    at false e rest = rw (e, and-false (nat_le low x.number)) rest
+first-trips handles actor low (x ∷ xs) above = search (rules, first-trips handles actor low xs above.1)
 
 -- none is out
 none-first : (handles : List Handle) (actor : ℕ) (xs : List Trip) → count_by (is_own handles actor) xs ≡ 0
     → own_first handles xs actor ≡ None
 none-first handles actor xs none =
-    ap (option_map (λ (x : Trip). x.number))
-    (find-none (is_own handles actor) xs (none-counted (is_own handles actor) xs none))
+    search (rules, find-none (is_own handles actor) xs (none-counted (is_own handles actor) xs none))
 
 module _ (s : State) (h : Holds s) (actor : ℕ) (o : OwnBios) (found : slice_get s.own.items actor ≡ Some o) where
   own_count : IsOwnCount s.handles.handles (trips s.traffic.bios) actor o.count o.low
-  own_count =
-      at-found (slice_get s.own.items actor)
-      (λ (x : OwnBios). IsOwnCount s.handles.handles (trips s.traffic.bios) actor x.count x.low) o found (h.own actor)
+  own_count = search rules
 
   -- where none is out there is no first
   pub oldest-none : o.count ≡ 0 → own_first s.handles.handles (trips s.traffic.bios) actor ≡ None
@@ -149,9 +108,7 @@ oldest-of-all handles actor bios =
 
 pub owner_line : (handles : List Handle) (hd line : ℕ)
     → handle_of_owner handles (owners.Line hd line) ≡ handle_at handles hd
-owner_line handles hd line =
-    find_agree (λ (h : Handle). hd == h.number) (λ (h : Handle). h.number == hd) handles
-    (of_each (λ (h : Handle). (hd == h.number) ≡ (h.number == hd)) (λ h. eqb_sym hd h.number) handles)
+owner_line handles hd line = search rules
 
 pub owner_taste : (handles : List Handle) → handle_of_owner handles owners.Taste ≡ None
 owner_taste [] = refl
