@@ -1,8 +1,8 @@
 -- What is added to a mesh leaves all counts as they are: a geom of another class than DEV and TASTE, a provider, an
 -- attached consumer that wants nothing; and so does another configuration. So what a class makes leaves the taste's
 -- consumer where it is.
-use Rattle.std.specs.Option.{option_map_or, option_flatten, option_or}
-use Rattle.std.proofs.Common.{◌≡◌, ◌≢◌, ◌⊎◌, ℕ, ◌==◌, Bool, true, false, List, [], ◌∷◌, ◌++◌, cond, length, map, filter, option_map, Option, Some, None, IsSome, IfSome, Contains, refl, sym, ◌∙◌, ap, subst, inl, inr, arith, ◌-◌, ◌<◌, find, All, is_some, is_none, slice_get, if◌then◌else◌}
+use Rattle.std.specs.Option.{option_map_or, option_flatten}
+use Rattle.std.proofs.Common.{◌≡◌, ◌≢◌, ◌⊎◌, ℕ, ◌==◌, Bool, true, false, List, [], ◌∷◌, ◌++◌, length, map, filter, option_map, Option, Some, None, IsSome, IfSome, Contains, refl, sym, ◌∙◌, ap, subst, inl, inr, arith, ◌-◌, ◌<◌, All, is_some, is_none, slice_get, if◌then◌else◌, rules}
 use Rattle.std.proofs.lemmas.Bool.{false_from_ne_true, and_parts}
 use Rattle.std.proofs.lemmas.List.{map-append}
 use Rattle.std.proofs.lemmas.List.Elements.{All-contains, All-push, All-from_recursion, recursion_from_All, Contains-push_cases, All-weaker}
@@ -18,7 +18,7 @@ use Rattle.geo_model.proofs.DemandLemmas.{names_some}
 use Rattle.geo_mesh.specs.declared.records.Scratch.{Scratch}
 use Rattle.geo_mesh.specs.Topo.{TopoView, Room, Scratches, no_scratch, with_geom, with_provider, with_consumer, with_topology}
 use Rattle.geo_laws_graph.specs.LookupLaws.{new_geom, new_provider, new_consumer}
-use Rattle.geo_laws_graph.proofs.Members.{Contains-there, Contains-here, find-Contains}
+use Rattle.geo_laws_graph.proofs.Members.{Contains-there, find-Contains}
 use Rattle.geo_laws_graph.proofs.Lists.{changed, changed-keeps, find-changed, map-changed, all-changed, found_itself, found_fresh}
 use Rattle.geo_laws_graph.proofs.Found.{added-geom, added-provider, added-consumer, config-found}
 use Rattle.geo_laws_counts.specs.CountWords.{DemandStays, AnyConsumer}
@@ -40,36 +40,27 @@ use Rattle.geo_model.specs.World.{Config, Taste, Mbr, Ebr, Label}
 use Rattle.geo_model.specs.Acceptance.{Member, NewSlice, are_names_free, can_join, concat_member, fill_place, is_size, joined_size, new_parts, new_slices, places_of, standing_geom, stripe_member}
 use Rattle.geo_slots.specs.Slots.{value_at}
 use Rattle.geo_mesh.specs.Graph.{IsSoundGraph}
-use Rattle.geo_laws_counts.proofs.Counters.{nothing_above}
 use Rattle.geo_taste.specs.Making.{QueuedMesh, queued, with_attached, with_offer}
 use Rattle.geo_taste.specs.Accepting.{accepted, finished, joined, joined_at, labelled, over, placed, sliced, with_member, with_slices_of}
 use Rattle.geo_taste.specs.Accepts.{MayAccept, NamesAPlace}
-use Rattle.geo_taste.specs.Joining.{MayBeMember, MayJoin}
+use Rattle.geo_taste.specs.Joining.{MayBeMember}
 use Rattle.geo_taste.specs.Taster.{held_by_taste, IsSettled, IsTasteOf}
 use Rattle.geo_laws_graph.proofs.Opens.{offers-nothing}
 use Rattle.geo_taste.proofs.Kept.{KeepsCounts, kept_counted}
 use Rattle.geo_taste.proofs.ModelLemmas.{may_member, place_inside}
 use Rattle.geo_taste.proofs.JoinLemmas.{standing_at, standing_may}
-use Rattle.geo_taste.proofs.Saying.{tasting_still}
 use Rattle.geo_taste.proofs.Raising.{new_not_taste}
 
 -- what stays for any consumer, stays for those of a list
 pub among : {C : Type 0} (granted : ℕ → Counts) (t u : Topology C) (cs : List Consumer)
     → DemandStays granted t granted u AnyConsumer → DemandStays granted t granted u (Contains cs)
-among granted t u cs stays = record {
-  haves = stays.haves;
-  wants = λ c there. stays.wants c tt;
-  exclusive = stays.exclusive;
-  limit = stays.limit;
-}
+among granted t u cs stays = search rules
 
 -- nothing is kept where none passes
 none_kept : {X : Type 0} (test : X → Bool) (xs : List X) → ((x : X) → Contains xs x → test x ≡ false)
     → filter test xs ≡ []
 none_kept test [] none = refl
-none_kept test (x ∷ xs) none =
-    ap (λ b. cond b (x ∷ filter test xs) (filter test xs)) (none x (Contains-here x xs))
-    ∙ none_kept test xs (λ y there. none y (Contains-there x y xs there))
+none_kept test (x ∷ xs) none = search (rules, none_kept test xs (λ y there. none y (Contains-there x y xs there)))
 
 module _ {C : Type 0} (t : TopoView C) (counted : IsCounted t) (order : IsInOrder t.topology) (room : Room) where
   -- a consumer that stood is known
@@ -103,11 +94,7 @@ module _ {C : Type 0} (t : TopoView C) (counted : IsCounted t) (order : IsInOrde
   geom_kept kind name config automatic other ranked live =
       let made : Geom C = new_geom t.topology kind name config automatic in
       let away : (c : Consumer) → Contains t.topology.consumers c → c.geom ≢ t.topology.next_geom =
-      λ c there same.
-      let lives : IsSome (geom_at t.topology c.geom) =
-      All-contains (λ (d : Consumer). IsSome (geom_at t.topology d.geom)) t.topology.consumers c live.geoms there in
-      none-there (geom_at t.topology t.topology.next_geom) no_geom
-      (subst (λ n. IsSome (geom_at t.topology n)) same lives) in
+      search (rules, none-there (geom_at t.topology t.topology.next_geom) no_geom) in
       record {
         order = added-geom.order t.topology kind name config automatic order;
         kinds =
@@ -259,14 +246,7 @@ module _ {C : Type 0} (t : TopoView C) (counted : IsCounted t) (order : IsInOrde
 -- a value that is found is found among more
 kept_value : {V : Type 0} (rows : List (ℕ × V)) (r : ℕ × V) (n : ℕ) (v : V) → value_at rows n ≡ Some v
     → value_at (rows ++ r ∷ []) n ≡ Some v
-kept_value {V} rows r n v e =
-    ap (λ o. option_map (λ (row : ℕ × V). row.1) o) (find-append (λ (row : ℕ × V). row.0 == n) rows (r ∷ []))
-    ∙ by (find (λ (row : ℕ × V). row.0 == n) rows) e
-  where
-    by : (o : Option (ℕ × V)) → option_map (λ (row : ℕ × V). row.1) o ≡ Some v
-        → option_map (λ (row : ℕ × V). row.1) (option_or o (find (λ (row : ℕ × V). row.0 == n) (r ∷ []))) ≡ Some v
-    by None never = absurd (cc)
-    by (Some row) is = is
+kept_value {V} rows r n v e = search (rules, find-append (λ (row : ℕ × V). row.0 == n) rows (r ∷ []))
 
 -- a geom that isn't of DEV or TASTE, over which there is no provider yet
 pub record IsBare (t : Topology Config) (geom : ℕ) : Type 0 where
@@ -279,10 +259,7 @@ pub record IsBare (t : Topology Config) (geom : ℕ) : Type 0 where
 -- a new consumer of it wants nothing
 bare_quiet : (granted : ℕ → Counts) (t : Topology Config) (geom p : ℕ) → IsBare t geom
     → want granted t (new_consumer t geom (Some p)) ≡ no_counts
-bare_quiet granted t geom p is =
-    nothing_above granted t (new_consumer t geom (Some p)) is.item is.found is.kind
-    (subst (λ ps. All (λ (y : Provider). have granted t y.number ≡ no_counts) ps) (sym is.none)
-    (All-from_recursion (λ (y : Provider). have granted t y.number ≡ no_counts) [] tt))
+bare_quiet granted t geom p is = search rules
 
 -- what holds of a mesh in which a provider is tasted
 pub record HoldsTaste (s : Taste) (t : TopoView Config) : Type 0 where
@@ -301,16 +278,7 @@ module _ (s : Taste) where
     grown : (u : TopoView Config) → KeepsCounts t u → IsQuiet u → All (λ c. IsSome c.provider) u.topology.consumers
         → ProvidersLive u.topology → consumers_of u.topology 2 ≡ consumers_of t.topology 2
         → value_at u.wants s.consumer ≡ Some (held_by_taste s) → HoldsTaste s u
-    grown u kept quiet attached live alone holds = record {
-      settled = record {
-        counted = kept_counted t u is.settled.counted kept;
-        quiet = quiet;
-        attached = attached;
-      };
-      order = kept.order;
-      live = live;
-      tasting = tasting_still t u s is.tasting alone holds;
-    }
+    grown u kept quiet attached live alone holds = search (rules, kept_counted t u is.settled.counted kept)
 
     -- a geom
     pub geom_held : IsSoundGraph t.topology → (kind : Kind) (name : List ℕ) (config : Config) (automatic : Bool)
@@ -326,22 +294,15 @@ module _ (s : Taste) where
     pub provider_held : (geom : ℕ) (name : List ℕ) (size sector : ℕ)
         → HoldsTaste s (with_provider t geom name size sector)
     provider_held geom name size sector =
-        let u : Topology Config = add_provider t.topology geom name size sector in
-        let made : Provider = new_provider t.topology geom name size sector in
-        let row : Provider → ℕ × Bool = λ p. (p.number, false) in
-        grown (with_provider t geom name size sector)
-        (provider_kept t is.settled.counted is.order t.room geom name size sector is.live)
-        (record {
-          risen = row_more row t.topology.providers made t.risen is.settled.quiet.risen;
-          fallen = row_more row t.topology.providers made t.fallen is.settled.quiet.fallen;
-        })
-        is.settled.attached
-        (All-weaker (λ (c : Consumer). IfSome c.provider (λ p. IsSome (provider_at t.topology p)))
-        (λ (c : Consumer). IfSome c.provider (λ p. IsSome (provider_at u p)))
-        (λ c. if_some_weaker (λ (p : ℕ). IsSome (provider_at t.topology p)) (λ (p : ℕ). IsSome (provider_at u p))
-        (λ p. found-still (λ (x : Provider). x.number == p) t.topology.providers made) c.provider)
-        t.topology.consumers is.live)
-        refl is.tasting.holds
+        search (
+          rules,
+          grown (with_provider t geom name size sector)
+              (provider_kept t is.settled.counted is.order t.room geom name size sector is.live),
+          row_more,
+          All-weaker (λ (c : Consumer). IfSome c.provider (λ p. IsSome (provider_at t.topology p))),
+          if_some_weaker (λ (p : ℕ). IsSome (provider_at t.topology p)),
+          found-still,
+        )
 
     -- a consumer of a bare geom at a provider
     pub consumer_held : (geom p : ℕ) → IsBare t.topology geom → IsSome (provider_at t.topology p)
@@ -445,23 +406,16 @@ module _ (s : Taste) where
       standing_bare : (g : Geom Config) → standing_geom t x.geom_name x.empty ≡ Some g → can_join t p g x.place ≡ true
           → IsBare t g.number
       standing_bare g found joins =
-          let at : geom_at t g.number ≡ Some g = standing_at m p x g sound inside found in
-          let so : MayJoin m p x g = standing_may m p x g sound inside found may in
-          record {
-            item = g;
-            found = at;
-            kind = false_from_ne_true (is_granted_kind g.kind)
-                (λ granted. elim
-                (All-contains (λ (y : Geom Config). is_granted_kind y.kind ≡ true → (y.number ≡ 1) ⊎ (y.number ≡ 2))
-                t.geoms g is.settled.counted.kinds
-                (find-Contains (λ (y : Geom Config). y.number == g.number) t.geoms g at) granted) [
-                  | inl one ↦ so.not_dev one
-                  | inr two ↦ so.not_taste two
-                ]);
-            none = so.waits
-                (and_parts (is_none (option_flatten (slice_get (places_of g.config) x.place))) _ joins).0;
-            apart = λ same. so.not_taste (sym same);
-          }
+          search (
+            rules,
+            standing_at m p x g sound inside found,
+            standing_may m p x g sound inside found may,
+            false_from_ne_true (is_granted_kind g.kind),
+            All-contains (λ (y : Geom Config). is_granted_kind y.kind ≡ true → (y.number ≡ 1) ⊎ (y.number ≡ 2)) t.geoms
+                g is.settled.counted.kinds,
+            find-Contains (λ (y : Geom Config). y.number == g.number) t.geoms g,
+            and_parts (is_none (option_flatten (slice_get (places_of g.config) x.place))) _ joins,
+          )
 
       -- a place in it, or in a new one
       joined_at_held : (o : Option (Geom Config)) → standing_geom t x.geom_name x.empty ≡ o
@@ -470,12 +424,8 @@ module _ (s : Taste) where
           joined_held (record m { mesh = with_geom m.mesh x.kind x.geom_name x.empty true })
           (geom_held m.mesh is sound x.kind x.geom_name x.empty true other) p t.next_geom x.empty x.place x.name
           (new_bare x.kind x.geom_name x.empty true other) there
-      joined_at_held (Some g) found = by (can_join t p g x.place) refl
-        where
-          by : (b : Bool) → can_join t p g x.place ≡ b
-              → AllHold s (if b then joined m p g.number g.config x.place x.name else None)
-          by true joins = joined_held m is p g.number g.config x.place x.name (standing_bare g found joins) there
-          by false none = tt
+      joined_at_held (Some g) found =
+          search (rules, joined_held m is p g.number g.config x.place x.name, standing_bare g found)
 
       -- so of a member
       member_held : AllHold s (with_member m p x)

@@ -1,7 +1,7 @@
 -- Whether a taste goes on, whether a class has a geom over the provider already, and what asking a class comes to.
 use Rattle.std.specs.Option.{option_map_or}
-use Rattle.std.proofs.Common.{◌≡◌, Bool, true, false, Option, Some, None, ℕ, ◌==◌, ◌≤◌, ◌&&◌, ◌||◌, if◌then◌else◌, not, List, ◌∷◌, filter, IsSomeAnd, ◌+◌, is_some, find, map, refl, sym, ◌∙◌, ap, inl, inr, arith}
-use Rattle.std.proofs.lemmas.Bool.{eqb-true, and_parts, and_from, or_cases, and_left, false_from_ne_true, or_parts, not-false, true_from_ne_false, eq-eqb}
+use Rattle.std.proofs.Common.{◌≡◌, Bool, true, false, Option, Some, None, ℕ, ◌==◌, ◌≤◌, ◌&&◌, ◌||◌, if◌then◌else◌, not, List, ◌∷◌, filter, ◌+◌, is_some, find, map, refl, sym, ◌∙◌, ap, inl, inr, arith, rules}
+use Rattle.std.proofs.lemmas.Bool.{eqb-true, and_parts, and_from, or_cases, false_from_ne_true, eq-eqb}
 use Rattle.std.proofs.lemmas.List.Elements.{All-contains, filter_agree}
 use Rattle.geo_base.proofs.Tests.{same_tests}
 use Rattle.geo_base.proofs.FindLists.{some-passes, Passes}
@@ -17,7 +17,7 @@ use Rattle.std.specs.List.{list_any}
 use Rattle.geo_base.specs.declared.kind.Kind.{Kind}
 use Rattle.geo_base.specs.declared.kind.Kind.TheVariants as kinds
 use Rattle.geo_model.specs.Words.{is_kind, names_number}
-use Rattle.geo_model.specs.Tasting.{is_over, is_attached_class, Judging, ask_class, end_class, facts_of, read_sector}
+use Rattle.geo_model.specs.Tasting.{is_over, is_attached_class, ask_class, facts_of, read_sector}
 use Rattle.geo_laws_counts.proofs.LimitFacts.{of_filter}
 use Rattle.geo_taste.specs.Over.{may_be_of, over, stands_as}
 use Rattle.geo_base.specs.declared.errno.Errno.{Errno}
@@ -59,24 +59,17 @@ test_told {X} number test next n xs are =
     forth some =
         let one : Passes (λ (x : X). (number x == n) && test x) xs =
         some-passes (λ (x : X). (number x == n) && test x) xs some in
-        let parts = and_parts (number one.item == n) (test one.item) one.passes in
-        ap (λ m. option_map_or test (find (λ (x : X). number x == m) xs) false)
-        (sym (eqb-true (number one.item) n parts.0))
-        ∙ ap (λ o. option_map_or test o false) (found_itself number next xs one.item are one.here)
-        ∙ parts.1
+        search (rules, found_itself number next xs one.item are one.here)
 
     back : option_map_or test (find (λ x. number x == n) xs) false ≡ true
         → list_any (λ x. (number x == n) && test x) xs ≡ true
-    back some =
-        let found = some_passes test (find (λ (x : X). number x == n) xs) some in
-        test_there number test n xs found.0 found.1 found.2
+    back some = search (rules, test_there number test n xs)
 
 -- so whether a geom withers is what stands at it
 pub withering_is : {C : Type 0} (t : Topology C) → IsInOrder t → (g : ℕ) (o : Option (Geom C)) → geom_at t g ≡ o
     → is_withering t g ≡ option_map_or (λ (x : Geom C). x.withering) o false
 withering_is {C} t order g o found =
-    test_told (λ (x : Geom C). x.number) (λ (x : Geom C). x.withering) t.next_geom g t.geoms order.geoms
-    ∙ ap (λ p. option_map_or (λ (x : Geom C). x.withering) p false) found
+    search (rules, test_told (λ (x : Geom C). x.number) (λ (x : Geom C). x.withering) t.next_geom g t.geoms order.geoms)
 
 -- and whether a provider carries an error
 pub errored_is : {C : Type 0} (t : Topology C) → IsInOrder t → (p : ℕ) (x : Provider) → provider_at t p ≡ Some x
@@ -120,18 +113,12 @@ module _ (t : Topology Config) (order : IsInOrder t) (s : Taste) where
 
   -- one with an error
   pub going_errored : (x : Provider) → provider_at t s.provider ≡ Some x → x.errored ≡ true → going t s ≡ None
-  going_errored x found errored =
-      ap (λ b. if b || spoiled then None else provider_at t s.provider)
-      (errored_is t order s.provider x found ∙ errored)
+  going_errored x found errored = search (rules, errored_is t order s.provider x found)
 
   -- neither
   pub going_on : (x : Provider) → provider_at t s.provider ≡ Some x → x.errored ≡ false → spoiled ≡ false
       → going t s ≡ Some x
-  going_on x found errored unmarked =
-      ap (λ b. if b || spoiled then None else provider_at t s.provider)
-      (errored_is t order s.provider x found ∙ errored)
-      ∙ ap (λ b. if b then None else provider_at t s.provider) unmarked
-      ∙ found
+  going_on x found errored unmarked = search (rules, errored_is t order s.provider x found)
 
 -- Whether a class has a geom over a provider
 
@@ -197,22 +184,10 @@ module _ (t : Topology Config) (order : IsInOrder t) (kind : Kind) (p : ℕ) whe
 abbrev pub looked_at : Kind → ℕ → Consumer → Bool
 looked_at kind p c = names_number c.provider p && may_be_of kind c
 
--- DEV is no other class
-dev_other : (kind : Kind) → is_kind kind kinds.Dev ≡ false → is_kind kinds.Dev kind ≡ false
-dev_other kinds.Dev e = e
-dev_other _ e = refl
-
 module _ (t : Topology Config) (kind : Kind) (p : ℕ) where
   -- for DEV all consumers at the provider are looked at
   pub over_all : is_kind kind kinds.Dev ≡ true → attached_to t p ≡ over t kind p
-  over_all dev =
-      filter_agree (λ (c : Consumer). names_number c.provider p) (looked_at kind p)
-      (λ c. by (names_number c.provider p) ∙ ap (λ b. names_number c.provider p && (b || not (c.geom == 1))) (sym dev))
-      t.consumers
-    where
-      by : (b : Bool) → b ≡ (b && true)
-      by true = refl
-      by false = refl
+  over_all dev = search rules
 
   -- for another class those that aren't DEV's
   pub over_above : is_kind kind kinds.Dev ≡ false
@@ -222,30 +197,13 @@ module _ (t : Topology Config) (kind : Kind) (p : ℕ) where
       ∙ filter_agree (λ (c : Consumer). names_number c.provider p && not (c.geom == 1)) (looked_at kind p)
       (λ c. ap (λ b. names_number c.provider p && (b || not (c.geom == 1))) (sym other)) t.consumers
 
-  -- a handle's consumer is of no other class
-  dev_none : IsSoundGraph t → (c : Consumer) → may_be_of kind c ≡ false → stands_as t kind c.geom ≡ false
-  dev_none sound c not_one =
-      let parts = or_parts (is_kind kind kinds.Dev) (not (c.geom == 1)) not_one in
-      ap (stands_as t kind) (eqb-true c.geom 1 (not-false (c.geom == 1) parts.1))
-      ∙ by (geom_at t 1) sound.orderly.first.dev parts.0
-    where
-      by : (o : Option (Geom Config)) → IsSomeAnd o (λ (g : Geom Config). g.kind ≡ kinds.Dev)
-          → is_kind kind kinds.Dev ≡ false
-          → option_map_or (λ (g : Geom Config). is_kind g.kind kind && not g.withering) o false ≡ false
-      by None never other = absurd never
-      by (Some g) dev other =
-          and_left (is_kind g.kind kind) (not g.withering)
-          (ap (λ (k : Kind). is_kind k kind) dev ∙ dev_other kind other)
-
   -- so it is enough to look at the others
   pub over_told : IsSoundGraph t
       → list_any (λ (c : Consumer). stands_as t kind c.geom) (over t kind p) ≡ is_attached_class t kind p
   over_told sound =
       let passes : Consumer → Bool = λ c. stands_as t kind c.geom in
       ap (list_any passes) (filter-both (λ (c : Consumer). names_number c.provider p) (may_be_of kind) t.consumers)
-      ∙ any-kept (may_be_of kind) passes (λ c stands.
-      true_from_ne_false (may_be_of kind c)
-      (λ not_one. let no : true ≡ false = sym stands ∙ dev_none sound c not_one in cc)) (attached_to t p)
+      ∙ any-kept (may_be_of kind) passes (search rules) (attached_to t p)
       ∙ all_told t sound.orderly.order kind p
 
 -- Walks
@@ -253,14 +211,12 @@ module _ (t : Topology Config) (kind : Kind) (p : ℕ) where
 -- what comes next is the first of what is left
 pub any_next : {X : Type 0} (test : X → Bool) (xs rest : List X) (x : X) (b : Bool) → xs ≡ x ∷ rest → test x ≡ false
     → list_any test xs ≡ b → list_any test rest ≡ b
-any_next test xs rest x b is fails so =
-    sym (ap (λ a. a || list_any test rest) fails) ∙ sym (ap (list_any test) is) ∙ so
+any_next test xs rest x b is fails so = search rules
 
 -- one that passes is enough
 pub any_first : {X : Type 0} (test : X → Bool) (xs rest : List X) (x : X) (b : Bool) → xs ≡ x ∷ rest → test x ≡ true
     → list_any test xs ≡ b → true ≡ b
-any_first test xs rest x b is passes so =
-    sym (ap (λ a. a || list_any test rest) passes) ∙ sym (ap (list_any test) is) ∙ so
+any_first test xs rest x b is passes so = search rules
 
 -- Asking a class, and reading a sector
 
@@ -278,11 +234,7 @@ module _ (t : TopoView Config) (events : List Event) where
   -- the same where the mesh has the graph that it had
   pub read_made : (u : TopoView Config) (s z : Taste) (j : Judged) → u.topology ≡ t.topology → z ≡ s
       → judging t events s j ≡ judging u events z j
-  read_made u s z j graph same =
-      ap (λ x. let r : Judging = record { queued = record { topology = x; events = events }; taste = s; judged = j } in
-      r)
-      (sym graph)
-      ∙ ap (λ y. judging u events y j) (sym same)
+  read_made u s z j graph same = search rules
 
   -- a class that has no geom over the provider, and looks at it, reads its first sector
   pub asks_sector : (s : Taste) (p : Provider) (kind : Kind) (left : Taste) (sector : ℕ)
@@ -291,10 +243,4 @@ module _ (t : TopoView Config) (events : List Event) where
       → taste_where kind (facts_of t.topology p) ≡ Some sector
       → ask_class (granted_by t) (queued t events) s p kind left.classes
       ≡ read_sector (granted_by t) (queued t events) left kind sector
-  asks_sector s p kind left sector is free looks =
-      let z : Taste = record (ended s) { classes = left.classes } in
-      let next : Judging = end_class (granted_by t) (queued t events) z Next in
-      let read : Taste → ℕ → Judging = λ y n. read_sector (granted_by t) (queued t events) y kind n in
-      ap (λ b. if b then next else option_map_or (read z) (taste_where kind (facts_of t.topology p)) next) free
-      ∙ ap (λ o. option_map_or (read z) o next) looks
-      ∙ ap (λ y. read y sector) (sym is)
+  asks_sector s p kind left sector is free looks = search rules

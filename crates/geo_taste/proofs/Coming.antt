@@ -1,20 +1,20 @@
 -- The taste's consumer comes and goes: TASTE has it attached to any provider without an error, no count changes by
 -- it, and the mesh is settled still.
-use Rattle.std.proofs.Common.{◌≡◌, ℕ, nat_lt, true, false, not, ◌&&◌, [], Some, None, IsSome, Contains, sym, ◌∙◌, ap, refl, subst, eq-eqb}
-use Rattle.std.proofs.lemmas.List.Elements.{All-contains, All-filter, All-push, All-weaker}
-use Rattle.geo_base.proofs.Options.{there_with_fact, some_weaker, at-some, none-there}
+use Rattle.std.proofs.Common.{◌≡◌, ℕ, nat_lt, true, false, not, ◌&&◌, [], Some, None, IsSome, Contains, sym, ◌∙◌, ap, refl, subst, eq-eqb, rules}
+use Rattle.std.proofs.lemmas.List.Elements.{All-contains, All-filter, All-push}
+use Rattle.geo_base.proofs.Options.{there_with_fact, at-some}
 use Rattle.geo_access.proofs.Coming.{bare_of}
 use Rattle.geo_base.specs.declared.kind.Kind.TheVariants as kinds
 use Rattle.geo_base.specs.declared.limits.TheConstants.{MAX_RANK, UNTASTED_RANK}
 use Rattle.geo_model.specs.Words.{is_granted_kind}
-use Rattle.geo_model.specs.Topology.{Topology, Geom, Provider, geom_at, provider_at, providers_of, is_errored, add_consumer, Consumer, remove_consumer, detach, consumer_at, geom_of_provider, consumers_of}
+use Rattle.geo_model.specs.Topology.{Topology, Geom, Provider, geom_at, provider_at, providers_of, is_errored, add_consumer, Consumer, remove_consumer, detach, consumer_at, consumers_of}
 use Rattle.geo_model.specs.Rank.{rank, attach_refusal}
 use Rattle.geo_mesh.specs.Graph.{IsSoundGraph, IsOffer}
 use Rattle.geo_laws_counts.specs.CountWords.{HoldsGrants}
 use Rattle.geo_laws_graph.proofs.Lists.{found_itself}
-use Rattle.std.specs.Prelude.{◌==◌, Bool, ◌∷◌, filter, unwrap_or, if◌then◌else◌, nat_le, ◌||◌, ◌++◌, find, Option, IfSome, All, option_map}
-use Rattle.std.specs.Option.{option_map_or, option_and_then}
-use Rattle.std.proofs.lemmas.Bool.{eqb-true, not-false, or_parts, or_left, or_right}
+use Rattle.std.specs.Prelude.{◌==◌, Bool, ◌∷◌, unwrap_or, if◌then◌else◌, nat_le, ◌||◌, ◌++◌, find, IfSome, All, option_map}
+use Rattle.std.specs.Option.{option_map_or}
+use Rattle.std.proofs.lemmas.Bool.{eqb-true, not-false}
 use Rattle.geo_model.specs.Demand.{no_counts, want, have}
 use Rattle.geo_slots.specs.Slots.{value_at, without}
 use Rattle.geo_mesh.specs.Topo.{TopoView, Room, Scratches, no_scratch, with_topology, without_consumer, with_consumer, IsButForRoom}
@@ -33,7 +33,6 @@ use Rattle.geo_laws_graph.proofs.Numbered.{find-pushed_hit, number_found}
 use Rattle.geo_access.proofs.Decided.{item_at, consumer_known}
 use Rattle.geo_mesh.proofs.IndexLemmas.{map-filter_row}
 use Rattle.geo_base.proofs.FindLists.{find-map}
-use Rattle.std.proofs.Math.Bool.{or-false}
 use Rattle.geo_taste.proofs.Raising.{accepted, CanBeAttached, allowed_can}
 use Rattle.geo_taste.proofs.Kept.{kept_counted}
 use Rattle.geo_taste.proofs.Adding.{among, stood, no_consumer, consumer_kept}
@@ -46,9 +45,7 @@ module _ {C : Type 0} (t : Topology C) (sound : IsSoundGraph t) where
 
   -- TASTE holds grants
   pub taste_holds : HoldsGrants t 2
-  taste_holds =
-      some_weaker (λ (x : Geom C). x.kind ≡ kinds.Taste) (λ (x : Geom C). is_granted_kind x.kind ≡ true)
-      (λ x taste. ap is_granted_kind taste) (geom_at t 2) sound.orderly.first.taste
+  taste_holds = search rules
 
   -- it has no provider
   pub taste_bare : providers_of t 2 ≡ []
@@ -104,50 +101,42 @@ module _ {C : Type 0} (t : TopoView C) (sound : IsSoundGraph t.topology) (counte
   -- all counts are kept
   pub goer_counted : IsCounted (without_consumer t c)
   goer_counted =
-      kept_counted t (without_consumer t c) counted (record {
-        order = removed-consumer.order t.topology c sound.orderly.order;
-        kinds = counted.kinds;
-        haves = counted.haves;
-        wants = ap (λ rows. without rows c) counted.wants
-            ∙ map-filter_row (λ (x : Consumer). x.number) (want (granted_by t) t.topology) c t.topology.consumers;
-        stays = among (granted_by t) t.topology (remove_consumer t.topology c)
-            (remove_consumer t.topology c).consumers
-            (consumers_went (granted_by t) t.topology (λ (x : Consumer). not (x.number == c))
-            (all_of (λ (x : Consumer). not (x.number == c) ≡ false → want (granted_by t) t.topology x ≡ no_counts)
-            t.topology.consumers
-            (λ x there goes. quiet x there (eqb-true x.number c (not-false (x.number == c) goes)))));
-        classes = λ x there. refl;
-        known = λ x there. stood t counted sound.orderly.order t.room x (still x there);
-        risen = counted.risen;
-        fallen = counted.fallen;
-        clear = ap (λ (s : Scratches). record s { consumers = without s.consumers c }) counted.clear
-            ∙ ap (λ rows. record (clear_scratches t.topology) { consumers = rows })
-            (map-filter_row (λ (x : Consumer). x.number) (λ (x : Consumer). no_scratch) c t.topology.consumers);
-      })
+      search (
+        rules,
+        kept_counted t (without_consumer t c) counted
+            (record {
+              order = removed-consumer.order t.topology c sound.orderly.order;
+              kinds = counted.kinds;
+              haves =
+                  counted.haves;
+              wants = ap (λ rows. without rows c) counted.wants ∙ map-filter_row
+                  (λ (x : Consumer). x.number) (want (granted_by t) t.topology) c t.topology.consumers;
+              stays = among
+                  (granted_by t) t.topology (remove_consumer t.topology c) (remove_consumer t.topology c).consumers
+                  (consumers_went (granted_by t) t.topology (λ (x : Consumer). not (x.number == c))
+                  (all_of (λ (x : Consumer). not (x.number == c) ≡ false → want (granted_by t) t.topology x ≡ no_counts)
+                  t.topology.consumers
+                  (λ x there goes. quiet x there (eqb-true x.number c (not-false (x.number == c) goes)))));
+              classes = λ x
+                  there. refl;
+              known = λ x there. stood t counted sound.orderly.order t.room x (still x there);
+              risen =
+                  counted.risen;
+              fallen = counted.fallen;
+              clear = ap
+                  (λ (s : Scratches). record s { consumers = without s.consumers c }) counted.clear ∙ ap
+                  (λ rows. record (clear_scratches t.topology) { consumers = rows })
+                  (map-filter_row (λ (x : Consumer). x.number) (λ (x : Consumer). no_scratch) c t.topology.consumers);
+            }),
+      )
 
 -- what is kept doesn't tell the room
 pub settled_roomed : {C : Type 0} (t : TopoView C) (room : Room) → IsSettled t → IsSettled (record t { room = room })
-settled_roomed t room is = record {
-  counted = record {
-    kinds = is.counted.kinds;
-    haves = is.counted.haves;
-    wants = is.counted.wants;
-    exclusive = is.counted.exclusive;
-    limit = is.counted.limit;
-    risen = is.counted.risen;
-    fallen = is.counted.fallen;
-    clear = is.counted.clear;
-  };
-  quiet = record { risen = is.quiet.risen; fallen = is.quiet.fallen };
-  attached = is.attached;
-}
+settled_roomed t room is = search rules
 
 -- where each consumer is attached, none that isn't is of a geom with providers
 pub settled_placed : {C : Type 0} (t : Topology C) → All (λ (c : Consumer). IsSome c.provider) t.consumers → IsPlaced t
-settled_placed t attached =
-    All-weaker (λ (c : Consumer). IsSome c.provider)
-    (λ (c : Consumer). c.provider ≡ None → filter (λ (y : Provider). y.geom == c.geom) t.providers ≡ [])
-    (λ c there none. absurd (none-there c.provider none there)) t.consumers attached
+settled_placed t attached = search rules
 
 -- Whether a provider is tasted
 
@@ -160,20 +149,7 @@ module _ {C : Type 0} (t : TopoView C) where
 
   -- is what the test says
   pub tasted_is : (p : ℕ) → is_not_tasted (granted_by t) t.topology p ≡ false → IsTasted p
-  tasted_is p tasted =
-      let low : Bool = option_map_or (λ (g : Geom C). g.withering || nat_le UNTASTED_RANK (rank t.topology g.number))
-      (geom_of_provider t.topology p) true in
-      let written : Bool = not ((have (granted_by t) t.topology p).w == 0) in
-      let a = or_parts (is_errored t.topology p) (low || written) tasted in
-      let b = or_parts low written a.1 in
-      by (provider_at t.topology p) refl b.0 a.0
-    where
-      by : (o : Option Provider) → provider_at t.topology p ≡ o
-          → option_map_or (λ (g : Geom C). g.withering || nat_le UNTASTED_RANK (rank t.topology g.number))
-          (option_and_then (λ (x : Provider). geom_at t.topology x.geom) o) true ≡ false
-          → is_errored t.topology p ≡ false → IsTasted p
-      by None at never sound = absurd (cc)
-      by (Some x) at low sound = record { provider = x; found = at; sound = sound }
+  tasted_is p tasted = search rules
 
   module _ (sound : IsSoundGraph t.topology) (counted : IsCounted t) (p : ℕ) (x : Provider)
       (found : provider_at t.topology p ≡ Some x) where
@@ -196,40 +172,26 @@ module _ {C : Type 0} (t : TopoView C) where
     pub tasted_told : (a : Counts) → value_at t.haves p ≡ Some a
         → is_not_tasted (granted_by t) t.topology p ≡ (x.errored || (high || not (a.w == 0)))
     tasted_told a stored =
-        ap (λ b. b || (option_map_or (λ (g : Geom C). g.withering || nat_le UNTASTED_RANK (rank t.topology g.number))
-        (geom_of_provider t.topology p) true || not ((have (granted_by t) t.topology p).w == 0)))
-        (errored_is t.topology sound.orderly.order p x found)
-        ∙ ap (λ o. x.errored || (option_map_or (λ (g : Geom C).
-        g.withering || nat_le UNTASTED_RANK (rank t.topology g.number))
-        (option_and_then (λ (y : Provider). geom_at t.topology y.geom) o) true
-        || not ((have (granted_by t) t.topology p).w == 0))) found
-        ∙ ap (λ (h : Counts). x.errored || (high || not (h.w == 0))) (have_is a stored)
+        search (
+          rules,
+          errored_is t.topology sound.orderly.order p x found,
+          ap (λ (h : Counts). x.errored || (high || not (h.w == 0))) (have_is a stored),
+          have_is a stored,
+        )
 
     -- so an error is enough for it not to be, and so is a writer
     pub errored_not : (a : Counts) → value_at t.haves p ≡ Some a → x.errored ≡ true
         → false ≡ not (is_not_tasted (granted_by t) t.topology p)
-    errored_not a stored errored =
-        sym (ap not (tasted_told a stored ∙ or_left x.errored (high || not (a.w == 0)) errored))
+    errored_not a stored errored = search (rules, tasted_told a stored)
 
     pub written_not : (a : Counts) → value_at t.haves p ≡ Some a → not (a.w == 0) ≡ true
         → false ≡ not (is_not_tasted (granted_by t) t.topology p)
-    written_not a stored more =
-        sym (ap not (tasted_told a stored ∙ or_right x.errored (high || not (a.w == 0))
-        (or_right high (not (a.w == 0)) more)))
+    written_not a stored more = search (rules, tasted_told a stored)
 
     -- else its geom decides
     pub low_tasted : (a : Counts) → value_at t.haves p ≡ Some a → x.errored ≡ false → not (a.w == 0) ≡ false
         → is_low t.topology x.geom ≡ not (is_not_tasted (granted_by t) t.topology p)
-    low_tasted a stored good none =
-        sym (ap not (tasted_told a stored) ∙ (rw (good, none, or-false) (by (geom_at t.topology x.geom))))
-      where
-        by : (o : Option (Geom C))
-            → not (option_map_or (λ (g : Geom C). g.withering || nat_le UNTASTED_RANK (rank t.topology g.number)) o
-            true)
-            ≡ option_map_or (λ (g : Geom C). not (g.withering || nat_le UNTASTED_RANK (rank t.topology g.number)))
-            o false
-        by None = refl
-        by (Some g) = refl
+    low_tasted a stored good none = search (rules, tasted_told a stored)
 
 -- Beginning
 
@@ -288,12 +250,11 @@ module _ {C : Type 0} (t : TopoView C) (sound : IsSoundGraph t.topology) (is : I
   stored_none : value_at t.wants c ≡ Some no_counts → (x : Consumer) → Contains t.topology.consumers x → x.number ≡ c
       → want (granted_by t) t.topology x ≡ no_counts
   stored_none stored x there same =
-      let e : Some (want (granted_by t) t.topology x) ≡ Some no_counts =
-      sym (ap (λ rows. value_at rows x.number) is.counted.wants
-      ∙ item_at (λ (y : Consumer). y.number) (want (granted_by t) t.topology) x.number t.topology.consumers x
-      (consumer_known t sound x there))
-      ∙ ap (value_at t.wants) same ∙ stored in
-      ap (λ o. unwrap_or o no_counts) e
+      search (
+        rules,
+        item_at (λ (y : Consumer). y.number) (want (granted_by t) t.topology) x.number t.topology.consumers x
+            (consumer_known t sound x there),
+      )
 
   -- without it the mesh is settled
   pub goer_settled : value_at t.wants c ≡ Some no_counts → IsSettled (without_consumer t c)

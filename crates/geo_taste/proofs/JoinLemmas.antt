@@ -1,10 +1,9 @@
 -- A member joins an assembly, in a new geom or in the standing one: the place that it takes, and what comes of it.
 use Rattle.std.specs.List.{list_all, AllByRecursion}
-use Rattle.std.proofs.Common.{◌≡◌, ℕ, ◌-◌, Bool, true, false, not, ◌&&◌, ◌||◌, List, [], ◌∷◌, Option, Some, None, IfSome, is_some, if◌then◌else◌, ◌≢◌, ◌⊎◌, ◌+◌, ◌^◌, ◌<◌, ◌≤◌, ◌==◌, nat_le, ◌++◌, length, find, filter, flat_map, filter_map, is_none, IsSomeAnd, IsTrue, option_map, Contains, slice_get, option_and_then, All, refl, sym, ◌∙◌, ap, subst, inl, inr, arith}
-use Rattle.std.proofs.lemmas.Bool.{and_parts, not-true, eqb-true, ne_eqb, cases_Bool}
+use Rattle.std.proofs.Common.{◌≡◌, ℕ, ◌-◌, Bool, true, false, not, ◌&&◌, List, [], ◌∷◌, Option, Some, None, IfSome, is_some, if◌then◌else◌, ◌≢◌, ◌⊎◌, ◌+◌, ◌^◌, ◌<◌, ◌≤◌, ◌==◌, nat_le, length, find, filter, flat_map, filter_map, is_none, IsSomeAnd, option_map, Contains, slice_get, option_and_then, All, refl, sym, ◌∙◌, ap, subst, arith, rules}
+use Rattle.std.proofs.lemmas.Bool.{and_parts, cases_Bool}
 use Rattle.std.proofs.lemmas.List.Elements.{All-contains, recursion_from_All}
-use Rattle.geo_base.specs.Name.{is_name}
-use Rattle.geo_model.specs.Topology.{Topology, Provider, is_name_taken, Geom, geom_at, provider_at, provider_of_consumer, providers_of, is_withering, set_config}
+use Rattle.geo_model.specs.Topology.{Topology, Provider, Geom, geom_at, provider_at, provider_of_consumer, providers_of, is_withering, set_config}
 use Rattle.geo_model.specs.World.{Config, Concat, Stripe}
 use Rattle.geo_model.specs.Acceptance.{are_names_free, fill_place, places_of, joined_size, is_size, Member, is_same_assembly, can_join, standing_geom}
 use Rattle.geo_mesh.specs.Topo.{is_provider_size, first_geom, first_provider, TopoView, with_geom, with_topology, IsButForRoom}
@@ -17,32 +16,29 @@ use Rattle.geo_taste.specs.Accepting.{placed, joined, joined_at, with_member, Is
 use Rattle.geo_taste.specs.Accepts.{HaveSizes, MakesSizes}
 use Rattle.geo_taste.specs.Members.{CanBeOffered, plan_for, plan_of, with_plan}
 use Rattle.std.specs.Option.{option_flatten, option_map_or, option_to_list}
-use Rattle.geo_base.proofs.Options.{is_nothing, at-some, if-with, none-mapped}
+use Rattle.geo_base.proofs.Options.{is_nothing, at-some, if-with}
 use Rattle.geo_base.proofs.PlaceLists.{free_at}
 use Rattle.geo_model.specs.Words.{same_name, is_kind}
 use Rattle.geo_model.specs.Place.{components}
-use Rattle.geo_model.specs.Steady.{has_free_place}
 use Rattle.geo_model.proofs.DemandLemmas.{find_passes}
 use Rattle.geo_mesh.specs.Graph.{IsSoundGraph}
 use Rattle.geo_laws_graph.proofs.Members.{Contains-here, filter-Contains, find-Contains, has}
 use Rattle.geo_laws_graph.proofs.Lists.{found_itself}
 use Rattle.geo_laws_graph.proofs.Walks.{walks-meet}
-use Rattle.geo_laws_making.proofs.Over.{false_true}
 use Rattle.geo_taste.specs.Joining.{MayBeMember, MayJoin, fits_sector, can_take, is_bare, is_of_assembly}
 use Rattle.geo_base.specs.declared.kind.Kind.{Kind}
 use Rattle.geo_base.specs.declared.kind.Kind.TheVariants as kinds
 use Rattle.geo_model.specs.Sound.{IsOfItsClass, fits_kind}
 use Rattle.geo_event.specs.EventQueue.{Queued}
 use Rattle.geo_laws_graph.proofs.Found.{config-found}
-use Rattle.geo_laws_life.proofs.Found.{some-with, some-there, one-found}
+use Rattle.geo_laws_life.proofs.Found.{some-there, one-found}
 use Rattle.geo_taste.specs.declared.shapes.Accepted.{Accepted}
 use Rattle.geo_taste.specs.declared.shapes.Accepted.TheVariants.{Made, Declined}
 use Rattle.geo_taste.specs.Standing.{MayOffer}
-use Rattle.geo_taste.proofs.Raising.{CarriesRoom, followed, still_may}
+use Rattle.geo_taste.proofs.Raising.{still_may}
 use Rattle.geo_base.proofs.Tests.{passes_apart}
 use Rattle.geo_taste.proofs.Asking.{withering_is}
 use Rattle.geo_taste.proofs.TableLemmas.{kept_some, offer_sized}
-use Rattle.geo_taste.proofs.ModelLemmas.{answered_as}
 
 -- A place that is taken
 
@@ -85,15 +81,6 @@ module _ (m : QueuedMesh) (p : Provider) (geom : ℕ) (config : Config) (place :
       else None)
       else Some (with_plan m p.number geom (open_still filled))
 
-  -- a plan makes what is to be made
-  plan_by_made : (a b c d : Bool) (plan : Plan) → plan_by filled name p.sector a b c d ≡ Some plan
-      → made_by a b c ≡ Some (with_plan m p.number geom plan)
-  plan_by_made true true true true plan e =
-      let same : whole filled name p.sector ≡ plan = cc in ap (λ (x : Plan). Some (with_plan m p.number geom x)) same
-  plan_by_made false b c d plan e =
-      let same : open_still filled ≡ plan = cc in ap (λ (x : Plan). Some (with_plan m p.number geom x)) same
-  plan_by_made _ _ _ _ plan e = absurd (let no : ⊥ = cc in no)
-
   -- where there is no plan nothing can be made, if what is made has sizes of providers
   plan_by_none : (a b c d : Bool) → is_provider_size (joined_size filled) p.sector ≡ d
       → plan_by filled name p.sector a b c d ≡ None
@@ -107,14 +94,6 @@ module _ (m : QueuedMesh) (p : Provider) (geom : ℕ) (config : Config) (place :
   plan_by_none true false c d sized e sizes = refl
   plan_by_none _ _ _ _ sized e sizes = absurd (let no : ⊥ = cc in no)
 
-  -- so it is
-  pub plan_made : (plan : Plan)
-      → plan_of m.mesh.topology (p.size - p.sector) p.sector config place name ≡ Some plan
-      → joined m p geom config place name ≡ Some (with_plan m p.number geom plan)
-  plan_made plan e =
-      plan_by_made (list_all is_some (places_of filled)) (is_size (joined_size filled))
-      (are_names_free m.mesh.topology (name ∷ [])) (is_provider_size (joined_size filled) p.sector) plan e
-
   -- and so none is
   pub plan_none : plan_of m.mesh.topology (p.size - p.sector) p.sector config place name ≡ None
       → MakesSizes (joined m p geom config place name) → joined m p geom config place name ≡ None
@@ -122,57 +101,17 @@ module _ (m : QueuedMesh) (p : Provider) (geom : ℕ) (config : Config) (place :
       plan_by_none (list_all is_some (places_of filled)) (is_size (joined_size filled))
       (are_names_free m.mesh.topology (name ∷ [])) (is_provider_size (joined_size filled) p.sector) refl e sizes
 
--- room doesn't matter to a place that is taken
-pub plan_carries : (prov geom : ℕ) (plan : Plan) → CarriesRoom (λ m. with_plan m prov geom plan)
-plan_carries prov geom plan m room = by plan.offer refl where
-  -- by whether a provider is made
-  by : (o : Option Offer) → plan.offer ≡ o
-      → with_plan (record m { mesh = record m.mesh { room = room } }) prov geom plan
-      ≡ record (with_plan m prov geom plan) { mesh = record (with_plan m prov geom plan).mesh { room = room } }
-  by None e = rw e refl
-  by (Some x) e = rw e refl
-
 module _ (t : Topology Config) (size sector : ℕ) (config : Config) (place : ℕ) (name : List ℕ) (plan : Plan) where
-  -- the configuration with the place filled
-  abbrev now_filled : Config
-  now_filled = fill_place config place t.next_consumer size
-
-  -- by the tests
-  offer_by : (a b c d : Bool) → are_names_free t (name ∷ []) ≡ c
-      → is_provider_size (joined_size now_filled) sector ≡ d
-      → plan_by now_filled name sector a b c d ≡ Some plan
-      → IfSome plan.offer (CanBeOffered t)
-  offer_by true true true true free sized is =
-      let both = and_parts (is_name name && not (is_name_taken t name)) true free in
-      let parts = and_parts (is_name name) (not (is_name_taken t name)) both.0 in
-      subst (λ (o : Option Offer). IfSome o (CanBeOffered t))
-      (let same : Some (record { name = name; size = joined_size now_filled; sector = sector }) ≡ plan.offer = cc in
-      same)
-      (record { size = sized; free = not-true (is_name_taken t name) parts.1 })
-  offer_by false b c d free sized is =
-      subst (λ (o : Option Offer). IfSome o (CanBeOffered t)) (let same : None ≡ plan.offer = cc in same) tt
-  offer_by _ _ _ _ free sized is = absurd (let no : ⊥ = cc in no)
-
   -- so it is
   pub plan_offers : plan_of t size sector config place name ≡ Some plan → IfSome plan.offer (CanBeOffered t)
-  plan_offers e =
-      offer_by (list_all is_some (places_of now_filled)) (is_size (joined_size now_filled))
-      (are_names_free t (name ∷ [])) (is_provider_size (joined_size now_filled) sector) refl refl e
+  plan_offers e = search rules
 
 -- Configurations that can stand
 
 -- a configuration that can't stand comes to nothing
 pub standing_none : (t : Topology Config) (filled : Config) (name : List ℕ) (sector : ℕ) → standing filled ≡ None
     → plan_for t filled name sector ≡ None
-standing_none t filled name sector e =
-    by (list_all is_some (places_of filled)) (is_size (joined_size filled)) refl refl e
-  where
-    -- by its places and its size
-    by : (a b : Bool) → list_all is_some (places_of filled) ≡ a → is_size (joined_size filled) ≡ b
-        → (if not a || b then Some filled else None) ≡ None
-        → plan_for t filled name sector ≡ None
-    by true false full size is = rw (full, size) refl
-    by _ _ full size is = absurd (let no : ⊥ = cc in no)
+standing_none t filled name sector e = search rules
 
 -- one that can is itself
 pub standing_some : (filled other : Config) → standing filled ≡ Some other → other ≡ filled
@@ -185,30 +124,13 @@ module _ (t : Topology Config) (sector : ℕ) where
   abbrev at_place : Option ℕ → Option Provider
   at_place place = option_and_then (provider_at t) (option_and_then (provider_of_consumer t) place)
 
-  -- one place more
-  fit_step : (o : Option Provider) (rest : List Provider)
-      → (option_map_or (λ (x : Provider). x.sector == sector) o true
-      && list_all (λ (x : Provider). x.sector == sector) rest)
-      ≡ list_all (λ (x : Provider). x.sector == sector) (option_to_list o ++ rest)
-  fit_step None rest = refl
-  fit_step (Some x) rest = refl
-
-  -- the places one after another
-  kept_step : (o : Option Provider) (ps : List (Option ℕ)) (p : Option ℕ) → at_place p ≡ o
-      → filter_map at_place (p ∷ ps) ≡ option_to_list o ++ filter_map at_place ps
-  kept_step None ps p e = rw e refl
-  kept_step (Some x) ps p e = rw e refl
-
   -- the consumers that fill places fit where the providers there have the sector size
   all_fit : (ps : List (Option ℕ))
       → list_all (fits_sector t sector) (flat_map option_to_list ps)
       ≡ list_all (λ (x : Provider). x.sector == sector) (filter_map at_place ps)
   all_fit [] = refl
   all_fit (None ∷ ps) = all_fit ps
-  all_fit (Some c ∷ ps) =
-      ap (λ b. fits_sector t sector c && b) (all_fit ps)
-      ∙ fit_step (at_place (Some c)) (filter_map at_place ps)
-      ∙ ap (list_all (λ (x : Provider). x.sector == sector)) (sym (kept_step (at_place (Some c)) ps (Some c) refl))
+  all_fit (Some c ∷ ps) = search (rules, all_fit ps)
 
 -- no place is below none
 no_place : (k : ℕ) → k < 0 → ⊥
@@ -229,21 +151,9 @@ pub can_take_is : (t : Topology Config) (sector : ℕ) (config : Config) (k : �
     → b ≡ is_none (option_flatten (slice_get (places_of config) k)) → b ≡ true
     → r ≡ list_all (fits_sector t sector) cs → cs ≡ components config
     → r ≡ can_take t sector config k
-can_take_is t sector config k b r cs free holds fit are =
-    fit ∙ ap (list_all (fits_sector t sector)) are
-    ∙ ap (λ z. z && list_all (fits_sector t sector) (components config)) (sym holds ∙ free)
+can_take_is t sector config k b r cs free holds fit are = search rules
 
 -- Places
-
--- two configurations of one assembly have as many places
-same_places : (a b : Config) → is_same_assembly a b ≡ true → length (places_of a) ≡ length (places_of b)
-same_places (Concat (Some a) places sizes) (Concat (Some b) others other_sizes) e =
-    eqb-true (length places) (length others) (and_parts (a == b) (length places == length others) e).1
-same_places (Stripe (Some a) s places sizes) (Stripe (Some b) u others other_sizes) e =
-    eqb-true (length places) (length others)
-    (and_parts (s == u) (length places == length others)
-    (and_parts (a == b) ((s == u) && (length places == length others)) e).1).1
-same_places _ _ e = false_true e
 
 -- Standing geoms
 
@@ -257,12 +167,7 @@ pub record IsOfAssembly (name : List ℕ) (empty : Config) (g : Geom Config) : T
 -- so the test tells
 pub assembly_of : (name : List ℕ) (empty : Config) (g : Geom Config) → is_of_assembly name empty g ≡ true
     → IsOfAssembly name empty g
-assembly_of name empty g e =
-    let first = and_parts g.automatic
-    (not g.withering && (same_name g.name name && is_same_assembly g.config empty)) e in
-    let second = and_parts (not g.withering) (same_name g.name name && is_same_assembly g.config empty) first.1 in
-    let third = and_parts (same_name g.name name) (is_same_assembly g.config empty) second.1 in
-    record { automatic = first.0; stays = not-true g.withering second.0; named = third.0; same = third.1 }
+assembly_of name empty g e = search rules
 
 module _ (t : Topology Config) (sound : IsSoundGraph t) (name : List ℕ) (empty : Config) (id : ℕ) (g : Geom Config)
     (found : geom_at t id ≡ Some g) (is : is_of_assembly name empty g ≡ true) where
@@ -272,8 +177,7 @@ module _ (t : Topology Config) (sound : IsSoundGraph t) (name : List ℕ) (empty
 
   -- and has the place
   pub standing_place : (place : ℕ) → place < length (places_of empty) → place < length (places_of g.config)
-  standing_place place inside =
-      subst (λ n. place < n) (sym (same_places g.config empty (assembly_of name empty g is).same)) inside
+  standing_place place inside = search rules
 
 module _ (m : QueuedMesh) (p : Provider) (x : Member) (g : Geom Config) (sound : IsSoundGraph m.mesh.topology)
     (inside : x.place < length (places_of x.empty))
@@ -306,15 +210,13 @@ module _ (m : QueuedMesh) (p : Provider) (x : Member) (g : Geom Config) (sound :
 
     -- so in a fitting mesh it can be joined
     pub standing_may : MayJoin m p x g
-    standing_may = record {
-      not_dev = λ is. other (inl is);
-      not_taste = λ is. other (inr is);
-      waits = λ free.
-          All-contains (λ (h : Geom Config). IsTrue (has_free_place h) → providers_of t h.number ≡ []) t.geoms g
-          may.waiting stands (free_at (places_of g.config) x.place
-          (standing_place t sound x.geom_name x.empty g.number g standing_at passes x.place inside) free);
-      sizes = subst (λ (o : Option (Geom Config)). MakesSizes (joined_at m p x o)) found may.sizes;
-    }
+    standing_may =
+        search (
+          rules,
+          stands,
+          free_at (places_of g.config) x.place
+              (standing_place t sound x.geom_name x.empty g.number g standing_at passes x.place inside),
+        )
 
 -- The walk over the geoms
 
@@ -373,29 +275,17 @@ module _ (t : Topology Config) (keep : Geom Config → Bool) (name : List ℕ) (
   pub walk_on : false ≡ option_map_or (is_of_assembly name empty) (geom_at t id) false
       → find (is_of_assembly name empty) (left_from (λ (g : Geom Config). g.number) (id + 1) xs)
       ≡ find (is_of_assembly name empty) xs
-  walk_on fails =
-      let e : is_of_assembly name empty next.item ≡ false = sym at_item ∙ sym fails in
-      let rest : find (is_of_assembly name empty)
-      (next.item ∷ left_from (λ (g : Geom Config). g.number) (id + 1) xs)
-      ≡ find (is_of_assembly name empty) (left_from (λ (g : Geom Config). g.number) (id + 1) xs) = rw e refl in
-      sym rest ∙ ap (find (is_of_assembly name empty)) (sym next.left) ∙ so_far
+  walk_on fails = search (rules, at_item)
 
   -- one that passes is the first
   pub walk_found : true ≡ option_map_or (is_of_assembly name empty) (geom_at t id) false
       → Some id ≡ option_map (λ (g : Geom Config). g.number) (find (is_of_assembly name empty) xs)
-  walk_found holds =
-      let e : is_of_assembly name empty next.item ≡ true = sym at_item ∙ sym holds in
-      let here : find (is_of_assembly name empty)
-      (next.item ∷ left_from (λ (g : Geom Config). g.number) (id + 1) xs) ≡ Some next.item = rw e refl in
-      let whole : Some next.item ≡ find (is_of_assembly name empty) xs =
-      sym here ∙ ap (find (is_of_assembly name empty)) (sym next.left) ∙ so_far in
-      ap (λ n. Some n) (sym next.is) ∙ ap (option_map (λ (g : Geom Config). g.number)) whole
+  walk_found holds = search (rules, at_item)
 
   -- and is of the assembly
   pub walk_passes : true ≡ option_map_or (is_of_assembly name empty) (geom_at t id) false
       → IsSomeAnd (geom_at t id) (λ g. is_of_assembly name empty g ≡ true)
-  walk_passes holds =
-      subst (λ o. IsSomeAnd o (λ g. is_of_assembly name empty g ≡ true)) (sym next.at) (sym at_item ∙ sym holds)
+  walk_passes holds = search rules
 
 -- a walk that ends meets none
 pub walk_end : (t : Topology Config) (name : List ℕ) (empty : Config) (xs : List (Geom Config)) (from_number : ℕ)
@@ -405,10 +295,7 @@ pub walk_end : (t : Topology Config) (name : List ℕ) (empty : Config) (xs : Li
     → None ≡ option_map (λ (g : Geom Config). g.number) (find (is_of_assembly name empty) xs)
 walk_end t name empty xs from_number so_far ends =
     let walk : WalksMeetAll (Geom Config) = walks-meet in
-    let nothing = walk.rest (λ (g : Geom Config). g.number) xs from_number (sym ends) in
-    let whole : None ≡ find (is_of_assembly name empty) xs =
-    sym (ap (find (is_of_assembly name empty)) nothing) ∙ so_far in
-    ap (option_map (λ (g : Geom Config). g.number)) whole
+    search rules
 
 -- Geoms without providers
 
@@ -431,40 +318,7 @@ bare_of t geom e =
           (is_nothing (first_provider (providers_of t geom) 0) second.1);
     }
 
--- and a bare geom passes it
-pub bare_is : (t : Topology Config) (geom : ℕ) → geom ≢ 1 → geom ≢ 2 → providers_of t geom ≡ []
-    → is_bare t geom ≡ true
-bare_is t geom not_dev not_taste bare =
-    rw (
-      ne_eqb geom 1 not_dev,
-      ne_eqb geom 2 not_taste,
-      ap (λ xs. first_provider xs 0) bare,
-    ) refl
-
 -- Geoms of a class and a name
-
--- the class of a concat's configuration
-is_concat : (kind : Kind) (id : _) (places : _) (sizes : _) → fits_kind kind (Concat id places sizes) ≡ true
-    → kind ≡ kinds.Concat
-is_concat kinds.Concat id places sizes e = refl
-is_concat _ id places sizes e = false_true e
-
--- and of a stripe's
-is_stripe : (kind : Kind) (id : _) (stripe : _) (places : _) (sizes : _)
-    → fits_kind kind (Stripe id stripe places sizes) ≡ true → kind ≡ kinds.Stripe
-is_stripe kinds.Stripe id stripe places sizes e = refl
-is_stripe _ id stripe places sizes e = false_true e
-
--- configurations of one assembly are of one class
-same_class : (kind other : Kind) (a b : Config) → fits_kind kind a ≡ true → fits_kind other b ≡ true
-    → is_same_assembly a b ≡ true → is_kind kind other ≡ true
-same_class kind other (Concat id places sizes) (Concat x others more) f g e =
-    rw (is_concat kind id places sizes f, is_concat other x others more g) refl
-same_class kind other (Stripe id s places sizes) (Stripe x u others more) f g e =
-    rw (is_stripe kind id s places sizes f, is_stripe other x u others more g) refl
-same_class kind other (Concat (Some n) places sizes) _ f g e = false_true e
-same_class kind other (Stripe (Some n) u places sizes) _ f g e = false_true e
-same_class kind other _ _ f g e = false_true e
 
 -- whether a geom is of the class and of the name
 abbrev pub has_name : Kind → List ℕ → Geom Config → Bool
@@ -475,25 +329,17 @@ abbrev pub named_geoms : Kind → List ℕ → List (Geom Config) → List (Geom
 named_geoms kind name xs = filter (has_name kind name) xs
 
 module _ (kind : Kind) (name : List ℕ) (empty : Config) (fits : fits_kind kind empty ≡ true) where
-  -- one of the assembly is one of those
-  passes_too : (g : Geom Config) → IsOfItsClass g → is_of_assembly name empty g ≡ true → has_name kind name g ≡ true
-  passes_too g class e =
-      let is = assembly_of name empty g e in
-      rw (same_class g.kind kind g.config empty class.config fits is.same, is.named) refl
-
   -- so it is found among those
   found_named : (xs : List (Geom Config)) → AllByRecursion IsOfItsClass xs
       → find (is_of_assembly name empty) (named_geoms kind name xs) ≡ find (is_of_assembly name empty) xs
   found_named [] classes = refl
   found_named (g ∷ xs) classes =
-      elim (cases_Bool (is_of_assembly name empty g)) [
-        | inl of_it ↦ rw (passes_too g classes.0 of_it, of_it) refl
-        | inr other ↦
-            elim (cases_Bool (has_name kind name g)) [
-              | inl kept ↦ rw (kept, other) (found_named xs classes.1)
-              | inr gone ↦ rw (gone, other) (found_named xs classes.1)
-            ]
-      ]
+      search (
+        rules,
+        cases_Bool (is_of_assembly name empty g),
+        cases_Bool (has_name kind name g),
+        found_named xs classes.1,
+      )
 
   -- where each geom is of its class
   pub named_found : (xs : List (Geom Config)) → All IsOfItsClass xs
@@ -506,17 +352,13 @@ module _ (kind : Kind) (name : List ℕ) (empty : Config) (fits : fits_kind kind
 pub geom_over : (t r u : TopoView Config) (kind : Kind) (name : List ℕ) (config : Config) (automatic : Bool)
     → IsButForRoom r t → IsButForRoom u (with_geom r kind name config automatic)
     → IsButForRoom u (with_geom t kind name config automatic)
-geom_over t r u kind name config automatic kept raised =
-    raised ∙ ap (λ (x : TopoView Config). record (with_geom x kind name config automatic) { room = u.room }) kept
+geom_over t r u kind name config automatic kept raised = search rules
 
 -- a provider that can be made can be made in a graph with the same providers
 pub offered_still : (t u : Topology Config) (o : Option Offer) → u.providers ≡ t.providers
     → IfSome o (CanBeOffered t) → IfSome o (CanBeOffered u)
 offered_still t u None same can = tt
-offered_still t u (Some x) same can = record {
-  size = can.size;
-  free = subst (λ (ps : List Provider). is_name_taken (record t { providers = ps }) x.name ≡ false) (sym same) can.free;
-}
+offered_still t u (Some x) same can = search rules
 
 -- a geom may get a provider still once it has one more consumer and another configuration
 pub may_placed : (t u v : TopoView Config) (geom prov : ℕ) (filled : Config)
@@ -542,21 +384,12 @@ room_kept P t u kept fact = subst (λ (x : TopoView Config). P x.topology) (sym 
 pub kept_taken : (t u v : TopoView Config) (q r s : Queued) (prov geom : ℕ) (plan : Plan) → IsButForRoom u t
     → r.events ≡ q.events → AreBoth v s (with_plan (both u r) prov geom plan)
     → AreBoth v s (with_plan (both t q) prov geom plan)
-kept_taken t u v q r s prov geom plan kept same taken =
-    followed (λ m. with_plan m prov geom plan) (plan_carries prov geom plan) u v r s (both t q)
-    (record { mesh = kept; events = same }) taken
+kept_taken t u v q r s prov geom plan kept same taken = search rules
 
 -- a standing geom without providers may get one
 pub standing_may_offer : (t : Topology Config) (geom : ℕ) (g : Geom Config) → geom_at t geom ≡ Some g
     → is_withering t geom ≡ false → is_bare t geom ≡ true → MayOffer t geom
-standing_may_offer t geom g found stays bare =
-    let is = bare_of t geom bare in
-    record {
-      lives = some-there (geom_at t geom) g found;
-      stays = stays;
-      not_dev = is.not_dev;
-      not_taste = is.not_taste;
-    }
+standing_may_offer t geom g found stays bare = search rules
 
 -- whether a provider can take a place is whether it can join
 pub can_join_is : (t : Topology Config) (p : Provider) (g : Geom Config) (k : ℕ) (b : Bool)
@@ -576,11 +409,7 @@ module _ (t : TopoView Config) (q : Queued) (p : Provider) (x : Member) where
       → IsButForRoom u (with_geom t x.kind x.geom_name x.empty true) → r.events ≡ q.events
       → AreBoth v s (with_plan (both u r) p.number t.topology.next_geom plan)
       → IsSomeAnd (joined_at (both t q) p x None) (AreBoth v s)
-  new_joined u v r s plan is made same taken =
-      some-with (joined_at (both t q) p x None) (AreBoth v s) (with_plan more p.number t.topology.next_geom plan)
-      (plan_made more p t.topology.next_geom x.empty x.place x.name plan is)
-      (followed (λ m. with_plan m p.number t.topology.next_geom plan)
-      (plan_carries p.number t.topology.next_geom plan) u v r s more (record { mesh = made; events = same }) taken)
+  new_joined u v r s plan is made same taken = search rules
 
   -- or nothing can be made
   pub new_none : plan_of t.topology (p.size - p.sector) p.sector x.empty x.place x.name ≡ None
@@ -600,9 +429,7 @@ module _ (t : TopoView Config) (q : Queued) (p : Provider) (x : Member) where
         → plan_of t.topology (p.size - p.sector) p.sector g.config x.place x.name ≡ Some plan
         → AreBoth v s (with_plan (both t q) p.number g.number plan)
         → IsSomeAnd (joined_at (both t q) p x (Some g)) (AreBoth v s)
-    standing_joined v s plan can is taken =
-        some-with (joined_at (both t q) p x (Some g)) (AreBoth v s) (with_plan (both t q) p.number g.number plan)
-        (at_standing can ∙ plan_made (both t q) p g.number g.config x.place x.name plan is) taken
+    standing_joined v s plan can is taken = search rules
 
     -- it can't join
     pub standing_no : can_join t.topology p g x.place ≡ false → joined_at (both t q) p x (Some g) ≡ None
@@ -619,16 +446,12 @@ module _ (t : TopoView Config) (q : Queued) (p : Provider) (x : Member) where
     -- a geom that can be joined in a fitting mesh is bare
     pub standing_bare : can_join t.topology p g x.place ≡ true → MayJoin (both t q) p x g
         → is_bare t.topology g.number ≡ true
-    standing_bare can may =
-        let parts = and_parts (is_none (option_flatten (slice_get (places_of g.config) x.place))) _ can in
-        bare_is t.topology g.number may.not_dev may.not_taste (may.waits parts.0)
+    standing_bare can may = search rules
 
     -- so one that isn't can't be joined in one
     pub standing_no_bare : can_join t.topology p g x.place ≡ true → is_bare t.topology g.number ≡ false
         → MayJoin (both t q) p x g → joined_at (both t q) p x (Some g) ≡ None
-    standing_no_bare can bare may =
-        let never : true ≡ false = sym (standing_bare can may) ∙ bare in
-        absurd (let none : ⊥ = cc in none)
+    standing_no_bare can bare may = search rules
 
     module _ (geom : ℕ) (at : geom_at t.topology geom ≡ Some g)
         (place : IsSomeAnd (geom_at t.topology geom) (λ (h : Geom Config). x.place < length (places_of h.config)))
@@ -687,26 +510,13 @@ module _ (t : TopoView Config) (q : Queued) (p : Provider) (x : Member) where
         → IsAccepted a v s (both t q) (joined_at (both t q) p x (Some g)) (MayJoin (both t q) p x g)
         → IsAccepted a v s (both t q) (with_member (both t q) p x) (MayBeMember (both t q) p x)
     member_standing a v s id g at stands answer =
-        answered_as a v s (both t q) (joined_at (both t q) p x (Some g)) (with_member (both t q) p x)
-        (MayJoin (both t q) p x g) (MayBeMember (both t q) p x)
-        (λ may. ap (joined_at (both t q) p x) (sym (this may)))
-        (λ may. standing_may (both t q) p x g sound inside (this may) may) answer where
-          -- the standing geom is this one
-          it_is : (o : Option (Geom Config)) → standing_geom t.topology x.geom_name x.empty ≡ o
-              → Some id ≡ option_map (λ (h : Geom Config). h.number) o
-              → standing_geom t.topology x.geom_name x.empty ≡ Some g
-          it_is None found number = absurd (let no : ⊥ = cc in no)
-          it_is (Some h) found number =
-              let same : h.number ≡ id = let turned : id ≡ h.number = cc in sym turned in
-              let there : geom_at t.topology h.number ≡ Some h =
-              standing_at (both t q) p x h sound inside found in
-              let one : h ≡ g =
-              one-found (geom_at t.topology id) h g (subst (λ n. geom_at t.topology n ≡ Some h) same there) at in
-              found ∙ ap (λ (z : Geom Config). Some z) one
-
-          -- so it is where the facts hold
-          this : MayBeMember (both t q) p x → standing_geom t.topology x.geom_name x.empty ≡ Some g
-          this may = it_is (standing_geom t.topology x.geom_name x.empty) refl (stands may)
+        search (
+          rules,
+          standing_may (both t q) p x g sound inside,
+          standing_at (both t q) p x,
+          one-found (geom_at t.topology id),
+          stands,
+        )
 
     -- the answer where none stands
     pub member_new : (a : Accepted) (v : TopoView Config) (s : Queued)
@@ -714,13 +524,4 @@ module _ (t : TopoView Config) (q : Queued) (p : Provider) (x : Member) where
         → None ≡ option_map (λ (h : Geom Config). h.number) (standing_geom t.topology x.geom_name x.empty))
         → IsAccepted a v s (both t q) (joined_at (both t q) p x None) (MakesSizes (joined_at (both t q) p x None))
         → IsAccepted a v s (both t q) (with_member (both t q) p x) (MayBeMember (both t q) p x)
-    member_new a v s stands answer =
-        answered_as a v s (both t q) (joined_at (both t q) p x None) (with_member (both t q) p x)
-        (MakesSizes (joined_at (both t q) p x None)) (MayBeMember (both t q) p x) made_new
-        (λ may. subst MakesSizes (sym (made_new may)) may.sizes) answer where
-          -- what is made is what is made in a new geom
-          made_new : MayBeMember (both t q) p x → joined_at (both t q) p x None ≡ with_member (both t q) p x
-          made_new may =
-              ap (joined_at (both t q) p x)
-              (sym (none-mapped (λ (h : Geom Config). h.number) (standing_geom t.topology x.geom_name x.empty)
-              (sym (stands may))))
+    member_new a v s stands answer = search rules

@@ -1,7 +1,6 @@
 -- A mesh whose rows have the counts of another one, where these don't change.
-use Rattle.std.specs.Prelude.{◌≡◌, ◌⊎◌, ℕ, Bool, true, false, map, Option, Some, None, IfSome, All, Contains, unwrap_or, if◌then◌else◌}
-use Rattle.std.specs.Option.{option_map_or}
-use Rattle.std.proofs.Common.{refl, sym, ◌∙◌, ap}
+use Rattle.std.specs.Prelude.{◌≡◌, ◌⊎◌, ℕ, true, map, Some, IfSome, All, Contains, unwrap_or, if◌then◌else◌}
+use Rattle.std.proofs.Common.{◌∙◌, ap, rules}
 use Rattle.geo_model.specs.Words.{is_granted_kind}
 use Rattle.geo_model.specs.Topology.{Topology, Provider, Consumer, geom_at, consumer_at}
 use Rattle.geo_model.specs.Graph.{IsInOrder}
@@ -12,7 +11,6 @@ use Rattle.geo_laws_graph.proofs.Lists.{found_itself}
 use Rattle.geo_laws_counts.specs.CountWords.{DemandStays, HoldsGrants}
 use Rattle.geo_laws_counts.proofs.LimitFacts.{all_of}
 use Rattle.geo_laws_counts.proofs.Stays.{grants_agree}
-use Rattle.geo_laws_counts.proofs.Openers.{wants_grant}
 use Rattle.geo_access.specs.Access.{granted_by, holds_grants, clear_scratches, IsCounted}
 use Rattle.geo_access.proofs.Clearing.{rows-same_on, rows_agree}
 use Rattle.geo_access.proofs.Decided.{granted_found, holds_is, item_at}
@@ -55,47 +53,19 @@ module _ {C : Type 0} (t u : TopoView C) (counted : IsCounted t) (is : KeepsCoun
 
   -- the grants are the same
   pub kept_grants : (c : Consumer) → Contains u.topology.consumers c → granted_by u c.number ≡ granted_by t c.number
-  kept_grants c there =
-      granted_there c there
-      ∙ ap (λ b. if b then want (granted_by t) t.topology c else no_counts) (is.classes c there)
-      ∙ by (holds_grants t.topology c.geom) refl
-    where
-      other : (o : Option Consumer) → consumer_at t.topology c.number ≡ o → IfSome o (λ d. d.geom ≡ c.geom)
-          → holds_grants t.topology c.geom ≡ false
-          → option_map_or
-          (λ (x : Consumer). if holds_grants t.topology x.geom then unwrap_or (value_at t.wants c.number) no_counts
-          else no_counts) o no_counts ≡ no_counts
-      other None is_at same none = refl
-      other (Some d) is_at same none =
-          ap (λ g. if holds_grants t.topology g then unwrap_or (value_at t.wants c.number) no_counts else no_counts)
-          same
-          ∙ ap (λ b. if b then unwrap_or (value_at t.wants c.number) no_counts else no_counts) none
-
-      by : (b : Bool) → holds_grants t.topology c.geom ≡ b
-          → (if b then want (granted_by t) t.topology c else no_counts) ≡ granted_by t c.number
-      by true holds = wants_grant (granted_by t) t.topology c (holds_of t.topology c.geom holds)
-      by false none = sym (other (consumer_at t.topology c.number) refl (is.known c there) none)
+  kept_grants c there = search (rules, granted_there c there)
 
   -- so all counts are kept
   pub kept_counted : IsCounted u
   kept_counted =
-      let after : DemandStays (granted_by t) u.topology (granted_by u) u.topology (Contains u.topology.consumers) =
-      grants_agree (granted_by t) (granted_by u) u.topology
-      (all_of (λ (c : Consumer). granted_by u c.number ≡ granted_by t c.number) u.topology.consumers kept_grants) in
-      record {
-        kinds = is.kinds;
-        haves =
-            is.haves
-            ∙ rows-same_on (λ (z : Provider). z.number) (have (granted_by t) t.topology)
-            (have (granted_by u) u.topology) u.topology.providers
-            (λ z there. sym (after.haves z.number ∙ is.stays.haves z.number));
-        wants =
-            is.wants
-            ∙ rows_agree (λ (c : Consumer). c.number) (want (granted_by t) t.topology) (want (granted_by u) u.topology)
-            u.topology.consumers (λ c there. sym (after.wants c there ∙ is.stays.wants c there));
-        exclusive = after.exclusive (is.stays.exclusive counted.exclusive);
-        limit = after.limit (is.stays.limit counted.limit);
-        risen = is.risen;
-        fallen = is.fallen;
-        clear = is.clear;
-      }
+      search (
+        rules,
+        grants_agree (granted_by t) (granted_by u) u.topology
+            (all_of (λ (c : Consumer). granted_by u c.number ≡ granted_by t c.number) u.topology.consumers kept_grants),
+        rows-same_on (λ (z : Provider). z.number) (have (granted_by t) t.topology) (have (granted_by u) u.topology)
+            u.topology.providers,
+        rows_agree (λ (c : Consumer). c.number) (want (granted_by t) t.topology) (want (granted_by u) u.topology)
+            u.topology.consumers,
+        is.stays.exclusive counted.exclusive,
+        is.stays.limit counted.limit,
+      )

@@ -1,6 +1,5 @@
 -- What is made is what the model makes, and so is each answer to a shape that a class accepts.
-use Rattle.std.specs.List.{list_all}
-use Rattle.std.proofs.Common.{◌≡◌, ℕ, ◌-◌, Bool, true, false, List, [], ◌∷◌, ◌++◌, map, fold, Option, Some, None, option_map, is_some, if◌then◌else◌, ◌%◌, ◌<◌, ◌≤◌, ◌==◌, nat_le, ◌&&◌, ◌||◌, length, IfSome, Result, IfOk, replicate, IsSomeAnd, refl, ap, sym, ◌∙◌, subst, arith, inl, inr}
+use Rattle.std.proofs.Common.{◌≡◌, ℕ, ◌-◌, Bool, true, false, List, [], ◌∷◌, ◌++◌, map, fold, Option, Some, None, option_map, if◌then◌else◌, ◌%◌, ◌<◌, ◌≤◌, ◌==◌, nat_le, ◌&&◌, ◌||◌, length, IfSome, Result, IfOk, replicate, refl, ap, sym, ◌∙◌, subst, rules}
 use Rattle.geo_base.specs.declared.kind.Kind.{Kind}
 use Rattle.geo_base.specs.declared.kind.Kind.TheVariants as kinds
 use Rattle.geo_model.specs.declared.class.Shape.{Shape}
@@ -10,13 +9,13 @@ use Rattle.geo_model.specs.Names.{label_name}
 use Rattle.geo_model.specs.Topology.{Topology, Geom, Provider, add_consumer, add_provider, provider_at}
 use Rattle.geo_model.specs.World.{Config, Mbr, Ebr}
 use Rattle.geo_model.specs.Events.{QueuedTopology, offer}
-use Rattle.geo_model.specs.Acceptance.{NewSlice, Member, are_names_free, with_slices, with_label, finish, join_place, join_at, can_join, accept, accept_member, fill_place, places_of, joined_size, is_size, new_slices, new_parts, concat_member, stripe_member, standing_geom}
+use Rattle.geo_model.specs.Acceptance.{NewSlice, Member, are_names_free, with_slices, with_label, join_at, accept, accept_member, places_of, new_slices, new_parts, concat_member, stripe_member, standing_geom}
 use Rattle.geo_model.specs.GeomCommands.{build}
 use Rattle.geo_mesh.specs.Topo.{TopoView, with_geom}
-use Rattle.geo_taste.specs.Making.{QueuedMesh, queued, with_attached, with_all_attached, with_built, with_offer, both, AreBoth}
-use Rattle.geo_taste.specs.Accepting.{over, with_slices_of, sliced, labelled, placed, finished, joined, joined_at, with_member, accepted, IsAccepted}
+use Rattle.geo_taste.specs.Making.{QueuedMesh, queued, with_attached, with_all_attached, with_built, with_offer, both}
+use Rattle.geo_taste.specs.Accepting.{over, with_slices_of, sliced, labelled, joined_at, with_member, accepted, IsAccepted}
 use Rattle.geo_taste.specs.MakingLaws.{MakesAsTheModel}
-use Rattle.std.proofs.lemmas.Bool.{and_parts, leb-true, eqb-true, or_cases}
+use Rattle.std.proofs.lemmas.Bool.{and_parts, leb-true}
 use Rattle.std.proofs.lemmas.List.{length-replicate}
 use Rattle.geo_base.specs.declared.limits.TheConstants.{MAX_MEDIA_BYTES}
 use Rattle.geo_mesh.specs.Graph.{IsSoundGraph}
@@ -82,31 +81,11 @@ module _ (m : QueuedMesh) (p : Provider) where
   labelled_is name =
       made_if (are_names_free t (name ∷ [])) _ None (Some (with_label (queued m) p name)) None refl refl
 
--- an assembly that is complete
-finished_is : (m : QueuedMesh) (geom : ℕ) (config : Config) (name : List ℕ) (sector : ℕ)
-    → option_map queued (finished m geom config name sector) ≡ finish (queued m) geom config name sector
-finished_is m geom config name sector =
-    made_if (is_size (joined_size config)) _ None _ None
-    (made_if (are_names_free m.mesh.topology (name ∷ [])) _ None
-    (Some (offer (queued m) geom name (joined_size config) sector)) None refl refl) refl
-
--- a place that is taken
-joined_is : (m : QueuedMesh) (p : Provider) (geom : ℕ) (config : Config) (place : ℕ) (name : List ℕ)
-    → option_map queued (joined m p geom config place name) ≡ join_place (queued m) p geom config place name
-joined_is m p geom config place name =
-    let filled : Config = fill_place config place m.mesh.topology.next_consumer (p.size - p.sector) in
-    made_if (list_all is_some (places_of filled)) _ _ _ _
-    (finished_is (placed m p.number geom filled) geom filled name p.sector) refl
-
 -- in a standing geom or in a new one
 joined_at_is : (m : QueuedMesh) (p : Provider) (x : Member) (o : Option (Geom Config))
     → option_map queued (joined_at m p x o) ≡ join_at (queued m) p x o
-joined_at_is m p x (Some g) =
-    made_if (can_join m.mesh.topology p g x.place) _ None _ None
-    (joined_is m p g.number g.config x.place x.name) refl
-joined_at_is m p x None =
-    joined_is (record m { mesh = with_geom m.mesh x.kind x.geom_name x.empty true }) p m.mesh.topology.next_geom
-    x.empty x.place x.name
+joined_at_is m p x (Some g) = search rules
+joined_at_is m p x None = search rules
 
 -- a member of an assembly
 member_is : (m : QueuedMesh) (p : Provider) (x : Member)
@@ -135,23 +114,14 @@ makes_as_model = record { build = built_is; disk = λ m disk item. refl; accept 
 pub has_sector : (t : Topology Config) (prov : ℕ) (p : Provider) → IsSoundGraph t → provider_at t prov ≡ Some p
     → p.sector ≤ p.size
 has_sector t prov p sound found =
-    let first = and_parts ((p.sector == 512) || (p.sector == 4096))
-    (nat_le 1 p.size && (nat_le p.size MAX_MEDIA_BYTES && (p.size % p.sector == 0)))
-    (sized_there t sound prov p found) in
-    let second = and_parts (nat_le 1 p.size) (nat_le p.size MAX_MEDIA_BYTES && (p.size % p.sector == 0)) first.1 in
-    let third = and_parts (nat_le p.size MAX_MEDIA_BYTES) (p.size % p.sector == 0) second.1 in
-    let some : 1 ≤ p.size = leb-true 1 p.size second.0 in
-    let whole : p.size % p.sector ≡ 0 = eqb-true (p.size % p.sector) 0 third.1 in
-    elim (or_cases (p.sector == 512) (p.sector == 4096) first.0) [
-      | inl e ↦
-          let is : p.sector ≡ 512 = eqb-true p.sector 512 e in
-          let rest : p.size % 512 ≡ 0 = subst (λ n. p.size % n ≡ 0) is whole in
-          omega (arith, is, some, rest)
-      | inr e ↦
-          let is : p.sector ≡ 4096 = eqb-true p.sector 4096 e in
-          let rest : p.size % 4096 ≡ 0 = subst (λ n. p.size % n ≡ 0) is whole in
-          omega (arith, is, some, rest)
-    ]
+    search (
+      rules,
+      and_parts ((p.sector == 512) || (p.sector == 4096))
+          (nat_le 1 p.size && (nat_le p.size MAX_MEDIA_BYTES && (p.size % p.sector == 0)))
+          (sized_there t sound prov p found),
+      and_parts (nat_le p.size MAX_MEDIA_BYTES) (p.size % p.sector == 0),
+      leb-true 1 p.size,
+    )
 
 -- Answers
 
@@ -159,16 +129,14 @@ has_sector t prov p sound found =
 pub answered_as : (a : Accepted) (v : TopoView Config) (s : Queued) (m : QueuedMesh) (made other : Option QueuedMesh)
     (facts more : Type 0) → (more → made ≡ other) → (more → facts) → IsAccepted a v s m made facts
     → IsAccepted a v s m other more
-answered_as Made v s m made other facts more same so is = λ f.
-    subst (λ o. IsSomeAnd o (AreBoth v s)) (same f) (is (so f))
+answered_as Made v s m made other facts more same so is = search rules
 answered_as Declined v s m made other facts more same so is = (is.0, λ f. sym (same f) ∙ is.1 (so f))
 
 -- sizes of what the model makes are those of what is made
 sizes_from : (o : Option QueuedMesh) (r : Option (QueuedTopology Config)) → option_map queued o ≡ r
     → IfSome r (λ made. HaveSizes made.topology) → MakesSizes o
 sizes_from None r e sizes = tt
-sizes_from (Some m) r e sizes =
-    subst (λ (z : Option (QueuedTopology Config)). IfSome z (λ made. HaveSizes made.topology)) (sym e) sizes
+sizes_from (Some m) r e sizes = search rules
 
 module _ (m : QueuedMesh) (p : Provider) (shape : Shape) where
   -- so where a class may accept
@@ -178,12 +146,7 @@ module _ (m : QueuedMesh) (p : Provider) (shape : Shape) where
   -- and where it accepts a member, that may be one
   pub may_member : (x : Member) → accepted m p shape ≡ with_member m p x → MayAccept (queued m) p shape
       → MayBeMember m p x
-  may_member x same may = record {
-    classes = may.classes;
-    first = may.made;
-    waiting = may.waiting;
-    sizes = subst MakesSizes same (may_sizes may);
-  }
+  may_member x same may = search (rules, may_sizes may)
 
 module _ {E : Type 0} (t : TopoView Config) (q : Queued) (prov : ℕ) (p : Provider)
     (at : provider_at t.topology prov ≡ Some p) (shape other : Shape) (is : shape ≡ other) (v : TopoView Config)
@@ -220,11 +183,7 @@ module _ {E : Type 0} (t : TopoView Config) (q : Queued) (prov : ℕ) (p : Provi
   -- where it may be a member
   pub member_answered : (x y : Member) → x ≡ y → accepted old p other ≡ with_member old p y
       → IfOk r (λ a. IsAccepted a v s old (with_member old p x) (MayBeMember old p x)) → IsAnswered
-  member_answered x y same made =
-      let joins : accepted old p other ≡ with_member old p x = made ∙ ap (with_member old p) (sym same) in
-      answered (λ a. IsAccepted a v s old (with_member old p x) (MayBeMember old p x))
-      (λ a. answered_as a v s old (with_member old p x) (accepted old p other) (MayBeMember old p x)
-      (MayAccept (queued old) p other) (λ may. sym joins) (may_member old p other x joins))
+  member_answered x y same made = search (rules, may_member old p other x)
 
 -- Places
 

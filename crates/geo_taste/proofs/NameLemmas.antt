@@ -1,20 +1,15 @@
 -- Names of partitions in digits, and names that aren't taken.
-use Rattle.std.proofs.Common.{◌≡◌, ℕ, ◌+◌, ◌/◌, ◌%◌, ◌<◌, ◌≤◌, Bool, true, false, List, [], ◌∷◌, ◌++◌, codes, decimal, refl, ◌∙◌, ap, arith, append_assoc}
+use Rattle.std.proofs.Common.{◌≡◌, ℕ, ◌+◌, ◌/◌, ◌%◌, ◌<◌, ◌≤◌, List, [], ◌∷◌, ◌++◌, codes, decimal, ◌∙◌, ap, arith, append_assoc, rules}
 use Rattle.std.proofs.lemmas.Fmt.{decimal_digit, decimal_step}
-use Rattle.geo_base.specs.Name.{is_name, name_of}
+use Rattle.geo_base.specs.Name.{name_of}
 use Rattle.geo_model.specs.Names.{logical_name}
-use Rattle.geo_model.specs.Topology.{Topology, is_name_taken}
+use Rattle.geo_model.specs.Topology.{Topology}
 use Rattle.geo_model.specs.World.{Config}
 use Rattle.geo_taste.specs.Free.{free_name, untaken}
 
 -- a name that isn't taken is one that is free
 pub untaken_name : (t : Topology Config) (name : List ℕ) → untaken t (name_of name) ≡ free_name t name
-untaken_name t name = by (is_name name) (is_name_taken t name) refl refl where
-  -- by the two tests
-  by : (a b : Bool) → is_name name ≡ a → is_name_taken t name ≡ b → untaken t (name_of name) ≡ free_name t name
-  by true true e f = rw (e, f) refl
-  by true false e f = rw (e, f) refl
-  by false b e f = rw e refl
+untaken_name t name = search rules
 
 -- the name of a partition of one digit
 pub name_of_one : (below : List ℕ) (n : ℕ) → n < 9 → logical_name below n ≡ below ++ 108 ∷ (48 + (n + 1)) ∷ []

@@ -1,5 +1,5 @@
 -- A new geom gets its consumers, which are attached to the providers below it, whatever room is kept meanwhile.
-use Rattle.std.proofs.Common.{◌≡◌, ℕ, ◌+◌, ◌<◌, ◌≤◌, nat_lt, max, Bool, true, false, not, ◌&&◌, List, [], ◌∷◌, Some, None, IsSome, IsSomeAnd, length, drop, get_or, ◌≢◌, All, Contains, ◌∙◌, ap, subst, refl, sym, arith, inr, inl}
+use Rattle.std.proofs.Common.{◌≡◌, ℕ, ◌+◌, ◌<◌, ◌≤◌, nat_lt, max, Bool, true, false, not, ◌&&◌, List, [], ◌∷◌, Some, None, IsSome, IsSomeAnd, length, drop, get_or, ◌≢◌, All, Contains, ◌∙◌, ap, subst, refl, sym, arith, inr, inl, rules}
 use Rattle.geo_mesh.specs.Topo.{TopoView, Room, with_consumer, with_topology, IsButForRoom, with_geom}
 use Rattle.geo_model.specs.World.{Config}
 use Rattle.geo_event.specs.EventQueue.{Queued}
@@ -9,7 +9,7 @@ use Rattle.geo_model.specs.Words.{is_granted_kind}
 use Rattle.geo_model.specs.Topology.{Topology, Geom, Provider, Consumer, geom_at, provider_at, consumer_at, providers_of, add_consumer, attach, is_errored, add_geom, is_name_taken, is_withering}
 use Rattle.geo_model.specs.Rank.{rank, would_loop, is_too_deep, attach_refusal}
 use Rattle.geo_mesh.specs.Graph.{IsSoundGraph}
-use Rattle.std.proofs.lemmas.Bool.{or_parts, ltb-false, le-ltb, cases_eq}
+use Rattle.std.proofs.lemmas.Bool.{ltb-false, le-ltb, cases_eq}
 use Rattle.geo_base.proofs.AllLists.{all_weaker}
 use Rattle.geo_base.specs.declared.limits.TheConstants.{MAX_RANK}
 use Rattle.geo_laws_graph.specs.LookupLaws.{new_consumer, new_geom}
@@ -40,24 +40,11 @@ with_room m room = record m { mesh = record m.mesh { room = room } }
 abbrev pub CarriesRoom : (QueuedMesh → QueuedMesh) → Type 0
 CarriesRoom change = (m : QueuedMesh) (room : Room) → change (with_room m room) ≡ with_room (change m) room
 
--- a mesh and a queue that are these are these with the room that is kept
-pub both-are : (t : TopoView Config) (q : Queued) (m : QueuedMesh) → AreBoth t q m → both t q ≡ with_room m t.room
-both-are t q m are =
-    ap (λ (x : TopoView Config). record { mesh = x; events = q.events }) are.mesh
-    ∙ ap (λ es. record { mesh = record m.mesh { room = t.room }; events = es }) are.events
-
--- a room that is kept otherwise doesn't matter
-pub unroomed : (t : TopoView Config) (q : Queued) (m : QueuedMesh) (room : Room) → AreBoth t q (with_room m room)
-    → AreBoth t q m
-unroomed t q m room are = record { mesh = are.mesh; events = are.events }
-
 -- a change after others
 pub followed : (change : QueuedMesh → QueuedMesh) → CarriesRoom change
     → (t u : TopoView Config) (q r : Queued) (m : QueuedMesh)
     → AreBoth t q m → AreBoth u r (change (both t q)) → AreBoth u r (change m)
-followed change carries t u q r m first then =
-    unroomed u r (change m) t.room
-    (subst (AreBoth u r) (ap change (both-are t q m first) ∙ carries m t.room) then)
+followed change carries t u q r m first then = search rules
 
 -- A new consumer of a geom without providers
 
@@ -71,8 +58,7 @@ none_any test (x ∷ xs) none = rw (none.0, none_any test xs none.1) refl
 any_none : {X : Type 0} (test : X → Bool) (xs : List X) → list_any test xs ≡ false
     → AllByRecursion (λ x. test x ≡ false) xs
 any_none test [] none = tt
-any_none test (x ∷ xs) none = let both = or_parts (test x) (list_any test xs) none in
-    (both.0, any_none test xs both.1)
+any_none test (x ∷ xs) none = search (rules, any_none test xs)
 
 -- a rank that is no greater than one that isn't too great, or than the limit, isn't too great
 deep_by : (granted : Bool) (n m : ℕ) → m ≤ max n MAX_RANK → (not granted && nat_lt MAX_RANK n) ≡ false
@@ -146,8 +132,7 @@ module _ {C : Type 0} (t : Topology C) (sound : IsSoundGraph t) (geom prov : ℕ
       let y = found-with (provider_at t other) (λ p. (p.errored ≡ false) × (rank t p.geom < MAX_RANK)) can in
       let same : rank with_one y.item.geom ≡ rank t y.item.geom = rises.0.same y.item.geom
       (open-other t geom other y.item sound.ranked sound.orderly.parts.geoms lives bare y.is) in
-      some-with (provider_at t other) (λ p. (p.errored ≡ false) × (rank with_one p.geom < MAX_RANK)) y.item y.is
-      (y.fact.0, rw same y.fact.1)
+      search rules
 
 -- a consumer that was just made in a mesh can be attached, and then the mesh is the one with a consumer attached
 pub record CanBeAttached (t u : TopoView Config) (geom prov cons : ℕ) : Type 0 where
@@ -161,20 +146,17 @@ pub allowed_can : (t u : TopoView Config) (geom prov cons : ℕ) → cons ≡ t.
     → attach_refusal (add_consumer t.topology geom None) t.topology.next_consumer prov ≡ None
     → CanBeAttached t u geom prov cons
 allowed_can t u geom prov cons number sound made allowed =
-    let graph : u.topology ≡ add_consumer t.topology geom None = ap (λ (v : TopoView Config). v.topology) made in
-    subst (CanBeAttached t u geom prov) (sym number) (record {
-      consumer = subst (λ (g : Topology Config). IsSomeAnd (consumer_at g t.topology.next_consumer)
-          (λ (y : Consumer). y.provider ≡ None)) (sym graph)
-          (some-with (consumer_at (add_consumer t.topology geom None) t.topology.next_consumer)
+    search (
+      rules,
+      some-with (consumer_at (add_consumer t.topology geom None) t.topology.next_consumer)
           (λ (y : Consumer). y.provider ≡ None) (new_consumer t.topology geom None)
-          (added-consumer.new t.topology geom None sound.orderly.order) refl);
-      accepted = subst (λ (g : Topology Config). attach_refusal g t.topology.next_consumer prov ≡ None) (sym graph)
-          allowed;
-      attached = ap (λ (v : TopoView Config). with_topology (record v { room = u.room })
-          (attach v.topology t.topology.next_consumer prov)) made
-          ∙ ap (with_topology (record (with_consumer t geom) { room = u.room }))
-          (two-changes.made t.topology geom prov sound.orderly.order);
-    })
+          (added-consumer.new t.topology geom None sound.orderly.order),
+      ap
+          (λ (v : TopoView Config). with_topology (record v { room = u.room })
+          (attach v.topology t.topology.next_consumer prov)) made,
+      ap (with_topology (record (with_consumer t geom) { room = u.room }))
+          (two-changes.made t.topology geom prov sound.orderly.order),
+    )
 
 -- as nothing does where the geom has no provider and may stand on the one
 pub attach_can : (t u : TopoView Config) (geom prov cons : ℕ) → cons ≡ t.topology.next_consumer
@@ -192,9 +174,7 @@ attach_can t u geom prov cons number sound made lives bare can =
 -- after the attach
 pub attached_is : (t u v : TopoView Config) (geom prov cons : ℕ) → CanBeAttached t u geom prov cons
     → v ≡ with_topology u (attach u.topology cons prov) → IsButForRoom v (with_attached t geom prov)
-attached_is t u v geom prov cons can e =
-    e ∙ can.attached
-    ∙ ap (λ (r : Room). record (with_attached t geom prov) { room = r }) (sym (ap (λ (x : TopoView Config). x.room) e))
+attached_is t u v geom prov cons can e = search rules
 
 -- and then the others can be stood on still
 pub attach_more : (t u : TopoView Config) (geom prov : ℕ) (provs : List ℕ) → IsSoundGraph t.topology
@@ -202,13 +182,11 @@ pub attach_more : (t u : TopoView Config) (geom prov : ℕ) (provs : List ℕ) �
     → IsSome (geom_at t.topology geom) → providers_of t.topology geom ≡ [] → CanStandOn t.topology prov
     → AllByRecursion (CanStandOn t.topology) provs → AllByRecursion (CanStandOn u.topology) provs
 attach_more t u geom prov provs sound made lives bare can all =
-    let x = found-with (provider_at t.topology prov)
-    (λ p. (p.errored ≡ false) × (rank t.topology p.geom < MAX_RANK)) can in
-    let graph : u.topology ≡ add_consumer t.topology geom (Some prov) =
-    ap (λ (v : TopoView Config). v.topology) made in
-    subst (λ (g : Topology Config). AllByRecursion (CanStandOn g) provs) (sym graph)
-    (all_weaker (CanStandOn t.topology) (CanStandOn (add_consumer t.topology geom (Some prov)))
-    (still_at t.topology sound geom prov x.item x.is lives bare) provs all)
+    search (
+      rules,
+      all_weaker (CanStandOn t.topology) (CanStandOn (add_consumer t.topology geom (Some prov))),
+      still_at t.topology sound geom prov,
+    )
 
 -- another room is carried along
 pub attached_roomed : (t : TopoView Config) (room : Room) (geom : ℕ) (provs : List ℕ)
@@ -240,20 +218,11 @@ pub record IsOneMore (u v : TopoView Config) (geom prov : ℕ) : Type 0 where
 one_more : (t u v : TopoView Config) (geom prov : ℕ) (rest all : List ℕ) → AttachedSoFar t u geom (prov ∷ rest) all
     → IsOneMore u v geom prov → AttachedSoFar t v geom rest all
 one_more t u v geom prov rest all far one =
-    let graph = ap (λ (x : TopoView Config). x.topology) one.attached in
-    record {
-      same =
-          ap (λ (x : TopoView Config). record (with_all_attached x geom rest) { room = t.room }) one.attached
-          ∙ ap (λ (x : TopoView Config). record x { room = t.room })
-          (attached_roomed (with_attached u geom prov) v.room geom rest)
-          ∙ far.same;
-      stand = attach_more u v geom prov rest one.sound one.attached far.lives far.bare far.stand.0 far.stand.1;
-      lives = subst (λ (g : Topology Config). IsSome (geom_at g geom)) (sym graph) far.lives;
-      bare = subst (λ (g : Topology Config). providers_of g geom ≡ []) (sym graph) far.bare;
-      room = omega (arith, far.room, one.room);
-      other_room = one.other_room
-          ∙ ap (λ (r : Room). record r { consumers = v.room.consumers }) far.other_room;
-    }
+    search (
+      rules,
+      attached_roomed (with_attached u geom prov) v.room geom rest,
+      attach_more u v geom prov rest one.sound one.attached far.lives far.bare far.stand.0 far.stand.1,
+    )
 
 module _ {t u : TopoView Config} {geom : ℕ} {provs : List ℕ} (i : ℕ)
     (far : AttachedSoFar t u geom (drop i provs) provs) where
@@ -266,9 +235,7 @@ module _ {t u : TopoView Config} {geom : ℕ} {provs : List ℕ} (i : ℕ)
 
   -- at the end all are made
   pub attach_end : length provs ≤ i → IsButForRoom u (with_all_attached t geom provs)
-  attach_end all =
-      let done = subst (λ xs. AttachedSoFar t u geom xs provs) (drop_of_length-le provs all) far in
-      ap (λ (x : TopoView Config). record x { room = u.room }) done.same
+  attach_end all = search (rules, drop_of_length-le provs all)
 
 -- A new geom
 
@@ -320,8 +287,7 @@ module _ {C : Type 0} (t : Topology C) (sound : IsSoundGraph t) where
         let x = found-with (provider_at t prov) (λ p. (p.errored ≡ false) × (rank t p.geom < MAX_RANK)) can in
         let same : rank more x.item.geom ≡ rank t x.item.geom =
         (adding-stay.geom t kind name config automatic sound.ranked sound.orderly.parts.geoms).same x.item.geom in
-        some-with (provider_at t prov) (λ p. (p.errored ≡ false) × (rank more p.geom < MAX_RANK)) x.item x.is
-        (x.fact.0, rw same x.fact.1)
+        search rules
 
 -- what a new geom of a mesh needs to get its consumers
 pub record CanRise (u : Topology Config) (geom : ℕ) (provs : List ℕ) : Type 0 where
@@ -369,18 +335,7 @@ same_geoms t geom (prov ∷ provs) = same_geoms (with_attached t geom prov) geom
 pub still_may : (u v : TopoView Config) (geom : ℕ) (provs : List ℕ)
     → IsButForRoom v (with_all_attached u geom provs)
     → MayOffer u.topology geom → MayOffer v.topology geom
-still_may u v geom provs all may =
-    let geoms : v.topology.geoms ≡ u.topology.geoms =
-    ap (λ (x : TopoView Config). x.topology.geoms) all ∙ same_geoms u geom provs in
-    record {
-      lives = subst (λ (gs : List (Geom Config)). IsSome (geom_at (record u.topology { geoms = gs }) geom))
-          (sym geoms)
-          may.lives;
-      stays = subst (λ (gs : List (Geom Config)). is_withering (record u.topology { geoms = gs }) geom ≡ false)
-          (sym geoms) may.stays;
-      not_dev = may.not_dev;
-      not_taste = may.not_taste;
-    }
+still_may u v geom provs all may = search (rules, same_geoms u geom provs)
 
 -- After room was kept
 
@@ -404,15 +359,12 @@ module _ (t u v : TopoView Config) (kind : Kind) (name : List ℕ) (config : Con
   -- it has the same providers
   pub risen_providers : v.topology.providers ≡ t.topology.providers
   risen_providers =
-      ap (λ (x : TopoView Config). x.topology.providers) risen_over
-      ∙ same_providers (with_geom t kind name config automatic) t.topology.next_geom provs
+      search (rules, risen_over, same_providers (with_geom t kind name config automatic) t.topology.next_geom provs)
 
   -- a name that was free still is
   pub risen_free : (other : List ℕ) → is_name_taken t.topology other ≡ false
       → is_name_taken v.topology other ≡ false
-  risen_free other free =
-      subst (λ (ps : List Provider). is_name_taken (record t.topology { providers = ps }) other ≡ false)
-      (sym risen_providers) free
+  risen_free other free = search (rules, risen_providers)
 
   -- its provider comes next
   pub risen_offered : (w : TopoView Config) (q r s : Queued) (geom : ℕ) (other : List ℕ) (size sector : ℕ)

@@ -1,15 +1,14 @@
 -- The taste's consumer, and its read that is granted and given back.
-use Rattle.std.specs.Prelude.{◌≡◌, ℕ, zero, suc, ◌+◌, ◌==◌, false, not, ◌&&◌, List, [], ◌∷◌, length, map, Option, Some, None, Bool, true, IsSome, IsSomeAnd, Contains, unwrap_or, if◌then◌else◌, All}
-use Rattle.std.specs.Option.{option_map_or, option_and_then}
-use Rattle.std.proofs.Common.{refl, ◌∙◌, ap, sym, subst, inl, inr, eq-eqb}
+use Rattle.std.specs.Prelude.{◌≡◌, ℕ, zero, suc, ◌+◌, ◌==◌, false, not, ◌&&◌, List, [], ◌∷◌, length, map, Some, true, Contains, if◌then◌else◌}
+use Rattle.std.proofs.Common.{refl, ◌∙◌, ap, sym, subst, rules}
 use Rattle.std.proofs.Math.Bool.{and-not_self, not-and_self}
 use Rattle.geo_base.specs.declared.request.Counts.{Counts}
 use Rattle.geo_base.specs.declared.kind.Kind.{Kind}
 use Rattle.geo_base.specs.declared.kind.Kind.TheVariants as kinds
-use Rattle.geo_model.specs.Topology.{Topology, Geom, Provider, Consumer, geom_at, providers_of, attached_to, consumer_at}
+use Rattle.geo_model.specs.Topology.{Topology, Provider, Consumer, attached_to, consumer_at}
 use Rattle.geo_model.specs.Demand.{no_counts, sum_counts, want_of_kind, want_given, have_within, have, one_read, want}
-use Rattle.geo_access.specs.Access.{leaves_zero, comes_to_zero, granted_by, holds_grants, counted_view, granted_view, released_view, place_of, IsQuiet, IsHolder, IsCounted}
-use Rattle.std.proofs.lemmas.Bool.{eqb-true, cases_eq, ne_eqb}
+use Rattle.geo_access.specs.Access.{leaves_zero, comes_to_zero, granted_by, counted_view, granted_view, released_view, place_of, IsQuiet, IsHolder, IsCounted}
+use Rattle.std.proofs.lemmas.Bool.{eqb-true}
 use Rattle.geo_model.specs.Opens.{grant_refusal, with_grant}
 use Rattle.geo_model.specs.World.{Config, Taste, is_read_out}
 use Rattle.geo_model.specs.Sound.{IsTasting}
@@ -32,8 +31,7 @@ use Rattle.geo_laws_graph.proofs.Lists.{found_itself}
 sum_writes : {X : Type 0} (f g : X → Counts) (xs : List X) → ((x : X) → (f x).w ≡ (g x).w)
     → (sum_counts (map f xs)).w ≡ (sum_counts (map g xs)).w
 sum_writes f g [] same = refl
-sum_writes f g (x ∷ xs) same =
-    ap (λ n. n + (sum_counts (map f xs)).w) (same x) ∙ ap (λ n. (g x).w + n) (sum_writes f g xs same)
+sum_writes f g (x ∷ xs) same = search (rules, ap (λ n. (g x).w + n) (sum_writes f g xs same))
 
 -- so what a consumer of any class wants to write
 want_writes : (kind : Kind) (f g : Provider → Counts) (ys : List Provider) (a b : Counts)
@@ -48,17 +46,7 @@ module _ {C : Type 0} (t : Topology C) (granted other : ℕ → Counts) (same : 
   -- a consumer wants to write as much, where providers have as much
   given_writes : (H K : ℕ → Counts) → ((n : ℕ) → (H n).w ≡ (K n).w) → (c : Consumer)
       → (want_given granted H t c).w ≡ (want_given other K t c).w
-  given_writes H K agree c = by (geom_at t c.geom)
-    where
-      by : (o : Option (Geom C))
-          → (option_map_or (λ (g : Geom C). want_of_kind g.kind (map (λ (x : Provider). H x.number)
-          (providers_of t g.number)) (granted c.number)) o no_counts).w
-          ≡ (option_map_or (λ (g : Geom C). want_of_kind g.kind (map (λ (x : Provider). K x.number)
-          (providers_of t g.number)) (other c.number)) o no_counts).w
-      by None = refl
-      by (Some g) =
-          want_writes g.kind (λ (x : Provider). H x.number) (λ (x : Provider). K x.number) (providers_of t g.number)
-          (granted c.number) (other c.number) (λ y. agree y.number) (same c.number)
+  given_writes H K agree c = search (rules, want_writes)
 
   -- the write counts over so many levels
   within_writes : (levels p : ℕ) → (have_within granted levels t p).w ≡ (have_within other levels t p).w
@@ -102,28 +90,17 @@ module _ (t : Topology Config) (sound : IsSoundGraph t) (s : Taste) (is : IsTast
 
   -- it holds what it is granted
   pub taster_holds : IsHolder t s.consumer
-  taster_holds = record {
-    kind = subst (λ o. IsSomeAnd o (λ (x : Consumer). HoldsGrants t x.geom)) (sym taster_found)
-        taster_granted;
-    attached = subst (λ o. IsSomeAnd o (λ (x : Consumer). IsSome x.provider)) (sym taster_found)
-        (subst (λ o. IsSome o) (sym is.attached) refl);
-  }
+  taster_holds = search (rules, taster_found, taster_granted)
 
   -- at the tasted provider
   pub taster_place : place_of t s.consumer ≡ s.provider
-  taster_place =
-      ap (λ o. unwrap_or (option_and_then (λ (x : Consumer). x.provider) o) 0) taster_found
-      ∙ ap (λ o. unwrap_or o 0) is.attached
+  taster_place = search (rules, taster_found)
 
 -- The read
 
 -- what a taste holds writes nothing
 pub held_reads : (s : Taste) → (held_by_taste s).w ≡ 0
-held_reads s = by (is_read_out s.asked)
-  where
-    by : (b : Bool) → (if b then one_read else no_counts).w ≡ 0
-    by true = refl
-    by false = refl
+held_reads s = search rules
 
 -- while its read isn't out it holds nothing, and while it is out, one read
 pub held_idle : (s : Taste) → is_read_out s.asked ≡ false → held_by_taste s ≡ no_counts
@@ -132,17 +109,7 @@ held_idle s idle = ap (λ b. if b then one_read else no_counts) idle
 module _ {C : Type 0} (t : TopoView C) (c : ℕ) where
   -- a consumer whose stored counts write nothing is granted nothing to write
   pub granted_reads : (a : Counts) → value_at t.wants c ≡ Some a → a.w ≡ 0 → (granted_by t c).w ≡ 0
-  granted_reads a stored reads = by (consumer_at t.topology c)
-    where
-      held : (b : Bool) → (if b then unwrap_or (value_at t.wants c) no_counts else no_counts).w ≡ 0
-      held true = ap (λ o. (unwrap_or o no_counts).w) stored ∙ reads
-      held false = refl
-
-      by : (o : Option Consumer)
-          → (option_map_or (λ (x : Consumer). if holds_grants t.topology x.geom then
-          unwrap_or (value_at t.wants c) no_counts else no_counts) o no_counts).w ≡ 0
-      by None = refl
-      by (Some x) = held (holds_grants t.topology x.geom)
+  granted_reads a stored reads = search rules
 
   module _ (quiet : IsQuiet t) (reads : (granted_by t c).w ≡ 0) (add : Counts) (less : add.w ≡ 0) where
     -- with another grant that writes nothing
@@ -151,13 +118,7 @@ module _ {C : Type 0} (t : TopoView C) (c : ℕ) where
 
     -- as much is written
     same_writes : (n : ℕ) → (granted_by t n).w ≡ (after n).w
-    same_writes n =
-        elim (cases_eq n c) [
-          | inl same ↦
-              ap (λ m. (granted_by t m).w) same ∙ reads ∙ sym less
-              ∙ sym (ap (λ b. (if b then add else granted_by t n).w) (eq-eqb n c same))
-          | inr other ↦ sym (ap (λ b. (if b then add else granted_by t n).w) (ne_eqb n c other))
-        ]
+    same_writes n = search rules
 
     -- and no note is set by it
     pub granted_quietly : granted_view t c add ≡ with_granted t c add
@@ -188,22 +149,14 @@ taster_reads t s is = granted_reads t s.consumer (held_by_taste s) is.holds (hel
 -- other grants, by which the counts are kept, leave the mesh settled
 pub settled_granted : {C : Type 0} (t u : TopoView C) (c : ℕ) (add : Counts) → u ≡ with_granted t c add → IsCounted u
     → IsSettled t → IsSettled u
-settled_granted {C} t u c add is counted settled = record {
-  counted = counted;
-  quiet = subst (λ (v : TopoView C). IsQuiet v) (sym is)
-      (record { risen = settled.quiet.risen; fallen = settled.quiet.fallen });
-  attached = subst (λ (v : TopoView C). All (λ (x : Consumer). IsSome x.provider) v.topology.consumers) (sym is)
-      settled.attached;
-}
+settled_granted {C} t u c add is counted settled = search rules
 
 -- what refuses the taste's read, seen from its consumer
 pub refusal_told : (t : TopoView Config) (s : Taste) (cons : ℕ) → cons ≡ s.consumer
     → place_of t.topology cons ≡ s.provider
     → grant_refusal (with_grant (granted_by t) s.consumer one_read) t.topology s.provider
     ≡ grant_refusal (with_grant (granted_by t) cons one_read) t.topology (place_of t.topology cons)
-refusal_told t s cons number place =
-    ap (λ n. grant_refusal (with_grant (granted_by t) n one_read) t.topology s.provider) (sym number)
-    ∙ ap (grant_refusal (with_grant (granted_by t) cons one_read) t.topology) (sym place)
+refusal_told t s cons number place = search rules
 
 -- With another grant
 
@@ -215,22 +168,17 @@ module _ (t : TopoView Config) (sound : IsSoundGraph t.topology) (s : Taste) (is
   -- the taste's consumer wants what it is granted
   wants_given : want given t.topology is.tasting.consumer ≡ add
   wants_given =
-      wants_grant given t.topology is.tasting.consumer (taster_granted t.topology sound s is.tasting)
-      ∙ ap (λ b. if b then add else granted_by t is.tasting.consumer.number)
-      (eq-eqb is.tasting.consumer.number s.consumer is.tasting.number)
+      search (rules, wants_grant given t.topology is.tasting.consumer (taster_granted t.topology sound s is.tasting))
 
   -- so it is the consumer of a taste of which it is
   pub given_tasting : (u : TopoView Config) → u ≡ with_granted t s.consumer add → (z : Taste)
       → z.consumer ≡ s.consumer → z.provider ≡ s.provider → held_by_taste z ≡ add → IsTasteOf u z
-  given_tasting u granted z consumer provider held = subst (λ v. IsTasteOf v z) (sym granted) (record {
-    tasting = record {
-      consumer = is.tasting.consumer;
-      alone = is.tasting.alone;
-      number = is.tasting.number ∙ sym consumer;
-      attached = is.tasting.attached ∙ ap (λ (n : ℕ). Some n) (sym provider);
-    };
-    holds = ap (value_at (with_granted t s.consumer add).wants) consumer
-        ∙ item_at (λ (x : Consumer). x.number) (want given t.topology) s.consumer t.topology.consumers
-        is.tasting.consumer (taster_found t.topology sound s is.tasting)
-        ∙ ap (λ a. Some a) (wants_given ∙ sym held);
-  })
+  given_tasting u granted z consumer provider held =
+      search (
+        rules,
+        item_at (λ (x : Consumer). x.number) (want given t.topology) s.consumer t.topology.consumers is.tasting.consumer
+            (taster_found t.topology sound s is.tasting),
+        ap (λ a. Some a) (wants_given ∙ sym held),
+        wants_given,
+        held,
+      )

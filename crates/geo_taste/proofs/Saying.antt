@@ -1,6 +1,6 @@
 -- What a step of a taste comes to before anything is made of the provider.
-use Rattle.std.specs.Prelude.{◌≡◌, ℕ, ◌*◌, Bool, true, false, List, [], ◌∷◌, ◌++◌, length, Option, Some, None, Result, Ok, Err, unwrap_or, if◌then◌else◌}
-use Rattle.std.proofs.Common.{refl, ap, subst, sym, ◌∙◌}
+use Rattle.std.specs.Prelude.{◌≡◌, ℕ, Bool, false, List, [], ◌∷◌, ◌++◌, length, Option, Some, None, Result, Ok, Err}
+use Rattle.std.proofs.Common.{refl, ap, subst, sym, ◌∙◌, rules}
 use Rattle.geo_laws_making.proofs.PlacedInside.{good_place}
 use Rattle.geo_model.proofs.RefusalLemmas.{none_refused, none_behind}
 use Rattle.geo_base.specs.declared.decline.DeclineCause.{DeclineCause}
@@ -11,16 +11,16 @@ use Rattle.geo_base.specs.declared.request.Counts.{Counts}
 use Rattle.geo_model.specs.declared.class.Facts.{Facts}
 use Rattle.geo_model.specs.declared.class.LabelRecord.{LabelRecord}
 use Rattle.geo_model.specs.declared.class.Shape.{Shape}
-use Rattle.geo_model.specs.declared.class.Shape.TheVariants.{Slices, Logical, Named, Joined, Striped}
+use Rattle.geo_model.specs.declared.class.Shape.TheVariants.{Slices, Joined, Striped}
 use Rattle.geo_model.specs.declared.class.Verdict.{Verdict}
 use Rattle.geo_model.specs.declared.class.Verdict.TheVariants.{Decline, More, Accept}
 use Rattle.geo_model.specs.Words.{first_error, unless}
 use Rattle.geo_model.specs.World.{Taste, Config, ReadBack, Asked, NoClass, is_read_out}
-use Rattle.geo_model.specs.Acceptance.{verdict_of, is_other_size, label_verdict, accept}
-use Rattle.geo_model.specs.Chain.{Chain, with_link, link_tests, table_of, chain_verdict, leads_on}
+use Rattle.geo_model.specs.Acceptance.{verdict_of, label_verdict, accept}
+use Rattle.geo_model.specs.Chain.{Chain, with_link, link_tests, chain_verdict}
 use Rattle.geo_model.specs.Records.{u16_at, u32_at, head_tests, place_test, size_test, concat_magic, stripe_magic, concat_tests, stripe_tests, mbr_table, label_record}
-use Rattle.geo_model.specs.Tasting.{verdict_on, Judging, end_taste, facts_of, follow, go_on, is_ended, taste_step, with_read}
-use Rattle.geo_class.specs.Taste.{sector_back, verdict_back, after_back, after_verdict, ended, weighed}
+use Rattle.geo_model.specs.Tasting.{verdict_on, Judging, facts_of, with_read}
+use Rattle.geo_class.specs.Taste.{sector_back, verdict_back, after_verdict, ended, weighed}
 use Rattle.geo_laws_texts.specs.RecordLaws.{IsPlace}
 use Rattle.geo_taste.specs.Accepts.{NamesAPlace}
 use Rattle.std.specs.Option.{option_map, option_map_or}
@@ -29,17 +29,15 @@ use Rattle.geo_model.specs.declared.step.BioResult.{BioResult}
 use Rattle.geo_model.specs.declared.step.BioResult.TheVariants.{Bytes}
 use Rattle.geo_model.specs.declared.step.Event.{Event}
 use Rattle.geo_model.specs.Events.{QueuedTopology}
-use Rattle.geo_model.specs.Topology.{Provider, provider_at, consumers_of}
+use Rattle.geo_model.specs.Topology.{Provider}
 use Rattle.geo_mesh.specs.Topo.{TopoView}
 use Rattle.geo_access.specs.Access.{granted_by}
 use Rattle.geo_taste.specs.Going.{going}
 use Rattle.geo_taste.specs.Saying.{said_of, with_said, IsReadTaken, IsSaidOn, IsSaid}
 use Rattle.geo_taste.specs.declared.judge.Said.{Said}
 use Rattle.geo_taste.specs.declared.judge.Said.TheVariants.{Came, Accepts}
-use Rattle.geo_taste.specs.Taster.{queued, IsTasteOf, held_by_taste}
+use Rattle.geo_taste.specs.Taster.{queued, IsTasteOf}
 use Rattle.geo_model.specs.Bios.{read_back}
-use Rattle.geo_model.specs.Demand.{no_counts, one_read}
-use Rattle.geo_slots.specs.Slots.{value_at}
 
 -- Places
 
@@ -64,25 +62,17 @@ shape_any : {A : Type 0} (make : A → Shape) (r : Result A DeclineCause) (shape
 shape_any make (Ok x) shape named e = subst NamesAPlace (let same : make x ≡ shape = cc in same) (named x)
 shape_any make (Err cause) shape named e = absurd (let no : ⊥ = cc in no)
 
--- one that is accepted unless a test says otherwise
-shape_else : (b : Bool) (other : Verdict) (made shape : Shape) → NamesAPlace made → (other ≡ Accept shape → ⊥)
-    → (if b then other else Accept made) ≡ Accept shape → NamesAPlace shape
-shape_else true other made shape named never e = absurd (never e)
-shape_else false other made shape named never e = subst NamesAPlace (let same : made ≡ shape = cc in same) named
-
 -- so of a label
 label_of : (f : Facts) (r : Result LabelRecord DeclineCause) (shape : Shape) → label_verdict f r ≡ Accept shape
     → NamesAPlace shape
-label_of f (Ok x) shape e =
-    shape_else (is_other_size x.size (f.sectors * f.sector)) (Decline causes.Media) (Named x) shape tt (λ never. cc) e
+label_of f (Ok x) shape e = search rules
 label_of f (Err cause) shape e = absurd (let no : ⊥ = cc in no)
 
 -- and of a chain
 chain_of : (c : Chain) (bytes : List ℕ) (o : Option DeclineCause) (shape : Shape)
     → chain_verdict c bytes o ≡ Accept shape → NamesAPlace shape
 chain_of c bytes (Some cause) shape e = absurd (let no : ⊥ = cc in no)
-chain_of c bytes None shape e =
-    shape_else (leads_on bytes) (More c.next) (Logical (table_of c.links)) shape tt (λ never. cc) e
+chain_of c bytes None shape e = search rules
 
 -- so is each shape that is accepted
 pub verdict_named : (granted : ℕ → Counts) (s : Taste) (bytes : List ℕ) (f : Facts) (shape : Shape) (kind : Kind)
@@ -116,25 +106,13 @@ accepts_bytes granted s f shape e = by s.asked refl e
     by : (a : Asked) → s.asked ≡ a
         → option_map (λ (x : Kind × List ℕ). verdict_on granted s x.0 x.1 f) (sector_back a) ≡ Some (Accept shape)
         → AcceptsBytes granted s f shape
-    by (ReadBack kind (Bytes bytes)) at is = record {
-      kind = kind;
-      bytes = bytes;
-      asked = at;
-      verdict = ap (λ (o : Option Verdict). unwrap_or o (Accept shape)) is;
-    }
+    by (ReadBack kind (Bytes bytes)) at is = search rules
     by _ at never = absurd (cc)
 
 -- its shape is named too
 pub back_named : (granted : ℕ → Counts) (s : Taste) (f : Facts) (shape : Shape)
     → verdict_back granted s f ≡ Some (Accept shape) → NamesAPlace shape
-back_named granted s f shape e =
-    let is : AcceptsBytes granted s f shape = accepts_bytes granted s f shape e in
-    verdict_named granted s is.bytes f shape is.kind is.verdict
-
--- and nothing is out
-pub accepted_idle : (granted : ℕ → Counts) (s : Taste) (f : Facts) (shape : Shape)
-    → verdict_back granted s f ≡ Some (Accept shape) → is_read_out s.asked ≡ false
-accepted_idle granted s f shape e = ap is_read_out (accepts_bytes granted s f shape e).asked
+back_named granted s f shape e = search (rules, verdict_named granted s)
 
 -- What is said
 
@@ -154,32 +132,18 @@ module _ (granted : ℕ → Counts) (q : QueuedTopology Config) (s : Taste) (p :
   next z = record { queued = q; taste = z; judged = Next }
 
   module _ (bytes : List ℕ) (asked : s.asked ≡ ReadBack kind (Bytes bytes)) where
-    -- the taste after a verdict on the sector
-    after_is : (w : Verdict) → verdict_on granted s kind bytes f ≡ w
-        → after_back granted s f ≡ after_verdict granted s kind bytes f w
-    after_is w e =
-        ap (λ a. option_map_or (λ (x : Kind × List ℕ). after_verdict granted s x.0 x.1 f
-        (verdict_on granted s x.0 x.1 f)) (sector_back a) (ended s)) asked
-        ∙ ap (after_verdict granted s kind bytes f) e
-
     -- each verdict
     taken_by : (w : Verdict) → verdict_on granted s kind bytes f ≡ w → (z : Taste) → z ≡ weighed granted s f (Some w)
         → IsReadTaken granted q s p kind (Bytes bytes) z (said_of (Some w))
-    taken_by (Decline cause) e z same =
-        ap (follow granted q (with_read granted s kind bytes f) p kind) e
-        ∙ ap next (read-ended granted s kind bytes f ∙ sym (same ∙ after_is (Decline cause) e))
-    taken_by (More sector) e z same =
-        ap (follow granted q (with_read granted s kind bytes f) p kind) e
-        ∙ ap next (sym (same ∙ after_is (More sector) e))
-    taken_by (Accept shape) e z same = (
-      same,
-      ap (λ a. option_map (λ (x : Kind × List ℕ). verdict_on granted s x.0 x.1 f) (sector_back a)) asked
-          ∙ ap (λ (v : Verdict). Some v) e,
-      ap (follow granted q (with_read granted s kind bytes f) p kind) e
-          ∙ ap (λ y. option_map_or
-          (λ made. let j : Judging = record { queued = made; taste = y; judged = Made } in j)
-          (accept q p shape) (next y)) (read-ended granted s kind bytes f),
-    )
+    taken_by (Decline cause) e z same = search (rules, read-ended granted s kind bytes f)
+    taken_by (More sector) e z same = search rules
+    taken_by (Accept shape) e z same =
+        search (
+          rules,
+          ap
+              (λ y. option_map_or (λ made. let j : Judging = record { queued = made; taste = y; judged = Made } in j)
+              (accept q p shape) (next y)) (read-ended granted s kind bytes f),
+        )
 
   -- so what becomes of a read that is back
   pub taken : (got : BioResult) → s.asked ≡ ReadBack kind got → (v : Option Verdict) → v ≡ verdict_back granted s f
@@ -189,13 +153,7 @@ module _ (granted : ℕ → Counts) (q : QueuedTopology Config) (s : Taste) (p :
       is ∙ ap (λ a. option_map (λ (x : Kind × List ℕ). verdict_on granted s x.0 x.1 f) (sector_back a)) asked in
       subst (λ o. IsReadTaken granted q s p kind (Bytes bytes) z (said_of o)) (sym told)
       (taken_by bytes asked (verdict_on granted s kind bytes f) refl z (same ∙ ap (weighed granted s f) told))
-  taken other asked v is z same =
-      let told : v ≡ None =
-      is ∙ ap (λ a. option_map (λ (x : Kind × List ℕ). verdict_on granted s x.0 x.1 f) (sector_back a)) asked in
-      subst (λ o. IsReadTaken granted q s p kind other z (said_of o)) (sym told)
-      (ap next (sym (same ∙ ap (weighed granted s f) told
-      ∙ ap (λ a. option_map_or (λ (x : Kind × List ℕ). after_verdict granted s x.0 x.1 f
-      (verdict_on granted s x.0 x.1 f)) (sector_back a) (ended s)) asked)))
+  taken other asked v is z same = search rules
 
   -- also where it was weighed by facts that are those of the provider
   pub taken_told : (facts : Facts) → facts ≡ f → (got : BioResult) → s.asked ≡ ReadBack kind got
@@ -206,20 +164,6 @@ module _ (granted : ℕ → Counts) (q : QueuedTopology Config) (s : Taste) (p :
       (same ∙ ap (λ x. weighed granted s x r) known ∙ ap (weighed granted s f) is)
 
 module _ (t : TopoView Config) (events : List Event) (s : Taste) where
-  -- one that goes on
-  pub step_goes : (p : Provider) → going t.topology s ≡ Some p
-      → taste_step (granted_by t) (queued t events) s ≡ go_on (granted_by t) (queued t events) s p s.asked
-  step_goes p some = by (is_ended t.topology s) some
-    where
-      by : (b : Bool) → (if b then None else provider_at t.topology s.provider) ≡ Some p
-          → (if b then end_taste (granted_by t) (queued t events) s
-          else option_map_or (λ p. go_on (granted_by t) (queued t events) s p s.asked)
-          (provider_at t.topology s.provider) (end_taste (granted_by t) (queued t events) s))
-          ≡ go_on (granted_by t) (queued t events) s p s.asked
-      by true never = absurd (cc)
-      by false e = ap (λ o. option_map_or (λ p. go_on (granted_by t) (queued t events) s p s.asked) o
-          (end_taste (granted_by t) (queued t events) s)) e
-
 -- a verdict leaves the mesh
 pub said_plain : (v : Option Verdict) (t : TopoView Config) (c : ℕ) → t ≡ with_said t c (said_of v)
 said_plain (Some (Accept shape)) t c = refl
@@ -231,42 +175,19 @@ pub said_back : (t : TopoView Config) (s : Taste) (p : Provider) (z : Taste) (ki
     → s.asked ≡ ReadBack kind got
     → ((events : List Event) → IsReadTaken (granted_by t) (queued t events) s p kind got z said)
     → IsSaidOn t s p t z said
-said_back t s p z kind got (Came j) asked taken =
-    λ events. ap (go_on (granted_by t) (queued t events) s p) asked ∙ taken events
+said_back t s p z kind got (Came j) asked taken = search rules
 said_back t s p z kind got (Accepts shape) asked taken = (
   refl,
   (taken []).0,
   (taken []).1,
-  (λ events.
-      ap (go_on (granted_by t) (queued t events) s p) asked ∙ (taken events).2),
-)
-
--- the step of a taste that goes on
-said_at : (t : TopoView Config) (s : Taste) (u : TopoView Config) (z : Taste) (said : Said) (p : Provider)
-    → going t.topology s ≡ Some p → IsSaidOn t s p u z said → IsSaid t s u z said
-said_at t s u z (Came j) p goes on = λ events. step_goes t events s p goes ∙ on events
-said_at t s u z (Accepts shape) p goes on = (
-  on.0,
-  on.1,
-  record {
-    provider = p;
-    goes = goes;
-    verdict = on.2;
-    step = λ events. step_goes t events s p goes ∙ on.3 events;
-  },
+  search rules,
 )
 
 -- where its provider is known
 pub said_going : (t : TopoView Config) (s : Taste) (u : TopoView Config) (z : Taste) (said : Said) (facts : Facts)
     → Some facts ≡ option_map (facts_of t.topology) (going t.topology s)
     → ((p : Provider) → facts ≡ facts_of t.topology p → IsSaidOn t s p u z said) → IsSaid t s u z said
-said_going t s u z said facts known on = by (going t.topology s) refl known
-  where
-    by : (o : Option Provider) → going t.topology s ≡ o → Some facts ≡ option_map (facts_of t.topology) o
-        → IsSaid t s u z said
-    by None goes never = absurd (cc)
-    by (Some p) goes same =
-        said_at t s u z said p goes (on p (ap (λ (x : Option Facts). unwrap_or x facts) same))
+said_going t s u z said facts known on = search rules
 
 -- A taste whose read isn't out holds nothing, however far a class has been asked
 
@@ -279,31 +200,7 @@ pub record IsAtRest (s z : Taste) : Type 0 where
 -- the taste's consumer is that of any such taste
 pub rest_tasting : (t : TopoView Config) (s z : Taste) → is_read_out s.asked ≡ false → IsAtRest s z → IsTasteOf t s
     → IsTasteOf t z
-rest_tasting t s z idle rest is = record {
-  tasting = record {
-    consumer = is.tasting.consumer;
-    alone = is.tasting.alone;
-    number = is.tasting.number ∙ sym rest.consumer;
-    attached = is.tasting.attached ∙ ap (λ (n : ℕ). Some n) (sym rest.provider);
-  };
-  holds = ap (value_at t.wants) rest.consumer
-      ∙ is.holds
-      ∙ ap (λ b. let a : Counts = if b then one_read else no_counts in Some a) (idle ∙ sym rest.idle);
-}
-
--- and in a mesh with the same consumers of TASTE, where it wants what it did
-pub tasting_still : (t u : TopoView Config) (s : Taste) → IsTasteOf t s
-    → consumers_of u.topology 2 ≡ consumers_of t.topology 2 → value_at u.wants s.consumer ≡ Some (held_by_taste s)
-    → IsTasteOf u s
-tasting_still t u s is same holds = record {
-  tasting = record {
-    consumer = is.tasting.consumer;
-    alone = same ∙ is.tasting.alone;
-    number = is.tasting.number;
-    attached = is.tasting.attached;
-  };
-  holds = holds;
-}
+rest_tasting t s z idle rest is = search rules
 
 -- one that is done with a class
 pub ended_rest : (s : Taste) → IsAtRest s (ended s)
@@ -317,13 +214,7 @@ back_idle got _ = refl
 module _ (granted : ℕ → Counts) (s : Taste) (f : Facts) where
   -- after a verdict on a sector
   verdict_rest : (kind : Kind) (bytes : List ℕ) (v : Verdict) → IsAtRest s (after_verdict granted s kind bytes f v)
-  verdict_rest kind bytes (More sector) =
-      let same = read-ended granted s kind bytes f in
-      record {
-        consumer = ap (λ (z : Taste). z.consumer) same;
-        provider = ap (λ (z : Taste). z.provider) same;
-        idle = refl;
-      }
+  verdict_rest kind bytes (More sector) = search rules
   verdict_rest kind bytes _ = ended_rest s
 
   -- after what is back, whatever it is
@@ -343,7 +234,4 @@ module _ (granted : ℕ → Counts) (s : Taste) (f : Facts) where
 pub weighed_tasting : (granted : ℕ → Counts) (s : Taste) (f : Facts) (v : Option Verdict) (z : Taste)
     → z ≡ weighed granted s f v → (t : TopoView Config) (kind : Kind) (got : BioResult) → s.asked ≡ ReadBack kind got
     → IsTasteOf t s → IsTasteOf t z
-weighed_tasting granted s f v z same t kind got asked is =
-    let idle : is_read_out s.asked ≡ false = ap is_read_out asked in
-    subst (λ x. IsTasteOf t x) (sym same)
-    (rest_tasting t s (weighed granted s f v) idle (weighed_rest granted s f v idle) is)
+weighed_tasting granted s f v z same t kind got asked is = search (rules, weighed_rest granted s f v)

@@ -1,8 +1,7 @@
 -- A geom over a provider with its slices, its partitions or its label: what is made, and when nothing can be.
 use Rattle.std.specs.List.{AllByRecursion, list_all}
-use Rattle.std.proofs.Common.{◌≡◌, ℕ, ◌+◌, ◌-◌, ◌≤◌, Bool, true, false, not, ◌&&◌, List, [], ◌∷◌, length, map, Option, ◌*◌, ◌<◌, ◌++◌, drop, get_or, Some, None, option_map, if◌then◌else◌, Result, IfOk, IsSomeAnd, All, refl, sym, ◌∙◌, ap, subst, arith, append_assoc, append-nil}
-use Rattle.std.proofs.lemmas.Bool.{and_parts, not-true, and_from, false_from_ne_true}
-use Rattle.std.proofs.lemmas.List.Elements.{All-from_recursion, All-pop}
+use Rattle.std.proofs.Common.{◌≡◌, ℕ, ◌+◌, ◌-◌, ◌≤◌, Bool, true, false, List, [], ◌∷◌, length, map, Option, ◌<◌, ◌++◌, drop, get_or, Some, None, option_map, if◌then◌else◌, Result, IfOk, IsSomeAnd, All, refl, sym, ◌∙◌, ap, subst, arith, append_assoc, rules}
+use Rattle.std.proofs.lemmas.List.Elements.{All-pop}
 use Rattle.geo_base.specs.Name.{is_name, name_of}
 use Rattle.geo_base.specs.declared.limits.TheConstants.{MAX_LINKS}
 use Rattle.geo_model.specs.declared.class.Slice.{Slice}
@@ -21,7 +20,7 @@ use Rattle.geo_laws_making.proofs.NewSlices.{new-differ, slice-tells, logical-te
 use Rattle.geo_taste.specs.Making.{QueuedMesh, with_offer, both, AreBoth, with_geom_on}
 use Rattle.geo_taste.specs.Accepting.{with_slices_of, over, labelled, sliced, IsAccepted}
 use Rattle.geo_taste.specs.Accepts.{HaveSizes, MakesSizes}
-use Rattle.geo_taste.specs.Parts.{are_names, ArePartsApart, CanAddPart, is_addable, PartsDiffer, named_all, IsPlacePushed, IsPushed}
+use Rattle.geo_taste.specs.Parts.{are_names, ArePartsApart, CanAddPart, is_addable, PartsDiffer, named_all, IsPlacePushed}
 use Rattle.geo_taste.specs.Standing.{MayOffer, CanStandOn}
 use Rattle.std.proofs.Math.ListN.{drop_of_length-le}
 use Rattle.std.proofs.lemmas.List.{get_or_default}
@@ -33,7 +32,7 @@ use Rattle.geo_base.specs.declared.kind.Kind.TheVariants as kinds
 use Rattle.geo_laws_life.proofs.Found.{some-with}
 use Rattle.geo_taste.specs.declared.shapes.Accepted.{Accepted}
 use Rattle.geo_taste.specs.Free.{free_name}
-use Rattle.geo_taste.proofs.Raising.{CarriesRoom, with_room, both-are, followed, risen_over, risen_providers}
+use Rattle.geo_taste.proofs.Raising.{CarriesRoom, with_room, followed, risen_over, risen_providers}
 
 -- Providers of slices and partitions
 
@@ -42,11 +41,6 @@ module _ (t u : TopoView Config) (geom : ℕ) (name : List ℕ) (size sector : �
   -- the graph with it
   graph : u.topology ≡ add_provider t.topology geom name size sector
   graph = ap (λ (v : TopoView Config). v.topology) made
-
-  -- its geom may get another
-  pub may_more : MayOffer t.topology geom → MayOffer u.topology geom
-  may_more may = subst (λ (g : Topology Config). MayOffer g geom) (sym graph)
-      (record { lives = may.lives; stays = may.stays; not_dev = may.not_dev; not_taste = may.not_taste })
 
   -- a part of another name can be added still
   add_one : (x : NewSlice) → same_name name x.name ≡ false → CanAddPart t.topology x → CanAddPart u.topology x
@@ -108,37 +102,24 @@ gone_without false made never sizes = refl
 free_named : (t : Topology Config) (xs : List NewSlice) → are_names_free t (map (λ (x : NewSlice). x.name) xs) ≡ true
     → are_names xs ≡ true
 free_named t [] free = refl
-free_named t (x ∷ xs) free =
-    let first = and_parts (is_name x.name && not (is_name_taken t x.name))
-    (are_names_free t (map (λ (y : NewSlice). y.name) xs)) free in
-    and_from (is_name x.name) (are_names xs) (and_parts (is_name x.name) (not (is_name_taken t x.name)) first.0).0
-    (free_named t xs first.1)
+free_named t (x ∷ xs) free = search (rules, free_named t xs)
 
 pub unnamed_where : (t : Topology Config) (xs : List NewSlice) → are_names xs ≡ false
     → are_names_free t (map (λ (x : NewSlice). x.name) xs) ≡ false
-unnamed_where t xs named =
-    false_from_ne_true (are_names_free t (map (λ (x : NewSlice). x.name) xs))
-    (λ free. let no : true ≡ false = sym (free_named t xs free) ∙ named in cc)
+unnamed_where t xs named = search (rules, free_named t xs)
 
 -- each part can be added where all are addable
 pub can_add_all : (t : Topology Config) (xs : List NewSlice) → list_all (is_addable t) xs ≡ true
     → AllByRecursion (CanAddPart t) xs
 can_add_all t [] can = tt
-can_add_all t (x ∷ xs) can =
-    let first = and_parts (is_addable t x) (list_all (is_addable t) xs) can in
-    let parts = and_parts (not (is_name_taken t x.name)) (is_provider_size x.size 512) first.0 in
-    ((not-true (is_name_taken t x.name) parts.0, parts.1), can_add_all t xs first.1)
+can_add_all t (x ∷ xs) can = search (rules, can_add_all t xs)
 
 -- those that are addable are free
 pub addable_free : (t : Topology Config) (xs : List NewSlice) → are_names xs ≡ true
     → list_all (is_addable t) xs ≡ true
     → are_names_free t (map (λ (x : NewSlice). x.name) xs) ≡ true
 addable_free t [] named can = refl
-addable_free t (x ∷ xs) named can =
-    let names = and_parts (is_name x.name) (are_names xs) named in
-    let first = and_parts (is_addable t x) (list_all (is_addable t) xs) can in
-    let parts = and_parts (not (is_name_taken t x.name)) (is_provider_size x.size 512) first.0 in
-    rw (names.0, parts.0, addable_free t xs names.1 first.1) refl
+addable_free t (x ∷ xs) named can = search (rules, addable_free t xs)
 
 -- those that are free and have sizes of providers are addable
 pub free_addable : (t : Topology Config) (xs : List NewSlice)
@@ -146,11 +127,7 @@ pub free_addable : (t : Topology Config) (xs : List NewSlice)
     → are_names_free t (map (λ (x : NewSlice). x.name) xs) ≡ true
     → list_all (is_addable t) xs ≡ true
 free_addable t [] sizes free = refl
-free_addable t (x ∷ xs) sizes free =
-    let first = and_parts (is_name x.name && not (is_name_taken t x.name))
-    (are_names_free t (map (λ (y : NewSlice). y.name) xs)) free in
-    let parts = and_parts (is_name x.name) (not (is_name_taken t x.name)) first.0 in
-    rw (parts.1, sizes.0, free_addable t xs sizes.1 first.1) refl
+free_addable t (x ∷ xs) sizes free = search (rules, free_addable t xs sizes.1)
 
 -- parts that differ two by two
 apart_by_pairs : (xs : List NewSlice) → PairsByRecursion PartsDiffer xs → ArePartsApart xs
@@ -204,53 +181,18 @@ module _ {X : Type 0} (name : ℕ → List ℕ) (count : X → ℕ) (all : List 
       → NamedSoFar place items (o ∷ rest)
       → IsPlacePushed (name_of (name place)) (option_map count o) named items more → named ≡ true
       → NamedSoFar (place + 1) more rest
-  named_step place items more None rest named far placed good =
-      let e : place + (1 + length rest) ≡ length all = omega (arith, far.number) in
-      record {
-        so_far = ap (λ xs. xs ++ new_of name count (place + 1) rest) placed.1 ∙ far.so_far;
-        named = ap are_names placed.1 ∙ far.named;
-        number = omega (arith, e);
-      }
-  named_step place items more (Some s) rest named far placed good = by (is_name (name place)) refl placed where
-    -- the number of places
-    e : place + (1 + length rest) ≡ length all
-    e = omega (arith, far.number)
-
-    -- by whether it has a name
-    by : (b : Bool) → is_name (name place) ≡ b
-        → IsPushed (if b then Some (name place) else None) (count s) named items more
-        → NamedSoFar (place + 1) more rest
-    by false is pushed = absurd (let no : true ≡ false = sym good ∙ pushed in let never : ⊥ = cc in never)
-    by true is pushed =
-        let part : NewSlice = record { name = name place; size = count s * 512 } in
-        record {
-          so_far = ap (λ xs. xs ++ new_of name count (place + 1) rest) pushed.1
-              ∙ append_assoc items (part ∷ []) (new_of name count (place + 1) rest) ∙ far.so_far;
-          named = ap are_names pushed.1
-              ∙ list_all-append (λ (x : NewSlice). is_name x.name) items (part ∷ []) ∙ rw (far.named, is) refl;
-          number = omega (arith, e);
-        }
+  named_step place items more None rest named far placed good = search rules
+  named_step place items more (Some s) rest named far placed good =
+      search (rules, append_assoc items, list_all-append (λ (x : NewSlice). is_name x.name) items)
 
   -- a place without a name
   named_no : (place : ℕ) (items more : List NewSlice) (o : Option X) (rest : List (Option X)) (named : Bool)
       → NamedSoFar place items (o ∷ rest)
       → IsPlacePushed (name_of (name place)) (option_map count o) named items more → named ≡ false
       → None ≡ named_all (new_of name count 0 all)
-  named_no place items more None rest named far placed bad =
-      absurd (let no : true ≡ false = sym placed.0 ∙ bad in let never : ⊥ = cc in never)
-  named_no place items more (Some s) rest named far placed bad = by (is_name (name place)) refl placed where
-    -- by whether it has a name
-    by : (b : Bool) → is_name (name place) ≡ b
-        → IsPushed (if b then Some (name place) else None) (count s) named items more
-        → None ≡ named_all (new_of name count 0 all)
-    by true is pushed = absurd (let no : true ≡ false = sym pushed.0 ∙ bad in let never : ⊥ = cc in never)
-    by false is pushed =
-        let part : NewSlice = record { name = name place; size = count s * 512 } in
-        let no : are_names (new_of name count 0 all) ≡ false =
-        ap are_names (sym far.so_far)
-        ∙ list_all-append (λ (x : NewSlice). is_name x.name) items (part ∷ new_of name count (place + 1) rest)
-        ∙ rw (far.named, is) refl in
-        rw no refl
+  named_no place items more None rest named far placed bad = search rules
+  named_no place items more (Some s) rest named far placed bad =
+      search (rules, list_all-append (λ (x : NewSlice). is_name x.name) items, new_of name count (place + 1) rest)
 
 module _ {X : Type 0} {name : ℕ → List ℕ} {count : X → ℕ} {all : List (Option X)} {place : ℕ} {items : List NewSlice}
     (i : ℕ) (far : NamedSoFar name count all place items (drop i all)) where
@@ -260,14 +202,11 @@ module _ {X : Type 0} {name : ℕ → List ℕ} {count : X → ℕ} {all : List 
 
   -- what was so far
   now : i < length all → NamedSoFar name count all place items (one ∷ drop (i + 1) all)
-  now less =
-      subst (NamedSoFar name count all place items) (first_left all i one less (get_or_default all i None one less)) far
+  now less = search (rules, first_left all i one less (get_or_default all i None one less))
 
   -- its place is one of those
   pub named_place : i < length all → place < length all
-  named_place less =
-      let e : place + (1 + length (drop (i + 1) all)) ≡ length all = omega (arith, (now less).number) in
-      omega (arith, e)
+  named_place less = search (rules, now less)
 
   -- it is named
   pub named_more : i < length all → (more : List NewSlice) (named : Bool)
@@ -285,11 +224,7 @@ module _ {X : Type 0} {name : ℕ → List ℕ} {count : X → ℕ} {all : List 
 
   -- at the end
   pub named_end : length all ≤ i → Some items ≡ named_all (new_of name count 0 all)
-  named_end done =
-      let rest = subst (NamedSoFar name count all place items) (drop_of_length-le all done) far in
-      let all_of : items ≡ new_of name count 0 all = sym (append-nil items) ∙ rest.so_far in
-      let good : are_names (new_of name count 0 all) ≡ true = subst (λ xs. are_names xs ≡ true) all_of rest.named in
-      rw good (ap (λ xs. Some xs) all_of)
+  named_end done = search (rules, drop_of_length-le all done)
 
 -- Providers that are made of them, one after another
 
@@ -314,23 +249,11 @@ pub record IsOneOffer (u v : TopoView Config) (r s : Queued) (geom : ℕ) (x : N
 one_offer : (t u v : TopoView Config) (q r s : Queued) (geom : ℕ) (x : NewSlice) (rest all : List NewSlice)
     → OfferedSoFar t u q r geom (x ∷ rest) all → IsOneOffer u v r s geom x → OfferedSoFar t v q s geom rest all
 one_offer t u v q r s geom x rest all far one =
-    let enough : 1 + length rest ≤ u.room.providers = omega (arith, far.room) in
-    let spare : 1 + length rest ≤ r.spare = omega (arith, far.spare) in
-    let left : q.spare + (1 + length rest) ≤ r.spare + length all = omega (arith, far.left) in
-    record {
-      same =
-          ap (λ m. with_room (with_slices_of m geom rest) t.room)
-          (both-are v s (with_offer (both u r) geom x.name x.size 512) one.made)
-          ∙ ap (λ m. with_room m t.room)
-          (offers_carry geom rest (with_offer (both u r) geom x.name x.size 512) v.room)
-          ∙ far.same;
-      may = may_more u v geom x.name x.size 512 one.made.mesh far.may;
-      can = add_more u v geom x.name x.size 512 one.made.mesh rest far.apart.0 far.can.1;
-      apart = far.apart.1;
-      room = omega (arith, enough, one.room);
-      spare = omega (arith, spare, one.spare);
-      left = omega (arith, left, one.spare);
-    }
+    search (
+      rules,
+      offers_carry geom rest (with_offer (both u r) geom x.name x.size 512) v.room,
+      add_more u v geom x.name x.size 512 one.made.mesh rest far.apart.0 far.can.1,
+    )
 
 module _ {t u : TopoView Config} {q r : Queued} {geom : ℕ} {parts : List NewSlice} (i : ℕ)
     (far : OfferedSoFar t u q r geom (drop i parts) parts) where
@@ -347,10 +270,7 @@ module _ {t u : TopoView Config} {q r : Queued} {geom : ℕ} {parts : List NewSl
 
   -- then all are made
   pub offer_end : length parts ≤ i → AreBoth u r (with_slices_of (both t q) geom parts)
-  offer_end all = record {
-    mesh = ap (λ (m : QueuedMesh). record m.mesh { room = u.room }) (done all).same;
-    events = ap (λ (m : QueuedMesh). m.events) (done all).same;
-  }
+  offer_end all = search (rules, done all)
 
   -- and as many places are spent at most
   pub offer_spare : length parts ≤ i → q.spare ≤ r.spare + length parts
@@ -367,10 +287,7 @@ module _ {A : Type 0} (f : A → List NewSlice) (xs : List NewSlice) (o : Option
     (named : option_map f o ≡ named_all xs) where
   -- so they are where each has a name
   pub all_named : (x : A) → o ≡ Some x → (parts : List NewSlice) → parts ≡ f x → AreAllNamed xs parts
-  all_named x some parts are =
-      let kept = kept_some (are_names xs) xs (f x) (sym named ∙ ap (option_map f) some) in
-      let same : parts ≡ xs = are ∙ sym kept.1 in
-      record { names = subst (λ ys. are_names ys ≡ true) (sym same) kept.0; same = same }
+  all_named x some parts are = search rules
 
   -- else one of these has none
   pub none_named : o ≡ None → are_names xs ≡ false
@@ -410,14 +327,11 @@ module _ (t : TopoView Config) (q : Queued) (kind : Kind) (name : List ℕ) (con
   -- where a part can't be added nothing is made
   pub table_none : list_all (is_addable t.topology) parts ≡ false → MakesSizes table → table ≡ None
   table_none bad =
-      let made : QueuedMesh =
-      with_slices_of (over (both t q) prov kind name config) t.topology.next_geom parts in
-      gone_without (are_names_free t.topology (map (λ (x : NewSlice). x.name) parts)) made
-      (λ free sizes.
-      let good : list_all (is_addable t.topology) parts ≡ true =
-      free_addable t.topology parts
-      (part_sizes t.topology.next_geom parts (over (both t q) prov kind name config) sizes) free in
-      let never : false ≡ true = sym bad ∙ good in cc)
+      search (
+        rules,
+        free_addable t.topology parts,
+        part_sizes t.topology.next_geom parts (over (both t q) prov kind name config),
+      )
 
   -- nor where one has no name
   pub table_unnamed : are_names parts ≡ false → table ≡ None
@@ -433,9 +347,7 @@ pub sliced_as : {E : Type 0} {config other : Config} {parts more : List NewSlice
     (kind : Kind) (name : List ℕ) (r : Result Accepted E) (v : TopoView Config) (s : Queued) → config ≡ other
     → parts ≡ more → IsAnsweredBy r v s m (sliced m prov kind name config parts)
     → IsAnsweredBy r v s m (sliced m prov kind name other more)
-sliced_as {E} {config} {other} {parts} m prov kind name r v s same are answer =
-    subst (IsAnsweredBy r v s m)
-    (ap (λ (k : Config). sliced m prov kind name k parts) same ∙ ap (sliced m prov kind name other) are) answer
+sliced_as {E} {config} {other} {parts} m prov kind name r v s same are answer = search rules
 
 module _ (t : TopoView Config) (q : Queued) (p : Provider) (name : List ℕ) where
   -- what is to be made
@@ -458,20 +370,13 @@ module _ (t : TopoView Config) (q : Queued) (p : Provider) (name : List ℕ) whe
 
   -- isn't taken
   pub label_untaken : are_names_free t.topology (name ∷ []) ≡ true → is_name_taken t.topology name ≡ false
-  label_untaken free =
-      let first = and_parts (is_name name && not (is_name_taken t.topology name)) true free in
-      not-true (is_name_taken t.topology name) (and_parts (is_name name) (not (is_name_taken t.topology name))
-      first.0).1
+  label_untaken free = search rules
 
   -- the label that is made is what was offered, where configuration, name and size are equal
   pub label_made : (w : TopoView Config) (s : Queued) (config : Config) (other : List ℕ) (size : ℕ)
       → are_names_free t.topology (name ∷ []) ≡ true → config ≡ below → name ≡ other → size ≡ p.size - p.sector
       → AreBoth w s (offered config other size) → IsSomeAnd label (AreBoth w s)
-  label_made w s config other size free is same fits made =
-      some-with label (AreBoth w s) (offered below name (p.size - p.sector)) (rw free refl)
-      (subst (AreBoth w s)
-      (ap (λ k. offered k other size) is ∙ ap (λ n. offered below n size) (sym same) ∙ ap (offered below name) fits)
-      made)
+  label_made w s config other size free is same fits made = search rules
 
   -- no label where its name isn't free
   pub label_taken : free_name t.topology name ≡ None → label ≡ None
@@ -496,6 +401,4 @@ unchanged t q = record { mesh = refl; events = refl }
 -- what may be stood on may be where only the room changed
 pub stands_kept : (t u : TopoView Config) (prov : ℕ) → IsButForRoom u t → CanStandOn t.topology prov
     → All (CanStandOn u.topology) (prov ∷ [])
-stands_kept t u prov kept can =
-    All-from_recursion (CanStandOn u.topology) (prov ∷ [])
-    (subst (λ (x : TopoView Config). CanStandOn x.topology prov) (sym kept) can, tt)
+stands_kept t u prov kept can = search rules
