@@ -1,6 +1,6 @@
 -- Each of what a step of the taste may come to.
-use Rattle.std.specs.Prelude.{◌≡◌, ℕ, ◌+◌, ◌-◌, ◌*◌, ◌≤◌, false, List, length, Option, Some, None, IsSome, IsSomeAnd, IfSome}
-use Rattle.std.proofs.Common.{refl, sym, ◌∙◌, ap, subst}
+use Rattle.std.specs.Prelude.{◌≡◌, ℕ, ◌+◌, ◌-◌, ◌*◌, ◌≤◌, false, List, length, Option, Some, None, IsSomeAnd, IfSome}
+use Rattle.std.proofs.Common.{refl, sym, ◌∙◌, ap, subst, rules}
 use Rattle.geo_base.specs.declared.limits.TheConstants.{MAX_LINKS}
 use Rattle.geo_model.specs.declared.class.Judged.{Judged}
 use Rattle.geo_model.specs.declared.class.Judged.TheVariants.{Read, Next, Made, Ended}
@@ -8,30 +8,27 @@ use Rattle.geo_model.specs.declared.step.Entry.{Entry}
 use Rattle.geo_model.specs.declared.step.Event.{Event}
 use Rattle.geo_model.specs.declared.step.Outcome.{Outcome}
 use Rattle.geo_model.specs.declared.step.Outcome.TheVariants as outcomes
-use Rattle.geo_model.specs.Topology.{consumer_at, provider_at}
 use Rattle.geo_model.specs.Demand.{one_read}
 use Rattle.geo_model.specs.World.{World, Config, Taste, is_read_out}
 use Rattle.geo_model.specs.Step.{judge_next}
 use Rattle.geo_access.specs.Access.{consumers_below}
 use Rattle.geo_event.specs.EventQueue.{Queued}
-use Rattle.geo_handles.specs.Handles.{holding_handle}
 use Rattle.geo_slots.specs.Slots.{value_at}
 use Rattle.geo_mesh.specs.Graph.{IsSoundGraph}
 use Rattle.geo_mesh.specs.Topo.{TopoView, IsButForRoom, without_consumer}
 use Rattle.geo_taste.specs.Making.{both, AreBoth}
 use Rattle.geo_taste.specs.Judging.{IsJudged, IsKnownWith, MayJudge, making}
-use Rattle.geo_taste.specs.Taster.{IsTasteOf, with_granted}
-use Rattle.geo_taste.specs.Taster.{IsSettled as IsTasteSettled}
+use Rattle.geo_taste.specs.Taster.{IsTasteOf, with_granted, IsSettled as IsTasteSettled}
 use Rattle.geo_state.specs.declared.state.State.{State}
 use Rattle.geo_state.specs.Bios.{IsNoHandles}
 use Rattle.geo_state.specs.Holds.{Holds}
 use Rattle.geo_state.specs.Steps.{Stands, IsAgainst, Makes}
 use Rattle.geo_state.specs.World.{world}
 use Rattle.geo_events.specs.Judging.{HasSector, HasSubmitted}
-use Rattle.geo_events.proofs.Stepping.{IsNextTaste, IsInside}
+use Rattle.geo_events.proofs.Stepping.{IsNextTaste}
 use Rattle.geo_events.proofs.Tasted.{nobodys, none-out, taster-at}
 use Rattle.geo_events.proofs.Deciding.{taste-idle}
-use Rattle.geo_events.proofs.Judged.{Ready, may-judge, next-taste, judged-makes, next-kept, read-kept, made-kept, came-first, came-all, ended-kept, ended-mesh}
+use Rattle.geo_events.proofs.Judged.{Ready, may-judge, next-taste, judged-makes, next-kept, read-kept, made-kept, came-first, came-all, ended-kept}
 
 -- a step came to this, with the mesh, the queue and the taste after it, from a state that was ready for it
 pub record Stepped (s : State) (a : Taste) (u : TopoView Config) (q : Queued) (z : Taste) (j : Judged) : Type 0 where
@@ -52,13 +49,7 @@ module _ {s : State} {a : Taste} {o : Option Taste} (stands : Stands s)
     (sound : IsSoundGraph s.topo.topology) (room : 3 * length s.topo.topology.providers + 128 ≤ s.queue.spare) where
   -- so the state was ready for a step
   pub ready-of : Ready s a
-  ready-of = record {
-    stands = stands;
-    is = sym taken ∙ some;
-    idle = taste-idle s stands.kept due a (sym taken ∙ some);
-    sound = sound;
-    room = room;
-  }
+  ready-of = search (rules, taste-idle s stands.kept due a (sym taken ∙ some))
 
   module _ {u : TopoView Config} {q : Queued} {z : Taste} {j k : Judged} (same : j ≡ k)
       (judged : IsJudged (both s.topo s.queue) a u q z j)
@@ -67,22 +58,13 @@ module _ {s : State} {a : Taste} {o : Option Taste} (stands : Stands s)
       (spare : s.queue.spare ≤ q.spare + MAX_LINKS) where
     -- and what the step came to, by another name for it
     pub stepped : Stepped s a u q z k
-    stepped =
-        subst (Stepped s a u q z) same (record {
-          ready = ready-of;
-          judged = judged;
-          settled = settled;
-          tasting = tasting;
-          spare = spare;
-        })
+    stepped = search (rules, ready-of)
 
 -- however a step ends, it took few turns, by the taste that was taken out of the state
 module _ (s : State) (before after : ℕ) {a : Taste} {o : Option Taste} (taken : o ≡ s.taste) (some : o ≡ Some a) where
   pub few-turns : after ≤ before + consumers_below s.topo.topology a.provider
       → IfSome s.taste (λ x. after ≤ before + consumers_below s.topo.topology x.provider)
-  few-turns few =
-      subst (λ (x : Option Taste). IfSome x (λ y. after ≤ before + consumers_below s.topo.topology y.provider))
-      (sym some ∙ taken) few
+  few-turns few = search rules
 
 -- what a step came to, by the taste, the mesh and the queue after it
 module _ {s : State} {a : Taste} {u : TopoView Config} {q : Queued} {z : Taste} where
@@ -118,30 +100,20 @@ module _ {s : State} {a : Taste} {u : TopoView Config} {q : Queued} {z : Taste} 
 
     -- its consumer lives, and no handle has it
     pub read-through : (o : Option Taste) → IsNoHandles (record s { topo = u; queue = q; taste = o }) z.consumer
-    read-through o = record {
-      lives =
-          subst (λ n. IsSome (consumer_at u.topology n)) (sym after.consumer)
-          (subst (λ (v : TopoView Config). IsSome (consumer_at v.topology a.consumer)) (sym mesh)
-          (subst (λ x. IsSome x)
-          (sym (taster-at s step.ready.stands a step.ready.is step.ready.sound)) refl));
-      nobodys =
-          ap (holding_handle s.handles.handles) after.consumer
-          ∙ nobodys s step.ready.stands a step.ready.is step.ready.sound;
-    }
+    read-through o =
+        search (
+          rules,
+          taster-at s step.ready.stands a step.ready.is step.ready.sound,
+          nobodys s step.ready.stands a step.ready.is step.ready.sound,
+        )
 
     -- nothing is out through it
     pub read-idle : value_at u.active z.consumer ≡ Some 0
-    read-idle =
-        ap (value_at u.active) after.consumer
-        ∙ ap (λ (v : TopoView Config). value_at v.active a.consumer) mesh
-        ∙ none-out s step.ready.stands a step.ready.is step.ready.sound step.ready.idle
+    read-idle = search (rules, none-out s step.ready.stands a step.ready.is step.ready.sound step.ready.idle)
 
     -- the sector is one of the provider
     pub read-inside : (o : Option Taste) → HasSector (record s { topo = u; queue = q; taste = o }) z sector
-    read-inside o =
-        subst (λ n. IsSomeAnd (provider_at u.topology n) (IsInside sector)) (sym after.provider)
-        (subst (λ (v : TopoView Config). IsSomeAnd (provider_at v.topology a.provider) (IsInside sector)) (sym mesh)
-        (after.inside sector refl))
+    read-inside o = search (rules, after.inside sector)
 
     -- the read is submitted
     pub read-made : (o : Option Taste) (new : State) (out : Outcome) → out ≡ outcomes.Reading s.traffic.next
@@ -202,10 +174,7 @@ module _ {s : State} {a : Taste} {u : TopoView Config} {q : Queued} {z : Taste} 
 
     -- nothing is out through its consumer
     pub ended-out : value_at u.active z.consumer ≡ Some 0
-    ended-out =
-        ap (value_at u.active) over.consumer
-        ∙ ap (λ (v : TopoView Config). value_at v.active a.consumer) step.judged.mesh.mesh
-        ∙ none-out s step.ready.stands a step.ready.is step.ready.sound step.ready.idle
+    ended-out = search (rules, none-out s step.ready.stands a step.ready.is step.ready.sound step.ready.idle)
 
     module _ {v : TopoView Config} {o : Option Taste} (gone : v ≡ without_consumer u z.consumer)
         (settled : IsTasteSettled v) (none : o ≡ None) where
@@ -221,41 +190,28 @@ module _ {s : State} {a : Taste} {u : TopoView Config} {q : Queued} {z : Taste} 
           → Makes judge_next log s (record s { topo = v; queue = q; taste = o }) outcomes.Ran
       ended-made log =
           let graph : IsButForRoom v (without_consumer s.topo a.consumer) =
-          ended-mesh s a step.ready u q z step.spare step.judged.mesh.mesh (over.ended refl)
-          step.tasting v gone settled in
-          judged-makes s a step.ready u q z Ended step.judged (record s { topo = v; queue = q; taste = o })
-          outcomes.Ran log
-          (λ actors.
-          ap (λ (x : Taste). let r : World × Outcome = (
-            record (world actors log s) {
-              topology = (without_consumer s.topo x.consumer).topology;
-              taste = None;
-            },
-            outcomes.Ran,
-          ) in r) (over.ended refl)
-          ∙ ap (λ (x : TopoView Config). let r : World × Outcome = (
-            record (world actors log s) {
-              topology = x.topology;
-              taste = None;
-            },
-            outcomes.Ran,
-          ) in r) (sym graph)
-          ∙ ap (λ (es : List Event). let r : World × Outcome = (
-            record (world actors log s) {
-              topology = v.topology;
-              events = es;
-              taste = None;
-            },
-            outcomes.Ran,
-          ) in r) (sym step.judged.mesh.events)
-          ∙ ap (λ (x : Option Taste). let r : World × Outcome = (
-            record (world actors log s) {
-              topology = v.topology;
-              events = q.events;
-              taste = x;
-            },
-            outcomes.Ran,
-          ) in r) (sym none))
+          search rules in
+          search (
+            rules,
+            judged-makes s a step.ready u q z Ended step.judged (record s { topo = v; queue = q; taste = o })
+                outcomes.Ran log
+                (λ actors. ap
+                (λ (x : Taste). let r : World × Outcome = (
+                  record (world actors log s)
+                      { topology = (without_consumer s.topo x.consumer).topology; taste = None },
+                  outcomes.Ran,
+                ) in r)
+                (over.ended refl) ∙ ap
+                (λ (x : TopoView Config). let r : World × Outcome =
+                (record (world actors log s) { topology = x.topology; taste = None }, outcomes.Ran) in r)
+                (sym graph) ∙ ap
+                (λ (es : List Event). let r : World × Outcome =
+                (record (world actors log s) { topology = v.topology; events = es; taste = None }, outcomes.Ran) in
+                r) (sym step.judged.mesh.events) ∙ ap
+                (λ (x : Option Taste). let r : World × Outcome =
+                (record (world actors log s) { topology = v.topology; events = q.events; taste = x }, outcomes.Ran)
+                in r) (sym none)),
+          )
 
       -- once its consumer is gone
       pub ended : Leaves s (record s { topo = v; queue = q; taste = o })

@@ -1,8 +1,8 @@
 -- What is against steps of events, tastes and washes, by what is kept.
-use Rattle.std.specs.Prelude.{◌≡◌, ℕ, ◌==◌, Bool, true, false, not, ◌&&◌, List, [], ◌∷◌, drop, find, cond, Option, Some, None, Result, Ok, Err, OnOk, is_some, slice_get, if◌then◌else◌}
+use Rattle.std.specs.Prelude.{◌≡◌, ℕ, ◌==◌, Bool, true, false, not, ◌&&◌, List, [], ◌∷◌, drop, find, Option, Some, None, Result, Ok, Err, OnOk, is_some, slice_get, if◌then◌else◌}
 use Rattle.std.specs.List.{list_any}
 use Rattle.std.specs.Option.{option_map, option_map_or, unwrap_or}
-use Rattle.std.proofs.Common.{refl, sym, ◌∙◌, ap}
+use Rattle.std.proofs.Common.{refl, sym, ◌∙◌, ap, rules}
 use Rattle.std.proofs.lemmas.List.Sums.{length-filter}
 use Rattle.geo_base.proofs.FindLists.{any-map, any-kept_some}
 use Rattle.geo_base.specs.declared.request.Counts.{Counts}
@@ -25,8 +25,7 @@ use Rattle.geo_access.specs.Access.{granted_by}
 use Rattle.geo_life.specs.Life.{is_out, AreStored}
 use Rattle.geo_life.proofs.Places.{counts_are_stored}
 use Rattle.geo_state.specs.declared.state.State.{State}
-use Rattle.geo_state.specs.Trips.{Trip, trip_of, trips, out_through, taste_read}
-use Rattle.geo_state.specs.Trips.{is_out as goes_through}
+use Rattle.geo_state.specs.Trips.{trip_of, trips, out_through, taste_read, is_out as goes_through}
 use Rattle.geo_state.specs.Holds.{Holds}
 use Rattle.geo_state.specs.World.{world}
 use Rattle.geo_state.specs.Steps.{Stands, against, IsAgainst, Makes}
@@ -51,22 +50,7 @@ pub read-is : (log : List Entry) (bios : List (BioOf Held))
     → option_map (λ (x : Bio). x.number) (find (λ x. is_taste_root x.owner) (shown_bios (delivered_at log) bios))
     ≡ taste_read (trips bios)
 read-is log [] = refl
-read-is log (x ∷ xs) = by (is_taste_root x.owner) (read-is log xs)
-  where
-    by : (b : Bool)
-        → option_map (λ (y : Bio). y.number) (find (λ y. is_taste_root y.owner) (shown_bios (delivered_at log) xs))
-        ≡ option_map (λ (y : Trip). y.number) (find (λ y. is_taste_root y.owner) (trips xs))
-        → option_map (λ (y : Bio). y.number)
-        (cond b (Some (shown_bio (delivered_at log) x))
-        (find (λ y. is_taste_root y.owner) (shown_bios (delivered_at log) xs)))
-        ≡ option_map (λ (y : Trip). y.number) (cond b (Some (trip_of x)) (find (λ y. is_taste_root y.owner) (trips xs)))
-    by true rest = refl
-    by false rest = rest
-
--- a number that may be there, or nought
-number-or : {X : Type 0} (number : X → ℕ) (o : Option X) → unwrap_or (option_map number o) 0 ≡ option_map_or number o 0
-number-or number None = refl
-number-or number (Some x) = refl
+read-is log (x ∷ xs) = search (rules, read-is log xs)
 
 -- Events
 
@@ -110,10 +94,7 @@ none-tasted s due = by s.taste (none-tasting (is_some s.taste) s.queue.events (s
 -- a queue by its head
 by-head : (q : List Event) (e : Event) → slice_get q 0 ≡ Some e → q ≡ e ∷ drop 1 q
 by-head [] e never = absurd cc
-by-head (x ∷ xs) e is =
-    let some : Some x ≡ Some e = is in
-    let same : x ≡ e = cc in
-    ap (λ y. y ∷ xs) same
+by-head (x ∷ xs) e is = search rules
 
 -- the head is done: that is the step
 pub event-makes : (s new : State) (e : Event) → IsAgainst event s None → IsHead s e → HasDone s new e
@@ -137,9 +118,7 @@ judge-found s kept actors log = on s.taste
     w = world actors log s
 
     number : taste_bio w ≡ unwrap_or s.read 0
-    number =
-        sym (number-or (λ (x : Bio). x.number) (find (λ x. is_taste_root x.owner) w.bios))
-        ∙ ap (λ o. unwrap_or o 0) (read-is log s.traffic.bios ∙ sym kept.read)
+    number = search (rules, ap (λ o. unwrap_or o 0) (read-is log s.traffic.bios ∙ sym kept.read))
 
     by : (t : Taste) (b : Bool)
         → against (if b then Err (found.ReadOut (taste_bio w)) else Ok (judge_step w t))

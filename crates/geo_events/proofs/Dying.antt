@@ -1,6 +1,6 @@
 -- Handles that become dead where their provider is orphaned, one after another.
 use Rattle.std.specs.Prelude.{◌≡◌, ℕ, nat_le, List, ◌∷◌, filter, fold, Contains, IsSome}
-use Rattle.std.proofs.Common.{refl, sym, ap, subst}
+use Rattle.std.proofs.Common.{refl, sym, subst, rules}
 use Rattle.geo_model.specs.Words.{names_number}
 use Rattle.geo_model.specs.Topology.{Topology, Consumer, consumer_at, attached_to}
 use Rattle.geo_model.specs.Events.{is_of_dev, dying_consumers}
@@ -28,10 +28,7 @@ pub record KilledSoFar (s now : State) (p from_number : ℕ) : Type 0 where
 
 -- at first none is dead
 pub killing-begins : (s : State) (p : ℕ) → KilledSoFar s s p 0
-killing-begins s p = record {
-  left = ap (fold killed s.handles.handles) (walk-begin (λ n. n) (dying_consumers s.topo.topology p));
-  rest = refl;
-}
+killing-begins s p = search (rules, walk-begin (λ n. n) (dying_consumers s.topo.topology p))
 
 -- the next one is a consumer of the mesh
 pub dying-lives : (s : State) → IsFirm s → (p from_number c : ℕ) (cs : List ℕ)

@@ -1,6 +1,6 @@
 -- What is kept after the effects of events, and the world then.
 use Rattle.std.specs.Prelude.{◌≡◌, ℕ, ◌+◌, ◌≤◌, ◌==◌, not, List, [], ◌∷◌, drop, fold, count_by}
-use Rattle.std.proofs.Common.{refl, sym, ◌∙◌, ap, subst, arith}
+use Rattle.std.proofs.Common.{refl, sym, ◌∙◌, ap, subst, arith, rules}
 use Rattle.std.proofs.lemmas.List.Sums.{length-filter}
 use Rattle.geo_base.specs.declared.request.Counts.{Counts}
 use Rattle.geo_model.specs.declared.command.LineCommand.{LineCommand}
@@ -43,11 +43,7 @@ headless q = record { events = drop 1 q.events; spare = q.spare + 1 }
 module _ (s : State) (kept : Holds s) where
   -- there is a place for each provider without an error
   pub room-for : sound_providers s.topo.topology + 1 ≤ s.queue.spare + 1
-  room-for =
-      let room : good s.topo.topology + written s.topo ≤ s.queue.spare = kept.room in
-      let same = good-is s.topo.topology in
-      let enough : sound_providers s.topo.topology + 1 ≤ s.queue.spare + 1 = omega (arith, room, same) in
-      enough
+  room-for = search (rules, good-is s.topo.topology)
 
   -- also without the place of the head
   pub room-of : sound_providers s.topo.topology ≤ s.queue.spare + 1
@@ -57,13 +53,7 @@ module _ (s : State) (kept : Holds s) where
       (counts_stay : CountsStay s.topo u)
       (owed : s.queue.spare + 1 + sound_providers u.topology ≤ q.spare + sound_providers s.topo.topology + 1) where
     room-left : owed_events u ≤ q.spare
-    room-left =
-        let room : good s.topo.topology + written s.topo ≤ s.queue.spare = kept.room in
-        let before = good-is s.topo.topology in
-        let after = good-is u.topology in
-        let same : written u ≡ written s.topo = ap (λ (v : TopoView Config). written v) rest.mesh in
-        let so : good u.topology + written u ≤ q.spare = omega (arith, room, before, after, same, owed) in
-        so
+    room-left = search (rules, good-is s.topo.topology, good-is u.topology)
 
     -- all is kept after effects that leave the parts
     effects-kept : SameParts s.topo.topology u.topology → Holds (record s { topo = u; queue = q })
@@ -102,9 +92,7 @@ module _ (s : State) (kept : Holds s) where
   -- the counts are stored by what the world grants
   pub stored-in : (actors : List (List LineCommand)) (log : List Entry)
       → AreStored (granted_in (world actors log s)) s.topo
-  stored-in actors log =
-      subst (λ (g : ℕ → Counts). AreStored g s.topo) kept.grants
-      (counts_are_stored s.topo (granted_by s.topo) kept.counted (λ c. refl))
+  stored-in actors log = search rules
 
   -- The worlds
 
@@ -130,8 +118,7 @@ pub resized-from : (s : State) (q : Queued) → q ≡ headless s.queue → (u : 
     → ((granted : ℕ → Counts) → AreStored granted s.topo → queued u v ≡ resize granted (queued s.topo q) p)
     → (granted : ℕ → Counts) → AreStored granted s.topo
     → queued u v ≡ resize granted (queued s.topo (headless s.queue)) p
-resized-from s q is u v p resized granted stored =
-    resized granted stored ∙ ap (λ (r : Queued). resize granted (queued s.topo r) p) is
+resized-from s q is u v p resized granted stored = search rules
 
 -- handles that become dead one after another
 kills : (w : World) (cs : List ℕ) → fold kill_handle w cs ≡ record w { handles = fold killed w.handles cs }
@@ -166,16 +153,12 @@ module _ (s : State) (mid : Queued) (is : mid ≡ headless s.queue) (u : TopoVie
   -- as many places are owed as are left
   pub owed-same : q.spare + sound_providers s.topo.topology ≡ mid.spare + sound_providers u.topology
       → s.queue.spare + 1 + sound_providers u.topology ≤ q.spare + sound_providers s.topo.topology + 1
-  owed-same owed =
-      let spare : mid.spare ≡ s.queue.spare + 1 = ap (λ (r : Queued). r.spare) is in
-      omega (arith, spare, owed)
+  owed-same owed = search rules
 
   -- or one more is owed
   pub owed-one : mid.spare + sound_providers u.topology ≤ q.spare + sound_providers s.topo.topology + 1
       → s.queue.spare + 1 + sound_providers u.topology ≤ q.spare + sound_providers s.topo.topology + 1
-  owed-one owed =
-      let spare : mid.spare ≡ s.queue.spare + 1 = ap (λ (r : Queued). r.spare) is in
-      omega (arith, spare, owed)
+  owed-one owed = search rules
 
 -- places before and after the head is taken away
 pub room-after : (n : ℕ) (q mid : Queued) → mid ≡ headless q → n ≤ q.spare + 1 → n ≤ mid.spare

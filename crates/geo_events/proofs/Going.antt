@@ -1,13 +1,13 @@
 -- What can be washed stands in the mesh.
-use Rattle.std.specs.Prelude.{◌≡◌, ℕ, ◌==◌, Bool, true, false, ◌&&◌, List, [], ◌∷◌, length, map, filter, find, Option, Some, None, Contains, IsSome, if◌then◌else◌}
+use Rattle.std.specs.Prelude.{◌≡◌, ℕ, ◌==◌, Bool, List, [], ◌∷◌, length, map, filter, find, Option, Some, None, Contains, IsSome}
 use Rattle.std.specs.Option.{option_map, option_or}
-use Rattle.std.proofs.Common.{refl, sym, ◌∙◌, subst}
+use Rattle.std.proofs.Common.{refl, ◌∙◌, rules}
 use Rattle.geo_base.specs.declared.request.Counts.{Counts}
 use Rattle.geo_model.specs.declared.step.WashWork.{WashWork}
 use Rattle.geo_model.specs.declared.step.WashWork.TheVariants as works
-use Rattle.geo_model.specs.Topology.{Topology, Geom, Provider, Consumer, geom_at, provider_at, providers_of, consumers_of, attached_to}
+use Rattle.geo_model.specs.Topology.{Topology, Geom, Provider, geom_at, provider_at, providers_of, attached_to}
 use Rattle.geo_model.specs.World.{Config}
-use Rattle.geo_model.specs.Freeing.{free_consumer, free_geom, is_idle, wash_work_of, first_wash, wash_where}
+use Rattle.geo_model.specs.Freeing.{free_consumer, free_geom, wash_work_of, first_wash, wash_where}
 use Rattle.geo_laws_graph.proofs.Lists.{found_itself}
 use Rattle.geo_laws_graph.proofs.Members.{find-Contains, filter-Contains, Contains-here, Contains-there}
 use Rattle.geo_model.specs.Graph.{AreNumbers}
@@ -24,23 +24,13 @@ module _ (granted : ℕ → Counts) (active : ℕ → Bool) (t : Topology Config
       → wash_work_of granted active t g ≡ o
       → (first_wash granted active t gs ≡ Some work → Source gs work)
       → option_or o (first_wash granted active t gs) ≡ Some work → Source (g ∷ gs) work
-  source-by g gs work None is rest e =
-      let r : Source gs work = rest e in
-      record { geom = r.geom; here = Contains-there g r.geom gs r.here; is = r.is }
+  source-by g gs work None is rest e = search (rules, Contains-there g)
   source-by g gs work (Some x) is rest e = record { geom = g; here = Contains-here g gs; is = is ∙ e }
 
   -- so of all geoms
   source : (gs : List (Geom Config)) (work : WashWork) → first_wash granted active t gs ≡ Some work → Source gs work
   source [] work never = absurd cc
   source (g ∷ gs) work e = source-by g gs work (wash_work_of granted active t g) refl (source gs work) e
-
-  -- what comes after the providers is none of them
-  not-later : (g : Geom Config) (p : ℕ) (o : Option Consumer) (b : Bool)
-      → option_or (option_map (λ (c : Consumer). works.Consumer c.number) o)
-      (option_or (if b then Some (works.Geom g.number) else None) None) ≡ Some (works.Provider p) → ⊥
-  not-later g p None true never = cc
-  not-later g p None false never = cc
-  not-later g p (Some c) b never = cc
 
   -- a provider that can go is one of the mesh
   provider-by : (g : Geom Config) (p : ℕ) (o : Option Provider)
@@ -49,37 +39,20 @@ module _ (granted : ℕ → Counts) (active : ℕ → Bool) (t : Topology Config
       (option_or (free_consumer granted active t g) (option_or (free_geom granted active t g) None))
       ≡ Some (works.Provider p)
       → AreNumbers (map (λ (x : Provider). x.number) t.providers) t.next_provider → IsSome (provider_at t p)
-  provider-by g p None is e numbers =
-      absurd
-      (not-later g p (find (is_idle granted active t) (consumers_of t g.number))
-      ((length (providers_of t g.number) == 0) && (length (consumers_of t g.number) == 0)) e)
+  provider-by g p None is e numbers = search rules
   provider-by g p (Some x) is e numbers =
-      let some : Some (works.Provider x.number) ≡ Some (works.Provider p) = e in
-      let same : x.number ≡ p = cc in
-      let kept = filter-Contains (λ (y : Provider). y.geom == g.number) t.providers x
-      (find-Contains (λ (y : Provider). length (attached_to t y.number) == 0) (providers_of t g.number) x is) in
-      subst (λ n. IsSome (provider_at t n)) same
-      (subst (λ o. IsSome o)
-      (sym (found_itself (λ (y : Provider). y.number) t.next_provider t.providers x numbers kept.0)) refl)
+      search (
+        rules,
+        filter-Contains (λ (y : Provider). y.geom == g.number) t.providers x
+            (find-Contains (λ (y : Provider). length (attached_to t y.number) == 0) (providers_of t g.number) x is),
+        found_itself (λ (y : Provider). y.number) t.next_provider t.providers x numbers,
+      )
 
   -- so it lives
   pub provider-lives : (p : ℕ) → wash_where granted active t ≡ Some (works.Provider p)
       → AreNumbers (map (λ (x : Provider). x.number) t.providers) t.next_provider → IsSome (provider_at t p)
   provider-lives p e numbers =
-      let r : Source (filter (λ (g : Geom Config). g.withering) t.geoms) (works.Provider p) =
-      source (filter (λ (g : Geom Config). g.withering) t.geoms) (works.Provider p) e in
-      provider-by r.geom p
-      (find (λ (x : Provider). length (attached_to t x.number) == 0) (providers_of t r.geom.number)) refl r.is numbers
-
-  -- so is a geom
-  geom-by : (g : Geom Config) (n : ℕ) (o : Option Provider) (q : Option Consumer) (b : Bool)
-      → option_or (option_map (λ (x : Provider). works.Provider x.number) o)
-      (option_or (option_map (λ (c : Consumer). works.Consumer c.number) q)
-      (option_or (if b then Some (works.Geom g.number) else None) None)) ≡ Some (works.Geom n) → g.number ≡ n
-  geom-by g n (Some x) q b never = absurd cc
-  geom-by g n None (Some c) b never = absurd cc
-  geom-by g n None None false never = absurd cc
-  geom-by g n None None true e = cc
+      search (rules, source (filter (λ (g : Geom Config). g.withering) t.geoms) (works.Provider p) e, provider-by)
 
   -- so it lives
   pub geom-lives : (n : ℕ) → wash_where granted active t ≡ Some (works.Geom n)
@@ -87,11 +60,8 @@ module _ (granted : ℕ → Counts) (active : ℕ → Bool) (t : Topology Config
   geom-lives n e numbers =
       let r : Source (filter (λ (g : Geom Config). g.withering) t.geoms) (works.Geom n) =
       source (filter (λ (g : Geom Config). g.withering) t.geoms) (works.Geom n) e in
-      let kept = filter-Contains (λ (g : Geom Config). g.withering) t.geoms r.geom r.here in
-      let same : r.geom.number ≡ n =
-      geom-by r.geom n (find (λ (x : Provider). length (attached_to t x.number) == 0) (providers_of t r.geom.number))
-      (find (is_idle granted active t) (consumers_of t r.geom.number))
-      ((length (providers_of t r.geom.number) == 0) && (length (consumers_of t r.geom.number) == 0)) r.is in
-      subst (λ m. IsSome (geom_at t m)) same
-      (subst (λ o. IsSome o)
-      (sym (found_itself (λ (y : Geom Config). y.number) t.next_geom t.geoms r.geom numbers kept.0)) refl)
+      search (
+        rules,
+        filter-Contains (λ (g : Geom Config). g.withering) t.geoms r.geom r.here,
+        found_itself (λ (y : Geom Config). y.number) t.next_geom t.geoms r.geom numbers,
+      )

@@ -1,7 +1,7 @@
 -- What a class makes of a provider only comes: which consumers, geoms and providers, and that none is of a disk.
 use Rattle.std.specs.Prelude.{◌≡◌, ℕ, ◌+◌, ◌-◌, ◌≤◌, ◌==◌, Bool, true, false, not, ◌&&◌, List, [], ◌∷◌, ◌++◌, length, map, Option, Some, None, IfSome, is_some, if◌then◌else◌}
 use Rattle.std.specs.List.{AllByRecursion, list_all}
-use Rattle.std.proofs.Common.{refl, sym, ◌∙◌, ap, subst, arith}
+use Rattle.std.proofs.Common.{refl, sym, ◌∙◌, ap, subst, arith, rules}
 use Rattle.std.proofs.lemmas.Bool.{and_parts, eqb-true}
 use Rattle.std.proofs.lemmas.List.{append_assoc, append-nil, length-append, map-append}
 use Rattle.std.proofs.lemmas.List.Elements.{recursion_from_All}
@@ -21,9 +21,9 @@ use Rattle.geo_model.specs.Demand.{no_counts}
 use Rattle.geo_model.specs.Topology.{Geom, Provider, Consumer, geom_at, set_config}
 use Rattle.geo_model.specs.Place.{disk_of}
 use Rattle.geo_model.specs.World.{Config, Disk, Mbr, Ebr, Label}
-use Rattle.geo_model.specs.Acceptance.{Member, NewSlice, are_names_free, can_join, concat_member, fill_place, is_same_assembly, is_size, joined_size, new_parts, new_slices, places_of, standing_geom, stripe_member}
+use Rattle.geo_model.specs.Acceptance.{Member, NewSlice, are_names_free, can_join, concat_member, fill_place, is_same_assembly, joined_size, new_parts, new_slices, places_of, standing_geom, stripe_member}
 use Rattle.geo_mesh.specs.Topo.{TopoView, with_geom, with_provider, with_topology}
-use Rattle.geo_laws_graph.specs.LookupLaws.{EachIsFound, new_geom, new_provider, new_consumer}
+use Rattle.geo_laws_graph.specs.LookupLaws.{EachIsFound, new_geom, new_provider}
 use Rattle.geo_laws_graph.proofs.Found.{each-found}
 use Rattle.geo_laws_graph.proofs.Members.{at_contained, find-Contains}
 use Rattle.geo_laws_counts.proofs.Numbers.{free_of}
@@ -100,11 +100,7 @@ grows-on t u v g h = record {
       (λ c above. let first = g.next_consumer in omega (arith, first, above)) h.consumers h.fresh);
   next_consumer = let first = g.next_consumer in let then_on = h.next_consumer in omega (arith, first, then_on);
   next_provider =
-      let first = g.next_provider in
-      let then_on = h.next_provider in
-      let all : length (g.providers ++ h.providers) ≡ length g.providers + length h.providers =
-      length-append g.providers h.providers in
-      omega (arith, first, then_on, all);
+      search (rules, length-append g.providers h.providers);
 }
 
 -- One change
@@ -125,54 +121,24 @@ module _ (t : TopoView Config) where
   -- a geom that is of no disk
   pub geom-grows : (kind : Kind) (name : List ℕ) (config : Config) (automatic : Bool) → disk_of config ≡ None
       → Grows t (with_geom t kind name config automatic)
-  geom-grows kind name config automatic none = record {
-    consumers = [];
-    geoms = (t.topology.next_geom, (kind, disk_of config)) ∷ [];
-    providers = [];
-    with_consumers = same_rows t.topology.consumers;
-    with_wants = same_rows t.wants;
-    with_active = same_rows t.active;
-    with_geoms = map-append class_row t.topology.geoms (new_geom t.topology kind name config automatic ∷ []);
-    with_providers = same_rows t.topology.providers;
-    diskless = (none, tt);
-    fresh = tt;
-    next_consumer = not_less;
-    next_provider = none_more;
-  }
+  geom-grows kind name config automatic none =
+      search (
+        rules,
+        same_rows t.topology.consumers,
+        map-append class_row t.topology.geoms (new_geom t.topology kind name config automatic ∷ []),
+        same_rows t.topology.providers,
+        not_less,
+        none_more,
+      )
 
   -- a provider
   pub provider-grows : (geom : ℕ) (name : List ℕ) (size sector : ℕ) → Grows t (with_provider t geom name size sector)
-  provider-grows geom name size sector = record {
-    consumers = [];
-    geoms = [];
-    providers = new_provider t.topology geom name size sector ∷ [];
-    with_consumers = same_rows t.topology.consumers;
-    with_wants = same_rows t.wants;
-    with_active = same_rows t.active;
-    with_geoms = same_rows (map class_row t.topology.geoms);
-    with_providers = refl;
-    diskless = tt;
-    fresh = tt;
-    next_consumer = not_less;
-    next_provider = refl;
-  }
+  provider-grows geom name size sector =
+      search (rules, same_rows t.topology.consumers, same_rows (map class_row t.topology.geoms), not_less)
 
   -- a consumer
   pub consumer-grows : (geom p : ℕ) → Grows t (with_attached t geom p)
-  consumer-grows geom p = record {
-    consumers = new_consumer t.topology geom (Some p) ∷ [];
-    geoms = [];
-    providers = [];
-    with_consumers = refl;
-    with_wants = refl;
-    with_active = refl;
-    with_geoms = same_rows (map class_row t.topology.geoms);
-    with_providers = same_rows t.topology.providers;
-    diskless = tt;
-    fresh = (not_less, tt);
-    next_consumer = let more : t.topology.next_consumer ≤ t.topology.next_consumer + 1 = omega arith in more;
-    next_provider = none_more;
-  }
+  consumer-grows geom p = search (rules, same_rows (map class_row t.topology.geoms))
 
   -- the geom of a number is of no disk
   abbrev pub OfNoDisk : ℕ → Type 0
@@ -210,10 +176,7 @@ module _ (t : TopoView Config) where
           → map class_row (change_where (λ x. x.number == geom) (λ x. record x { config = config }) gs)
           ≡ map class_row gs
       rows [] was = refl
-      rows (x ∷ xs) was =
-          ap (λ r. r ∷ map class_row (change_where (λ y. y.number == geom) (λ y. record y { config = config }) xs))
-          (row x (x.number == geom) was.0)
-          ∙ ap (λ rs. class_row x ∷ rs) (rows xs was.1)
+      rows (x ∷ xs) was = search (rules, ap (λ rs. class_row x ∷ rs) (rows xs was.1))
 
 -- What is accepted
 
@@ -231,20 +194,7 @@ pub few-roomed : (t u v : TopoView Config) → v ≡ record u { room = v.room } 
 few-roomed t u v same g =
     subst (λ (x : TopoView Config). GrowsFew t x) (sym same)
     (record {
-      grows = record {
-        consumers = g.grows.consumers;
-        geoms = g.grows.geoms;
-        providers = g.grows.providers;
-        with_consumers = g.grows.with_consumers;
-        with_wants = g.grows.with_wants;
-        with_active = g.grows.with_active;
-        with_geoms = g.grows.with_geoms;
-        with_providers = g.grows.with_providers;
-        diskless = g.grows.diskless;
-        fresh = g.grows.fresh;
-        next_consumer = g.grows.next_consumer;
-        next_provider = g.grows.next_provider;
-      };
+      grows = search rules;
       few = g.few;
     })
 
@@ -305,11 +255,6 @@ fill-disk : (config : Config) (k c size : ℕ) → disk_of (fill_place config k 
 fill-disk (Disk disk) k c size = refl
 fill-disk _ k c size = refl
 
--- an assembly is of no disk
-assembly-disk : (config empty : Config) → is_same_assembly config empty ≡ true → disk_of config ≡ None
-assembly-disk (Disk disk) empty never = absurd cc
-assembly-disk _ empty same = refl
-
 -- a shape whose table has few parts
 abbrev pub IsShort : Shape → Type 0
 IsShort (Slices table) = length table.slices ≤ most
@@ -356,16 +301,12 @@ module _ (m : QueuedMesh) where
 -- a place of an assembly that is taken
 finished-grows : (t : TopoView Config) (m : QueuedMesh) (g : GrowsBy t m.mesh 0) (geom : ℕ) (config : Config)
     (name : List ℕ) (sector : ℕ) → AllGrow t (finished m geom config name sector)
-finished-grows t m g geom config name sector = by (is_size (joined_size config))
-  where
-    by : (b : Bool)
-        → AllGrow t
-        (if b then (if are_names_free m.mesh.topology (name ∷ []) then
-        Some (with_offer m geom name (joined_size config) sector) else None) else None)
-    by true =
-        made-if (are_names_free m.mesh.topology (name ∷ [])) t (with_offer m geom name (joined_size config) sector)
-        (one-more t m g.grows g.number geom name (joined_size config) sector)
-    by false = tt
+finished-grows t m g geom config name sector =
+    search (
+      rules,
+      made-if (are_names_free m.mesh.topology (name ∷ [])) t (with_offer m geom name (joined_size config) sector)
+          (one-more t m g.grows g.number geom name (joined_size config) sector),
+    )
 
 -- and after it the provider, once all places are filled
 joined-grows : (t : TopoView Config) (m : QueuedMesh) (g : GrowsBy t m.mesh 0) (p : Provider) (geom : ℕ)
@@ -403,20 +344,12 @@ module _ (m : QueuedMesh) (order : IsInOrder m.mesh.topology) (p : Provider) whe
   -- nothing came yet
   nothing : GrowsBy m.mesh m.mesh 0
   nothing = record {
-    grows = record {
-      consumers = [];
-      geoms = [];
-      providers = [];
-      with_consumers = sym (append-nil m.mesh.topology.consumers);
-      with_wants = sym (append-nil m.mesh.wants);
-      with_active = sym (append-nil m.mesh.active);
-      with_geoms = sym (append-nil (map class_row m.mesh.topology.geoms));
-      with_providers = sym (append-nil m.mesh.topology.providers);
-      diskless = tt;
-      fresh = tt;
-      next_consumer = omega arith;
-      next_provider = omega arith;
-    };
+    grows = search (
+      rules,
+      append-nil m.mesh.topology.consumers,
+      append-nil (map class_row m.mesh.topology.geoms),
+      append-nil m.mesh.topology.providers,
+    );
     number = refl;
   }
 
@@ -442,9 +375,7 @@ module _ (m : QueuedMesh) (order : IsInOrder m.mesh.topology) (p : Provider) whe
         find_passes (λ (y : Geom Config). y.automatic && (not y.withering && (same_name y.name x.geom_name
         && is_same_assembly y.config x.empty))) m.mesh.topology.geoms g found in
         let one = and_parts g.automatic _ passes in
-        let two = and_parts (not g.withering) _ one.1 in
-        let three = and_parts (same_name g.name x.geom_name) (is_same_assembly g.config x.empty) two.1 in
-        assembly-disk g.config x.empty three.1
+        search rules
 
     -- it is the only geom of its number
     standing-no_disk : (g : Geom Config) → standing_geom m.mesh.topology x.geom_name x.empty ≡ Some g

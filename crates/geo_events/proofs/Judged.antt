@@ -1,8 +1,8 @@
 -- What comes of a step of the taste, and that all is kept then.
-use Rattle.std.specs.Prelude.{◌≡◌, ℕ, ◌+◌, ◌-◌, ◌*◌, ◌/◌, ◌<◌, ◌≤◌, ◌^◌, Bool, true, false, List, [], ◌∷◌, length, map, Option, Some, None, Ok, Err, IsSome, IsSomeAnd, IfSome, if◌then◌else◌}
+use Rattle.std.specs.Prelude.{◌≡◌, ℕ, ◌+◌, ◌-◌, ◌*◌, ◌<◌, ◌≤◌, ◌^◌, Bool, true, false, List, [], ◌∷◌, length, map, Option, Some, None, Ok, Err, IsSome, IsSomeAnd, if◌then◌else◌}
 use Rattle.std.specs.List.{AllByRecursion}
 use Rattle.std.specs.Option.{option_map, option_and_then}
-use Rattle.std.proofs.Common.{refl, sym, ◌∙◌, ap, subst, arith}
+use Rattle.std.proofs.Common.{refl, sym, ◌∙◌, ap, subst, arith, rules}
 use Rattle.std.proofs.lemmas.List.{append-nil, length-append, length-map}
 use Rattle.geo_base.proofs.AllLists.{all_mapped}
 use Rattle.geo_base.specs.declared.kind.Kind.TheVariants as kinds
@@ -24,7 +24,7 @@ use Rattle.geo_model.specs.World.{World, Config, Taste, is_read_out, granted_of}
 use Rattle.geo_model.specs.WorldEvents.{queued_of}
 use Rattle.geo_model.specs.Tasting.{Judging, facts_of, judged_world, judge_step, taste_step}
 use Rattle.geo_model.specs.Step.{Answer, judge_of, judge_next, taste_bio}
-use Rattle.geo_model.specs.Sound.{ChainHolds, IsTasteInOrder, class_asked}
+use Rattle.geo_model.specs.Sound.{class_asked}
 use Rattle.geo_event.specs.EventQueue.{Queued}
 use Rattle.geo_slots.specs.Slots.{value_at}
 use Rattle.geo_mesh.specs.Graph.{IsSoundGraph}
@@ -37,16 +37,15 @@ use Rattle.geo_life.proofs.Loose.{dropped_kept}
 use Rattle.geo_taste.specs.Making.{QueuedMesh, both, queued, AreBoth}
 use Rattle.geo_taste.specs.Going.{going}
 use Rattle.geo_taste.specs.Judging.{IsJudged, MayJudge, making, made_by, verdict_at}
-use Rattle.geo_taste.specs.Taster.{IsTasteOf, judging, with_granted}
-use Rattle.geo_taste.specs.Taster.{IsSettled as IsTasteSettled}
+use Rattle.geo_taste.specs.Taster.{IsTasteOf, judging, with_granted, IsSettled as IsTasteSettled}
 use Rattle.geo_taste.proofs.Firm.{firm_meshes_judge}
-use Rattle.geo_taste.proofs.Reading.{held_idle, taster_found, taster_holds}
-use Rattle.geo_taste.proofs.Taking.{but_for_room, goes_found}
+use Rattle.geo_taste.proofs.Reading.{taster_found, taster_holds}
+use Rattle.geo_taste.proofs.Taking.{goes_found}
 use Rattle.geo_state.specs.declared.state.State.{State}
 use Rattle.geo_state.specs.Changes.{IsSettled}
 use Rattle.geo_state.specs.Holds.{Holds, owed_events}
-use Rattle.geo_state.specs.Parts.{disk_row, owner_row}
-use Rattle.geo_state.specs.Sites.{Comers, AreFresh}
+use Rattle.geo_state.specs.Parts.{owner_row}
+use Rattle.geo_state.specs.Sites.{AreFresh}
 use Rattle.geo_state.specs.Steps.{Stands, Makes}
 use Rattle.geo_state.specs.Trips.{trips, out_through}
 use Rattle.geo_state.specs.World.{world}
@@ -58,29 +57,24 @@ use Rattle.geo_events.proofs.Grown.{comers, has-comers, no-disks, grown-granted}
 use Rattle.geo_events.proofs.Offering.{none-stored}
 use Rattle.geo_events.proofs.Shapes.{verdict-short}
 use Rattle.geo_events.proofs.Stepping.{IsNextTaste, steps_on}
-use Rattle.geo_events.proofs.Tasted.{tasting-of, ordered, readable-of, nobodys}
+use Rattle.geo_events.proofs.Tasted.{tasting-of, readable-of, nobodys}
 
 -- The numbers of providers
 
 -- rising numbers are no more than the highest
 rises-few : (low high : ℕ) (ns : List ℕ) → low ≤ high → Rise low ns high → low + length ns ≤ high
 rises-few low high [] less up = omega (arith, less)
-rises-few low high (n ∷ ns) less up =
-    let above : low ≤ n = up.0 in
-    let below : n < high = up.1 in
-    let rest : n + 1 + length ns ≤ high = rises-few (n + 1) high ns (omega (arith, below)) up.2 in
-    omega (arith, above, rest)
+rises-few low high (n ∷ ns) less up = search (rules, rises-few (n + 1) high ns)
 
 -- so there are fewer providers than numbers
 pub providers-few : {C : Type 0} (t : Topology C) → IsSoundGraph t → length t.providers < 2 ^ 64
 providers-few t sound =
-    let many : 0 + length (map (λ (p : Provider). p.number) t.providers) ≤ t.next_provider =
-    rises-few 0 t.next_provider (map (λ (p : Provider). p.number) t.providers) (omega arith)
-    (rise-from t.next_provider (map (λ (p : Provider). p.number) t.providers) sound.orderly.order.providers) in
-    let all : length (map (λ (p : Provider). p.number) t.providers) ≡ length t.providers =
-    length-map t.providers (λ (p : Provider). p.number) in
-    let fits : t.next_provider < 2 ^ 64 = sound.orderly.numbers.next_provider.fits in
-    omega (arith, many, all, fits)
+    search (
+      rules,
+      rises-few 0 t.next_provider (map (λ (p : Provider). p.number) t.providers) (omega arith)
+          (rise-from t.next_provider (map (λ (p : Provider). p.number) t.providers) sound.orderly.order.providers),
+      length-map t.providers (λ (p : Provider). p.number),
+    )
 
 -- A mesh in which the taste is made of a provider
 
@@ -134,10 +128,7 @@ module _ (s : State) (a : Taste) (ready : Ready s a) where
 
   -- grants of the handles alone, as long as no read is out
   idle-grants : (c : ℕ) → granted_by s.topo c ≡ granted_of s.handles.handles None c
-  idle-grants c =
-      ap (λ (g : ℕ → Counts). g c) ready.stands.kept.grants
-      ∙ ap (λ o. granted_of s.handles.handles o c) ready.is
-      ∙ tastes_grant_nothing s.handles.handles a ready.idle c
+  idle-grants c = search (rules, tastes_grant_nothing s.handles.handles a ready.idle c)
 
   module _ (u : TopoView Config) (q : Queued) (z : Taste) where
     -- The step
@@ -178,8 +169,7 @@ module _ (s : State) (a : Taste) (ready : Ready s a) where
         quiet = settled.quiet;
         room =
             let owed : owed_events v ≤ 2 * length v.topology.providers = places_are_owed.few v settled.counted in
-            let room : 3 * length t.providers + 128 ≤ s.queue.spare = ready.room in
-            omega (arith, owed, few, all, room, spare);
+            search rules;
       }
 
       module _ (settled : IsTasteSettled u) where
@@ -188,25 +178,12 @@ module _ (s : State) (a : Taste) (ready : Ready s a) where
             → ((c : ℕ) → granted_by u c ≡ granted_of s.handles.handles (Some z) c)
             → Holds (record s { topo = u; queue = q; taste = Some z })
         same-kept graph active grants =
-            let nobody : Comers = record { consumers = []; geoms = []; providers = [] } in
-            let zero : s.providers + 0 ≡ s.providers = omega arith in
-            let same : length u.topology.providers ≡ length t.providers + 0 =
-            ap (λ (v : Topology Config). length v.providers) graph
-            ∙ (let none : length t.providers ≡ length t.providers + 0 = omega arith in none) in
-            subst (λ n. Holds (record s { topo = u; queue = q; taste = Some z; providers = n })) zero
-            (kept_after_comers ready.stands.firm.0 s u q (Some z) nobody ready.stands.kept ready.stands.firm.1
-            (record {
-              consumers =
-                  ap (λ (v : Topology Config). map (λ (x : Consumer). x.number) v.consumers) graph
-                  ∙ sym (append-nil (map (λ (x : Consumer). x.number) t.consumers));
-              active = active ∙ sym (append-nil s.topo.active);
-              geoms =
-                  ap (λ (v : Topology Config). map disk_row v.geoms) graph
-                  ∙ sym (append-nil (map disk_row t.geoms));
-              providers =
-                  ap (λ (v : Topology Config). map owner_row v.providers) graph
-                  ∙ sym (append-nil (map owner_row t.providers));
-            }) tt tt grants (owed-kept u settled 0 (omega arith) same))
+            search (
+              rules,
+              ap (λ (v : Topology Config). map owner_row v.providers) graph,
+              append-nil (map owner_row t.providers),
+              owed-kept u settled 0 (omega arith),
+            )
 
         -- The taste goes on
 
@@ -243,13 +220,7 @@ module _ (s : State) (a : Taste) (ready : Ready s a) where
           -- which parts came
           few-links : class_asked a.asked ≡ Some kinds.Ebr → (p : Provider) → provider_at t a.provider ≡ Some p
               → length a.chain.links < MAX_LINKS
-          few-links ebr p found =
-              let order : IsTasteInOrder s.topo.topology a =
-              ordered s ready.stands a ready.is in
-              let holds : ChainHolds (p.size / p.sector) a.asked a.reads a.chain =
-              subst (λ o. IfSome o (λ x. ChainHolds (x.size / x.sector) a.asked a.reads a.chain)) found
-              (order.chain ebr) in
-              holds.few
+          few-links ebr p found = search rules
 
           pub parts-come : GrowsFew s.topo u
           parts-come =
@@ -266,22 +237,14 @@ module _ (s : State) (a : Taste) (ready : Ready s a) where
           came-count =
               let up : u.topology.next_provider ≡ t.next_provider + length parts-come.grows.providers =
               parts-come.grows.next_provider in
-              let rows : length (map owner_row parts-come.grows.providers) ≡ length parts-come.grows.providers =
-              length-map parts-come.grows.providers owner_row in
-              omega (arith, up, rows)
+              search (rules, length-map parts-come.grows.providers owner_row)
 
           all-providers : length u.topology.providers ≡ length t.providers + length parts-come.grows.providers
           all-providers =
               ap length parts-come.grows.with_providers ∙ length-append t.providers parts-come.grows.providers
 
           pub came-all : s.providers + (u.topology.next_provider - t.next_provider) ≡ length u.topology.providers
-          came-all =
-              let count = came-count in
-              let rows : length (map owner_row parts-come.grows.providers) ≡ length parts-come.grows.providers =
-              length-map parts-come.grows.providers owner_row in
-              let before : s.providers ≡ length t.providers = ready.stands.kept.providers in
-              let all = all-providers in
-              omega (arith, count, rows, before, all)
+          came-all = search (rules, came-count, length-map parts-come.grows.providers owner_row, all-providers)
 
           -- none of the consumers was there
           came-fresh : AreFresh s.topo (map number_of parts-come.grows.consumers)
@@ -327,11 +290,7 @@ module _ (s : State) (a : Taste) (ready : Ready s a) where
           (v : TopoView Config) (gone : v ≡ without_consumer u z.consumer) (settled : IsTasteSettled v) where
         -- the mesh without the taste's consumer
         pub ended-mesh : IsButForRoom v (without_consumer s.topo a.consumer)
-        ended-mesh =
-            but_for_room v (without_consumer (record s.topo { room = u.room }) a.consumer)
-            (gone
-            ∙ ap (λ (x : Taste). without_consumer u x.consumer) same
-            ∙ ap (λ (x : TopoView Config). without_consumer x a.consumer) mesh)
+        ended-mesh = search rules
 
         -- nobody else is granted more or less by it
         ended-granted : (c : ℕ) → granted_by v c ≡ granted_by s.topo c
@@ -346,9 +305,7 @@ module _ (s : State) (a : Taste) (ready : Ready s a) where
             lives = subst (λ o. IsSome o) (sym (taster_found u.topology sound_u z tasting.tasting)) refl
 
             nothing : value_at u.wants z.consumer ≡ Some no_counts
-            nothing =
-                tasting.holds
-                ∙ ap (λ c. Some c) (held_idle z (ap (λ (x : Taste). is_read_out x.asked) same ∙ ready.idle))
+            nothing = search rules
 
         pub ended-kept : Holds (record s { topo = v; queue = q; taste = None })
         ended-kept =

@@ -1,8 +1,8 @@
 -- A taste that begins, and what is kept then.
 use Rattle.std.specs.Prelude.{◌≡◌, ℕ, ◌+◌, ◌≤◌, ◌==◌, Bool, true, false, not, List, [], ◌∷◌, map, find, Some, None, if◌then◌else◌}
 use Rattle.std.specs.Option.{option_map}
-use Rattle.std.proofs.Common.{refl, sym, ◌∙◌, ap, subst, arith}
-use Rattle.std.proofs.lemmas.List.{map-append, append-nil}
+use Rattle.std.proofs.Common.{refl, sym, ◌∙◌, ap, subst, arith, rules}
+use Rattle.std.proofs.lemmas.List.{map-append}
 use Rattle.geo_base.specs.declared.request.Counts.{Counts}
 use Rattle.geo_model.specs.declared.step.Event.TheVariants as heads
 use Rattle.geo_model.specs.Topology.{Topology, Consumer, consumer_at}
@@ -18,7 +18,7 @@ use Rattle.geo_taste.specs.Taster.{IsSettled, first_taste, with_taster}
 use Rattle.geo_state.specs.declared.state.State.{State}
 use Rattle.geo_state.specs.Trips.{trips, out_through}
 use Rattle.geo_state.specs.Holds.{Holds, owed_events}
-use Rattle.geo_state.specs.Parts.{SameParts, disk_row, owner_row}
+use Rattle.geo_state.specs.Parts.{SameParts}
 use Rattle.geo_state.specs.Sites.{Comers, HasComers}
 use Rattle.geo_state.specs.World.{world}
 use Rattle.geo_state.specs.Steps.{Stands, SameWorld}
@@ -34,16 +34,7 @@ pub none-stored : {V : Type 0} (f : Consumer → V) (n : ℕ) (cs : List Consume
     → find (λ (c : Consumer). c.number == n) cs ≡ None
     → find (λ (row : ℕ × V). row.0 == n) (map (λ (c : Consumer). let row : ℕ × V = (c.number, f c) in row) cs) ≡ None
 none-stored f n [] none = refl
-none-stored {V} f n (c ∷ cs) none = by (c.number == n) refl (none-stored f n cs)
-  where
-    by : (b : Bool) → (c.number == n) ≡ b
-        → (find (λ (x : Consumer). x.number == n) cs ≡ None
-        → find (λ (row : ℕ × V). row.0 == n) (map (λ (x : Consumer). let row : ℕ × V = (x.number, f x) in row) cs)
-        ≡ None)
-        → find (λ (row : ℕ × V). row.0 == n)
-        (map (λ (x : Consumer). let row : ℕ × V = (x.number, f x) in row) (c ∷ cs)) ≡ None
-    by true e rest = let never : Some c ≡ None = (rw e at none) in absurd cc
-    by false e rest = rw e (rest (rw e at none))
+none-stored {V} f n (c ∷ cs) none = search (rules, none-stored f n cs)
 
 module _ (s : State) (stands : Stands s) where
   abbrev t : Topology Config
@@ -69,23 +60,12 @@ module _ (s : State) (stands : Stands s) where
 
     module _ (u : TopoView Config) (came : IsButForRoom u (with_taster s.topo p)) (is_settled : IsSettled u) where
       has-come : HasComers s.topo u comers
-      has-come = record {
-        consumers =
-            ap (λ (v : TopoView Config). map (λ (x : Consumer). x.number) v.topology.consumers) came
-            ∙ map-append (λ (x : Consumer). x.number) t.consumers (record {
-              number = t.next_consumer;
-              geom = 2;
-              provider = Some p;
-              spoiled = false;
-            } ∷ []);
-        active = ap (λ (v : TopoView Config). v.active) came;
-        geoms =
-            ap (λ (v : TopoView Config). map disk_row v.topology.geoms) came
-            ∙ sym (append-nil (map disk_row t.geoms));
-        providers =
-            ap (λ (v : TopoView Config). map owner_row v.topology.providers) came
-            ∙ sym (append-nil (map owner_row t.providers));
-      }
+      has-come =
+          search (
+            rules,
+            map-append (λ (x : Consumer). x.number) t.consumers
+                (record { number = t.next_consumer; geom = 2; provider = Some p; spoiled = false } ∷ []),
+          )
 
       -- nobody is granted more by it
       granted : (c : ℕ)
@@ -191,5 +171,4 @@ module _ (s : State) (stands : Stands s) where
 
     -- and the world is the same
     pub roomed-world : SameWorld s (record s { topo = u })
-    roomed-world actors log =
-        ap (λ (v : TopoView Config). record (world actors log s) { topology = v.topology }) same
+    roomed-world actors log = search rules

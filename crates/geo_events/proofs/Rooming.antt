@@ -1,23 +1,19 @@
 -- A state with other room for events and requests stands for the same world.
-use Rattle.std.specs.Prelude.{List, Result, Ok, Err, IfOk, OnErr, length}
-use Rattle.std.proofs.Common.{sym, ◌∙◌, ap, subst}
+use Rattle.std.specs.Prelude.{List, Result, Ok, Err, IfOk, OnErr}
+use Rattle.std.proofs.Common.{sym, ◌∙◌, ap, rules}
 use Rattle.geo_model.specs.declared.step.Entry.{Entry}
-use Rattle.geo_model.specs.declared.step.Event.{Event}
 use Rattle.geo_model.specs.declared.step.Outcome.{Outcome}
 use Rattle.geo_model.specs.World.{World}
 use Rattle.geo_model.specs.Step.{Answer}
-use Rattle.geo_state.specs.Shown.{AreLogged}
 use Rattle.geo_state.specs.declared.state.State.{State}
 use Rattle.geo_state.specs.Steps.{Makes, SameWorld}
-use Rattle.geo_state.specs.World.{world, HasBytes}
+use Rattle.geo_state.specs.World.{HasBytes}
 use Rattle.geo_events.specs.Judging.{IsRoomed}
 
 module _ (s now : State) (roomed : IsRoomed s now) where
   -- the world is the same
   pub same-world : SameWorld s now
-  same-world actors log =
-      ap (world actors log) roomed.rest
-      ∙ ap (λ (es : List Event). let w : World = record (world actors log s) { events = es } in w) roomed.events
+  same-world actors log = search rules
 
   module _ (step : World → Answer) where
     -- a step of it is one of the state as it was
@@ -34,5 +30,4 @@ module _ (s now : State) (roomed : IsRoomed s now) where
 
   -- the bytes that bios name are in the log as before
   pub logged-still : (log : List Entry) → HasBytes log s → HasBytes log now
-  logged-still log has =
-      subst (λ (z : State). AreLogged (length log) z.traffic.bios) (sym roomed.rest) has
+  logged-still log has = search rules

@@ -1,7 +1,7 @@
 -- A class accepts a table of few parts.
-use Rattle.std.specs.Prelude.{◌≡◌, ℕ, ◌+◌, ◌-◌, ◌*◌, ◌<◌, ◌≤◌, Bool, true, false, List, ◌++◌, length, map, replicate, Option, Some, None, Result, Ok, Err, if◌then◌else◌}
+use Rattle.std.specs.Prelude.{◌≡◌, ℕ, ◌+◌, ◌-◌, ◌*◌, ◌<◌, ◌≤◌, Bool, true, false, List, length, map, replicate, Option, Some, None, Result, Ok, Err, if◌then◌else◌}
 use Rattle.std.specs.Option.{option_map}
-use Rattle.std.proofs.Common.{refl, ap, subst, arith}
+use Rattle.std.proofs.Common.{refl, ap, subst, arith, rules}
 use Rattle.std.proofs.lemmas.List.{length-append, length-map, length-replicate}
 use Rattle.geo_base.specs.declared.decline.DeclineCause.{DeclineCause}
 use Rattle.geo_base.specs.declared.decline.DeclineCause.TheVariants as causes
@@ -40,24 +40,18 @@ short-slices (Some cause) x shape few e = not-accepted cause shape e
 -- a chain of at most MAX_LINKS links has MAX_LINKS places
 places-of : (links : List LinkRead) → length links ≤ MAX_LINKS → length (table_of links).parts ≤ MAX_LINKS
 places-of links few =
-    let all : length (map (λ (l : LinkRead). l.part) links ++ replicate (MAX_LINKS - length links) None)
-    ≡ length (map (λ (l : LinkRead). l.part) links)
-    + length (replicate {A = Option EbrPart} (MAX_LINKS - length links) None) =
-    length-append (map (λ (l : LinkRead). l.part) links) (replicate (MAX_LINKS - length links) None) in
-    let first : length (map (λ (l : LinkRead). l.part) links) ≡ length links =
-    length-map links (λ (l : LinkRead). l.part) in
-    let rest : length (replicate {A = Option EbrPart} (MAX_LINKS - length links) None) ≡ MAX_LINKS - length links =
-    length-replicate {A = Option EbrPart} (MAX_LINKS - length links) None in
-    let sum : length (map (λ (l : LinkRead). l.part) links ++ replicate (MAX_LINKS - length links) None) ≤ MAX_LINKS =
-    omega (arith, all, first, rest, few) in
-    sum
+    search (
+      rules,
+      length-append (map (λ (l : LinkRead). l.part) links) (replicate (MAX_LINKS - length links) None),
+      length-map links (λ (l : LinkRead). l.part),
+      length-replicate {A = Option EbrPart} (MAX_LINKS - length links) None,
+    )
 
 -- the partitions of a chain
 short-parts : (c : Chain) (bytes : List ℕ) (shape : Shape) (b : Bool) → length c.links ≤ MAX_LINKS
     → (if b then More c.next else Accept (Logical (table_of c.links))) ≡ Accept shape → IsShort shape
 short-parts c bytes shape true few e = absurd (let no : ⊥ = cc in no)
-short-parts c bytes shape false few e =
-    subst IsShort (let same : Logical (table_of c.links) ≡ shape = cc in same) (places-of c.links few)
+short-parts c bytes shape false few e = search (rules, places-of c.links few)
 
 -- so of a chain
 short-chain : (c : Chain) (bytes : List ℕ) (shape : Shape) (o : Option DeclineCause) → length c.links ≤ MAX_LINKS

@@ -1,8 +1,7 @@
 -- What a step of a taste makes of the taste, and which sector it reads.
-use Rattle.std.specs.Prelude.{◌≡◌, ℕ, ◌+◌, ◌/◌, ◌<◌, ◌≤◌, Bool, true, false, List, [], ◌∷◌, Option, Some, None, IsSomeAnd, IfSome, is_some, if◌then◌else◌}
+use Rattle.std.specs.Prelude.{◌≡◌, ℕ, ◌/◌, ◌<◌, ◌≤◌, Bool, true, false, List, [], ◌∷◌, Option, Some, None, IsSomeAnd, IfSome, if◌then◌else◌}
 use Rattle.std.specs.Option.{option_map_or}
-use Rattle.std.proofs.Common.{refl, sym, subst}
-use Rattle.geo_base.specs.declared.errno.Errno.{Errno}
+use Rattle.std.proofs.Common.{refl, rules}
 use Rattle.geo_base.specs.declared.kind.Kind.{Kind}
 use Rattle.geo_base.specs.declared.kind.Kind.TheVariants as kinds
 use Rattle.geo_base.specs.declared.request.Counts.{Counts}
@@ -14,14 +13,11 @@ use Rattle.geo_model.specs.declared.class.Verdict.TheVariants.{Decline, More, Ac
 use Rattle.geo_model.specs.declared.step.BioResult.{BioResult}
 use Rattle.geo_model.specs.declared.step.BioResult.TheVariants as results
 use Rattle.geo_model.specs.Topology.{Topology, Provider, provider_at}
-use Rattle.geo_model.specs.Demand.{one_read}
-use Rattle.geo_model.specs.Opens.{grant_refusal, with_grant}
 use Rattle.geo_model.specs.Chain.{no_links}
 use Rattle.geo_model.specs.World.{Config, Taste, Asked, NoClass, NextSector, ReadOut, ReadBack, is_read_out}
 use Rattle.geo_model.specs.Events.{QueuedTopology}
 use Rattle.geo_model.specs.Acceptance.{accept, taste_where}
 use Rattle.geo_model.specs.Tasting.{Judging, facts_of, is_attached_class, is_ended, end_class, end_taste, read_sector, follow, with_read, verdict_on, take_result, next_class, go_on, taste_step}
-use Rattle.geo_laws_making.proofs.Firsts.{first_inside}
 
 -- whether a step came to a read
 abbrev pub reads : Judged → Bool
@@ -57,78 +53,27 @@ module _ (granted : ℕ → Counts) (q : QueuedTopology Config) (s : Taste) (idl
   -- the taste goes on, and no read of it is out
   goes_on : (r : QueuedTopology Config) (z : Taste) → z.consumer ≡ s.consumer → z.provider ≡ s.provider
       → is_read_out z.asked ≡ false → Steps (record { queued = r; taste = z; judged = Next })
-  goes_on r z consumer provider out = record {
-    consumer = consumer;
-    provider = provider;
-    out = out;
-    ended = λ never. absurd cc;
-    inside = λ sector never. absurd cc;
-  }
-
-  -- so after something was made
-  makes_on : (r : QueuedTopology Config) (z : Taste) → z.consumer ≡ s.consumer → z.provider ≡ s.provider
-      → is_read_out z.asked ≡ false → Steps (record { queued = r; taste = z; judged = Made })
-  makes_on r z consumer provider out = record {
-    consumer = consumer;
-    provider = provider;
-    out = out;
-    ended = λ never. absurd cc;
-    inside = λ sector never. absurd cc;
-  }
+  goes_on r z consumer provider out = search rules
 
   -- the taste ends
   ends : Steps (end_taste granted q s)
-  ends = record {
-    consumer = refl;
-    provider = refl;
-    out = idle;
-    ended = λ e. refl;
-    inside = λ sector never. absurd cc;
-  }
+  ends = search rules
 
   module _ (p : Provider) (found : provider_at t s.provider ≡ Some p) where
     abbrev f : Facts
     f = facts_of t p
 
-    -- a sector is read, unless something refuses it
-    reads_on : (z : Taste) (kind : Kind) (sector : ℕ) → z.consumer ≡ s.consumer → z.provider ≡ s.provider
-        → IsInside sector p → (o : Option Errno)
-        → Steps
-        (if is_some o
-        then end_class granted q z Next
-        else record {
-          queued = q;
-          taste = record z { asked = ReadOut kind; reads = z.reads + 1 };
-          judged = Read sector;
-        })
-    reads_on z kind sector consumer provider inside (Some e) =
-        goes_on q (record z { asked = NoClass; reads = 0; chain = no_links }) consumer provider refl
-    reads_on z kind sector consumer provider inside None = record {
-      consumer = consumer;
-      provider = provider;
-      out = refl;
-      ended = λ never. absurd cc;
-      inside = λ other e.
-          let same : sector ≡ other = cc in
-          subst (λ n. IsSomeAnd (provider_at t s.provider) (IsInside n)) same
-          (subst (λ o. IsSomeAnd o (IsInside sector)) (sym found) inside);
-    }
-
     -- what is made, if anything is
     made_on : (z : Taste) → z.consumer ≡ s.consumer → z.provider ≡ s.provider → (o : Option (QueuedTopology Config))
         → Steps (option_map_or (λ made. end_class granted made z Made) o (end_class granted q z Next))
-    made_on z consumer provider None =
-        goes_on q (record z { asked = NoClass; reads = 0; chain = no_links }) consumer provider refl
-    made_on z consumer provider (Some made) =
-        makes_on made (record z { asked = NoClass; reads = 0; chain = no_links }) consumer provider refl
+    made_on z consumer provider None = search rules
+    made_on z consumer provider (Some made) = search rules
 
     -- a verdict
     follows : (z : Taste) (kind : Kind) → z.consumer ≡ s.consumer → z.provider ≡ s.provider → (v : Verdict)
         → Steps (follow granted q z p kind v)
-    follows z kind consumer provider (Decline cause) =
-        goes_on q (record z { asked = NoClass; reads = 0; chain = no_links }) consumer provider refl
-    follows z kind consumer provider (More sector) =
-        goes_on q (record z { asked = NextSector kind sector }) consumer provider refl
+    follows z kind consumer provider (Decline cause) = search rules
+    follows z kind consumer provider (More sector) = search rules
     follows z kind consumer provider (Accept shape) = made_on z consumer provider (accept q p shape)
 
     -- a sector that was read leaves the taste its consumer and its provider
@@ -158,11 +103,8 @@ module _ (granted : ℕ → Counts) (q : QueuedTopology Config) (s : Taste) (idl
           (λ sector. read_sector granted q (record s { classes = rest; asked = NoClass; reads = 0; chain = no_links })
           kind sector) o
           (end_class granted q (record s { classes = rest; asked = NoClass; reads = 0; chain = no_links }) Next))
-      where_on kind rest None e =
-          goes_on q (record s { classes = rest; asked = NoClass; reads = 0; chain = no_links }) refl refl refl
-      where_on kind rest (Some sector) e =
-          reads_on (record s { classes = rest; asked = NoClass; reads = 0; chain = no_links }) kind sector refl refl
-          (first_inside kind f sector some e) (grant_refusal (with_grant granted s.consumer one_read) t s.provider)
+      where_on kind rest None e = search rules
+      where_on kind rest (Some sector) e = search rules
 
       -- the next class, unless it is over the provider already
       asks_on : (kind : Kind) (rest : List Kind) (b : Bool)
@@ -173,8 +115,7 @@ module _ (granted : ℕ → Counts) (q : QueuedTopology Config) (s : Taste) (idl
           (λ sector. read_sector granted q (record s { classes = rest; asked = NoClass; reads = 0; chain = no_links })
           kind sector) (taste_where kind f)
           (end_class granted q (record s { classes = rest; asked = NoClass; reads = 0; chain = no_links }) Next))
-      asks_on kind rest true =
-          goes_on q (record s { classes = rest; asked = NoClass; reads = 0; chain = no_links }) refl refl refl
+      asks_on kind rest true = search rules
       asks_on kind rest false = where_on kind rest (taste_where kind f) refl
 
       -- so with the classes that are left
@@ -186,9 +127,7 @@ module _ (granted : ℕ → Counts) (q : QueuedTopology Config) (s : Taste) (idl
       asked_on : ((kind : Kind) (sector : ℕ) → s.asked ≡ NextSector kind sector → IsInside sector p)
           → (a : Asked) → s.asked ≡ a → Steps (go_on granted q s p a)
       asked_on next NoClass e = classes_on s.classes
-      asked_on next (NextSector kind sector) e =
-          reads_on s kind sector refl refl (next kind sector e)
-          (grant_refusal (with_grant granted s.consumer one_read) t s.provider)
+      asked_on next (NextSector kind sector) e = search rules
       asked_on next (ReadOut kind) e = goes_on q s refl refl idle
       asked_on next (ReadBack kind got) e = takes kind got
 

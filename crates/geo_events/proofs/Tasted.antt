@@ -1,22 +1,21 @@
 -- What a firm state tells of the taste that is under way.
-use Rattle.std.specs.Prelude.{◌≡◌, ℕ, ◌<◌, ◌≤◌, ◌==◌, Bool, true, false, not, ◌&&◌, List, [], ◌∷◌, length, Option, Some, None, Contains, IsTrue, IsSome, IsSomeAnd, IfSome, MatchOption, if◌then◌else◌}
+use Rattle.std.specs.Prelude.{◌≡◌, ℕ, ◌<◌, ◌≤◌, ◌==◌, true, false, List, [], ◌∷◌, length, Option, Some, None, Contains, IsTrue, IsSome, IsSomeAnd, IfSome}
 use Rattle.std.specs.List.{AllByRecursion, list_any}
-use Rattle.std.specs.Option.{option_map, option_map_or, option_and_then}
-use Rattle.std.proofs.Common.{refl, sym, ◌∙◌, ap, subst, arith, inl, inr, eq-eqb}
+use Rattle.std.specs.Option.{option_map_or, option_and_then}
+use Rattle.std.proofs.Common.{refl, sym, ◌∙◌, ap, subst, arith, inl, inr, rules}
 use Rattle.std.proofs.lemmas.Bool.{eqb-true, false_from_ne_true}
-use Rattle.std.proofs.lemmas.List.Elements.{All-contains, recursion_from_All}
-use Rattle.geo_base.proofs.Options.{at-found}
+use Rattle.std.proofs.lemmas.List.Elements.{recursion_from_All}
 use Rattle.geo_base.specs.Sectors.{IsSectorSize}
 use Rattle.geo_base.specs.declared.request.Counts.{Counts}
 use Rattle.geo_base.specs.declared.limits.TheConstants.{UNTASTED_RANK}
 use Rattle.geo_model.specs.declared.step.BioResult.TheVariants as results
-use Rattle.geo_model.specs.Words.{is_read, names_number}
-use Rattle.geo_model.specs.Topology.{Topology, Geom, Provider, Consumer, consumer_at, consumers_of, geom_at, provider_at}
-use Rattle.geo_model.specs.Demand.{no_counts, one_read, want}
+use Rattle.geo_model.specs.Words.{names_number}
+use Rattle.geo_model.specs.Topology.{Topology, Geom, Provider, Consumer, consumer_at, geom_at, provider_at}
+use Rattle.geo_model.specs.Demand.{no_counts, want}
 use Rattle.geo_model.specs.Rank.{rank}
-use Rattle.geo_model.specs.World.{World, Config, Bio, BioOf, Handle, Taste, Asked, NoClass, NextSector, ReadOut, ReadBack, granted_in, is_read_out, is_taste_root, taste_grant}
+use Rattle.geo_model.specs.World.{World, Config, Bio, BioOf, Handle, Taste, NextSector, granted_in, is_read_out, is_taste_root}
 use Rattle.geo_model.specs.Sound.{IsMediaSize, IsTasteInOrder, IsTasting}
-use Rattle.geo_model.specs.SoundBios.{IsBioInOrder, HasCountFor}
+use Rattle.geo_model.specs.SoundBios.{IsBioInOrder}
 use Rattle.geo_model.specs.Fitting.{IsAskedInOrder}
 use Rattle.geo_model.proofs.DemandLemmas.{find_passes, names_some}
 use Rattle.geo_slots.specs.Slots.{value_at}
@@ -37,11 +36,10 @@ use Rattle.geo_class.specs.Taste.{sector_back}
 use Rattle.geo_handles.specs.Handles.{handle_at, holding_handle}
 use Rattle.geo_taste.specs.Taster.{held_by_taste, IsTasteOf}
 use Rattle.geo_taste.proofs.Coming.{taste_holds}
-use Rattle.geo_taste.proofs.Reading.{held_idle, taster_found}
+use Rattle.geo_taste.proofs.Reading.{taster_found}
 use Rattle.geo_state.specs.declared.state.State.{State}
 use Rattle.geo_state.specs.Steps.{Stands}
-use Rattle.geo_state.specs.Trips.{Trip, trip_of, trips}
-use Rattle.geo_state.specs.Trips.{is_out as goes_through}
+use Rattle.geo_state.specs.Trips.{Trip, trips, is_out as goes_through}
 use Rattle.geo_state.specs.World.{world}
 use Rattle.geo_state.proofs.HolderFacts.{IsHeld, held}
 use Rattle.geo_state.proofs.Lists.{count-none}
@@ -64,8 +62,7 @@ module _ (s : State) (stands : Stands s) (a : Taste) (is : s.taste ≡ Some a) w
 
   -- it has its consumer, and is in order
   pub tasting-of : IsTasting t a
-  tasting-of =
-      subst (λ (o : Option Taste). MatchOption o (consumers_of t 2 ≡ []) (IsTasting t)) is stands.firm.1.1.handles.taste
+  tasting-of = search rules
 
   -- it is in order
   pub ordered : IsTasteInOrder w.topology a
@@ -85,8 +82,7 @@ module _ (s : State) (stands : Stands s) (a : Taste) (is : s.taste ≡ Some a) w
           → IsSomeAnd o (λ g. rank t g.number < UNTASTED_RANK) → rank t p.geom < UNTASTED_RANK
       geom p None e never = absurd never
       geom p (Some g) e low =
-          subst (λ n. rank t n < UNTASTED_RANK)
-          (eqb-true g.number p.geom (find_passes (λ (x : Geom Config). x.number == p.geom) t.geoms g e)) low
+          search (rules, eqb-true g.number p.geom (find_passes (λ (x : Geom Config). x.number == p.geom) t.geoms g e))
 
       on : (o : Option Provider) → provider_at t a.provider ≡ o
           → IsSomeAnd (option_and_then (λ (p : Provider). geom_at t p.geom) o) (λ g. rank t g.number < UNTASTED_RANK)
@@ -104,36 +100,16 @@ module _ (s : State) (stands : Stands s) (a : Taste) (is : s.taste ≡ Some a) w
 
   -- how far a class was asked of it
   asked-well : IsAskedInOrder t low-of.item a.asked
-  asked-well =
-      at-found (provider_at t a.provider) (λ p. IsAskedInOrder t p a.asked) low-of.item low-of.found
-      (subst (λ (o : Option Taste). IfSome o (λ x. IfSome (provider_at t x.provider) (λ p. IsAskedInOrder t p x.asked)))
-      is stands.firm.1.1.taste.asked)
+  asked-well = search rules
 
   -- it has sectors
   sizes-of : IsSectorSize low-of.item.sector × IsMediaSize low-of.item.size low-of.item.sector
   sizes-of =
-      let here : Contains t.providers low-of.item =
-      find-Contains (λ (p : Provider). p.number == a.provider) t.providers low-of.item low-of.found in (
-        All-contains (λ (p : Provider). IsSectorSize p.sector) t.providers low-of.item stands.firm.1.1.sizes.sectors
-            here,
-        All-contains (λ (p : Provider). IsMediaSize p.size p.sector) t.providers low-of.item
-            stands.firm.1.1.graph.providers.sizes here,
-      )
+      search (rules, find-Contains (λ (p : Provider). p.number == a.provider) t.providers low-of.item low-of.found)
 
   -- the sector that is back has 512 bytes or more
   pub sector-long : IfSome (sector_back a.asked) (λ x. 512 ≤ length x.1)
-  sector-long = on a.asked asked-well
-    where
-      on : (b : Asked) → IsAskedInOrder t low-of.item b → IfSome (sector_back b) (λ x. 512 ≤ length x.1)
-      on NoClass asked = tt
-      on (NextSector kind sector) asked = tt
-      on (ReadOut kind) asked = tt
-      on (ReadBack kind (results.Bytes bytes)) asked =
-          let long : 512 ≤ low-of.item.sector = long-sector low-of.item.sector sizes-of.0 in
-          let all : length bytes ≡ low-of.item.sector = asked.1 in
-          omega (arith, long, all)
-      on (ReadBack kind results.Done) asked = tt
-      on (ReadBack kind (results.Failed e)) asked = tt
+  sector-long = search (rules, long-sector low-of.item.sector sizes-of.0)
 
   -- what is read of it lies inside it
   pub readable-of : IfSome (provider_at t a.provider) (IsReadable a)
@@ -179,11 +155,7 @@ module _ (s : State) (stands : Stands s) (a : Taste) (is : s.taste ≡ Some a) w
 
     -- what the taste holds is granted to it, and stored
     granted-it : granted_by s.topo a.consumer ≡ held_by_taste a
-    granted-it =
-        ap (λ (g : ℕ → Counts). g a.consumer) stands.kept.grants
-        ∙ ap (λ o. option_map_or (λ (h : Handle). h.grant) o (taste_grant s.taste a.consumer)) nobodys
-        ∙ ap (λ o. taste_grant o a.consumer) is
-        ∙ ap (λ b. if b && is_read_out a.asked then one_read else no_counts) (eq-eqb a.consumer a.consumer refl)
+    granted-it = search (rules, ap (λ (g : ℕ → Counts). g a.consumer) stands.kept.grants, nobodys)
 
     -- so its consumer wants that
     wants-it : want (granted_by s.topo) t tasting-of.consumer ≡ held_by_taste a
@@ -195,54 +167,39 @@ module _ (s : State) (stands : Stands s) (a : Taste) (is : s.taste ≡ Some a) w
 
     -- so the consumer is the taste's
     pub is-taste : IsTasteOf s.topo a
-    is-taste = record {
-      tasting = tasting-of;
-      holds =
-          ap (λ rows. value_at rows a.consumer) stands.kept.counted.wants
-          ∙ item_at (λ (x : Consumer). x.number) (want (granted_by s.topo) t) a.consumer t.consumers tasting-of.consumer
-          taster-at
-          ∙ ap (λ c. Some c) wants-it;
-    }
+    is-taste =
+        search (
+          rules,
+          item_at (λ (x : Consumer). x.number) (want (granted_by s.topo) t) a.consumer t.consumers tasting-of.consumer
+              taster-at,
+          wants-it,
+        )
 
     -- No read of it is out
 
     module _ (idle : is_read_out a.asked ≡ false) where
       -- it is granted nothing
       wants-nothing : want (granted_in w) t tasting-of.consumer ≡ no_counts
-      wants-nothing =
-          sym (ap (λ (g : ℕ → Counts). want g t tasting-of.consumer) stands.kept.grants) ∙ wants-it ∙ held_idle a idle
+      wants-nothing = search (rules, wants-it)
 
       -- so no request comes from it
       no-request : (x : Bio) → IsBioInOrder (granted_in w) w.topology x → x.source ≡ a.consumer → ⊥
-      no-request x order same = by (is_read x.cmd) refl counts
-        where
-          counts : HasCountFor (granted_in w) w.topology x tasting-of.consumer
-          counts =
-              (subst (λ o. IsSomeAnd o (λ (c : Consumer).
-              (c.provider ≡ Some x.target) × HasCountFor (granted_in w) t x c))
-              (ap (consumer_at t) same ∙ taster-at) order.source).1
-
-          by : (b : Bool) → is_read x.cmd ≡ b → HasCountFor (granted_in w) w.topology x tasting-of.consumer → ⊥
-          by true e has =
-              let some : 0 < (want (granted_in w) t tasting-of.consumer).r = has.0 e in
-              let none : (want (granted_in w) t tasting-of.consumer).r ≡ 0 = ap (λ (c : Counts). c.r) wants-nothing in
-              omega (arith, some, none)
-          by false e has =
-              let some : 0 < (want (granted_in w) t tasting-of.consumer).w = has.1 e in
-              let none : (want (granted_in w) t tasting-of.consumer).w ≡ 0 = ap (λ (c : Counts). c.w) wants-nothing in
-              omega (arith, some, none)
+      no-request x order same =
+          search (
+            rules,
+            taster-at,
+            ap (λ (c : Counts). c.r) wants-nothing,
+            wants-nothing,
+            ap (λ (c : Counts). c.w) wants-nothing,
+          )
 
       -- nor any of those that the state has
       none-through : (bios : List (BioOf Held))
           → AllByRecursion (IsBioInOrder (granted_in w) w.topology) (shown_bios (delivered_at stands.firm.0) bios)
           → AllByRecursion (λ (x : Trip). goes_through a.consumer x ≡ false) (trips bios)
       none-through [] order = tt
-      none-through (x ∷ xs) order = (by (x.source == a.consumer) refl, none-through xs order.1)
-        where
-          by : (b : Bool) → (x.source == a.consumer) ≡ b → goes_through a.consumer (trip_of x) ≡ false
-          by true e =
-              absurd (no-request (shown_bio (delivered_at stands.firm.0) x) order.0 (eqb-true x.source a.consumer e))
-          by false e = ap (λ b. b && not (trip_of x).done) e
+      none-through (x ∷ xs) order =
+          search (rules, none-through xs order.1, no-request (shown_bio (delivered_at stands.firm.0) x) order.0)
 
       -- nothing is out through it
       pub none-out : value_at s.topo.active a.consumer ≡ Some 0
@@ -257,14 +214,12 @@ module _ (s : State) (stands : Stands s) (a : Taste) (is : s.taste ≡ Some a) w
   -- none of its own is out
   pub read-none : is_read_out a.asked ≡ false → s.read ≡ None
   read-none idle =
-      stands.kept.read
-      ∙ sym (read-is stands.firm.0 s.traffic.bios)
-      ∙ ap (λ o. option_map (λ (x : Bio). x.number) o)
-      (find-none (λ (x : Bio). is_taste_root x.owner) w.bios
-      (false_from_ne_true (list_any (λ (x : Bio). is_taste_root x.owner) w.bios)
-      (λ some.
-      let out : is_read_out a.asked ≡ true =
-      subst (λ (o : Option Taste). IsTrue (option_map_or (λ x. is_read_out x.asked) o false)) is
-      (stands.firm.1.1.bios.read_out.0 some) in
-      let no : true ≡ false = sym out ∙ idle in
-      absurd cc)))
+      search (
+        rules,
+        read-is stands.firm.0 s.traffic.bios,
+        find-none (λ (x : Bio). is_taste_root x.owner) w.bios
+            (false_from_ne_true (list_any (λ (x : Bio). is_taste_root x.owner) w.bios)
+            (λ some. let out : is_read_out a.asked ≡ true = subst
+            (λ (o : Option Taste). IsTrue (option_map_or (λ x. is_read_out x.asked) o false)) is
+            (stands.firm.1.1.bios.read_out.0 some) in let no : true ≡ false = sym out ∙ idle in absurd cc)),
+      )

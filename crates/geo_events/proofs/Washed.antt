@@ -1,8 +1,7 @@
 -- What is kept after a wash, and the world then.
-use Rattle.std.specs.Prelude.{◌≡◌, ℕ, zero, suc, ◌+◌, ◌<◌, ◌≤◌, ◌==◌, Bool, true, false, not, List, [], ◌∷◌, ◌++◌, length, map, filter, count_by, Option, Some, None, Contains, IsSome, IsSomeAnd, IfSome, option_and_then, slice_get}
-use Rattle.std.proofs.Common.{refl, sym, ◌∙◌, ap, subst, arith}
+use Rattle.std.specs.Prelude.{◌≡◌, ℕ, zero, suc, ◌+◌, ◌<◌, ◌≤◌, ◌==◌, not, List, [], ◌∷◌, length, map, filter, count_by, Option, Some, None, Contains, IsSome, IfSome, option_and_then, slice_get}
+use Rattle.std.proofs.Common.{refl, sym, ◌∙◌, ap, subst, arith, rules}
 use Rattle.std.proofs.lemmas.List.{length-append}
-use Rattle.std.proofs.lemmas.List.Elements.{All-contains}
 use Rattle.geo_base.proofs.PlaceLists.{slot-seen}
 use Rattle.geo_base.proofs.FilterLists.{count-kept}
 use Rattle.geo_base.specs.declared.request.Counts.{Counts}
@@ -10,16 +9,14 @@ use Rattle.geo_model.specs.declared.step.Event.{Event}
 use Rattle.geo_model.specs.declared.step.WashWork.{WashWork}
 use Rattle.geo_model.specs.declared.step.WashWork.TheVariants as works
 use Rattle.geo_model.specs.Topology.{Geom, Provider, attached_to, geom_at, provider_at}
-use Rattle.geo_model.specs.Events.{QueuedTopology, provider_of_event, without_events_of}
+use Rattle.geo_model.specs.Events.{without_events_of}
 use Rattle.geo_model.specs.World.{Config, HeaderDisk}
 use Rattle.geo_model.specs.WorldEvents.{with_queued}
 use Rattle.geo_model.specs.Freeing.{wash, washed}
 use Rattle.geo_model.specs.Place.{disk_of}
-use Rattle.geo_model.specs.Sound.{HasDiskSizes}
 use Rattle.geo_laws_graph.proofs.Members.{find-Contains}
 use Rattle.geo_event.specs.EventQueue.{Queued}
 use Rattle.geo_mesh.specs.Topo.{TopoView, IsButForRoom, without_geom, without_provider, without_consumer}
-use Rattle.geo_slots.specs.Slots.{without}
 use Rattle.geo_access.specs.Access.{granted_by}
 use Rattle.geo_life.specs.Life.{queued, is_out, AreStored, CountsStay}
 use Rattle.geo_life.proofs.Places.{counts_are_stored}
@@ -51,24 +48,12 @@ held rows = count_by (λ (row : ℕ × Counts). not (row.1.w == 0)) rows
 pub one-less : {X : Type 0} (number : X → ℕ) (n : ℕ) (x : X) (xs : List X) → Around number n x xs
     → length (filter (λ y. not (number y == n)) xs) + 1 ≡ length xs
 one-less number n x xs r =
-    let gone : length (filter (λ y. not (number y == n)) xs) ≡ length (r.front ++ r.back) =
-    ap length (around-gone number n x xs r) in
-    let all : length xs ≡ length (r.front ++ x ∷ r.back) = ap length r.is in
-    let left : length (r.front ++ r.back) ≡ length r.front + length r.back = length-append r.front r.back in
-    let whole : length (r.front ++ x ∷ r.back) ≡ length r.front + length (x ∷ r.back) =
-    length-append r.front (x ∷ r.back) in
-    omega (arith, gone, all, left, whole)
+    search (rules, around-gone number n x xs r, length-append r.front r.back, length-append r.front (x ∷ r.back))
 
 -- events that are taken away
 fewer-events : (events : List Event) (p : ℕ) → length (without_events_of events p) ≤ length events
 fewer-events [] p = omega arith
-fewer-events (e ∷ rest) p = by (provider_of_event e == p) refl (fewer-events rest p)
-  where
-    by : (b : Bool) → (provider_of_event e == p) ≡ b → length (without_events_of rest p) ≤ length rest
-        → length (without_events_of (e ∷ rest) p) ≤ length (e ∷ rest)
-    by true is less = rw is (let so : length (without_events_of rest p) ≤ suc (length rest) = omega (arith, less) in so)
-    by false is less =
-        rw is (let so : suc (length (without_events_of rest p)) ≤ suc (length rest) = omega (arith, less) in so)
+fewer-events (e ∷ rest) p = search (rules, fewer-events rest p)
 
 -- The header's disks
 
@@ -91,39 +76,20 @@ disks-stay seats (Some disk) = disks-geom seats disk None
 below-length : {X Y : Type 0} (f : X → Y) (xs : List X) (i : ℕ) → IsSome (slice_get (map f xs) i) → i < length xs
 below-length f [] i never = absurd cc
 below-length f (y ∷ ys) zero there = omega arith
-below-length f (y ∷ ys) (suc i) there =
-    let rest : i < length ys = below-length f ys i there in
-    omega (arith, rest)
+below-length f (y ∷ ys) (suc i) there = search (rules, below-length f ys i there)
 
 -- the disk of a geom has its seat
 module _ (s : State) (firm : IsFirm s) where
   seat-of : (g : Geom Config) → Contains s.topo.topology.geoms g → (o : Option ℕ) → disk_of g.config ≡ o
       → IfSome o (λ d. d < length s.disks.items)
   seat-of g here None is = tt
-  seat-of g here (Some d) is =
-      let sizes : HasDiskSizes s.topo.topology (world firm.1.0 firm.0 s).disks g =
-      All-contains (HasDiskSizes s.topo.topology (world firm.1.0 firm.0 s).disks) s.topo.topology.geoms g
-      firm.1.1.graph.numbers.disk_sizes here in
-      below-length disk_of_seat s.disks.items d
-      (some-and _ (slice_get (map disk_of_seat s.disks.items) d) (rw is at sizes))
-    where
-      some-and : (P : HeaderDisk → Type 0) (o : Option HeaderDisk) → IsSomeAnd o P → IsSome o
-      some-and P None has = absurd has
-      some-and P (Some x) has = refl
+  seat-of g here (Some d) is = search (rules, below-length disk_of_seat s.disks.items d)
 
   -- so has that of a geom's number
   pub has-seat : (n : ℕ) (disk : Option ℕ)
       → disk ≡ option_and_then (λ (g : Geom Config). disk_of g.config) (geom_at s.topo.topology n)
       → IfSome disk (λ d. d < length s.disks.items)
-  has-seat n disk is = subst (λ o. IfSome o (λ d. d < length s.disks.items)) (sym is)
-      (by (geom_at s.topo.topology n) refl)
-    where
-      by : (o : Option (Geom Config)) → geom_at s.topo.topology n ≡ o
-          → IfSome (option_and_then (λ (g : Geom Config). disk_of g.config) o) (λ d. d < length s.disks.items)
-      by None found = tt
-      by (Some g) found =
-          seat-of g (find-Contains (λ (x : Geom Config). x.number == n) s.topo.topology.geoms g found)
-          (disk_of g.config) refl
+  has-seat n disk is = search (rules, seat-of, find-Contains (λ (x : Geom Config). x.number == n) s.topo.topology.geoms)
 
 -- What can go stands
 
@@ -165,11 +131,7 @@ module _ (s : State) (stands : Stands s) (u : TopoView Config) (q : Queued) wher
       (counts_stay : CountsStay s.topo u) where
     -- the queue has the places that are owed
     settled : owed_events u ≤ owed_events s.topo → s.queue.spare ≤ q.spare → IsSettled u q
-    settled less more = record {
-      counted = counts_stay.counted stands.kept.counted;
-      quiet = counts_stay.quiet stands.kept.quiet;
-      room = let room : owed_events s.topo ≤ s.queue.spare = stands.kept.room in omega (arith, less, more, room);
-    }
+    settled less more = search rules
 
     module _ (prov : ℕ) (lives : IsSome (provider_at s.topo.topology prov))
         (gone : IsButForRoom u (without_provider s.topo prov)) where
@@ -194,25 +156,16 @@ module _ (s : State) (stands : Stands s) (u : TopoView Config) (q : Queued) wher
       module _ (same : queued u q ≡ washed (queued s.topo s.queue) (works.Provider prov)) where
         -- events that name it leave their room
         more-spare : s.queue.spare ≤ q.spare
-        more-spare =
-            let events : length q.events ≡ length (without_events_of s.queue.events prov) =
-            ap (λ (r : QueuedTopology Config). length r.events) same in
-            let fewer = fewer-events s.queue.events prov in
-            omega (arith, events, fewer, memory)
+        more-spare = search (rules, fewer-events s.queue.events prov)
 
         owed-less : owed_events u ≤ owed_events s.topo
         owed-less =
-            let fewer : sound (filter (λ (x : Provider). not (x.number == prov)) ps) ≤ sound ps =
-            count-kept (λ (p : Provider). not p.errored) (λ (x : Provider). not (x.number == prov)) ps in
-            let less : held (without s.topo.haves prov) ≤ held s.topo.haves =
-            count-kept (λ (row : ℕ × Counts). not (row.1.w == 0)) (λ (row : ℕ × Counts). not (row.0 == prov))
-            s.topo.haves in
-            let now : owed_events u
-            ≡ sound (filter (λ (x : Provider). not (x.number == prov)) ps) + held (without s.topo.haves prov) =
-            ap (λ (v : TopoView Config). owed_events v) gone in
-            let before : owed_events s.topo ≡ sound ps + held s.topo.haves = refl in
-            let so : owed_events u ≤ owed_events s.topo = omega (arith, fewer, less, now, before) in
-            so
+            search (
+              rules,
+              count-kept (λ (p : Provider). not p.errored) (λ (x : Provider). not (x.number == prov)) ps,
+              count-kept (λ (row : ℕ × Counts). not (row.1.w == 0)) (λ (row : ℕ × Counts). not (row.0 == prov))
+                  s.topo.haves,
+            )
 
         pub provider-kept : attached_to s.topo.topology prov ≡ [] → (n : ℕ) → n + 1 ≡ s.providers
             → Holds (record s { topo = u; queue = q; providers = n })
@@ -230,12 +183,11 @@ module _ (s : State) (stands : Stands s) (u : TopoView Config) (q : Queued) wher
         → queued u q ≡ washed (queued s.topo s.queue) (works.Consumer cons)
         → Holds (record s { topo = u; queue = q })
     consumer-kept cons gone same =
-        let now : owed_events u ≡ owed_events s.topo = ap (λ (v : TopoView Config). owed_events v) gone in
-        let events : length q.events ≡ length s.queue.events =
-        ap (λ (r : QueuedTopology Config). length r.events) same in
-        kept_after_consumer s u q s.taste cons stands.kept gone
-        (λ c. counts_stay.granted c ∙ ap (λ (g : ℕ → Counts). g c) stands.kept.grants)
-        (settled (omega (arith, now)) (omega (arith, events, memory)))
+        search (
+          rules,
+          kept_after_consumer s u q s.taste cons stands.kept gone
+              (λ c. counts_stay.granted c ∙ ap (λ (g : ℕ → Counts). g c) stands.kept.grants),
+        )
 
     -- A geom
 
@@ -248,44 +200,7 @@ module _ (s : State) (stands : Stands s) (u : TopoView Config) (q : Queued) wher
         ≡ seats_without s.disks.items
         (option_and_then (λ (g : Geom Config). disk_of g.config) (geom_at s.topo.topology geom))
         → Holds new
-    geom-kept geom new bare lives gone same is seats = on (geom_at s.topo.topology geom) refl lives
-      where
-        now : owed_events u ≡ owed_events s.topo
-        now = ap (λ (v : TopoView Config). owed_events v) gone
-
-        still : q ≡ s.queue
-        still =
-            let events : q.events ≡ s.queue.events = ap (λ (r : QueuedTopology Config). r.events) same in
-            let long : length q.events ≡ length s.queue.events = ap length events in
-            let spare : q.spare ≡ s.queue.spare = omega (arith, long, memory) in
-            λ i. record { events = events i; spare = spare i }
-
-        topo : new.topo ≡ u
-        topo = ap (λ (z : State). z.topo) is
-
-        whole : new ≡ record s { topo = new.topo; disks = new.disks }
-        whole =
-            is
-            ∙ ap (λ (r : Queued). record s { topo = u; queue = r; disks = new.disks }) still
-            ∙ ap (λ (v : TopoView Config). record s { topo = v; disks = new.disks }) (sym topo)
-
-        room : IsSettled u s.queue
-        room =
-            subst (λ (r : Queued). IsSettled u r) still
-            (settled (omega (arith, now))
-            (let spare : q.spare ≡ s.queue.spare = ap (λ (r : Queued). r.spare) still in omega (arith, spare)))
-
-        on : (o : Option (Geom Config)) → geom_at s.topo.topology geom ≡ o → IsSome o → Holds new
-        on None e never = absurd cc
-        on (Some g) e there =
-            kept_after_geom stands.firm.0 s new geom g stands.kept stands.firm.1 e bare.no_provider
-            (subst (λ (v : TopoView Config). IsButForRoom v (without_geom s.topo geom)) (sym topo) gone)
-            (λ c. subst (λ (v : TopoView Config). granted_by v c ≡ granted_by s.topo c) (sym topo)
-            (counts_stay.granted c))
-            (subst (λ (v : TopoView Config). IsSettled v s.queue) (sym topo) room)
-            (seats
-            ∙ ap (λ o. seats_without s.disks.items (option_and_then (λ (x : Geom Config). disk_of x.config) o)) e)
-            whole
+    geom-kept geom new bare lives gone same is seats = search (rules, kept_after_geom stands.firm.0 s new geom)
 
     -- and the world is that without it
     pub geom-world : (geom : ℕ) (new : State)
