@@ -1,5 +1,5 @@
 -- What is answered to a step.
-use Rattle.std.specs.Prelude.{◌≡◌, ℕ, ◌+◌, ◌<◌, ◌≤◌, Bool, true, false, ◌&&◌, List, [], ◌∷◌, ◌++◌, length, Option, Some, None, Result, Ok, Err, IsOk, IsErrAnd, is_ok, is_none, if◌then◌else◌}
+use Rattle.std.specs.Prelude.{◌≡◌, ℕ, ◌+◌, ◌<◌, ◌≤◌, Bool, true, false, ◌&&◌, List, [], ◌∷◌, ◌++◌, length, Option, Some, None, Result, Ok, Err, IsOk, IsErrAnd, IfErr, is_ok, is_none, if◌then◌else◌}
 use Rattle.std.proofs.Common.{refl, sym, ◌∙◌, ap, subst, arith}
 use Rattle.geo_base.specs.declared.limits.TheConstants.{MAX_LOG_ENTRIES}
 use Rattle.geo_model.specs.declared.command.Command.{Command}
@@ -15,7 +15,6 @@ use Rattle.geo_model.specs.Log.{owed, is_full}
 use Rattle.geo_commands.specs.Owed.{is_answered_ok, is_close, is_open}
 use Rattle.geo_commands.proofs.Owed.{owed_changes}
 use Rattle.geo_state.specs.Steps.{against}
-use Rattle.geo_state.specs.World.{world}
 use Rattle.geo_commands.specs.declared.decisions.Decision.{Decision}
 use Rattle.geo_core.specs.declared.refusal.ApplyRefusal.{ApplyRefusal}
 use Rattle.geo_core.specs.declared.running.Running.{Running}
@@ -29,7 +28,6 @@ use Rattle.geo_core.proofs.Meshes.{Reads, seen_firm}
 use Rattle.geo_core.proofs.Admits.{found_at, found_some, found_none, full_is, full_not}
 use Rattle.geo_log.specs.Room.{Room}
 use Rattle.geo_state.specs.declared.state.State.{State}
-use Rattle.geo_core.specs.Places.{IsRoomAnswer}
 use Rattle.geo_model.specs.declared.command.Command.TheVariants as commands
 use Rattle.geo_model.specs.declared.step.Outcome.TheVariants as outcomes
 use Rattle.geo_model.specs.declared.step.Reply.TheVariants as replies
@@ -155,6 +153,15 @@ refused_memory old mid new seat st d is same admitted stays =
     subst (λ (v : MeshView). Refuses refusals.NoMemory v new seat st) same
     (enabled mid is seat st admitted.found, admitted.place, stays)
 
+-- what a call that was refused so tells of it
+pub refused_by : {A : Type 0} (result : Result A ApplyRefusal) (refusal : ApplyRefusal) (old new : MeshView) (seat : ℕ)
+    (st : Step)
+    → IsErrAnd result (λ x. x ≡ refusal) → Refuses refusal old new seat st
+    → IfErr result (λ x. Refuses x old new seat st)
+refused_by (Ok a) refusal old new seat st is refuses = tt
+refused_by (Err x) refusal old new seat st is refuses =
+    subst (λ (y : ApplyRefusal). Refuses y old new seat st) (sym is) refuses
+
 -- what a call that was refused so answers, where it answers an outcome and where it doesn't
 pub applies_refusal : (result : Result Outcome ApplyRefusal) (refusal : ApplyRefusal) (old new : MeshView) (seat : ℕ)
     (st : Step)
@@ -261,10 +268,11 @@ module _ (r : Running) (is : IsMesh r) (s : State) (l : Room Entry) (state_is : 
         (subst (λ (v : MeshView). step (world_of v) seat st ≡ Ok (after, outcome)) seen_now does);
   }
 
-  -- and is refused where it hasn't, or where memory is wanting
-  pub other_refused : (refusal : ApplyRefusal) → IsRoomAnswer (Err refusal) (length r.log.items) n l.spare
-      → Refuses refusal (seen r) (seen now) seat st
-  other_refused (refusals.NotEnabled f) is_placed = absurd is_placed
-  other_refused refusals.LogFull over = (full r is seat st n found owes over, seen_now)
-  other_refused refusals.NoMemory fits =
-      (enabled r is seat st found, placed r is seat st n found owes fits, seen_now)
+  -- the log is full where it hasn't
+  pub other_full : MAX_LOG_ENTRIES < length r.log.items + 1 + n → Refuses refusals.LogFull (seen r) (seen now) seat st
+  other_full over = (full r is seat st n found owes over, seen_now)
+
+  -- or memory is wanting
+  pub other_wanting : length r.log.items + 1 + n ≤ MAX_LOG_ENTRIES
+      → Refuses refusals.NoMemory (seen r) (seen now) seat st
+  other_wanting fits = (enabled r is seat st found, placed r is seat st n found owes fits, seen_now)

@@ -5,6 +5,5 @@ pub mod Moves
 pub mod Twins
 pub mod Openings
 pub mod Goes
-pub mod Places
 pub mod Logged
 pub mod Sent

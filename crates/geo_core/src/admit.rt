@@ -1,10 +1,8 @@
 //! Whether a step can be made.
-ghost use Rattle.std.specs.Prelude.{◌≡◌, ◌+◌, ◌≤◌, ◌<◌, length, IfOk, IfErr, IsOk, OnOk, OnErr, Err};
-ghost use Rattle.geo_core.specs.declared.refusal.ApplyRefusal.TheVariants as refusals;
+ghost use Rattle.std.specs.Prelude.{◌≡◌, IfOk, IfErr, IsOk};
 ghost use Rattle.geo_core.specs.Mesh.{world_of, Refuses};
 ghost use Rattle.geo_core.specs.Running.{seen, IsMesh};
 ghost use Rattle.geo_core.specs.Goes.{IsAdmitted, PaysOff};
-ghost use Rattle.geo_core.specs.Places.{IsRoomAnswer};
 
 use crate::found::found_against;
 use crate::owed::{decide_step, places_after};
@@ -13,7 +11,6 @@ use crate::running::Running;
 use geo_access::Steps;
 use geo_base::MAX_LOG_ENTRIES;
 use geo_commands::Decision;
-use geo_log::Log;
 use geo_model::Step;
 use std::sync::ledger::Ledger;
 
@@ -44,23 +41,10 @@ pub fn admit<L: Ledger>(
         steps,
     );
     let owed = places_after(running, step, &decision);
-    match make_place(&mut running.log, owed) {
-        Ok(()) => Ok(decision),
-        Err(refusal) => Err(refusal),
-    }
-}
-
-// Makes room for an entry and so many places that are owed after it, if the log isn't full.
-fn make_place(log: &mut Log, owed: u64) -> Result<(), ApplyRefusal>
-    requires { length log.old.items ≤ MAX_LOG_ENTRIES }
-    ensures entries { log.new.items ≡ log.old.items }
-    ensures spare { log.old.spare ≤ log.new.spare }
-    ensures placed { IsRoomAnswer result (length log.old.items) owed log.new.spare }
-    ensures sure { owed + 1 ≤ log.old.spare → length log.old.items + 1 + owed ≤ MAX_LOG_ENTRIES → IsOk result }
-{
-    if MAX_LOG_ENTRIES - log.len() <= owed {
+    let places = MAX_LOG_ENTRIES - running.log.len();
+    if places <= owed {
         return Err(ApplyRefusal::LogFull);
     }
-    log.reserve(owed + 1)?;
-    Ok(())
+    running.log.reserve(owed + 1)?;
+    Ok(decision)
 }
