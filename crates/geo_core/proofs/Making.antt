@@ -6,7 +6,6 @@ use Rattle.std.proofs.lemmas.Result.{IfOk-weaker}
 use Rattle.geo_base.specs.declared.block.NoMemory.{NoMemory}
 use Rattle.geo_model.specs.declared.command.LineCommand.{LineCommand}
 use Rattle.geo_model.specs.declared.step.Entry.{Entry}
-use Rattle.geo_model.specs.declared.step.Found.{Found}
 use Rattle.geo_model.specs.declared.step.Outcome.{Outcome}
 use Rattle.geo_model.specs.declared.step.Phase.{Phase}
 use Rattle.geo_model.specs.declared.step.Step.{Step}
@@ -21,7 +20,7 @@ use Rattle.geo_core.specs.declared.running.Running.{Running}
 use Rattle.geo_core.specs.Goes.{IsReady}
 use Rattle.geo_core.specs.Left.{left_of, next_command_of}
 use Rattle.geo_core.specs.Mesh.{world_of, IsSure}
-use Rattle.geo_core.specs.Moves.{IsFound, IsTurn, IsDeliver, Turns, Moves}
+use Rattle.geo_core.specs.Moves.{IsFound, Moves}
 use Rattle.geo_core.specs.Running.{seen, world_now, IsMesh}
 use Rattle.geo_core.proofs.Admits.{moved}
 use Rattle.geo_core.proofs.Meshes.{longer_bytes, turned}
@@ -34,26 +33,6 @@ use Rattle.geo_state.specs.ShownLaws.{BiosAreOfWorld}
 use Rattle.geo_state.proofs.StepLemmas.{world_shows_bios}
 use Rattle.geo_model.specs.declared.step.Step.TheVariants as steps
 use Rattle.geo_model.specs.declared.step.Found.TheVariants as found
-
--- a step that isn't a Go
-
-abbrev IsNoGo : Step → Type 0
-IsNoGo st = (actor : ℕ) → st ≡ steps.Go actor → ⊥
-
-pub turn_step : (st : Step) → IsNoGo st → IsTurn st
-turn_step (steps.Go actor) other = absurd (other actor refl)
-turn_step st other = tt
-
-pub turn_found : (commands : List LineCommand) (left : List ℕ) (s : State) (seat : ℕ) (st : Step) (f : Option Found)
-    → IsNoGo st → IsFound commands left s seat st f → IsAgainst (λ w. step w seat st) s f
-turn_found commands left s seat (steps.Go actor) f other is = absurd (other actor refl)
-turn_found commands left s seat st f other is = is
-
--- one that is never refused is a Deliver
-pub turn_sure : (w : World) (seat : ℕ) (st : Step) → IsNoGo st → IsSure w seat st → IsDeliver st
-turn_sure w seat (steps.Go actor) other sure = absurd (other actor refl)
-turn_sure w seat (steps.Deliver b got) other sure = tt
-turn_sure w seat st other sure = sure
 
 -- a Go
 
@@ -102,14 +81,6 @@ go_moves commands log left rest old new seat actor st result is bytes made =
     (λ o did. subst (λ (x : Step). Moves commands log left rest old new seat x o) (sym is)
     (moved commands log left rest old new seat actor o bytes did)) made
 
--- a step that isn't a Go leaves the commands
-pub turn_result : (commands : List LineCommand) (log : List Entry) (left : List ℕ) (old new : State) (seat : ℕ)
-    (st : Step) (result : Result Outcome NoMemory) → IfOk result (λ o. Turns log old new seat st o)
-    → IfOk result (λ o. Moves commands log left left old new seat st o)
-turn_result commands log left old new seat st result turns =
-    IfOk-weaker result (λ o. Turns log old new seat st o) (λ o. Moves commands log left left old new seat st o)
-    (λ o did e same. did (left_of commands left) e same) turns
-
 pub more_bytes : (log : List Entry) (s : State) (result : Result Outcome NoMemory) → HasBytes log s
     → IfOk result (λ o. (e : Entry) → HasBytes (log ++ e ∷ []) s)
 more_bytes log s (Ok o) bytes = λ e. longer_bytes log e s bytes
@@ -120,6 +91,19 @@ pub all_bytes : (log : List Entry) (s : State) (result : Result Outcome NoMemory
 all_bytes log s (Ok o) bytes = tt
 all_bytes log s (Err e) bytes = bytes
 
+same_left : (left : List ℕ) (result : Result Outcome NoMemory) → OnErr result (left ≡ left)
+same_left left (Ok o) = tt
+same_left left (Err e) = refl
+
+-- what is answered to a step that leaves the commands
+pub record IsTurned (commands : List LineCommand) (log : List Entry) (left : List ℕ) (old new : State) (seat : ℕ)
+    (st : Step) (result : Result Outcome NoMemory) : Type 0 where
+  pub made : IfOk result (λ o. Moves commands log left left old new seat st o)
+  pub left_stays : OnErr result (left ≡ left)
+  pub logged : IfOk result (λ o. (e : Entry) → HasBytes (log ++ e ∷ []) new)
+  pub bytes : OnErr result (HasBytes log new)
+  pub sure : IsSure (world (left_of commands left) log old) seat st → IsOk result
+
 -- a Go that is ready, by what the step is and by what was decided of it
 module _ (commands : List LineCommand) (left : List ℕ) (s : State) {st : Step} {actor : ℕ} {d e : Option Decision}
     (is : st ≡ steps.Go actor) (decided : d ≡ e) where
@@ -128,54 +112,57 @@ module _ (commands : List LineCommand) (left : List ℕ) (s : State) {st : Step}
       subst (λ (o : Option Decision). IsReady commands left s (steps.Go actor) o) decided
       (subst (λ (x : Step). IsReady commands left s x d) is ready)
 
--- Steps that aren't commands: what is against them, and where they lead.
+-- Steps that aren't commands: where they lead, and what is against them.
 
--- What each step does
+-- each leaves the commands, and does what the one does that a match shows it to be
+module _ (commands : List LineCommand) (log : List Entry) (left : List ℕ) (old new : State) (seat : ℕ) {st it : Step}
+    (is : st ≡ it) where
+  pub turn_moves : (o : Outcome) → HasBytes log new → Makes (λ w. step w seat it) log old new o
+      → Moves commands log left left old new seat st o
+  turn_moves o bytes makes =
+      subst (λ (x : Step). Moves commands log left left old new seat x o) (sym is)
+      (λ e same. turned (λ w. step w seat it) log old new o makes bytes (left_of commands left) e)
 
--- a step does what the one does that a match shows it to be
-pub turns_by : (log : List Entry) (old new : State) (seat : ℕ) (o : Outcome) {st it : Step} → st ≡ it
-    → HasBytes log new → Makes (λ w. step w seat it) log old new o → Turns log old new seat st o
-turns_by log old new seat o {it = it} is bytes makes =
-    subst (λ (x : Step). Turns log old new seat x o) (sym is)
-    (λ actors e same. turned (λ w. step w seat it) log old new o makes bytes actors e)
+  abbrev IsSureOf : Step → Type 0
+  IsSureOf x = IsSure (world (left_of commands left) log old) seat x
 
--- what is answered to a step that isn't a Deliver
-pub record IsTurned (log : List Entry) (old new : State) (seat : ℕ) (st : Step) (result : Result Outcome NoMemory)
-    : Type 0 where
-  pub made : IfOk result (λ o. Turns log old new seat st o)
-  pub logged : IfOk result (λ o. (e : Entry) → HasBytes (log ++ e ∷ []) new)
-  pub bytes : OnErr result (HasBytes log new)
-  pub sure : IsDeliver st → IsOk result
+  -- one that isn't a Deliver may be refused
+  pub turn_unsure : (IsSureOf it → ⊥) → IsSureOf st → ⊥
+  turn_unsure unsure sure = unsure (subst IsSureOf is sure)
 
--- by what comes of a call
-pub step_turned : (log : List Entry) (old new : State) (seat : ℕ) (result : Result Outcome NoMemory) {st it : Step}
-    → st ≡ it → (IsDeliver it → ⊥) → HasBytes log new → IfOk result (λ o. Makes (λ w. step w seat it) log old new o)
-    → IsTurned log old new seat st result
-step_turned log old new seat result {st} {it} is other bytes makes = record {
-  made = IfOk-weaker result (λ o. Makes (λ w. step w seat it) log old new o) (λ o. Turns log old new seat st o)
-      (λ o made. turns_by log old new seat o is bytes made) makes;
-  logged = more_bytes log new result bytes;
-  bytes = all_bytes log new result bytes;
-  sure = λ deliver. absurd (other (subst IsDeliver is deliver));
-}
+  -- what is answered to it, by what comes of a call
+  pub step_turned : (result : Result Outcome NoMemory) → (IsSureOf it → ⊥) → HasBytes log new
+      → IfOk result (λ o. Makes (λ w. step w seat it) log old new o)
+      → IsTurned commands log left old new seat st result
+  step_turned result unsure bytes makes = record {
+    made = IfOk-weaker result (λ o. Makes (λ w. step w seat it) log old new o)
+        (λ o. Moves commands log left left old new seat st o) (λ o made. turn_moves o bytes made) makes;
+    left_stays = same_left left result;
+    logged = more_bytes log new result bytes;
+    bytes = all_bytes log new result bytes;
+    sure = λ sure. absurd (turn_unsure unsure sure);
+  }
 
 -- a Deliver, whose entry comes next
-pub turns_deliver : (log : List Entry) (old new : State) (seat b : ℕ) (got : DeviceResult) (o : Outcome)
+pub deliver_moves : (commands : List LineCommand) (log : List Entry) (left : List ℕ) (old new : State) (seat b : ℕ)
+    (got : DeviceResult) (o : Outcome) {st : Step} → st ≡ steps.Deliver b got
     → ((e : Entry) → e.step ≡ steps.Deliver b got → (actors : List (List LineCommand))
     → deliver_of (world actors log old) seat got (bio_at (world actors log old) b)
     ≡ Ok (world actors (log ++ e ∷ []) new, o))
-    → Turns log old new seat (steps.Deliver b got) o
+    → Moves commands log left left old new seat st o
 unfolding step
-turns_deliver log old new seat b got o makes actors e same = makes e same actors
+deliver_moves commands log left old new seat b got o is makes =
+    subst (λ (x : Step). Moves commands log left left old new seat x o) (sym is)
+    (λ e same. makes e same (left_of commands left))
 
 -- What is against each of them
 
-module _ (s : State) (seat : ℕ) where
-  -- where nothing is against a step, nothing is against the one that a match shows it to be
-  pub none_by : {st it : Step} → st ≡ it → IsAgainst (λ w. step w seat st) s None
-      → IsAgainst (λ w. step w seat it) s None
-  none_by is none = subst (λ (x : Step). IsAgainst (λ w. step w seat x) s None) is none
+-- where nothing is against a step, nothing is against the one that a match shows it to be
+pub none_by : (commands : List LineCommand) (left : List ℕ) (s : State) (seat : ℕ) {st it : Step} → st ≡ it
+    → IsFound commands left s seat st None → IsFound commands left s seat it None
+none_by commands left s seat is none = subst (λ (x : Step). IsFound commands left s seat x None) is none
 
+module _ (s : State) (seat : ℕ) where
   -- a bio that can start is Down, and one that can go up is Up
 
   -- what is found of a bio in the world is what the table has

@@ -1,5 +1,5 @@
 -- Steps over what a mesh holds: what is found against them, what they do, and what is owed after them.
-use Rattle.std.specs.Prelude.{◌≡◌, ℕ, ◌++◌, ◌∷◌, [], List, Option, Ok, ⊤}
+use Rattle.std.specs.Prelude.{◌≡◌, ℕ, ◌++◌, ◌∷◌, [], List, Option, Ok}
 use Rattle.geo_model.specs.declared.command.LineCommand.{LineCommand}
 use Rattle.geo_model.specs.declared.step.Entry.{Entry}
 use Rattle.geo_model.specs.declared.step.Found.{Found}
@@ -19,25 +19,9 @@ IsFound commands left s seat (steps.Go actor) found =
     (log : List Entry) → against (go (world (left_of commands left) log s) actor) ≡ found
 IsFound commands left s seat st found = IsAgainst (λ w. step w seat st) s found
 
--- a step that isn't a Go was made, whatever commands are left: the log has its entry in the world after it
-abbrev pub Turns : List Entry → State → State → ℕ → Step → Outcome → Type 0
-Turns log old new seat st outcome =
-    (actors : List (List LineCommand)) (e : Entry) → e.step ≡ st
-    → step (world actors log old) seat st ≡ Ok (world actors (log ++ e ∷ []) new, outcome)
-
 -- a step was made, and these commands are left after it
 abbrev pub Moves : List LineCommand → List Entry → List ℕ → List ℕ → State → State → ℕ → Step → Outcome → Type 0
 Moves commands log left rest old new seat st outcome =
     (e : Entry) → e.step ≡ st
     → step (world (left_of commands left) log old) seat st
     ≡ Ok (world (left_of commands rest) (log ++ e ∷ []) new, outcome)
-
--- the step isn't a Go
-abbrev pub IsTurn : Step → Type 0
-IsTurn (steps.Go actor) = ⊥
-IsTurn _ = ⊤
-
--- the step is a Deliver
-abbrev pub IsDeliver : Step → Type 0
-IsDeliver (steps.Deliver bio got) = ⊤
-IsDeliver _ = ⊥

@@ -18,10 +18,10 @@ ghost use Rattle.geo_core.specs.Goes.{IsAdmitted, IsDecidedNext, IsReady};
 
 use crate::left::Left;
 use crate::running::Running;
-use crate::turns::turn;
 use geo_access::Steps;
 use geo_base::NoMemory;
-use geo_commands::{Decision, do_command};
+use geo_commands::{Decision, deliver, do_command, reap, start, take, up};
+use geo_events::{event, judge, wash};
 use geo_log::Log;
 use geo_model::{Entry, Outcome, Step};
 use geo_script::Plan;
@@ -65,7 +65,7 @@ pub fn carry<L: Ledger>(
     Ok(())
 }
 
-// Makes a step, against which nothing is.
+// Makes a step, against which nothing is. Its entry is to be the next of the log. Where memory is wanting all stays.
 fn make<L: Ledger>(
     alloc: Global,
     plan: &Plan,
@@ -101,7 +101,26 @@ fn make<L: Ledger>(
             Some(decision) => go(alloc, plan, left, state, *actor, decision, steps),
             None => unreachable!(),
         },
-        _ => turn(alloc, state, log, seat, step, steps),
+        Step::Event => {
+            event(state)?;
+            Ok(Outcome::Ran)
+        }
+        Step::Judge => judge(alloc, state, steps),
+        Step::Reap => {
+            reap(state, steps);
+            Ok(Outcome::Ran)
+        }
+        Step::Wash => {
+            wash(state);
+            Ok(Outcome::Ran)
+        }
+        Step::Start { bio } => start(alloc, state, *bio),
+        Step::Take { disk, bio } => take(alloc, state, seat, *disk, *bio),
+        Step::Deliver { bio, got } => {
+            deliver(state, log, seat, *bio, got);
+            Ok(Outcome::Delivered)
+        }
+        Step::Up { bio } => up(alloc, state, log, *bio, steps),
     }
 }
 

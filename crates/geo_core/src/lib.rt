@@ -44,7 +44,6 @@ mod refusal;
 mod rest;
 mod running;
 mod sent;
-mod turns;
 mod twin;
 
 pub use geo_log::{DiskFacts, Log};
