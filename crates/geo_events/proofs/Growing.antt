@@ -28,7 +28,7 @@ use Rattle.geo_laws_graph.proofs.Found.{each-found}
 use Rattle.geo_laws_graph.proofs.Members.{at_contained, find-Contains}
 use Rattle.geo_laws_counts.proofs.Numbers.{free_of}
 use Rattle.geo_model.proofs.DemandLemmas.{find_passes}
-use Rattle.geo_laws_making.proofs.NewSlices.{new_few}
+use Rattle.geo_taste.proofs.HandedOn.{new_few}
 use Rattle.geo_taste.specs.Making.{QueuedMesh, with_attached, with_offer}
 use Rattle.geo_taste.specs.Accepting.{accepted, finished, joined, joined_at, labelled, over, placed, sliced, with_member, with_slices_of}
 use Rattle.geo_state.specs.Sites.{no_row}

@@ -29,7 +29,7 @@ use Rattle.geo_laws_graph.proofs.Numbered.{find-none}
 use Rattle.geo_laws_counts.specs.CountWords.{HoldsGrants}
 use Rattle.geo_laws_counts.proofs.LimitFacts.{of_filter}
 use Rattle.geo_laws_counts.proofs.Openers.{wants_grant}
-use Rattle.geo_laws_making.proofs.Firsts.{has_sector}
+use Rattle.geo_taste.proofs.HandedOn.{has_sector}
 use Rattle.geo_access.specs.Access.{granted_by}
 use Rattle.geo_access.proofs.Decided.{item_at}
 use Rattle.geo_class.specs.Taste.{sector_back}

@@ -46,7 +46,7 @@ use Rattle.geo_model.specs.Opens.{with_grant}
 use Rattle.geo_model.specs.Sound.{IsTasting}
 use Rattle.geo_laws_counts.specs.CountWords.{HoldsGrants}
 use Rattle.geo_laws_counts.proofs.Openers.{wants_grant}
-use Rattle.geo_laws_making.proofs.Tasters.{tasting, taster, taster_found, taster_holds, none_has}
+use Rattle.geo_taste.proofs.HandedOn.{tasting, taster, taster_found, taster_holds, none_has}
 use Rattle.geo_slots.specs.Slots.{value_at}
 use Rattle.geo_mesh.specs.Topo.{TopoView}
 use Rattle.geo_access.specs.Access.{consumers_below, granted_by, released_view}

@@ -11,3 +11,4 @@ pub mod NameLemmas
 pub mod TableLemmas
 pub mod JoinLemmas
 pub mod ModelLemmas
+pub mod HandedOn
