@@ -1,7 +1,6 @@
 -- Notes that are taken in order, and one step of the loops over them.
-use Rattle.std.specs.Prelude.{◌≡◌, ℕ, suc, ◌+◌, ◌<◌, ◌==◌, Bool, true, false, List, [], ◌∷◌, map, length, Some, None, fold}
-use Rattle.std.proofs.Common.{refl, sym, ap, ◌∙◌, arith, eq-eqb, subst}
-use Rattle.std.proofs.lemmas.Bool.{eqb-true}
+use Rattle.std.specs.Prelude.{◌≡◌, ℕ, ◌+◌, ◌<◌, ◌==◌, Bool, true, false, List, [], ◌∷◌, map, Some, None, fold}
+use Rattle.std.proofs.Common.{refl, sym, ap, ◌∙◌, arith, subst, rules}
 use Rattle.std.proofs.lemmas.Simd.{map-map}
 use Rattle.geo_model.specs.Topology.{Topology, Provider}
 use Rattle.geo_model.specs.Graph.{AreNumbers}
@@ -27,30 +26,14 @@ put_below : (n low high : ℕ) (v : Bool) (rows : List (ℕ × Bool)) → Rise l
     → with_value rows n v ≡ rows
 put_below n low high v [] rise below = refl
 put_below n low high v (row ∷ rows) rise below =
-    by (row.0 == n) refl (put_below n (row.0 + 1) high v rows rise.2 (omega (arith, rise.0, below)))
-  where
-    by : (b : Bool) → (row.0 == n) ≡ b → with_value rows n v ≡ rows → with_value (row ∷ rows) n v ≡ row ∷ rows
-    by true e so = absurd (omega (arith, eqb-true row.0 n e, rise.0, below))
-    by false e so = rw (e, so) refl
+    search (rules, put_below n (row.0 + 1) high v rows rise.2 (omega (arith, rise.0, below)))
 
 -- the value that stood, put again
 put_again : (n low high : ℕ) (rows : List (ℕ × Bool)) → Rise low (map key rows) high
     → with_value rows n (is_noted rows n) ≡ rows
 put_again n low high [] rise = refl
 put_again n low high (row ∷ rows) rise =
-    by (row.0 == n) refl (put_again n (row.0 + 1) high rows rise.2)
-  where
-    by : (b : Bool) → (row.0 == n) ≡ b → with_value rows n (is_noted rows n) ≡ rows
-        → with_value (row ∷ rows) n (is_noted (row ∷ rows) n) ≡ row ∷ rows
-    by true e so =
-        let is : row.0 ≡ n = eqb-true row.0 n e in
-        let rest : with_value rows n row.1 ≡ rows =
-        put_below n (row.0 + 1) high row.1 rows rise.2 (omega (arith, is)) in
-        let its : is_noted (row ∷ rows) n ≡ row.1 = rw e refl in
-        ap (λ v. with_value (row ∷ rows) n v) its ∙ rw (e, rest) (ap (λ m. (m, row.1) ∷ rows) (sym is))
-    by false e so =
-        let its : is_noted (row ∷ rows) n ≡ is_noted rows n = rw e refl in
-        ap (λ v. with_value (row ∷ rows) n v) its ∙ rw (e, so) refl
+    search (rules, put_again n (row.0 + 1) high rows rise.2, put_below n (row.0 + 1) high row.1 rows rise.2)
 
 -- the least note comes first, and without it the others are noted
 next_note : (n low high : ℕ) (rows : List (ℕ × Bool)) → Rise low (map key rows) high → first_noted rows ≡ Some n
@@ -62,13 +45,7 @@ next_note n low high (row ∷ rows) rise first =
     by : (a b : Bool) → row.1 ≡ a → (row.0 == n) ≡ b
         → (first_noted rows ≡ Some n → noted rows ≡ n ∷ noted (with_value rows n false))
         → noted (row ∷ rows) ≡ n ∷ noted (with_value (row ∷ rows) n false)
-    by true b is e so =
-        let found : Some row.0 ≡ Some n = rw is at first in
-        let here : row.0 ≡ n = cc in
-        let hit : (row.0 == n) ≡ true = eq-eqb row.0 n here in
-        let rest : with_value rows n false ≡ rows =
-        put_below n (row.0 + 1) high false rows rise.2 (omega (arith, here)) in
-        rw (hit, is, rest, here) refl
+    by true b is e so = search (rules, put_below n (row.0 + 1) high false rows rise.2)
     by false true is e so = let later : first_noted rows ≡ Some n = rw is at first in rw (e, is) (so later)
     by false false is e so = let later : first_noted rows ≡ Some n = rw is at first in rw (e, is) (so later)
 
@@ -76,17 +53,7 @@ next_note n low high (row ∷ rows) rise first =
 no_note : (rows : List (ℕ × Bool)) → first_noted rows ≡ None
     → (noted rows ≡ []) × (rows ≡ map (λ n. (n, false)) (map key rows))
 no_note [] none = (refl, refl)
-no_note (row ∷ rows) none = by row.1 refl (λ later. no_note rows later)
-  where
-    by : (b : Bool) → row.1 ≡ b
-        → (first_noted rows ≡ None → (noted rows ≡ []) × (rows ≡ map (λ n. (n, false)) (map key rows)))
-        → (noted (row ∷ rows) ≡ []) × (row ∷ rows ≡ map (λ n. (n, false)) (map key (row ∷ rows)))
-    by true is so = let found : Some row.0 ≡ None = rw is at none in absurd (cc)
-    by false is so =
-        let later : first_noted rows ≡ None = rw is at none in
-        let rest = so later in
-        let first : row ≡ (row.0, false) = ap (λ v. (row.0, v)) is in
-        (rw is rest.0, ap (λ r. r ∷ rows) first ∙ ap (λ ys. (row.0, false) ∷ ys) rest.1)
+no_note (row ∷ rows) none = search (rules, no_note rows)
 
 module _ (rows : List (ℕ × Bool)) (next n : ℕ) (order : AreNumbers (map key rows) next) where
   -- the least note comes first, and without it the others are noted
@@ -95,8 +62,7 @@ module _ (rows : List (ℕ × Bool)) (next n : ℕ) (order : AreNumbers (map key
 
   -- there is one note less
   pub note_less : first_noted rows ≡ Some n → notes rows ≡ notes (with_value rows n false) + 1
-  note_less first =
-      let more : notes rows ≡ suc (notes (with_value rows n false)) = ap length (note_next first) in omega (arith, more)
+  note_less first = search (rules, note_next first)
 
   -- the note that stood, put again
   pub note_again : with_value rows n (is_noted rows n) ≡ rows
@@ -110,9 +76,7 @@ module _ (rows : List (ℕ × Bool)) (none : first_noted rows ≡ None) where
   -- and all rows say so
   pub note_rows : (xs : List Provider) → map key rows ≡ map (λ (x : Provider). x.number) xs
       → rows ≡ map (λ (x : Provider). (x.number, false)) xs
-  note_rows xs same =
-      let row : ℕ → ℕ × Bool = λ n. (n, false) in
-      (no_note rows none).1 ∙ ap (map row) same ∙ map-map row (λ (x : Provider). x.number) xs
+  note_rows xs same = search (rules, no_note rows none, map-map)
 
 -- One step
 
@@ -121,8 +85,7 @@ module _ {C : Type 0} (rows after : List (ℕ × Bool)) (p : ℕ) (first : noted
   -- a spoil more
   pub rise_step : (granted : ℕ → Counts) → new ≡ spoil_at granted q p
       → announce_risen granted (noted after) new ≡ announce_risen granted (noted rows) q
-  rise_step granted is =
-      ap (λ r. fold (spoil_at granted) r (noted after)) is ∙ sym (ap (fold (spoil_at granted) q) first)
+  rise_step granted is = search rules
 
   -- an offer more
   pub fall_step : new ≡ offer_again q p → announce_fallen (noted after) new ≡ announce_fallen (noted rows) q
@@ -144,27 +107,25 @@ module _ {C : Type 0} {now mid : TopoView C} {p : ℕ} (counted : IsCounted now)
   -- a note of a rise
   pub rise_taken : first_noted now.risen ≡ Some p → mid ≡ without_risen now (Some p)
       → IsTaken now mid (record now { risen = with_value now.risen p false }) now.risen (with_value now.risen p false) p
-  rise_taken first dropped = record {
-    is =
-        dropped
-        ∙ ap (λ rows. record now { risen = with_value now.risen p false; fallen = rows })
-        (note_again now.fallen now.topology.next_provider p (in_order sound now.fallen counted.fallen));
-    next = note_next now.risen now.topology.next_provider p (in_order sound now.risen counted.risen) first;
-    less = note_less now.risen now.topology.next_provider p (in_order sound now.risen counted.risen) first;
-  }
+  rise_taken first dropped =
+      search (
+        rules,
+        note_again now.fallen now.topology.next_provider p (in_order sound now.fallen counted.fallen),
+        note_next now.risen now.topology.next_provider p (in_order sound now.risen counted.risen) first,
+        note_less now.risen now.topology.next_provider p (in_order sound now.risen counted.risen) first,
+      )
 
   -- and of a fall
   pub fall_taken : first_noted now.fallen ≡ Some p → mid ≡ without_fallen now (Some p)
       → IsTaken now mid (record now { fallen = with_value now.fallen p false }) now.fallen
       (with_value now.fallen p false) p
-  fall_taken first dropped = record {
-    is =
-        dropped
-        ∙ ap (λ rows. record now { risen = rows; fallen = with_value now.fallen p false })
-        (note_again now.risen now.topology.next_provider p (in_order sound now.risen counted.risen));
-    next = note_next now.fallen now.topology.next_provider p (in_order sound now.fallen counted.fallen) first;
-    less = note_less now.fallen now.topology.next_provider p (in_order sound now.fallen counted.fallen) first;
-  }
+  fall_taken first dropped =
+      search (
+        rules,
+        note_again now.risen now.topology.next_provider p (in_order sound now.risen counted.risen),
+        note_next now.fallen now.topology.next_provider p (in_order sound now.fallen counted.fallen) first,
+        note_less now.fallen now.topology.next_provider p (in_order sound now.fallen counted.fallen) first,
+      )
 
 -- The notes of a rise
 
@@ -195,11 +156,7 @@ module _ {C : Type 0} {now mid new : TopoView C} {p : ℕ}
   -- and nothing else has changed since the start
   pub rise_mesh : (start : TopoView C) → now ≡ record start { topology = now.topology; risen = now.risen }
       → new ≡ record start { topology = new.topology; risen = new.risen }
-  rise_mesh start mesh =
-      rest
-      ∙ ap (λ (v : TopoView C). with_topology v new.topology) taken.is
-      ∙ ap (λ (v : TopoView C). record v { topology = new.topology; risen = with_value now.risen p false }) mesh
-      ∙ ap (λ rows. record start { topology = new.topology; risen = rows }) (sym rise_notes)
+  rise_mesh start mesh = search rules
 
 -- The notes of a fall
 
@@ -217,29 +174,23 @@ module _ {C : Type 0} (start : TopoView C) {now : TopoView C} (mesh : now ≡ re
       → IsTaken now mid (record now { fallen = with_value now.fallen p false }) now.fallen
       (with_value now.fallen p false) p
       → mid ≡ record start { fallen = mid.fallen }
-  fall_mesh {mid} {p} taken =
-      taken.is
-      ∙ ap (λ (v : TopoView C). record v { fallen = with_value now.fallen p false }) mesh
-      ∙ ap (λ rows. record start { fallen = rows }) (sym (ap (λ (v : TopoView C). v.fallen) taken.is))
+  fall_mesh {mid} {p} taken = search rules
 
 -- a spoil isn't seen by counts
 pub rise_unseen : {C : Type 0} (mid : TopoView C) (queue : Queued) (new : QueuedTopology C) (p : ℕ) → IsCounted mid
     → ((granted : ℕ → Counts) → AreStored granted mid → new ≡ spoil_at granted (queued mid queue) p)
     → seen_by_counts new.topology ≡ seen_by_counts mid.topology
 rise_unseen {C} mid queue new p counted so =
-    ap (λ (r : QueuedTopology C). seen_by_counts r.topology) (so (granted_by mid) counted.wants)
-    ∙ seen_marks mid.topology (is_to_spoil (granted_by mid) mid.topology p) true
+    search (rules, seen_marks mid.topology (is_to_spoil (granted_by mid) mid.topology p) true)
 
 -- and leaves how DEV was made
 pub rise_made : {C : Type 0} (mid : TopoView C) (queue : Queued) (new : QueuedTopology C) (p : ℕ) → IsCounted mid
     → ((granted : ℕ → Counts) → AreStored granted mid → new ≡ spoil_at granted (queued mid queue) p)
     → IsDevMade mid.topology → IsDevMade new.topology
-rise_made {C} mid queue new p counted so made =
-    subst (λ (r : QueuedTopology C). IsDevMade r.topology) (sym (so (granted_by mid) counted.wants)) made
+rise_made {C} mid queue new p counted so made = search (rules, so (granted_by mid) counted.wants)
 
 -- the mesh at the end
 pub rise_out : {C : Type 0} (start now new : TopoView C) → now ≡ with_topology (without_rises start) now.topology
     → new ≡ now
     → new ≡ with_topology (without_rises start) new.topology
-rise_out {C} start now new is same =
-    same ∙ is ∙ ap (λ (v : TopoView C). with_topology (without_rises start) v.topology) (sym same)
+rise_out {C} start now new is same = search rules

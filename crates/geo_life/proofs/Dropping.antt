@@ -1,7 +1,7 @@
 -- Parts that go with no count leave grants, the other stored counts and notes.
-use Rattle.std.specs.Prelude.{◌≡◌, ◌≢◌, ◌⊎◌, ℕ, ◌==◌, Bool, true, false, not, List, [], map, filter, find, Option, Some, None, Contains, unwrap_or, option_map, if◌then◌else◌}
+use Rattle.std.specs.Prelude.{◌≡◌, ◌≢◌, ◌⊎◌, ℕ, ◌==◌, true, false, not, List, [], map, filter, Option, Some, None, Contains, unwrap_or, if◌then◌else◌}
 use Rattle.std.specs.Option.{option_map_or}
-use Rattle.std.proofs.Common.{refl, sym, ◌∙◌, ap, subst, eq-eqb}
+use Rattle.std.proofs.Common.{refl, sym, ◌∙◌, ap, subst, eq-eqb, rules}
 use Rattle.std.proofs.lemmas.Bool.{eqb-true, not-false}
 use Rattle.std.proofs.lemmas.List.Elements.{All-contains}
 use Rattle.geo_base.specs.declared.request.Counts.{Counts}
@@ -35,14 +35,11 @@ without_keys : {X V : Type 0} (key : X → ℕ) (xs : List X) (rows : List (ℕ 
     → map (λ row. row.0) rows ≡ map key xs
     → map (λ row. row.0) (without rows n) ≡ map key (filter (λ x. not (key x == n)) xs)
 without_keys {V = V} key xs rows n same =
-    sym (filter-map (λ m. not (m == n)) (λ (row : ℕ × V). row.0) rows)
-    ∙ ap (filter (λ m. not (m == n))) same
-    ∙ filter-map (λ m. not (m == n)) key xs
+    search (rules, filter-map (λ m. not (m == n)) (λ (row : ℕ × V). row.0) rows, filter-map (λ m. not (m == n)) key xs)
 
 -- what is stored at another number stays
 value_kept : {V : Type 0} (rows : List (ℕ × V)) (n m : ℕ) → m ≢ n → value_at (without rows n) m ≡ value_at rows m
-value_kept {V} rows n m apart =
-    ap (option_map (λ (row : ℕ × V). row.1)) (at-kept (λ (row : ℕ × V). row.0) n m apart rows)
+value_kept {V} rows n m apart = search (rules, at-kept (λ (row : ℕ × V). row.0) n m apart rows)
 
 module _ {C : Type 0} (t new : TopoView C) where
   -- what the changed mesh has to show: grants, demand and stored wants, and the other rows
@@ -107,40 +104,39 @@ module _ {C : Type 0} (t new : TopoView C) where
 -- demand of any consumer is demand of those that stand
 of_standing : {C : Type 0} (granted other : ℕ → Counts) (t u : Topology C)
     → DemandStays granted t other u AnyConsumer → DemandStays granted t other u (Contains u.consumers)
-of_standing granted other t u any = record {
-  haves = any.haves;
-  wants = λ c there. any.wants c tt;
-  exclusive = any.exclusive;
-  limit = any.limit;
-}
+of_standing granted other t u any = search rules
 
 module _ {C : Type 0} where
   -- a provider with nothing attached
   pub unused_stays : (t : TopoView C) (p : ℕ) → attached_to t.topology p ≡ [] → CountsStay t (without_provider t p)
-  unused_stays t p none = less_stays t (without_provider t p) (record {
-    granted = λ c. refl;
-    demand = λ granted stored.
-        of_standing granted granted t.topology (remove_provider t.topology p) (provider_went granted t.topology p none);
-    wants = λ granted stored. stored;
-    haves = λ f same.
-        ap (λ rows. without rows p) same
-        ∙ without_rows (λ (y : Provider). y.number) (λ y. f y.number) t.topology.providers p;
-    geoms = λ g there. there;
-    risen_keys = without_keys (λ (y : Provider). y.number) t.topology.providers t.risen p;
-    fallen_keys = without_keys (λ (y : Provider). y.number) t.topology.providers t.fallen p;
-    quiet = λ quiet. record {
-      risen =
-          ap (λ rows. without rows p) quiet.risen
-          ∙ without_rows (λ (y : Provider). y.number) (λ y. false) t.topology.providers p;
-      fallen =
-          ap (λ rows. without rows p) quiet.fallen
-          ∙ without_rows (λ (y : Provider). y.number) (λ y. false) t.topology.providers p;
-    };
-    clear = λ clear.
-        ap (λ (s : Scratches). record s { providers = without s.providers p }) clear
-        ∙ ap (λ rows. record (clear_scratches t.topology) { providers = rows })
-        (without_rows (λ (y : Provider). y.number) (λ y. no_scratch) t.topology.providers p);
-  })
+  unused_stays t p none =
+      search (
+        rules,
+        less_stays t (without_provider t p)
+            (record {
+              granted = λ c. refl;
+              demand = λ granted stored. of_standing granted granted t.topology
+                  (remove_provider t.topology p) (provider_went granted t.topology p none);
+              wants = λ granted stored. stored;
+              haves = λ f same. ap (λ rows. without rows p) same ∙ without_rows (λ (y : Provider). y.number)
+                  (λ y. f y.number) t.topology.providers p;
+              geoms = λ g there. there;
+              risen_keys = without_keys
+                  (λ (y : Provider). y.number) t.topology.providers t.risen p;
+              fallen_keys = without_keys
+                  (λ (y : Provider). y.number) t.topology.providers t.fallen p;
+              quiet = λ quiet. record {
+                risen = ap (λ rows. without rows p) quiet.risen ∙ without_rows (λ (y : Provider). y.number) (λ y. false)
+                    t.topology.providers p;
+                fallen = ap (λ rows. without rows p) quiet.fallen ∙ without_rows
+                    (λ (y : Provider). y.number) (λ y. false) t.topology.providers p;
+              };
+              clear = λ clear. ap
+                  (λ (s : Scratches). record s { providers = without s.providers p }) clear ∙ ap
+                  (λ rows. record (clear_scratches t.topology) { providers = rows })
+                  (without_rows (λ (y : Provider). y.number) (λ y. no_scratch) t.topology.providers p);
+            }),
+      )
 
 module _ {C : Type 0} (t : TopoView C) (sound : IsSoundGraph t.topology) where
   -- A consumer that holds nothing
@@ -153,12 +149,8 @@ module _ {C : Type 0} (t : TopoView C) (sound : IsSoundGraph t.topology) where
     wants_nothing granted stored y there gone =
         let is : y.number ≡ c = eqb-true y.number c (not-false (y.number == c) gone) in
         let here : consumer_at t.topology c ≡ Some y =
-        subst (λ n. find (λ (z : Consumer). z.number == n) t.topology.consumers ≡ Some y) is
-        (consumer_known t sound y there) in
-        let its : Some (want granted t.topology y) ≡ Some no_counts =
-        sym (item_at (λ (z : Consumer). z.number) (want granted t.topology) c t.topology.consumers y here)
-        ∙ sym (ap (λ rows. value_at rows c) stored) ∙ nothing in
-        cc
+        search (rules, consumer_known t sound y there) in
+        search (rules, item_at (λ (z : Consumer). z.number) (want granted t.topology) c t.topology.consumers y here)
 
     -- what a consumer of a number is granted, from what is found
     abbrev granted_at : List (ℕ × Counts) → ℕ → Option Consumer → Counts
@@ -169,51 +161,44 @@ module _ {C : Type 0} (t : TopoView C) (sound : IsSoundGraph t.topology) where
 
     -- grants stay
     consumer_granted : (n : ℕ) → granted_by (without_consumer t c) n ≡ granted_by t n
-    consumer_granted n = by (n == c) refl
-      where
-        either : (b : Bool) → (if b then no_counts else no_counts) ≡ no_counts
-        either true = refl
-        either false = refl
-
-        by : (b : Bool) → (n == c) ≡ b → granted_by (without_consumer t c) n ≡ granted_by t n
-        by true e =
-            let is : n ≡ c = eqb-true n c e in
-            subst (λ m. granted_by (without_consumer t c) m ≡ granted_by t m) (sym is)
-            (ap (granted_at (without t.wants c) c) (at-gone (λ (y : Consumer). y.number) c t.topology.consumers)
-            ∙ sym (ap (granted_at t.wants c) found
-            ∙ ap (λ o. if holds_grants t.topology x.geom then unwrap_or o no_counts else no_counts) nothing
-            ∙ either (holds_grants t.topology x.geom)))
-        by false e =
-            let apart : n ≢ c = λ is. let hit : (n == c) ≡ true = eq-eqb n c is in absurd (cc) in
-            ap (granted_at (without t.wants c) n)
-            (at-kept (λ (y : Consumer). y.number) c n apart t.topology.consumers)
-            ∙ ap (λ v.
-            option_map_or
-            (λ (y : Consumer). if holds_grants t.topology y.geom then unwrap_or v no_counts else no_counts)
-            (consumer_at t.topology n) no_counts) (value_kept t.wants c n apart)
+    consumer_granted n =
+        search (
+          rules,
+          at-gone (λ (y : Consumer). y.number) c t.topology.consumers,
+          ap (granted_at t.wants c) found,
+          ap (λ o. if holds_grants t.topology x.geom then unwrap_or o no_counts else no_counts) nothing,
+          eq-eqb n c,
+          at-kept (λ (y : Consumer). y.number) c n,
+          value_kept t.wants c n,
+        )
 
     -- so all that counts keep
     pub dropped_stays : CountsStay t (without_consumer t c)
-    dropped_stays = less_stays t (without_consumer t c) (record {
-      granted = consumer_granted;
-      demand = λ granted stored.
-          of_standing granted granted t.topology (remove_consumer t.topology c)
-          (consumers_went granted t.topology (λ y. not (y.number == c))
-          (all_of (λ (y : Consumer). not (y.number == c) ≡ false → want granted t.topology y ≡ no_counts)
-          t.topology.consumers (wants_nothing granted stored)));
-      wants = λ granted stored.
-          ap (λ rows. without rows c) stored
-          ∙ without_rows (λ (y : Consumer). y.number) (want granted t.topology) t.topology.consumers c;
-      haves = λ f same. same;
-      geoms = λ g there. there;
-      risen_keys = λ same. same;
-      fallen_keys = λ same. same;
-      quiet = λ quiet. record { risen = quiet.risen; fallen = quiet.fallen };
-      clear = λ clear.
-          ap (λ (s : Scratches). record s { consumers = without s.consumers c }) clear
-          ∙ ap (λ rows. record (clear_scratches t.topology) { consumers = rows })
-          (without_rows (λ (y : Consumer). y.number) (λ y. no_scratch) t.topology.consumers c);
-    })
+    dropped_stays =
+        search (
+          rules,
+          less_stays t (without_consumer t c)
+              (record {
+                granted = consumer_granted;
+                demand = λ granted stored. of_standing granted granted t.topology
+                    (remove_consumer t.topology c)
+                    (consumers_went granted t.topology (λ y. not (y.number == c))
+                    (all_of (λ (y : Consumer). not (y.number == c) ≡ false → want granted t.topology y ≡ no_counts)
+                    t.topology.consumers (wants_nothing granted stored)));
+                wants = λ granted stored. ap
+                    (λ rows. without rows c) stored ∙ without_rows (λ (y : Consumer). y.number) (want granted t.topology)
+                    t.topology.consumers c;
+                haves = λ f same. same;
+                geoms = λ g there. there;
+                risen_keys = λ same. same;
+                fallen_keys = λ same. same;
+                quiet = λ quiet. record { risen = quiet.risen; fallen = quiet.fallen };
+                clear
+                    = λ clear. ap (λ (s : Scratches). record s { consumers = without s.consumers c }) clear ∙ ap
+                    (λ rows. record (clear_scratches t.topology) { consumers = rows })
+                    (without_rows (λ (y : Consumer). y.number) (λ y. no_scratch) t.topology.consumers c);
+              }),
+        )
 
   -- A geom without parts
 
@@ -226,9 +211,7 @@ module _ {C : Type 0} (t : TopoView C) (sound : IsSoundGraph t.topology) where
 
     -- the classes of other geoms stay
     class_stays : (h : ℕ) → h ≢ g → holds_grants (remove_geom t.topology g) h ≡ holds_grants t.topology h
-    class_stays h apart =
-        ap (λ o. option_map_or (λ (y : Geom C). is_granted_kind y.kind) o false)
-        (at-kept (λ (y : Geom C). y.number) g h apart t.topology.geoms)
+    class_stays h apart = search (rules, at-kept (λ (y : Geom C). y.number) g h apart t.topology.geoms)
 
     -- what a consumer is granted where these are the classes
     abbrev its_grant : Topology C → ℕ → Option Consumer → Counts
@@ -254,39 +237,30 @@ module _ {C : Type 0} (t : TopoView C) (sound : IsSoundGraph t.topology) where
 
     -- so all that counts keep
     pub bare_stays : CountsStay t (without_geom t g)
-    bare_stays = less_stays t (without_geom t g) (record {
-      granted = geom_granted;
-      demand = λ granted stored.
-          geom_went granted t.topology g
-          (RanksStay.ranked (removing-stay.geom t.topology g sound.ranked sound.orderly.parts.geoms none))
-          (numbers_lead t.topology sound.orderly.order.providers.0)
-          (all_of (λ (c : Consumer). c.geom ≢ g) t.topology.consumers of_others);
-      wants = λ granted stored. stored;
-      haves = λ f same. same;
-      geoms = λ h there. (filter-Contains (λ (y : Geom C). not (y.number == g)) t.topology.geoms h there).0;
-      risen_keys = λ same. same;
-      fallen_keys = λ same. same;
-      quiet = λ quiet. record { risen = quiet.risen; fallen = quiet.fallen };
-      clear = λ clear.
-          ap (λ (s : Scratches). record s { geoms = without s.geoms g }) clear
-          ∙ ap (λ rows. record (clear_scratches t.topology) { geoms = rows })
-          (without_rows (λ (y : Geom C). y.number) (λ y. no_scratch) t.topology.geoms g);
-    })
+    bare_stays =
+        search (
+          rules,
+          less_stays t (without_geom t g)
+              (record {
+                granted = geom_granted;
+                demand = λ granted stored. geom_went granted t.topology g
+                    (RanksStay.ranked (removing-stay.geom t.topology g sound.ranked sound.orderly.parts.geoms none))
+                    (numbers_lead t.topology sound.orderly.order.providers.0)
+                    (all_of (λ (c : Consumer). c.geom ≢ g) t.topology.consumers of_others);
+                wants = λ granted stored. stored;
+                haves = λ f same. same;
+                geoms = λ h there.
+                    (filter-Contains (λ (y : Geom C). not (y.number == g)) t.topology.geoms h there).0;
+                risen_keys = λ same.
+                    same;
+                fallen_keys = λ same. same;
+                quiet = λ quiet. record { risen = quiet.risen; fallen = quiet.fallen };
+                clear = λ clear. ap (λ (s : Scratches). record s { geoms = without s.geoms g }) clear ∙ ap
+                    (λ rows. record (clear_scratches t.topology) { geoms = rows })
+                    (without_rows (λ (y : Geom C). y.number) (λ y. no_scratch) t.topology.geoms g);
+              }),
+        )
 
 -- the room for more geoms isn't counted
 pub roomy : {C : Type 0} (t u new : TopoView C) → IsButForRoom new u → CountsStay t u → CountsStay t new
-roomy t u new same stay = subst (CountsStay t) (sym same) (record {
-  granted = stay.granted;
-  stored = stay.stored;
-  counted = λ counted. let after = stay.counted counted in record {
-    kinds = after.kinds;
-    haves = after.haves;
-    wants = after.wants;
-    exclusive = after.exclusive;
-    limit = after.limit;
-    risen = after.risen;
-    fallen = after.fallen;
-    clear = after.clear;
-  };
-  quiet = λ quiet. let after = stay.quiet quiet in record { risen = after.risen; fallen = after.fallen };
-})
+roomy t u new same stay = subst (CountsStay t) (sym same) (search rules)

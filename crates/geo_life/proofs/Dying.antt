@@ -1,6 +1,6 @@
 -- The walk over the consumers of DEV at a provider.
 use Rattle.std.specs.Prelude.{◌≡◌, ℕ, ◌+◌, nat_le, Bool, true, false, cond, List, [], ◌∷◌, map, filter}
-use Rattle.std.proofs.Common.{sym, ap, ◌∙◌}
+use Rattle.std.proofs.Common.{sym, ap, ◌∙◌, rules}
 use Rattle.geo_model.specs.Topology.{Topology, Consumer, attached_to}
 use Rattle.geo_model.specs.Events.{is_of_dev, dying_consumers}
 use Rattle.geo_laws_graph.specs.LookupLaws.{left_from}
@@ -36,13 +36,7 @@ module _ {C : Type 0} (t : Topology C) (p : ℕ) where
         (cond b (x ∷ filter (is_of_dev t) (users_left (x.number + 1)))
         (filter (is_of_dev t) (users_left (x.number + 1))))) e
         ∙ ap (λ ns. x.number ∷ ns) (sym (dying_is (x.number + 1)))
-    next_is false e =
-        dying_is from_number
-        ∙ ap (λ ys. map (λ (c : Consumer). c.number) (filter (is_of_dev t) ys)) left
-        ∙ ap (λ b. map (λ (c : Consumer). c.number)
-        (cond b (x ∷ filter (is_of_dev t) (users_left (x.number + 1)))
-        (filter (is_of_dev t) (users_left (x.number + 1))))) e
-        ∙ sym (dying_is (x.number + 1))
+    next_is false e = search (rules, dying_is from_number, dying_is (x.number + 1))
 
     -- it dies
     pub dying_here : is_of_dev t x ≡ true → dying_left from_number ≡ x.number ∷ dying_left (x.number + 1)
@@ -54,5 +48,4 @@ module _ {C : Type 0} (t : Topology C) (p : ℕ) where
 
   -- none is left
   pub dying_end : (from_number : ℕ) → users_left from_number ≡ [] → dying_left from_number ≡ []
-  dying_end from_number none =
-      dying_is from_number ∙ ap (λ ys. map (λ (c : Consumer). c.number) (filter (is_of_dev t) ys)) none
+  dying_end from_number none = search (rules, dying_is from_number)

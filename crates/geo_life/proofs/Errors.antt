@@ -1,9 +1,8 @@
 -- Providers without an error, before and after one of them gets one.
-use Rattle.std.specs.Prelude.{◌≡◌, ℕ, ◌+◌, ◌==◌, Bool, true, false, not, ◌&&◌, ◌||◌, cond, List, [], ◌∷◌, map, filter, find, length, suc, Option, Some, None, IsSomeAnd}
+use Rattle.std.specs.Prelude.{◌≡◌, ℕ, ◌+◌, ◌==◌, Bool, true, false, not, ◌&&◌, ◌||◌, List, [], ◌∷◌, map, filter, find, length, Some, IsSomeAnd}
 use Rattle.std.specs.List.{list_any}
-use Rattle.std.specs.Option.{option_map_or, option_and_then}
-use Rattle.std.proofs.Common.{refl, sym, ap, ◌∙◌, arith, inl}
-use Rattle.std.proofs.lemmas.Bool.{eqb-true}
+use Rattle.std.specs.Option.{option_map_or}
+use Rattle.std.proofs.Common.{refl, sym, ap, ◌∙◌, rules}
 use Rattle.geo_model.specs.Words.{change_where}
 use Rattle.geo_model.specs.Topology.{Topology, Provider, Geom, provider_at, geom_at, geom_of_provider, is_errored, set_error}
 use Rattle.geo_model.specs.Graph.{IsInOrder, AreNumbers}
@@ -31,29 +30,12 @@ one_less : (p low high : ℕ) (x : Provider) (xs : List Provider) (y : Provider)
     → length (filter sound (change_where (λ (z : Provider). z.number == p) broken (x ∷ xs))) + 1
     ≡ length (filter sound (x ∷ xs))
 one_less p low high x xs y true e rise found is so =
-    let here : Some x ≡ Some y = rw e at found in
-    let same : x ≡ y = cc in
-    let number : x.number ≡ p = eqb-true x.number p e in
-    let rest : change_where (λ (z : Provider). z.number == p) broken xs ≡ xs =
-    unhit (λ (z : Provider). z.number == p) broken xs
-    (none_outside (λ (z : Provider). z.number) (x.number + 1) high p xs rise.2 (inl (omega (arith, number)))) in
-    let clean : x.errored ≡ false = ap (λ (z : Provider). z.errored) same ∙ is in
-    rw (e, rest, clean) (omega arith)
-one_less p low high x xs y false e rise found is so =
-    let later : find (λ (z : Provider). z.number == p) xs ≡ Some y = rw e at found in
-    let less = so later in
-    rw e (by (sound x) less)
-  where
-    by : (c : Bool)
-        → length (filter sound (change_where (λ (z : Provider). z.number == p) broken xs)) + 1
-        ≡ length (filter sound xs)
-        → length (cond c (x ∷ filter sound (change_where (λ (z : Provider). z.number == p) broken xs))
-        (filter sound (change_where (λ (z : Provider). z.number == p) broken xs))) + 1
-        ≡ length (cond c (x ∷ filter sound xs) (filter sound xs))
-    by true less =
-        let more : suc (length (filter sound (change_where (λ (z : Provider). z.number == p) broken xs))) + 1
-        ≡ suc (length (filter sound xs)) = omega (arith, less) in more
-    by false less = less
+    search (
+      rules,
+      unhit (λ (z : Provider). z.number == p) broken xs,
+      none_outside (λ (z : Provider). z.number) (x.number + 1) high p xs rise.2,
+    )
+one_less p low high x xs y false e rise found is so = search rules
 
 -- there is one less
 errors_less : (p low high : ℕ) (xs : List Provider) (y : Provider)
@@ -105,21 +87,13 @@ module _ {C : Type 0} (t : Topology C) (order : IsInOrder t) (p : ℕ) (x : Prov
   -- it isn't offered where it carries an error or its geom withers
   pub not_offered_is : (g : Geom C) → geom_at t x.geom ≡ Some g
       → (is_errored t p || option_map_or (λ h. h.withering) (geom_of_provider t p) true) ≡ (x.errored || g.withering)
-  not_offered_is g of =
-      ap (λ b. b || option_map_or (λ h. h.withering) (geom_of_provider t p) true) errored_is
-      ∙ ap (λ o. x.errored || option_map_or (λ h. h.withering) (option_and_then (λ y. geom_at t y.geom) o) true) found
-      ∙ ap (λ o. x.errored || option_map_or (λ h. h.withering) o true) of
+  not_offered_is g of = search (rules, errored_is)
 
 -- the same of one that is there without an error
 pub error_owes_some : {C : Type 0} (t : Topology C) → IsInOrder t → (p : ℕ)
     → IsSomeAnd (provider_at t p) (λ x. x.errored ≡ false)
     → sound_providers (set_error t p) + 1 ≡ sound_providers t
-error_owes_some t order p some = by (provider_at t p) refl some
-  where
-    by : (o : Option Provider) → provider_at t p ≡ o → IsSomeAnd o (λ x. x.errored ≡ false)
-        → sound_providers (set_error t p) + 1 ≡ sound_providers t
-    by None e never = absurd never
-    by (Some x) e is = error_owes t order p x e is
+error_owes_some t order p some = search (rules, error_owes t order p)
 
 -- a provider without an error is offered unless its geom withers
 pub offered_sound : (a b c : Bool) → a ≡ false → c ≡ (a || b) → not b ≡ not c

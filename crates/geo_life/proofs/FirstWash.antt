@@ -1,15 +1,15 @@
 -- What a wash finds, and that it goes on with the first geom of which something can go.
-use Rattle.std.specs.Prelude.{◌≡◌, ℕ, suc, ◌+◌, ◌==◌, nat_le, Bool, true, false, not, ◌&&◌, List, [], ◌∷◌, length, find, Option, Some, None, if◌then◌else◌, IsSomeAnd, IfSome, IsTrue, is_none, is_some, option_map, ◌||◌, filter, unwrap_or}
-use Rattle.std.specs.Option.{option_or, option_and_then, option_map_or}
-use Rattle.std.proofs.Common.{refl, sym, ap, ◌∙◌, subst, arith}
-use Rattle.std.proofs.lemmas.Bool.{le-leb, ne_eqb, and_parts}
+use Rattle.std.specs.Prelude.{◌≡◌, ℕ, ◌+◌, ◌==◌, nat_le, Bool, true, false, not, ◌&&◌, List, [], ◌∷◌, length, find, Option, Some, None, if◌then◌else◌, IsSomeAnd, IfSome, IsTrue, is_none, is_some, option_map, ◌||◌, filter}
+use Rattle.std.specs.Option.{option_or, option_and_then}
+use Rattle.std.proofs.Common.{refl, sym, ap, ◌∙◌, subst, arith, rules}
+use Rattle.std.proofs.lemmas.Bool.{and_parts}
 use Rattle.geo_base.specs.declared.request.Counts.{Counts}
 use Rattle.geo_model.specs.declared.step.WashWork.{WashWork}
 use Rattle.geo_model.specs.declared.step.WashWork.TheVariants as washes
 use Rattle.geo_model.specs.Topology.{Topology, Geom, Provider, Consumer, geom_at, consumer_at, attached_to, providers_of, consumers_of, is_withering}
 use Rattle.geo_model.specs.Graph.{IsInOrder}
-use Rattle.geo_model.specs.Demand.{is_zero, no_counts}
-use Rattle.geo_model.specs.Freeing.{is_idle, free_consumer, free_geom, wash_work_of, free_provider, first_wash, wash_where}
+use Rattle.geo_model.specs.Demand.{is_zero}
+use Rattle.geo_model.specs.Freeing.{is_idle, free_consumer, free_geom, wash_work_of, first_wash, wash_where}
 use Rattle.geo_mesh.specs.Topo.{TopoView, first_geom}
 use Rattle.geo_laws_graph.proofs.Numbered.{number_found}
 use Rattle.geo_laws_graph.specs.LookupLaws.{left_from, EachIsFound}
@@ -19,9 +19,8 @@ use Rattle.geo_life.specs.Life.{AreStored, is_out}
 use Rattle.geo_life.proofs.Errors.{any_found}
 use Rattle.geo_life.proofs.MarkWalk.{stored_now}
 use Rattle.std.specs.List.{list_any, AllByRecursion}
-use Rattle.std.proofs.Math.Bool.{or-false, not-not}
+use Rattle.std.proofs.Math.Bool.{or-false}
 use Rattle.geo_base.proofs.FindLists.{found_passes}
-use Rattle.geo_slots.specs.Slots.{value_at}
 use Rattle.geo_laws_graph.proofs.Found.{each-found}
 use Rattle.geo_laws_graph.proofs.Lists.{found_itself}
 use Rattle.geo_laws_graph.proofs.Members.{find-Contains}
@@ -35,17 +34,11 @@ module _ {X : Type 0} (number : X → ℕ) where
   pub none_first : (xs : List X)
       → is_none (option_map number (find (λ x. nat_le 0 (number x)) xs)) ≡ (length xs == 0)
   none_first [] = refl
-  none_first (x ∷ xs) =
-      ap (λ b. is_none (option_map number (if b then Some x else find (λ y. nat_le 0 (number y)) xs)))
-      (le-leb 0 (number x) (omega arith))
-      ∙ sym (ne_eqb (suc (length xs)) 0 (λ e. omega (arith, e)))
+  none_first (x ∷ xs) = search rules
 
   pub none_there : (xs : List X) → is_none (option_map number (find (λ x. nat_le 0 (number x)) xs)) ≡ true → xs ≡ []
   none_there [] e = refl
-  none_there (x ∷ xs) e =
-      let no : false ≡ true =
-      sym (ne_eqb (suc (length xs)) 0 (λ same. omega (arith, same))) ∙ sym (none_first (x ∷ xs)) ∙ e in
-      absurd (cc)
+  none_there (x ∷ xs) e = search rules
 
 -- what says that there is something says that there isn't nothing
 pub told_none : {X : Type 0} (o : Option X) (b : Bool) → is_some o ≡ not b → b ≡ is_none o
@@ -65,21 +58,13 @@ module _ {C : Type 0} (t : Topology C) (order : IsInOrder t) where
   -- one that doesn't isn't one that does
   pub not_withering : (n m : ℕ) → IsSomeAnd (geom_at t m) (λ g. g.withering ≡ false) → IsTrue (is_withering t n) → n ≡ m
       → ⊥
-  not_withering n m stands withers same = by (geom_at t m) refl stands
-    where
-      by : (o : Option (Geom C)) → geom_at t m ≡ o → IsSomeAnd o (λ g. g.withering ≡ false) → ⊥
-      by None e never = never
-      by (Some g) e stays =
-          let yes_withers : is_withering t m ≡ true = subst (λ k. is_withering t k ≡ true) same withers in
-          let both : true ≡ false = sym yes_withers ∙ withering_is m g e ∙ stays in
-          absurd (cc)
+  not_withering n m stands withers same = search (rules, withering_is m)
 
 -- a consumer is idle where its stored counts are zero and no request is out
 pub idle_is : {C : Type 0} (granted : ℕ → Counts) (t : TopoView C) → AreStored granted t → (x : Consumer)
     → consumer_at t.topology x.number ≡ Some x
     → is_idle granted (is_out t) t.topology x ≡ (is_zero (want_at t x.number) && not (is_out t x.number))
-idle_is granted t stored x found =
-    ap (λ a. is_zero a && not (is_out t x.number)) (sym (stored_now granted t stored x.number x found))
+idle_is granted t stored x found = search (rules, stored_now granted t stored x.number x found)
 
 -- the walk over the consumers of a geom came to one, of which it was told whether it is idle
 module _ {C : Type 0} (granted : ℕ → Counts) (t : TopoView C) (stored : AreStored granted t)
@@ -118,12 +103,6 @@ there : {X : Type 0} (P : X → Type 0) (o : Option X) → ((x : X) → o ≡ So
 there P None so = tt
 there P (Some x) so = so x refl
 
--- as work
-as_work : {X : Type 0} (number : X → ℕ) (work : ℕ → WashWork) (o : Option X) (n : Option ℕ) → n ≡ option_map number o
-    → option_map (λ x. work (number x)) o ≡ option_map work n
-as_work number work None n is = ap (option_map work) (sym is)
-as_work number work (Some x) n is = ap (option_map work) (sym is)
-
 module _ {C : Type 0} (granted : ℕ → Counts) (active : ℕ → Bool) (t : Topology C) (geom : ℕ)
     (p : Option ℕ)
     (provider : p ≡ option_map (λ (x : Provider). x.number)
@@ -133,11 +112,7 @@ module _ {C : Type 0} (granted : ℕ → Counts) (active : ℕ → Bool) (t : To
       → option_map (λ (x : Provider). washes.Provider x.number)
       (find (λ x. length (attached_to t x.number) == 0) (providers_of t n))
       ≡ option_map washes.Provider p
-  first_part n same =
-      ap (λ m. option_map (λ (x : Provider). washes.Provider x.number)
-      (find (λ x. length (attached_to t x.number) == 0) (providers_of t m))) same
-      ∙ as_work (λ (x : Provider). x.number) washes.Provider
-      (find (λ x. length (attached_to t x.number) == 0) (providers_of t geom)) p provider
+  first_part n same = search rules
 
   -- the number of a geom that is found
   its_number : (g : Geom C) → geom_at t geom ≡ Some g → g.number ≡ geom
@@ -159,11 +134,7 @@ module _ {C : Type 0} (granted : ℕ → Counts) (active : ℕ → Bool) (t : To
     second_part : (n : ℕ) → n ≡ geom
         → option_map (λ (x : Consumer). washes.Consumer x.number) (find (is_idle granted active t) (consumers_of t n))
         ≡ option_map washes.Consumer c
-    second_part n same =
-        ap (λ m. option_map (λ (x : Consumer). washes.Consumer x.number)
-        (find (is_idle granted active t) (consumers_of t m))) same
-        ∙ as_work (λ (x : Consumer). x.number) washes.Consumer
-        (find (is_idle granted active t) (consumers_of t geom)) c consumer
+    second_part n same = search rules
 
     -- what is left then
     after_first : (g : Geom C) → geom_at t geom ≡ Some g
@@ -189,14 +160,7 @@ module _ {C : Type 0} (granted : ℕ → Counts) (active : ℕ → Bool) (t : To
       after_second : (g : Geom C) → geom_at t geom ≡ Some g → (b : Bool)
           → b ≡ ((length (providers_of t geom) == 0) && (length (consumers_of t geom) == 0))
           → wash_work_of granted active t g ≡ option_or (if b then Some (washes.Geom geom) else None) None
-      after_second g found b bare =
-          after_first g found
-          ∙ ap (λ o. option_or (option_map washes.Consumer o) (option_or (free_geom granted active t g) None)) over
-          ∙ ap (λ m.
-          option_or
-          (if (length (providers_of t m) == 0) && (length (consumers_of t m) == 0) then Some (washes.Geom m)
-          else None) None) (its_number g found)
-          ∙ ap (λ d. option_or (if d then Some (washes.Geom geom) else None) None) (sym bare)
+      after_second g found b bare = search (rules, its_number g found)
 
       pub work_geom : true ≡ ((length (providers_of t geom) == 0) && (length (consumers_of t geom) == 0))
           → IfSome (geom_at t geom) (λ g. Some (washes.Geom geom) ≡ wash_work_of granted active t g)
@@ -236,33 +200,17 @@ some_if false x = refl
 first_passing : {X : Type 0} (number : X → ℕ) (test : X → Bool) (xs : List X)
     → find (λ x. nat_le 0 (number x)) (filter test xs) ≡ find test xs
 first_passing number test [] = refl
-first_passing number test (x ∷ xs) =
-    let first : nat_le 0 (number x) ≡ true = le-leb 0 (number x) (omega arith) in
-    grind (arith, first, first_passing number test xs)
+first_passing number test (x ∷ xs) = search (rules, first_passing number test xs)
 
 module _ {C : Type 0} (granted : ℕ → Counts) (v : TopoView C) (stored : AreStored granted v)
     (order : IsInOrder v.topology) where
-  -- a consumer without counts is one that the mesh calls unused
-  unused_is : (n : ℕ) → (is_zero (want_at v n) && not (is_out v n)) ≡ is_unused v n
-  unused_is n = λ i. zero (value_at v.wants n) i && quiet (value_at v.active n) i where
-    zero : (o : Option Counts) → is_zero (unwrap_or o no_counts) ≡ option_map_or is_zero o true
-    zero None = refl
-    zero (Some a) = refl
-
-    quiet : (o : Option ℕ) → not (option_map_or (λ m. not (m == 0)) o false) ≡ option_map_or (λ m. m == 0) o true
-    quiet None = refl
-    quiet (Some m) = not-not (m == 0)
-
   -- each consumer, of a geom or not
   idle_each : (g : ℕ) (xs : List Consumer)
       → AllByRecursion (λ (x : Consumer). consumer_at v.topology x.number ≡ Some x) xs
       → AllByRecursion (λ (x : Consumer). ((x.geom == g) && is_idle granted (is_out v) v.topology x)
       ≡ ((x.geom == g) && is_unused v x.number)) xs
   idle_each g [] found = tt
-  idle_each g (x ∷ xs) found = (
-    ap (λ b. (x.geom == g) && b) (idle_is granted v stored x found.0 ∙ unused_is x.number),
-    idle_each g xs found.1,
-  )
+  idle_each g (x ∷ xs) found = search (rules, idle_is granted v stored x found.0, idle_each g xs found.1)
 
   -- a consumer of a geom can go just where one is unused
   idle_any : (g : ℕ) → list_any (is_idle granted (is_out v) v.topology) (consumers_of v.topology g)
@@ -278,25 +226,17 @@ module _ {C : Type 0} (granted : ℕ → Counts) (v : TopoView C) (stored : AreS
   -- something of a geom can go just where something of it is free
   work_is : (g : Geom C) → is_some (wash_work_of granted (is_out v) v.topology g) ≡ is_free v g.number
   work_is g =
-      some_or (free_provider granted (is_out v) v.topology g)
-      (option_or (free_consumer granted (is_out v) v.topology g)
-      (option_or (free_geom granted (is_out v) v.topology g) None))
-      ∙ (λ i. found_any (λ (p : Provider). washes.Provider p.number)
-      (λ (p : Provider). length (attached_to v.topology p.number) == 0) (providers_of v.topology g.number) i
-      || later i)
-    where
-      later : is_some (option_or (free_consumer granted (is_out v) v.topology g)
-          (option_or (free_geom granted (is_out v) v.topology g) None))
-          ≡ (list_any (λ (x : Consumer). is_unused v x.number) (consumers_of v.topology g.number)
-          || is_bare v g.number)
-      later =
-          some_or (free_consumer granted (is_out v) v.topology g)
-          (option_or (free_geom granted (is_out v) v.topology g) None)
-          ∙ (λ i. (found_any (λ (x : Consumer). washes.Consumer x.number) (is_idle granted (is_out v) v.topology)
-          (consumers_of v.topology g.number) ∙ idle_any g.number) i
-          || (some_or (free_geom granted (is_out v) v.topology g) None
-          ∙ or-false (is_some (free_geom granted (is_out v) v.topology g))
-          ∙ some_if (is_bare v g.number) (washes.Geom g.number)) i)
+      search (
+        rules,
+        found_any (λ (p : Provider). washes.Provider p.number)
+            (λ (p : Provider). length (attached_to v.topology p.number) == 0) (providers_of v.topology g.number),
+        found_any (λ (x : Consumer). washes.Consumer x.number) (is_idle granted (is_out v) v.topology)
+            (consumers_of v.topology g.number),
+        idle_any g.number,
+        some_or (free_geom granted (is_out v) v.topology g) None,
+        or-false (is_some (free_geom granted (is_out v) v.topology g)),
+        some_if (is_bare v g.number) (washes.Geom g.number),
+      )
 
   -- one geom more in front, by whether it withers and what of it can go
   first_step : (g : Geom C) (gs : List (Geom C)) (b : Bool) (o : Option WashWork) → g.withering ≡ b
@@ -305,14 +245,8 @@ module _ {C : Type 0} (granted : ℕ → Counts) (v : TopoView C) (stored : AreS
       ≡ option_and_then (wash_work_of granted (is_out v) v.topology) (find (can_go v) gs)
       → first_wash granted (is_out v) v.topology (filter (λ x. x.withering) (g ∷ gs))
       ≡ option_and_then (wash_work_of granted (is_out v) v.topology) (find (can_go v) (g ∷ gs))
-  first_step g gs true (Some work) e f rest =
-      let free : is_free v g.number ≡ true = sym (work_is g) ∙ ap is_some f in
-      rw (e, free) (ap (λ p. option_or p (first_wash granted (is_out v) v.topology (filter (λ x. x.withering) gs))) f
-      ∙ sym f)
-  first_step g gs true None e f rest =
-      let free : is_free v g.number ≡ false = sym (work_is g) ∙ ap is_some f in
-      rw (e, free) (ap (λ p. option_or p (first_wash granted (is_out v) v.topology (filter (λ x. x.withering) gs))) f
-      ∙ rest)
+  first_step g gs true (Some work) e f rest = search (rules, work_is g)
+  first_step g gs true None e f rest = search (rules, work_is g)
   first_step g gs false o e f rest = rw e rest
 
   -- what can go of the first geom that can
@@ -326,21 +260,13 @@ module _ {C : Type 0} (granted : ℕ → Counts) (v : TopoView C) (stored : AreS
   -- where there is none, nothing can be washed
   pub wash_none : None ≡ first_geom (filter (can_go v) v.topology.geoms) 0
       → None ≡ wash_where granted (is_out v) v.topology
-  wash_none first = at (find (can_go v) v.topology.geoms) refl
-      (first ∙ ap (option_map (λ (g : Geom C). g.number))
-      (first_passing (λ (g : Geom C). g.number) (can_go v) v.topology.geoms)) where
-        at : (o : Option (Geom C)) → find (can_go v) v.topology.geoms ≡ o
-            → None ≡ option_map (λ (g : Geom C). g.number) (find (can_go v) v.topology.geoms)
-            → None ≡ wash_where granted (is_out v) v.topology
-        at None e none =
-            sym (first_work v.topology.geoms ∙ ap (option_and_then (wash_work_of granted (is_out v) v.topology)) e)
-        at (Some g) e none = let never : None ≡ Some g.number = rw e at none in absurd (cc)
+  wash_none first =
+      search (rules, first_passing (λ (g : Geom C). g.number) (can_go v) v.topology.geoms, first_work v.topology.geoms)
 
   -- what can be washed is what can go of the first geom that can
   pub wash_first : (g : Geom C) → find (can_go v) v.topology.geoms ≡ Some g
       → wash_where granted (is_out v) v.topology ≡ wash_work_of granted (is_out v) v.topology g
-  wash_first g found =
-      first_work v.topology.geoms ∙ ap (option_and_then (wash_work_of granted (is_out v) v.topology)) found
+  wash_first g found = search (rules, first_work v.topology.geoms)
 
 -- the first geom that can go stands under its number, and withers
 pub record IsFirstGoing {C : Type 0} (v : TopoView C) (n : ℕ) : Type 0 where
@@ -353,8 +279,7 @@ module _ {C : Type 0} (v : TopoView C) (order : IsInOrder v.topology) where
   -- what the look-up gives
   pub first_going : (n : ℕ) → Some n ≡ first_geom (filter (can_go v) v.topology.geoms) 0 → IsFirstGoing v n
   first_going n first = by (find (can_go v) v.topology.geoms) refl
-      (first ∙ ap (option_map (λ (g : Geom C). g.number))
-      (first_passing (λ (g : Geom C). g.number) (can_go v) v.topology.geoms)) where
+      (search (rules, first_passing (λ (g : Geom C). g.number) (can_go v) v.topology.geoms)) where
         by : (o : Option (Geom C)) → find (can_go v) v.topology.geoms ≡ o
             → Some n ≡ option_map (λ (g : Geom C). g.number) (find (can_go v) v.topology.geoms) → IsFirstGoing v n
         by None e some = let never : Some n ≡ None = rw e at some in absurd (cc)

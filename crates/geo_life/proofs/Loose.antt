@@ -1,6 +1,6 @@
 -- A consumer before and after it is detached.
 use Rattle.std.specs.Prelude.{◌≡◌, ℕ, Some, None, IsSome, IfSome}
-use Rattle.std.proofs.Common.{refl, sym, ap, ◌∙◌, subst}
+use Rattle.std.proofs.Common.{refl, sym, subst, rules}
 use Rattle.geo_model.specs.Topology.{Topology, consumer_at, detach, remove_consumer}
 use Rattle.geo_slots.specs.Slots.{value_at}
 use Rattle.geo_mesh.specs.Topo.{TopoView, no_counts, with_topology, without_consumer}
@@ -24,14 +24,9 @@ module _ {C : Type 0} where
   pub dropped_is : (t mid new : TopoView C) (c : ℕ) → mid ≡ with_topology t mid.topology
       → remove_consumer mid.topology c ≡ remove_consumer t.topology c → new ≡ without_consumer mid c
       → new ≡ without_consumer t c
-  dropped_is t mid new c mesh same is =
-      is
-      ∙ ap (λ (v : TopoView C). without_consumer v c) mesh
-      ∙ ap (λ u. record (without_consumer t c) { topology = u }) same
+  dropped_is t mid new c mesh same is = search rules
 
   -- and counts keep what they keep
   pub dropped_kept : (t new : TopoView C) (c : ℕ) → IsSoundGraph t.topology → IsSome (consumer_at t.topology c)
       → value_at t.wants c ≡ Some no_counts → new ≡ without_consumer t c → CountsStay t new
-  dropped_kept t new c sound lives nothing is =
-      let found : Has (consumer_at t.topology c) = has (consumer_at t.topology c) lives in
-      subst (CountsStay t) (sym is) (dropped_stays t sound c found.item found.is nothing)
+  dropped_kept t new c sound lives nothing is = search (rules, dropped_stays t sound c)

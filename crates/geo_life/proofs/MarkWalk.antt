@@ -1,8 +1,7 @@
 -- The walk that marks the consumers above a provider that have to go, and one step of it and of a growth in a mesh.
 use Rattle.std.specs.Prelude.{◌≡◌, ℕ, ◌+◌, ◌≤◌, ◌==◌, nat_le, Bool, true, false, ◌&&◌, List, [], ◌∷◌, map, find, Some, Contains, if◌then◌else◌, not, ◌||◌, filter, unwrap_or}
-use Rattle.std.proofs.Common.{refl, sym, ap, ◌∙◌, subst, arith, inl, inr}
-use Rattle.std.proofs.Math.Bool.{and-false, and-true}
-use Rattle.std.proofs.lemmas.Bool.{eqb-true, eq-eqb, leb-false, le-leb, lt-leb, and_parts}
+use Rattle.std.proofs.Common.{refl, sym, ap, ◌∙◌, subst, inl, inr, rules}
+use Rattle.std.proofs.lemmas.Bool.{eq-eqb, le-leb}
 use Rattle.std.proofs.lemmas.Simd.{map-map}
 use Rattle.geo_model.specs.Words.{change_where, is_kind, names_number}
 use Rattle.geo_model.specs.Topology.{Consumer, Topology, geom_at, consumer_at, attached_to, set_marks}
@@ -10,7 +9,7 @@ use Rattle.geo_model.specs.Graph.{AreNumbers}
 use Rattle.geo_model.proofs.DemandLemmas.{map_same}
 use Rattle.geo_laws_graph.specs.LookupLaws.{left_from}
 use Rattle.geo_laws_graph.proofs.Lists.{unhit}
-use Rattle.geo_laws_graph.proofs.Members.{All-from_contained, at_contained, Contains-filter, filter-Contains, Contains-cases, nothing_in, Contains-here}
+use Rattle.geo_laws_graph.proofs.Members.{All-from_contained, at_contained, Contains-filter, filter-Contains, Contains-cases}
 use Rattle.geo_laws_graph.proofs.Numbered.{unique, number_found}
 use Rattle.std.specs.Option.{option_map_or}
 use Rattle.geo_base.specs.declared.request.Counts.{Counts}
@@ -26,7 +25,7 @@ use Rattle.geo_laws_counts.specs.CountWords.{seen_by_counts}
 use Rattle.geo_laws_counts.proofs.SeenCounts.{seen_stays}
 use Rattle.geo_access.specs.Views.{IsNextConsumer, want_at}
 use Rattle.geo_access.proofs.Decided.{item_at}
-use Rattle.geo_life.specs.Life.{consumers_above, IsDevMade, AreStored, CountsStay, queued}
+use Rattle.geo_life.specs.Life.{consumers_above, IsDevMade, AreStored, queued}
 use Rattle.geo_life.proofs.Uppers.{goes_above}
 use Rattle.geo_life.proofs.Unseen.{unseen_stays, seen_marks}
 use Rattle.geo_life.proofs.Rest.{mesh_self}
@@ -71,23 +70,14 @@ module _ (test : Consumer → Bool)
       by : (a b : Bool) → test c ≡ a → nat_le from_number c.number ≡ b
           → still test (n + 1) c ≡ still test from_number c
       by false b passes later = rw passes refl
-      by true false passes later =
-          rw (passes, later)
-          (lt-leb (n + 1) c.number (omega (arith, past, leb-false from_number c.number later)))
+      by true false passes later = search rules
       by true true passes later =
           elim (Contains-cases x c (users (n + 1))
           (subst (λ ys. Contains ys c) left (is_left from_number c there passes later))) [
             | inl same ↦ let no : true ≡ false = sym passes ∙ but same in absurd (cc)
             | inr behind ↦
-                rw (passes, later)
-                (filter-Contains (λ (y : Consumer). nat_le (n + 1) y.number) ys c behind).1
+                search (rules, filter-Contains (λ (y : Consumer). nat_le (n + 1) y.number) ys c behind)
           ]
-
-  -- at the beginning all that pass are to mark
-  pub mark_begin : change_where (still test 0) marked xs ≡ change_where test marked xs
-  mark_begin =
-      change_same (still test 0) test xs
-      (λ c there. ap (λ b. test c && b) (le-leb 0 c.number (omega arith)) ∙ and-true (test c))
 
   -- a consumer that doesn't pass is passed over
   pub mark_pass : (from_number n : ℕ) (x : Consumer) → users from_number ≡ x ∷ users (n + 1) → from_number ≤ n
@@ -120,40 +110,24 @@ module _ (test : Consumer → Bool)
           → (if still test (n + 1) (once c) then marked (once c) else once c)
           ≡ (if still test from_number c then marked c else c)
       by c there true e =
-          let same : c ≡ x =
-          at_contained (λ (y : Consumer). (y.number == n) ≡ true → y ≡ x) xs c
-          (unique (λ (y : Consumer). y.number) next n xs x order found) there e in
-          let passes : test c ≡ true = ap test same ∙ goes in
-          let is : c.number ≡ n = eqb-true c.number n e in
-          let here : nat_le from_number c.number ≡ true = le-leb from_number c.number (omega (arith, is, past)) in
-          let over : nat_le (n + 1) c.number ≡ false = lt-leb (n + 1) c.number (omega (arith, is)) in
-          ap (λ (d : Consumer). if still test (n + 1) d then marked d else d)
-          (ap (λ b. if b then marked c else c) e)
-          ∙ ap (λ b. if b then marked c else marked c)
-          (ap (λ b. test (marked c) && b) over ∙ and-false (test (marked c)))
-          ∙ sym (ap (λ b. if b then marked c else c) (ap (λ b. b && nat_le from_number c.number) passes ∙ here))
+          search (
+            rules,
+            at_contained (λ (y : Consumer). (y.number == n) ≡ true → y ≡ x) xs c
+                (unique (λ (y : Consumer). y.number) next n xs x order found) there e,
+            le-leb from_number c.number,
+          )
       by c there false e =
-          ap (λ (d : Consumer). if still test (n + 1) d then marked d else d)
-          (ap (λ b. if b then marked c else c) e)
-          ∙ ap (λ b. if b then marked c else c)
-          (still_same from_number n x left past c there
-          (λ same. let number : (c.number == n) ≡ true =
-          subst (λ (y : Consumer). (y.number == n) ≡ true) same
-          (eq-eqb x.number n (number_found (λ (y : Consumer). y.number) xs n x found)) in absurd (cc)))
+          search (
+            rules,
+            still_same from_number n x left past c there
+                (λ same. let number : (c.number == n) ≡ true = subst (λ (y : Consumer). (y.number == n) ≡ true) same
+                (eq-eqb x.number n (number_found (λ (y : Consumer). y.number) xs n x found)) in absurd (cc)),
+          )
 
   -- at the end none is to mark
   pub mark_end : (from_number : ℕ) → users from_number ≡ [] → change_where (still test from_number) marked xs ≡ xs
   mark_end from_number none =
-      unhit (still test from_number) marked xs
-      (All-from_contained (λ c. still test from_number c ≡ false) xs (λ c there.
-      by c there (test c) (nat_le from_number c.number) refl refl))
-    where
-      by : (c : Consumer) → Contains xs c → (a b : Bool) → test c ≡ a → nat_le from_number c.number ≡ b
-          → still test from_number c ≡ false
-      by c there false b passes later = rw passes refl
-      by c there true false passes later = rw (passes, later) refl
-      by c there true true passes later =
-          absurd (nothing_in c (subst (λ ys. Contains ys c) none (is_left from_number c there passes later)))
+      search (rules, unhit (still test from_number) marked xs, All-from_contained, is_left from_number)
 
 -- One step, in a mesh
 
@@ -169,8 +143,7 @@ stored_now granted t stored n x found =
 -- grants whose counts are stored are those still, after a change that counts don't see
 pub stored_still : {C : Type 0} (granted : ℕ → Counts) (t now : TopoView C) → now ≡ with_topology t now.topology
     → seen_by_counts now.topology ≡ seen_by_counts t.topology → AreStored granted t → AreStored granted now
-stored_still granted t now mesh same stored =
-    subst (AreStored granted) (sym mesh) (CountsStay.stored (unseen_stays t now.topology same) granted stored)
+stored_still granted t now mesh same stored = search (rules, unseen_stays t now.topology same)
 
 -- so are the counts themselves
 pub stored_want : {C : Type 0} (granted : ℕ → Counts) (t now : TopoView C) → now ≡ with_topology t now.topology
@@ -185,15 +158,12 @@ stored_want granted t now mesh same stored n x found =
 pub next_attached : {C : Type 0} (t : Topology C) (p from_number n : ℕ) (x : ConsRec)
     → IsNextConsumer t (consumers_above t p) from_number n x → names_number x.prov p ≡ true
 next_attached t p from_number n x next =
-    let there : Contains (left_from (λ (c : Consumer). c.number) from_number (consumers_above t p))
-    (consumer_seen n x) =
-    subst (λ ys. Contains ys (consumer_seen n x)) (sym next.left)
-    (Contains-here (consumer_seen n x) (left_from (λ (c : Consumer). c.number) (n + 1) (consumers_above t p))) in
-    let among =
-    filter-Contains (λ (c : Consumer). nat_le from_number c.number) (consumers_above t p) (consumer_seen n x) there in
-    let inside =
-    filter-Contains (λ (c : Consumer). not (c.geom == 1)) (attached_to t p) (consumer_seen n x) among.0 in
-    (filter-Contains (λ (c : Consumer). names_number c.provider p) t.consumers (consumer_seen n x) inside.0).1
+    search (
+      rules,
+      filter-Contains (λ (c : Consumer). nat_le from_number c.number) (consumers_above t p) (consumer_seen n x),
+      filter-Contains (λ (c : Consumer). not (c.geom == 1)) (attached_to t p) (consumer_seen n x),
+      filter-Contains (λ (c : Consumer). names_number c.provider p) t.consumers (consumer_seen n x),
+    )
 
 module _ {C : Type 0} (granted : ℕ → Counts) (t : TopoView C) (p : ℕ) (stored : AreStored granted t)
     (whole : IsSoundGraph t.topology) (made : IsDevMade t.topology) where
@@ -202,10 +172,7 @@ module _ {C : Type 0} (granted : ℕ → Counts) (t : TopoView C) (p : ℕ) (sto
   goes = is_to_spoil granted t.topology p
 
   at : (c : Consumer) → goes c ≡ true → names_number c.provider p ≡ true
-  at c e =
-      (and_parts (names_number c.provider p)
-      (((want granted t.topology c).w == 0)
-      && option_map_or (λ g. g.automatic || is_kind g.kind kinds.Taste) (geom_at t.topology c.geom) false) e).0
+  at c e = search rules
 
   -- those that have to go are above the provider
   inside : (xs : List Consumer) (c : Consumer) → Contains xs c → goes c ≡ true
@@ -217,10 +184,7 @@ module _ {C : Type 0} (granted : ℕ → Counts) (t : TopoView C) (p : ℕ) (sto
 
   -- at the beginning
   pub marks_begin : set_marks t.topology (still goes 0) true ≡ mark_spoiled granted t.topology p
-  marks_begin =
-      ap (λ cs. record t.topology { consumers = cs })
-      (mark_begin goes (λ c. refl) t.topology.consumers (consumers_above t.topology p)
-      (inside t.topology.consumers))
+  marks_begin = search rules
 
   module _ (now : TopoView C)
       (mesh : now ≡ with_topology t (record t.topology { consumers = now.topology.consumers }))
@@ -238,17 +202,15 @@ module _ {C : Type 0} (granted : ℕ → Counts) (t : TopoView C) (p : ℕ) (sto
     -- is whether it has to go
     goes_is : goes (consumer_seen n x) ≡ asked
     goes_is =
-        ap (λ b. b && (((want granted t.topology (consumer_seen n x)).w == 0)
-        && option_map_or (λ g. g.automatic || is_kind g.kind kinds.Taste) (geom_at t.topology x.geom) false))
-        (next_attached now.topology p from_number n x next)
-        ∙ ap (λ (a : Counts). (a.w == 0)
-        && option_map_or (λ g. g.automatic || is_kind g.kind kinds.Taste) (geom_at t.topology x.geom) false)
-        (sym (stored_want granted t now
-        (mesh_self t now (record t.topology { consumers = now.topology.consumers }) mesh) same stored n
-        (consumer_seen n x) next.lives) ∙ its)
-        ∙ ap (λ (v : TopoView C). (x.want.w == 0)
-        && option_map_or (λ g. g.automatic || is_kind g.kind kinds.Taste) (geom_at v.topology x.geom) false)
-        (sym mesh)
+        search (
+          rules,
+          next_attached now.topology p from_number n x next,
+          stored_want granted t now (mesh_self t now (record t.topology { consumers = now.topology.consumers }) mesh)
+              same stored n (consumer_seen n x) next.lives,
+          ap
+              (λ (v : TopoView C). (x.want.w == 0) && option_map_or (λ g. g.automatic || is_kind g.kind kinds.Taste)
+              (geom_at v.topology x.geom) false) (sym mesh),
+        )
 
     -- one that stays is passed over
     pub marks_pass : asked ≡ false
@@ -272,21 +234,14 @@ module _ {C : Type 0} (granted : ℕ → Counts) (t : TopoView C) (p : ℕ) (sto
     pub marks_step : (u : Topology C)
         → u ≡ (if asked then set_marks now.topology (λ c. c.number == n) true else now.topology)
         → set_marks u (still goes (n + 1)) true ≡ set_marks now.topology (still goes from_number) true
-    marks_step u is = by asked refl is
-      where
-        by : (b : Bool) → asked ≡ b
-            → u ≡ (if b then set_marks now.topology (λ c. c.number == n) true else now.topology)
-            → set_marks u (still goes (n + 1)) true ≡ set_marks now.topology (still goes from_number) true
-        by true e same = ap (λ v. set_marks v (still goes (n + 1)) true) same ∙ marks_one e
-        by false e same = ap (λ v. set_marks v (still goes (n + 1)) true) same ∙ marks_pass e
+    marks_step u is = search (rules, marks_one, marks_pass)
 
   -- at the end
   pub marks_end : (u : Topology C) (from_number : ℕ)
       → left_from (λ (c : Consumer). c.number) from_number (consumers_above u p) ≡ []
       → set_marks u (still goes from_number) true ≡ u
   marks_end u from_number none =
-      ap (λ cs. record u { consumers = cs })
-      (mark_end goes (λ c. refl) u.consumers (consumers_above u p) (inside u.consumers) from_number none)
+      search (rules, mark_end goes (λ c. refl) u.consumers (consumers_above u p) (inside u.consumers) from_number none)
 
 -- a mark changes consumers alone
 pub mark_mesh : {C : Type 0} (t now new : TopoView C) (b : Bool) (n : ℕ)
@@ -297,10 +252,7 @@ mark_mesh {C} t now new b n before is = by b is
   where
     from : (cs : List Consumer) → new ≡ with_topology now (record now.topology { consumers = cs })
         → new ≡ with_topology t (record t.topology { consumers = new.topology.consumers })
-    from cs same =
-        same
-        ∙ ap (λ (v : TopoView C). with_topology v (record v.topology { consumers = cs })) before
-        ∙ ap (λ (v : TopoView C). with_topology t (record t.topology { consumers = v.topology.consumers })) (sym same)
+    from cs same = search rules
 
     by : (c : Bool)
         → new ≡ with_topology now (if c then set_marks now.topology (λ x. x.number == n) true else now.topology)
@@ -312,8 +264,7 @@ mark_mesh {C} t now new b n before is = by b is
 pub mark_unseen : {C : Type 0} (now new : TopoView C) (b : Bool) (n : ℕ)
     → new ≡ with_topology now (if b then set_marks now.topology (λ c. c.number == n) true else now.topology)
     → seen_by_counts new.topology ≡ seen_by_counts now.topology
-mark_unseen {C} now new true n is =
-    ap (λ (v : TopoView C). seen_by_counts v.topology) is ∙ seen_marks now.topology (λ c. c.number == n) true
+mark_unseen {C} now new true n is = search (rules, seen_marks now.topology (λ c. c.number == n) true)
 mark_unseen {C} now new false n is = ap (λ (v : TopoView C). seen_by_counts v.topology) is
 
 -- A growth
@@ -327,7 +278,4 @@ pub outgrow_is : {C : Type 0} (granted : ℕ → Counts) (now : TopoView C) (que
     then wither (queued now queue) x.geom else queued now queue)
     → new ≡ outgrow_consumer granted (queued now queue) x
 outgrow_is granted now queue new x w stored found its is =
-    is
-    ∙ ap (λ a. if is_zero a && option_map_or (λ g. g.automatic && not g.withering) (geom_at now.topology x.geom) false
-    then wither (queued now queue) x.geom else queued now queue)
-    (sym its ∙ stored_now granted now stored x.number x found)
+    search (rules, stored_now granted now stored x.number x found)

@@ -1,6 +1,6 @@
 -- How many places events can take, and by which grants counts are stored.
 use Rattle.std.specs.Prelude.{◌≡◌, ℕ, ◌≤◌, Bool, not, List, map, filter, length, Contains}
-use Rattle.std.proofs.Common.{sym, ap, ◌∙◌, arith}
+use Rattle.std.proofs.Common.{sym, ap, ◌∙◌, arith, rules}
 use Rattle.std.proofs.lemmas.List.{length-map}
 use Rattle.geo_model.specs.Topology.{Provider, Consumer}
 use Rattle.geo_model.specs.Demand.{want}
@@ -26,11 +26,7 @@ few_notes rows ps same =
     omega (arith, kept, named, as_many)
 
 pub places_are_few : {C : Type 0} → PlacesAreFew C
-places_are_few = record {
-  sound = λ t. length-kept (λ (x : Provider). not x.errored) t.providers;
-  risen = λ t counted. few_notes t.risen t.topology.providers counted.risen;
-  fallen = λ t counted. few_notes t.fallen t.topology.providers counted.fallen;
-}
+places_are_few = search (rules, length-kept (λ (x : Provider). not x.errored), few_notes)
 
 pub counts_are_stored : {C : Type 0} → CountsAreStored C
 counts_are_stored t granted counted agree =

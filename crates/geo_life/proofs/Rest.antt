@@ -1,9 +1,9 @@
 -- What stays beside the graph and the events, over several changes.
 use Rattle.std.specs.Prelude.{Bool, true, false, not, map, filter, if◌then◌else◌, ◌≡◌, ◌⊎◌, ℕ, ◌+◌, ◌-◌, ◌≤◌, List, [], ◌∷◌, ◌++◌, length}
-use Rattle.std.proofs.Common.{refl, sym, ap, ◌∙◌, subst, inl, inr, arith}
+use Rattle.std.proofs.Common.{refl, sym, ap, ◌∙◌, subst, inl, inr, rules}
 use Rattle.std.proofs.lemmas.List.{length-append}
-use Rattle.geo_model.specs.Topology.{Topology, Consumer, providers_of, is_withering, set_error, set_withering}
-use Rattle.geo_model.specs.Events.{QueuedTopology, orphan_provider, wither, wither_unless_withering, is_of_dev, orphan_consumer}
+use Rattle.geo_model.specs.Topology.{Topology, Consumer, providers_of, set_error, set_withering}
+use Rattle.geo_model.specs.Events.{QueuedTopology, orphan_provider, wither, wither_unless_withering, orphan_consumer}
 use Rattle.geo_access.proofs.Folding.{fold_leaves}
 use Rattle.geo_event.specs.EventQueue.{Queued}
 use Rattle.geo_mesh.specs.Graph.{IsSoundGraph}
@@ -32,16 +32,12 @@ module _ {C : Type 0} where
   pub rest_more : (t : TopoView C) (q : Queued) (a : TopoView C) (aq : Queued) (b : TopoView C) (bq : Queued)
       → RestStays t q a aq
       → RestStays a aq b bq → RestStays t q b bq
-  rest_more t q a aq b bq first second = record {
-    mesh = second.mesh ∙ ap (λ (v : TopoView C). with_topology v b.topology) first.mesh;
-    room = second.room ∙ first.room;
-  }
+  rest_more t q a aq b bq first second = search rules
 
 -- a post takes one place
 pub post_room : {X : Type 0} (xs : List X) (x : X) (s : ℕ) → 1 ≤ s
     → (s - 1) + length (xs ++ x ∷ []) ≡ s + length xs
-post_room xs x s some =
-    let more : length (xs ++ x ∷ []) ≡ length xs + 1 = length-append xs (x ∷ []) in omega (arith, more, some)
+post_room xs x s some = search (rules, length-append xs (x ∷ []))
 
 -- What a geom that withers leaves
 
@@ -58,19 +54,11 @@ module _ {C V : Type 0} (see : Topology C → V)
 
   -- unless it does so already
   pub unless_leaves : (q : QueuedTopology C) (g : ℕ) → see (wither_unless_withering q g).topology ≡ see q.topology
-  unless_leaves q g = by (is_withering q.topology g)
-    where
-      by : (b : Bool) → see (if b then q else wither q g).topology ≡ see q.topology
-      by true = refl
-      by false = wither_leaves q g
+  unless_leaves q g = search (rules, wither_leaves q g)
 
   -- by a consumer that hears of an orphan
   pub orphan_leaves : (q : QueuedTopology C) (x : Consumer) → see (orphan_consumer q x).topology ≡ see q.topology
-  orphan_leaves q x = by (is_of_dev q.topology x)
-    where
-      by : (b : Bool) → see (if b then q else wither_unless_withering q x.geom).topology ≡ see q.topology
-      by true = refl
-      by false = unless_leaves q x.geom
+  orphan_leaves q x = search (rules, unless_leaves q x.geom)
 
   -- and by what was done where a geom may wither
   pub if_leaves : (b : Bool) (q new : QueuedTopology C) (g : ℕ) → new ≡ (if b then wither q g else q)

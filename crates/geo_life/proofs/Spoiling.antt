@@ -1,8 +1,7 @@
 -- The walks over the consumers above a provider that hear of its spoil or its orphan.
-use Rattle.std.specs.Prelude.{◌≡◌, ℕ, ◌+◌, ◌==◌, Bool, true, false, not, List, [], ◌∷◌, filter, fold, if◌then◌else◌}
-use Rattle.std.proofs.Common.{refl, sym, ap, ◌∙◌, arith}
+use Rattle.std.specs.Prelude.{◌≡◌, ℕ, ◌+◌, ◌==◌, Bool, true, false, List, [], ◌∷◌, filter, fold, if◌then◌else◌}
+use Rattle.std.proofs.Common.{refl, ap, ◌∙◌, arith, rules}
 use Rattle.geo_base.specs.declared.request.Counts.{Counts}
-use Rattle.geo_model.specs.Words.{names_number}
 use Rattle.geo_model.specs.Topology.{Topology, Consumer, set_marks}
 use Rattle.geo_model.specs.Events.{QueuedTopology, orphan_provider, wither, wither_unless_withering, spoil_consumer, spoil, orphan_consumer, is_outgrown, outgrow_consumer}
 use Rattle.geo_laws_graph.specs.LookupLaws.{left_from}
@@ -52,9 +51,7 @@ module _ {C : Type 0} (p : ℕ) where
 
   -- they are the same where the consumers are
   same_users : (t u : Topology C) → u.consumers ≡ t.consumers → (n : ℕ) → users_left u n ≡ users_left t n
-  same_users t u same n =
-      ap (λ cs. left_from (λ (c : Consumer). c.number) n
-      (filter (λ c. not (c.geom == 1)) (filter (λ x. names_number x.provider p) cs))) same
+  same_users t u same n = search rules
 
   -- A spoil
 
@@ -68,12 +65,6 @@ module _ {C : Type 0} (p : ℕ) where
       ap (λ xs. fold spoil_consumer q (filter (λ c. c.spoiled) xs))
       (walk-begin (λ (c : Consumer). c.number) (consumers_above q.topology p))
       ∙ ap (fold spoil_consumer q) (spoil_above q.topology p unmarked)
-
-  -- one without a mark is passed over
-  pub spoil_pass : (q : QueuedTopology C) (from_number n : ℕ) (x : Consumer)
-      → users_left q.topology from_number ≡ x ∷ users_left q.topology (n + 1) → x.spoiled ≡ false
-      → spoil_left q (n + 1) ≡ spoil_left q from_number
-  spoil_pass q from_number n x left is = rw (left, is) refl
 
   -- one that loses its mark isn't among those behind it
   spoil_past : (q : QueuedTopology C) (x : Consumer)
@@ -92,21 +83,14 @@ module _ {C : Type 0} (p : ℕ) where
   pub spoil_one : (q : QueuedTopology C) (from_number : ℕ) (x : Consumer)
       → users_left q.topology from_number ≡ x ∷ users_left q.topology (x.number + 1) → x.spoiled ≡ true
       → spoil_left (spoil_consumer q x) (x.number + 1) ≡ spoil_left q from_number
-  spoil_one q from_number x left is =
-      ap (λ xs. fold spoil_consumer (spoil_consumer q x) (filter (λ c. c.spoiled) xs)) (spoil_past q x)
-      ∙ rw (left, is) refl
+  spoil_one q from_number x left is = search (rules, spoil_past q x)
 
   -- either way
   pub spoil_step : (q new : QueuedTopology C) (from_number : ℕ) (x : Consumer)
       → users_left q.topology from_number ≡ x ∷ users_left q.topology (x.number + 1)
       → new ≡ (if x.spoiled then spoil_consumer q x else q)
       → spoil_left new (x.number + 1) ≡ spoil_left q from_number
-  spoil_step q new from_number x left is = by x.spoiled refl is
-    where
-      by : (b : Bool) → x.spoiled ≡ b → new ≡ (if b then spoil_consumer q x else q)
-          → spoil_left new (x.number + 1) ≡ spoil_left q from_number
-      by true e same = ap (λ r. spoil_left r (x.number + 1)) same ∙ spoil_one q from_number x left e
-      by false e same = ap (λ r. spoil_left r (x.number + 1)) same ∙ spoil_pass q from_number x.number x left e
+  spoil_step q new from_number x left is = search (rules, spoil_one q from_number x left)
 
   -- at the end none is left
   pub spoil_end : (q : QueuedTopology C) (from_number : ℕ) → users_left q.topology from_number ≡ []
@@ -125,20 +109,11 @@ module _ {C : Type 0} (p : ℕ) where
     pub hear_begin : (q : QueuedTopology C) → hear_left q 0 ≡ fold f q (consumers_above q.topology p)
     hear_begin q = ap (fold f q) (walk-begin (λ (c : Consumer). c.number) (consumers_above q.topology p))
 
-    -- after one more
-    pub hear_one : (q : QueuedTopology C) (from_number : ℕ) (x : Consumer)
-        → users_left q.topology from_number ≡ x ∷ users_left q.topology (x.number + 1)
-        → hear_left (f q x) (x.number + 1) ≡ hear_left q from_number
-    hear_one q from_number x left =
-        ap (fold f (f q x)) (same_users q.topology (f q x).topology (leaves q x) (x.number + 1))
-        ∙ sym (ap (fold f q) left)
-
     -- by what was done
     pub hear_step : (q new : QueuedTopology C) (from_number : ℕ) (x : Consumer)
         → users_left q.topology from_number ≡ x ∷ users_left q.topology (x.number + 1) → new ≡ f q x
         → hear_left new (x.number + 1) ≡ hear_left q from_number
-    hear_step q new from_number x left is =
-        ap (λ r. hear_left r (x.number + 1)) is ∙ hear_one q from_number x left
+    hear_step q new from_number x left is = search rules
 
     -- at the end none is left
     pub hear_end : (q : QueuedTopology C) (from_number : ℕ) → users_left q.topology from_number ≡ []

@@ -1,13 +1,13 @@
 -- Changes of a graph that counts don't see leave grants, stored counts and notes; so do all but washing.
-use Rattle.std.specs.Prelude.{◌≡◌, ◌⊎◌, ℕ, ◌==◌, Bool, true, false, List, map, find, Option, Some, None, Contains, All, unwrap_or, option_map, if◌then◌else◌, filter}
+use Rattle.std.specs.Prelude.{◌≡◌, ◌⊎◌, ℕ, ◌==◌, Bool, true, false, List, map, find, Option, None, Contains, All, unwrap_or, if◌then◌else◌, filter}
 use Rattle.std.specs.Option.{option_map_or}
-use Rattle.std.proofs.Common.{refl, sym, ◌∙◌, ap, subst}
+use Rattle.std.proofs.Common.{refl, sym, ◌∙◌, ap, subst, rules}
 use Rattle.std.proofs.lemmas.List.Elements.{All-contains}
 use Rattle.std.proofs.lemmas.Simd.{map-map}
 use Rattle.geo_base.specs.declared.kind.Kind.{Kind}
 use Rattle.geo_base.specs.declared.request.Counts.{Counts}
 use Rattle.geo_model.specs.Words.{is_granted_kind}
-use Rattle.geo_model.specs.Topology.{Topology, Geom, Provider, Consumer, geom_at, consumer_at, attached_to, set_error, set_withering, set_marks}
+use Rattle.geo_model.specs.Topology.{Topology, Geom, Provider, Consumer, attached_to, set_error, set_withering, set_marks}
 use Rattle.geo_model.specs.Demand.{no_counts, have, want}
 use Rattle.geo_slots.specs.Slots.{value_at}
 use Rattle.geo_mesh.specs.Topo.{TopoView, no_scratch, with_topology}
@@ -52,40 +52,17 @@ module _ {C : Type 0} where
 
   -- the class of a geom is seen
   holds_is_seen : (t : Topology C) (g : ℕ) → holds_grants t g ≡ holds_seen (seen_by_counts t) g
-  holds_is_seen t g =
-      at (geom_at t g)
-      ∙ ap (λ o. option_map_or (λ (x : ℕ × Kind). is_granted_kind x.1) o false)
-      (sym (find-map (λ (y : ℕ × Kind). y.0 == g) geom_seen t.geoms))
-    where
-      at : (o : Option (Geom C))
-          → option_map_or (λ (x : Geom C). is_granted_kind x.kind) o false
-          ≡ option_map_or (λ (x : ℕ × Kind). is_granted_kind x.1) (option_map geom_seen o) false
-      at None = refl
-      at (Some x) = refl
+  holds_is_seen t g = search (rules, find-map (λ (y : ℕ × Kind). y.0 == g) geom_seen t.geoms)
 
   -- so is what a consumer is granted
   granted_is_seen : (t : TopoView C) (c : ℕ)
       → granted_by t c ≡ granted_seen (seen_by_counts t.topology) t.wants c
   granted_is_seen t c =
-      at (consumer_at t.topology c)
-      ∙ ap (λ o.
-      option_map_or
-      (λ (x : ℕ × ℕ × Option ℕ).
-      if holds_seen (seen_by_counts t.topology) x.1 then unwrap_or (value_at t.wants c) no_counts else no_counts) o
-      no_counts)
-      (sym (find-map (λ (y : ℕ × ℕ × Option ℕ). y.0 == c) consumer_seen t.topology.consumers))
-    where
-      at : (o : Option Consumer)
-          → option_map_or
-          (λ (x : Consumer).
-          if holds_grants t.topology x.geom then unwrap_or (value_at t.wants c) no_counts else no_counts) o no_counts
-          ≡ option_map_or
-          (λ (x : ℕ × ℕ × Option ℕ).
-          if holds_seen (seen_by_counts t.topology) x.1 then unwrap_or (value_at t.wants c) no_counts else no_counts)
-          (option_map consumer_seen o) no_counts
-      at None = refl
-      at (Some x) =
-          ap (λ b. if b then unwrap_or (value_at t.wants c) no_counts else no_counts) (holds_is_seen t.topology x.geom)
+      search (
+        rules,
+        find-map (λ (y : ℕ × ℕ × Option ℕ). y.0 == c) consumer_seen t.topology.consumers,
+        holds_is_seen t.topology,
+      )
 
 module _ {C : Type 0} (t : TopoView C) (u : Topology C) (same : seen_by_counts u ≡ seen_by_counts t.topology) where
   -- the mesh with the other graph
@@ -94,8 +71,7 @@ module _ {C : Type 0} (t : TopoView C) (u : Topology C) (same : seen_by_counts u
 
   -- each consumer is granted what it was
   grants_stay : (c : ℕ) → granted_by other c ≡ granted_by t c
-  grants_stay c =
-      granted_is_seen other c ∙ ap (λ s. granted_seen s t.wants c) same ∙ sym (granted_is_seen t c)
+  grants_stay c = search (rules, granted_is_seen other c, granted_is_seen t c)
 
   -- numbers are what they were
   geom_rows : {V : Type 0} (f : ℕ → V)
@@ -103,16 +79,14 @@ module _ {C : Type 0} (t : TopoView C) (u : Topology C) (same : seen_by_counts u
       ≡ map {B = ℕ × V} (λ (x : Geom C). (x.number, f x.number)) t.topology.geoms
   geom_rows {V} f =
       let row : ℕ × Kind → ℕ × V = λ x. (x.0, f x.0) in
-      sym (map-map row geom_seen u.geoms) ∙ ap (λ (s : Seen). map row s.geoms) same
-      ∙ map-map row geom_seen t.topology.geoms
+      search (rules, map-map row geom_seen u.geoms, map-map row geom_seen t.topology.geoms)
 
   pub provider_rows : {V : Type 0} (f : ℕ → V)
       → map {B = ℕ × V} (λ (x : Provider). (x.number, f x.number)) u.providers
       ≡ map {B = ℕ × V} (λ (x : Provider). (x.number, f x.number)) t.topology.providers
   provider_rows {V} f =
       let row : ℕ × ℕ → ℕ × V = λ x. (x.0, f x.0) in
-      sym (map-map row provider_seen u.providers) ∙ ap (λ (s : Seen). map row s.providers) same
-      ∙ map-map row provider_seen t.topology.providers
+      search (rules, map-map row provider_seen u.providers, map-map row provider_seen t.topology.providers)
 
   provider_keys : map (λ (x : Provider). x.number) u.providers ≡ map (λ (x : Provider). x.number) t.topology.providers
   provider_keys =
@@ -125,21 +99,18 @@ module _ {C : Type 0} (t : TopoView C) (u : Topology C) (same : seen_by_counts u
       ≡ map {B = ℕ × V} (λ (x : Consumer). (x.number, f x.number x.geom)) t.topology.consumers
   consumer_rows {V} f =
       let row : ℕ × ℕ × Option ℕ → ℕ × V = λ x. (x.0, f x.0 x.1) in
-      sym (map-map row consumer_seen u.consumers) ∙ ap (λ (s : Seen). map row s.consumers) same
-      ∙ map-map row consumer_seen t.topology.consumers
+      search (rules, map-map row consumer_seen u.consumers, map-map row consumer_seen t.topology.consumers)
 
   -- wants are stored by the same grants
   stores_stay : (granted : ℕ → Counts) → AreStored granted t → AreStored granted other
   stores_stay granted stored =
-      stored
-      ∙ sym (consumer_rows (λ n g. want granted t.topology (record {
-        number = n;
-        geom = g;
-        provider = None;
-        spoiled = false;
-      })))
-      ∙ rows_agree (λ (c : Consumer). c.number) (want granted t.topology) (want granted u) u.consumers
-      (λ c there. sym ((seen_stays granted t.topology u (sym same)).wants c tt))
+      search (
+        rules,
+        consumer_rows
+            (λ n g. want granted t.topology (record { number = n; geom = g; provider = None; spoiled = false })),
+        rows_agree (λ (c : Consumer). c.number) (want granted t.topology) (want granted u) u.consumers
+            (λ c there. sym ((seen_stays granted t.topology u (sym same)).wants c tt)),
+      )
 
   -- only the first two geoms are of DEV or TASTE
   kinds_stay : All (λ (g : Geom C). is_granted_kind g.kind ≡ true → (g.number ≡ 1) ⊎ (g.number ≡ 2)) t.topology.geoms
@@ -156,11 +127,8 @@ module _ {C : Type 0} (t : TopoView C) (u : Topology C) (same : seen_by_counts u
 
   -- nothing is left to try
   clear_stays : clear_scratches u ≡ clear_scratches t.topology
-  clear_stays = λ i. record {
-    geoms = geom_rows (λ n. no_scratch) i;
-    providers = provider_rows (λ n. no_scratch) i;
-    consumers = consumer_rows (λ n g. no_scratch) i;
-  }
+  clear_stays =
+      search (rules, geom_rows (λ n. no_scratch), provider_rows (λ n. no_scratch), consumer_rows (λ n g. no_scratch))
 
   -- all stored counts are what the model sums up
   counted_stays : IsCounted t → IsCounted other
@@ -171,36 +139,26 @@ module _ {C : Type 0} (t : TopoView C) (u : Topology C) (same : seen_by_counts u
       grants_agree (granted_by t) (granted_by other) u
       (all_of (λ (c : Consumer). granted_by other c.number ≡ granted_by t c.number) u.consumers
       (λ c there. grants_stay c.number)) in
-      record {
-        kinds = kinds_stay counted.kinds;
-        haves =
-            counted.haves
-            ∙ sym (provider_rows (have (granted_by t) t.topology))
-            ∙ rows-same_on (λ (z : Provider). z.number) (have (granted_by t) t.topology) (have (granted_by other) u)
-            u.providers
-            (λ z there. sym (second.haves z.number ∙ first.haves z.number));
-        wants =
-            stores_stay (granted_by t) counted.wants
-            ∙ rows_agree (λ (c : Consumer). c.number) (want (granted_by t) u) (want (granted_by other) u) u.consumers
-            (λ c there. sym (second.wants c there));
-        exclusive = second.exclusive (first.exclusive counted.exclusive);
-        limit = second.limit (first.limit counted.limit);
-        risen = counted.risen ∙ sym provider_keys;
-        fallen = counted.fallen ∙ sym provider_keys;
-        clear = counted.clear ∙ sym clear_stays;
-      }
+      search (
+        rules,
+        kinds_stay counted.kinds,
+        provider_rows (have (granted_by t) t.topology),
+        rows-same_on (λ (z : Provider). z.number) (have (granted_by t) t.topology) (have (granted_by other) u)
+            u.providers (λ z there. sym (second.haves z.number ∙ first.haves z.number)),
+        stores_stay (granted_by t) counted.wants,
+        rows_agree (λ (c : Consumer). c.number) (want (granted_by t) u) (want (granted_by other) u) u.consumers
+            (λ c there. sym (second.wants c there)),
+        second.exclusive (first.exclusive counted.exclusive),
+        first.exclusive counted.exclusive,
+        second.limit (first.limit counted.limit),
+        first.limit counted.limit,
+        provider_keys,
+        clear_stays,
+      )
 
   -- all that counts keep
   pub unseen_stays : CountsStay t other
-  unseen_stays = record {
-    granted = grants_stay;
-    stored = stores_stay;
-    counted = counted_stays;
-    quiet = λ quiet. record {
-      risen = quiet.risen ∙ sym (provider_rows (λ n. false));
-      fallen = quiet.fallen ∙ sym (provider_rows (λ n. false));
-    };
-  }
+  unseen_stays = search (rules, grants_stay, stores_stay, counted_stays, provider_rows (λ n. false))
 
 -- What this crate does
 

@@ -1,16 +1,14 @@
 -- Walks over the consumers at a provider that aren't DEV's, and why the others don't count.
-use Rattle.std.specs.Prelude.{◌≡◌, ◌≢◌, ℕ, ◌==◌, nat_le, Bool, true, false, not, ◌&&◌, ◌||◌, List, [], ◌∷◌, map, filter, find, fold, Option, Some, None, Contains, IsSomeAnd, if◌then◌else◌}
-use Rattle.std.specs.Option.{option_map, option_map_or}
-use Rattle.std.proofs.Common.{refl, sym, ap, ◌∙◌, subst}
-use Rattle.std.proofs.Math.Bool.{and-false}
-use Rattle.std.proofs.lemmas.Bool.{eqb-true, eq-eqb, not-false, and_parts}
+use Rattle.std.specs.Prelude.{◌≡◌, ◌≢◌, ℕ, ◌==◌, nat_le, Bool, true, false, not, ◌&&◌, List, [], ◌∷◌, map, filter, find, fold, Option, Some, None, Contains, IsSomeAnd}
+use Rattle.std.specs.Option.{option_map}
+use Rattle.std.proofs.Common.{refl, sym, ap, ◌∙◌, subst, rules}
+use Rattle.std.proofs.lemmas.Bool.{eqb-true, eq-eqb, not-false}
 use Rattle.std.proofs.lemmas.List.Elements.{All-contains}
 use Rattle.geo_base.specs.declared.request.Counts.{Counts}
 use Rattle.geo_base.specs.declared.kind.Kind.TheVariants as kinds
-use Rattle.geo_model.specs.Words.{is_kind, names_number, change_where}
-use Rattle.geo_model.specs.Topology.{Topology, Geom, Consumer, geom_at, consumer_at, providers_of, consumers_of, attached_to, is_withering, set_withering, set_marks}
-use Rattle.geo_model.specs.Demand.{want, is_zero}
-use Rattle.geo_model.specs.Events.{QueuedTopology, orphan_provider, wither, wither_unless_withering, is_to_spoil, is_of_dev, orphan_consumer, orphan, is_outgrown, outgrow_consumer}
+use Rattle.geo_model.specs.Words.{names_number, change_where}
+use Rattle.geo_model.specs.Topology.{Topology, Geom, Consumer, geom_at, consumer_at, providers_of, consumers_of, attached_to, set_withering, set_marks}
+use Rattle.geo_model.specs.Events.{QueuedTopology, orphan_provider, wither, wither_unless_withering, is_to_spoil, orphan_consumer, orphan, outgrow_consumer}
 use Rattle.geo_mesh.specs.declared.records.ConsRec.{ConsRec}
 use Rattle.geo_mesh.specs.Cells.{consumer_seen}
 use Rattle.geo_mesh.specs.Graph.{IsSoundGraph}
@@ -18,7 +16,7 @@ use Rattle.geo_mesh.proofs.IndexLemmas.{filter-both}
 use Rattle.geo_laws_graph.specs.LookupLaws.{WitheringIsFound, MarksAreFound}
 use Rattle.geo_laws_graph.proofs.Found.{withering-found, marks-found}
 use Rattle.geo_laws_graph.proofs.Lists.{filter-changed}
-use Rattle.geo_laws_graph.proofs.Members.{Contains-here, Contains-there, Contains-filter, filter-Contains}
+use Rattle.geo_laws_graph.proofs.Members.{Contains-there, Contains-filter, filter-Contains}
 use Rattle.geo_access.specs.Views.{IsNextConsumer}
 use Rattle.geo_access.proofs.Walking.{consumer_next, consumer_some}
 use Rattle.geo_life.specs.Life.{consumers_above, IsDevMade, AreHandlesUnmarked}
@@ -39,36 +37,23 @@ module _ {C : Type 0} (t : Topology C) (p : ℕ) where
     -- the same by the one test
     first_is : option_map (λ (y : Consumer). y.number)
         (find (λ y. nat_le from_number y.number) (filter is_above t.consumers)) ≡ Some n
-    first_is =
-        ap (λ xs. option_map (λ (y : Consumer). y.number) (find (λ y. nat_le from_number y.number) xs)) above_is
-        ∙ first
+    first_is = search (rules, above_is)
 
     -- the next one of a walk, as the look-up gives it
     pub above_next : (x : ConsRec) → consumer_at t n ≡ Some (consumer_seen n x)
         → IsNextConsumer t (consumers_above t p) from_number n x
-    above_next x found =
-        subst (λ xs. IsNextConsumer t xs from_number n x) above_is
-        (consumer_next t sound is_above from_number n x first_is found)
+    above_next x found = search (rules, above_is, consumer_next t sound is_above from_number n x first_is found)
 
     -- and there is one
     pub above_some : consumer_at t n ≡ None → ⊥
     above_some none = consumer_some t sound is_above from_number n first_is none
 
 module _ {X : Type 0} (keep test : X → Bool) where
-  -- one item more of the list
-  spared_step : (x : X) (xs : List X) (a : Bool) → keep x ≡ a → (keep x ≡ false → test x ≡ false)
-      → filter test (filter keep xs) ≡ filter test xs
-      → filter test (filter keep (x ∷ xs)) ≡ filter test (x ∷ xs)
-  spared_step x xs true e so rest = rw (e, rest) refl
-  spared_step x xs false e so rest = rw (e, so e) rest
-
   -- where none of those that go passes, those that pass are the same
   pub filter_spared : (xs : List X) → ((x : X) → Contains xs x → keep x ≡ false → test x ≡ false)
       → filter test (filter keep xs) ≡ filter test xs
   filter_spared [] so = refl
-  filter_spared (x ∷ xs) so =
-      spared_step x xs (keep x) refl (so x (Contains-here x xs))
-      (filter_spared xs (λ y there. so y (Contains-there x y xs there)))
+  filter_spared (x ∷ xs) so = search (rules, filter_spared xs (λ y there. so y (Contains-there x y xs there)))
 
 module _ {S X : Type 0} (keep : X → Bool) (f : S → X → S) (Fine : S → Type 0)
     (stays : (s : S) (x : X) → Fine s → Fine (f s x))
@@ -107,8 +92,7 @@ module _ {C : Type 0} (Is : Geom C → Type 0) (same : (x : Geom C) → Is x →
           ap (λ n. geom_at (set_withering t n) 1) is ∙ WitheringIsFound.here withering-found t 1 x found in
           subst (λ o. IsSomeAnd o Is) (sym here) (same x its)
       by (Some x) found its false e =
-          let apart : 1 ≢ g = λ is. let hit : (g == 1) ≡ true = eq-eqb g 1 (sym is) in
-          let never : true ≡ false = sym hit ∙ e in absurd (cc) in
+          let apart : 1 ≢ g = search rules in
           subst (λ o. IsSomeAnd o Is) (sym (WitheringIsFound.others withering-found t g 1 apart ∙ found)) its
 
   -- through providers that are orphaned
@@ -124,11 +108,7 @@ module _ {C : Type 0} (Is : Geom C → Type 0) (same : (x : Geom C) → Is x →
 
   -- unless it does so already
   pub dev_unless : (q : QueuedTopology C) (g : ℕ) → DevIs q.topology → DevIs (wither_unless_withering q g).topology
-  dev_unless q g dev = by (is_withering q.topology g)
-    where
-      by : (b : Bool) → DevIs (if b then q else wither q g).topology
-      by true = dev
-      by false = dev_wither q g dev
+  dev_unless q g dev = search (rules, dev_wither q g dev)
 
 -- a consumer that isn't above is of geom 1
 of_dev : (c : Consumer) → not (c.geom == 1) ≡ false → c.geom ≡ 1
@@ -144,29 +124,13 @@ module _ {C : Type 0} where
   abbrev HasDev : QueuedTopology C → Type 0
   HasDev q = DevIs IsDev (λ x is. is) q.topology
 
-  -- so its consumers are of DEV
-  is_of_it : (t : Topology C) (c : Consumer) → DevIs IsDev (λ x is. is) t → c.geom ≡ 1 → is_of_dev t c ≡ true
-  is_of_it t c dev is =
-      ap (λ n. option_map_or (λ (g : Geom C). is_kind g.kind kinds.Dev) (geom_at t n) false) is
-      ∙ by (geom_at t 1) dev
-    where
-      by : (o : Option (Geom C)) → IsSomeAnd o IsDev
-          → option_map_or (λ (g : Geom C). is_kind g.kind kinds.Dev) o false ≡ true
-      by None never = absurd never
-      by (Some g) kind = ap (λ k. is_kind k kinds.Dev) kind
-
   -- which hear nothing
   orphan_stays : (q : QueuedTopology C) (c : Consumer) → HasDev q → HasDev (orphan_consumer q c)
-  orphan_stays q c dev = by (is_of_dev q.topology c)
-    where
-      by : (b : Bool) → HasDev (if b then q else wither_unless_withering q c.geom)
-      by true = dev
-      by false = dev_unless IsDev (λ x is. is) q c.geom dev
+  orphan_stays q c dev = search (rules, dev_unless IsDev (λ x is. is) q c.geom dev)
 
   orphan_idle : (q : QueuedTopology C) (c : Consumer) → HasDev q → not (c.geom == 1) ≡ false
       → orphan_consumer q c ≡ q
-  orphan_idle q c dev e =
-      ap (λ b. if b then q else wither_unless_withering q c.geom) (is_of_it q.topology c dev (of_dev c e))
+  orphan_idle q c dev e = search rules
 
   -- so the consumers above are enough
   pub orphan_above : (q : QueuedTopology C) (p : ℕ) → IsSoundGraph q.topology
@@ -184,33 +148,14 @@ module _ {C : Type 0} where
   abbrev HasMadeDev : QueuedTopology C → Type 0
   HasMadeDev q = DevIs IsMade (λ x is. is) q.topology
 
-  -- so nothing outgrows its consumers
-  not_outgrown : (granted : ℕ → Counts) (t : Topology C) (c : Consumer) → DevIs IsMade (λ x is. is) t → c.geom ≡ 1
-      → is_outgrown granted t c ≡ false
-  not_outgrown granted t c dev is =
-      ap (λ b. is_zero (want granted t c) && b)
-      (ap (λ n. option_map_or (λ (g : Geom C). g.automatic && not g.withering) (geom_at t n) false) is
-      ∙ by (geom_at t 1) dev)
-      ∙ and-false (is_zero (want granted t c))
-    where
-      by : (o : Option (Geom C)) → IsSomeAnd o IsMade
-          → option_map_or (λ (g : Geom C). g.automatic && not g.withering) o false ≡ false
-      by None absent = absurd absent
-      by (Some g) made = ap (λ b. b && not g.withering) made
-
   outgrow_stays : (granted : ℕ → Counts) (q : QueuedTopology C) (c : Consumer) → HasMadeDev q
       → HasMadeDev (outgrow_consumer granted q c)
-  outgrow_stays granted q c dev = by (is_outgrown granted q.topology c)
-    where
-      by : (b : Bool) → HasMadeDev (if b then wither q c.geom else q)
-      by true = dev_wither IsMade (λ x is. is) q c.geom dev
-      by false = dev
+  outgrow_stays granted q c dev = search (rules, dev_wither IsMade (λ x is. is) q c.geom dev)
 
   outgrow_idle : (granted : ℕ → Counts) (q : QueuedTopology C) (c : Consumer) → HasMadeDev q
       → not (c.geom == 1) ≡ false
       → outgrow_consumer granted q c ≡ q
-  outgrow_idle granted q c dev e =
-      ap (λ b. if b then wither q c.geom else q) (not_outgrown granted q.topology c dev (of_dev c e))
+  outgrow_idle granted q c dev e = search rules
 
   -- so the consumers above are enough
   pub outgrow_above : (granted : ℕ → Counts) (q : QueuedTopology C) (p : ℕ) → IsDevMade q.topology
@@ -248,24 +193,4 @@ module _ {C : Type 0} where
   pub goes_above : (granted : ℕ → Counts) (t : Topology C) (p : ℕ) → IsSoundGraph t → IsDevMade t → (c : Consumer)
       → is_to_spoil granted t p c ≡ true
       → not (c.geom == 1) ≡ true
-  goes_above granted t p sound made c goes = by (c.geom == 1) refl
-    where
-      spared : (o : Option (Geom C)) → IsSomeAnd o IsMade → IsSomeAnd o IsDev
-          → option_map_or (λ (g : Geom C). g.automatic || is_kind g.kind kinds.Taste) o false ≡ false
-      spared None never dev = absurd never
-      spared (Some g) by_hand kind =
-          ap (λ b. b || is_kind g.kind kinds.Taste) by_hand ∙ ap (λ k. is_kind k kinds.Taste) kind
-
-      by : (b : Bool) → (c.geom == 1) ≡ b → not b ≡ true
-      by false e = refl
-      by true e =
-          let F : Geom C → Bool = λ g. g.automatic || is_kind g.kind kinds.Taste in
-          let stays : option_map_or F (geom_at t c.geom) false ≡ false =
-          ap (λ n. option_map_or F (geom_at t n) false) (eqb-true c.geom 1 e)
-          ∙ spared (geom_at t 1) made sound.orderly.first.dev in
-          let must : option_map_or F (geom_at t c.geom) false ≡ true =
-          (and_parts ((want granted t c).w == 0) (option_map_or F (geom_at t c.geom) false)
-          (and_parts (names_number c.provider p)
-          (((want granted t c).w == 0) && option_map_or F (geom_at t c.geom) false) goes).1).1 in
-          let never : true ≡ false = sym must ∙ stays in
-          absurd (cc)
+  goes_above granted t p sound made c goes = search rules

@@ -1,6 +1,6 @@
 -- The walk over the providers of a geom that withers, and what is left of a walk after a change that it has passed.
-use Rattle.std.specs.Prelude.{◌≡◌, ℕ, ◌<◌, ◌≤◌, ◌==◌, nat_le, false, List, ◌+◌, Bool, true, not, [], ◌∷◌, map, filter, fold, if◌then◌else◌}
-use Rattle.std.proofs.Common.{ap, ◌∙◌, arith, refl}
+use Rattle.std.specs.Prelude.{◌≡◌, ℕ, ◌<◌, ◌≤◌, ◌==◌, nat_le, false, List, ◌+◌, true, not, [], ◌∷◌, map, filter, fold, if◌then◌else◌}
+use Rattle.std.proofs.Common.{ap, ◌∙◌, arith, refl, rules}
 use Rattle.std.proofs.lemmas.Bool.{leb-true, ne_eqb}
 use Rattle.geo_model.specs.Words.{change_where}
 use Rattle.geo_laws_graph.specs.LookupLaws.{left_from, ErrorIsFound}
@@ -40,15 +40,7 @@ module _ {C : Type 0} (g : ℕ) where
   pub orphan_begin : (q : QueuedTopology C)
       → orphan_left q 0
       ≡ fold orphan_provider q (map (λ x. x.number) (filter (λ x. not x.errored) (providers_of q.topology g)))
-  orphan_begin q =
-      ap (λ xs. fold orphan_provider q (map (λ x. x.number) (filter (λ x. not x.errored) xs)))
-      (walk-begin (λ (x : Provider). x.number) (providers_of q.topology g))
-
-  -- one that carries an error is passed over
-  pub orphan_pass : (q : QueuedTopology C) (from_number n : ℕ) (x : Provider)
-      → providers_left q.topology from_number ≡ x ∷ providers_left q.topology (n + 1) → x.errored ≡ true
-      → orphan_left q (n + 1) ≡ orphan_left q from_number
-  orphan_pass q from_number n x left is = rw (left, is) refl
+  orphan_begin q = search (rules, walk-begin (λ (x : Provider). x.number) (providers_of q.topology g))
 
   -- a provider that gets an error isn't among those behind it
   error_past : (t : Topology C) (n : ℕ) → providers_left (set_error t n) (n + 1) ≡ providers_left t (n + 1)
@@ -62,25 +54,16 @@ module _ {C : Type 0} (g : ℕ) where
       → providers_left q.topology from_number ≡ x ∷ providers_left q.topology (n + 1) → x.number ≡ n
       → x.errored ≡ false
       → orphan_left (orphan_provider q n) (n + 1) ≡ orphan_left q from_number
-  orphan_one q from_number n x left number is =
-      ap (λ xs. fold orphan_provider (orphan_provider q n) (map (λ x. x.number) (filter (λ x. not x.errored) xs)))
-      (error_past q.topology n)
-      ∙ rw (left, is, number) refl
+  orphan_one q from_number n x left number is = search (rules, error_past q.topology n)
 
   -- either way
   pub orphan_step : (q new : QueuedTopology C) (from_number n : ℕ) (x : Provider)
       → providers_left q.topology from_number ≡ x ∷ providers_left q.topology (n + 1) → x.number ≡ n
       → new ≡ (if x.errored then q else orphan_provider q n)
       → orphan_left new (n + 1) ≡ orphan_left q from_number
-  orphan_step q new from_number n x left number is = by x.errored refl is
-    where
-      by : (b : Bool) → x.errored ≡ b → new ≡ (if b then q else orphan_provider q n)
-          → orphan_left new (n + 1) ≡ orphan_left q from_number
-      by true e same = ap (λ r. orphan_left r (n + 1)) same ∙ orphan_pass q from_number n x left e
-      by false e same = ap (λ r. orphan_left r (n + 1)) same ∙ orphan_one q from_number n x left number e
+  orphan_step q new from_number n x left number is = search (rules, orphan_one q from_number n x left number)
 
   -- at the end none is left
   pub orphan_end : (q : QueuedTopology C) (from_number : ℕ) → providers_left q.topology from_number ≡ []
       → orphan_left q from_number ≡ q
-  orphan_end q from_number none =
-      ap (λ xs. fold orphan_provider q (map (λ x. x.number) (filter (λ x. not x.errored) xs))) none
+  orphan_end q from_number none = search rules
