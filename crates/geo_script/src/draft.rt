@@ -1,10 +1,12 @@
 //! A plan that grows by the lines of a text.
 ghost use Rattle.std.specs.Prelude.{◌≡◌, ◌==◌, ◌≤◌, ◌<◌, length, position, IfSome, not};
 ghost use Rattle.std.specs.List.{list_any};
+ghost use Rattle.geo_model.specs.Plans.{IsPlan};
 ghost use Rattle.geo_model.specs.Words.{same_name};
 ghost use Rattle.geo_model.specs.Script.{empty_plan, add_disk, add_actor, add_command, header_words};
 ghost use Rattle.geo_script.specs.Draft.{LineLeaves};
 
+use crate::plan::Plan;
 use crate::refusal::LineRefusal;
 use geo_base::{MAX_ACTORS, MAX_DISKS, Name};
 use geo_model::{Cause, Command, DiskDecl, LineCommand};
@@ -142,10 +144,15 @@ impl Draft {
         Ok(())
     }
 
-    /// The disks, the actors and the commands; it takes no memory.
-    pub fn into_parts(self) -> (Vec<DiskDecl>, Vec<Name>, Vec<LineCommand>)
-        ensures { record { disks = result.0.items; actors = result.1.items; commands = result.2.items } ≡ self }
+    /// The plan, if it keeps the rules of plans; it takes no memory.
+    pub fn into_plan(self) -> Plan
+        requires { IsPlan self }
+        ensures { result ≡ self }
     {
-        (self.disks, self.actors, self.commands)
+        Plan {
+            disks: self.disks,
+            actors: self.actors,
+            commands: self.commands,
+        }
     }
 }

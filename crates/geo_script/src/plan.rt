@@ -12,9 +12,9 @@ use std::marker::Model;
 /// have their forms.
 #[derive(Debug, Drop)]
 pub struct Plan {
-    disks: Vec<DiskDecl>,
-    actors: Vec<Name>,
-    commands: Vec<LineCommand>,
+    pub(crate) disks: Vec<DiskDecl>,
+    pub(crate) actors: Vec<Name>,
+    pub(crate) commands: Vec<LineCommand>,
 }
 
 impl Model for Plan {
@@ -34,22 +34,6 @@ impl Model for Plan {
 }
 
 impl Plan {
-    /// The plan of these disks, actors and commands; it takes no memory.
-    pub(crate) fn from_parts(
-        disks: Vec<DiskDecl>,
-        actors: Vec<Name>,
-        commands: Vec<LineCommand>,
-    ) -> Plan
-        requires { IsPlan (record { disks = disks.items; actors = actors.items; commands = commands.items }) }
-        ensures { result ≡ record { disks = disks.items; actors = actors.items; commands = commands.items } }
-    {
-        Plan {
-            disks,
-            actors,
-            commands,
-        }
-    }
-
     /// The disks, in header order.
     pub fn disks(&self) -> &[DiskDecl]
         ensures disks { result.now ≡ self.now.disks }

@@ -41,6 +41,5 @@ pub fn parse(alloc: Global, text: &[u8]) -> Result<Plan, ParseRefusal>
         add_line(alloc, &mut draft, number, line)?;
         rest = behind;
     }
-    let (disks, actors, commands) = draft.into_parts();
-    Ok(Plan::from_parts(disks, actors, commands))
+    Ok(draft.into_plan())
 }

@@ -1,7 +1,6 @@
-use Rattle.std.proofs.Common.{◌≡◌, length, Ok, sym, ap, subst, ◌∙◌, arith}
+use Rattle.std.proofs.Common.{◌≡◌, length, Ok, sym, ap, ◌∙◌, arith}
 use Rattle.std.proofs.lemmas.Bool.Decides.{nat_tests}
 use Rattle.std.proofs.lemmas.Result.{err_from_is_err_and}
-use Rattle.geo_model.specs.Plans.{IsPlan}
 use Rattle.geo_model.specs.Script.{script}
 use Rattle.geo_script.proofs.PlanLaw.{scripts-are-plans}
 use Rattle.geo_script.proofs.TextLemmas.{rest_read, read_end, read_none, read_refused}
@@ -24,16 +23,16 @@ returns-in_err-add_line-clause-answer c =
     c.in_err-add_line.ensures c.loop-rest.invariant.read)
 
 -- no line is left, so the draft is what the text reads as, and each script that is accepted is a plan
-pub from_parts-requires : goal.from_parts-requires
-from_parts-requires c =
+pub into_plan-requires : goal.into_plan-requires
+into_plan-requires c =
     let empty : length c.loop-rest.rest.now ≡ 0 = grind (arith, nat_tests) in
     let read : script c.args.text.now ≡ Ok c.loop-rest.draft =
     read_end c.loop-rest.draft c.loop-rest.number c.loop-rest.rest.now _ empty c.loop-rest.invariant.read in
-    subst IsPlan (sym c.into_parts-disks.ensures) (scripts-are-plans c.args.text.now c.loop-rest.draft read)
+    scripts-are-plans c.args.text.now c.loop-rest.draft read
 
 -- the plan has the parts of the draft
 pub returns-clause-answer : goal.returns-clause-answer
 returns-clause-answer c =
     let empty : length c.loop-rest.rest.now ≡ 0 = grind (arith, nat_tests) in
     read_end c.loop-rest.draft c.loop-rest.number c.loop-rest.rest.now _ empty c.loop-rest.invariant.read
-    ∙ ap Ok (sym (c.from_parts.ensures ∙ c.into_parts-disks.ensures))
+    ∙ ap Ok (sym c.into_plan.ensures)
