@@ -6,7 +6,7 @@ ghost use Rattle.geo_script.specs.Tables.{geom_commands, record_commands};
 
 use crate::forms;
 use crate::refusal::LineRefusal;
-use crate::words::{Words, at_end, next_word};
+use crate::words::{Words, at_end};
 use geo_model::{Cause, Command};
 use std::alloc::Global;
 
@@ -17,8 +17,8 @@ fn or_fault(read: Result<Command, Cause>) -> Result<Command, LineRefusal>
     Ok(read?)
 }
 
-/// A command with this name, from the words behind it.
-fn command_by(alloc: Global, name: &[u8], words: Words<'_>) -> Result<Command, LineRefusal>
+/// The command that stands behind the name of an actor, by its own name and the words behind that.
+pub fn command(alloc: Global, name: &[u8], words: Words<'_>) -> Result<Command, LineRefusal>
     ensures { Reads result (by_word command_table (name.now ∷ words.entry)) }
 {
     if b"open".as_slice() == name {
@@ -80,12 +80,4 @@ fn record_command_by(name: &[u8], words: Words<'_>) -> Result<Command, LineRefus
     } else {
         Err(LineRefusal::Fault(Cause::Word))
     }
-}
-
-/// The command that stands behind the name of an actor.
-pub fn command(alloc: Global, words: Words<'_>) -> Result<Command, LineRefusal>
-    ensures { Reads result (by_word command_table words.entry) }
-{
-    let (name, words) = next_word(words)?;
-    command_by(alloc, name, words)
 }

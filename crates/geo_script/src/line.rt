@@ -121,7 +121,8 @@ fn add_command(
     let Some(actor) = draft.actor_number(name) else {
         return Err(LineRefusal::Fault(Cause::Actor));
     };
-    let command = command(alloc, words)?;
+    let (command_name, words) = next_word(words)?;
+    let command = command(alloc, command_name, words)?;
     draft.add_command(number, actor, command)
 }
 
