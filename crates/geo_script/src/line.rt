@@ -126,28 +126,7 @@ fn add_command(
     draft.add_command(number, actor, command)
 }
 
-/// A line by its first word.
-fn add_by(
-    alloc: Global,
-    draft: &mut Draft,
-    number: u32,
-    word: &[u8],
-    words: Words<'_>,
-) -> Result<(), LineRefusal>
-    ensures { LineLeaves result draft.new (words_line draft.old number (word.now ∷ words.entry)) }
-{
-    if b"ram".as_slice() == word {
-        add_ram(draft, words)
-    } else if b"disk".as_slice() == word {
-        add_shelf_disk(draft, words)
-    } else if b"actor".as_slice() == word {
-        add_actor(draft, words)
-    } else {
-        add_command(alloc, draft, number, word, words)
-    }
-}
-
-/// A line that isn't skipped.
+/// A line that isn't skipped, by its first word.
 fn add_plan_line(
     alloc: Global,
     draft: &mut Draft,
@@ -161,7 +140,15 @@ fn add_plan_line(
         return Err(LineRefusal::Fault(cause));
     }
     let (word, words) = next_word(Words::of(line))?;
-    add_by(alloc, draft, number, word, words)
+    if b"ram".as_slice() == word {
+        add_ram(draft, words)
+    } else if b"disk".as_slice() == word {
+        add_shelf_disk(draft, words)
+    } else if b"actor".as_slice() == word {
+        add_actor(draft, words)
+    } else {
+        add_command(alloc, draft, number, word, words)
+    }
 }
 
 /// Whether a line is empty or begins with `#`.
