@@ -1,6 +1,6 @@
 -- The end of a walk that keeps nothing: nothing is left to try.
 use Rattle.std.specs.Prelude.{◌≡◌, ◌≢◌, ℕ, ◌==◌, Bool, true, false, ◌||◌, List, [], ◌∷◌, map, fold, None, Contains, if◌then◌else◌}
-use Rattle.std.proofs.Common.{refl, sym, ◌∙◌, ap, subst, inl, inr, eq-eqb}
+use Rattle.std.proofs.Common.{refl, sym, ◌∙◌, ap, subst, inl, inr, eq-eqb, rules}
 use Rattle.std.proofs.lemmas.Bool.{eqb-true, cases_eq, ne_eqb}
 use Rattle.geo_base.specs.declared.request.Counts.{Counts}
 use Rattle.geo_base.proofs.MemberLists.{Contains-there, Contains-cases, nothing_in, Contains-here, Contains-filter, Contains-map}
@@ -15,7 +15,7 @@ use Rattle.geo_laws_counts.proofs.Flows.{each_of}
 use Rattle.geo_access.specs.Tries.{Apart}
 use Rattle.geo_access.specs.Access.{clear_scratches}
 use Rattle.geo_access.specs.Views.{finish_provider, finish_geom}
-use Rattle.geo_access.proofs.Trying.{rows_of, geom_tries, provider_tries, Tries, no_tries, trying, trying-none, trying-geom, trying-provider, head_or, link_in}
+use Rattle.geo_access.proofs.Trying.{rows_of, geom_tries, provider_tries, Tries, no_tries, trying, trying-geom, trying-provider, head_or, link_in}
 use Rattle.geo_access.proofs.TryOut.{trying-same}
 
 -- functions that agree at the items give the same rows
@@ -24,8 +24,7 @@ pub rows_agree : {X V : Type 0} (key : X → ℕ) (f g : X → V) (xs : List X)
     → map {B = ℕ × V} (λ x. (key x, f x)) xs ≡ map {B = ℕ × V} (λ x. (key x, g x)) xs
 rows_agree {X} {V} key f g xs same =
     map_same {Y = ℕ × V} (λ x. (key x, f x)) (λ x. (key x, g x)) xs
-    (each_of (λ (x : X). ◌≡◌ {A = ℕ × V} (key x, f x) (key x, g x)) xs
-    (λ x there. let row : V → ℕ × V = λ v. (key x, v) in ap row (same x there)))
+    (search (rules, each_of))
 
 -- so do functions of numbers
 pub rows-same_on : {X V : Type 0} (key : X → ℕ) (f g : ℕ → V) (xs : List X)
@@ -87,27 +86,13 @@ link_outside end (x ∷ xs) n away =
 value_step : {V : Type 0} (x : ℕ) (xs : List ℕ) (n : ℕ) (none old mid new : V)
     → new ≡ (if has_number xs n then none else mid)
     → (n ≡ x → mid ≡ none) → (n ≢ x → mid ≡ old) → new ≡ (if has_number (x ∷ xs) n then none else old)
-value_step x xs n none old mid new so here away =
-    elim (cases_eq n x) [
-      | inl same ↦
-          so ∙ both (has_number xs n) (here same) ∙ sym (ap (λ b. if b then none else old) (has_first x xs n same))
-      | inr other ↦
-          so ∙ ap (λ m. if has_number xs n then none else m) (away other)
-          ∙ sym (ap (λ b. if b then none else old) (has_step x xs n other))
-    ]
-  where
-    both : (b : Bool) → mid ≡ none → (if b then none else mid) ≡ none
-    both true e = refl
-    both false e = e
+value_step x xs n none old mid new so here away = search rules
 
 -- a value that is put at each geom of an order, over one more
 pub put_step : {V : Type 0} (x : ℕ) (xs : List ℕ) (n : ℕ) (none old new : V)
     → new ≡ (if has_number xs n then none else (if n == x then none else old))
     → new ≡ (if has_number (x ∷ xs) n then none else old)
-put_step x xs n none old new so =
-    value_step x xs n none old (if n == x then none else old) new so
-    (λ same. ap (λ b. if b then none else old) (eq-eqb n x same))
-    (λ other. ap (λ b. if b then none else old) (ne_eqb n x other))
+put_step x xs n none old new so = search rules
 
 module _ {C : Type 0} (t : TopoView C) where
   -- nothing is left to try at some providers
@@ -187,23 +172,21 @@ module _ {C : Type 0} (t : TopoView C) where
         → fold (finish_geom None) (trying t s) xs ≡ t
     clear_whole xs s clear marks made gains =
         let all : Cleared xs s = clear_all xs s in
-        all.is
-        ∙ trying-same t all.tries (record no_tries { gains = all.tries.gains })
-        (λ n. all.marks n ∙ none (has_number xs n) 0 (s.marks n) (marks n))
-        (λ n. all.made n ∙ none (has_number xs n) no_counts (s.made n) (made n)) (λ n. refl)
-        ∙ ap (λ rows. record t {
-          scratches =
-              record t.scratches {
-                geoms = rows_of (λ (x : Geom C). x.number) (geom_tries no_tries) t.topology.geoms;
-                providers = rows;
-              };
-        })
-        (rows-same_on (λ (y : Provider). y.number) (provider_tries (record no_tries { gains = all.tries.gains }))
-        (provider_tries no_tries) t.topology.providers
-        (λ z there.
-        let P : Counts → Scratch = λ a. record { mark = 0; trial = a } in
-        ap P (all.gains z there ∙ none (has_number xs z.geom) no_counts (s.gains z.number) (gains z there))))
-        ∙ trying-none t clear
+        search (
+          rules,
+          trying-same t all.tries (record no_tries { gains = all.tries.gains })
+              (λ n. all.marks n ∙ none (has_number xs n) 0 (s.marks n) (marks n))
+              (λ n. all.made n ∙ none (has_number xs n) no_counts (s.made n) (made n)) (λ n. refl),
+          ap
+              (λ rows. record t {
+                scratches = record t.scratches
+                    { geoms = rows_of (λ (x : Geom C). x.number) (geom_tries no_tries) t.topology.geoms; providers = rows };
+              })
+              (rows-same_on (λ (y : Provider). y.number) (provider_tries (record no_tries { gains = all.tries.gains }))
+              (provider_tries no_tries) t.topology.providers
+              (λ z there. let P : Counts → Scratch = λ a. record { mark = 0; trial = a } in ap P
+              (all.gains z there ∙ none (has_number xs z.geom) no_counts (s.gains z.number) (gains z there)))),
+        )
       where
         none : {V : Type 0} (b : Bool) (zero old : V) → (b ≡ false → old ≡ zero) → (if b then zero else old) ≡ zero
         none true zero old so = refl

@@ -1,9 +1,9 @@
 -- A consumer of DEV that would come to a provider.
-use Rattle.std.specs.Prelude.{◌≡◌, ◌≢◌, ℕ, suc, max, ◌==◌, ◌≤◌, ◌<◌, Bool, true, false, cond, List, [], ◌∷◌, filter, fold, Option, Some, None, IsSome, IfSome, IsSomeAnd, Contains, All, option_map, if◌then◌else◌}
-use Rattle.std.proofs.Common.{refl, sym, ◌∙◌, ap, subst, arith, inl, inr, eq-eqb}
-use Rattle.std.proofs.lemmas.Bool.{eqb-true, ne_eqb}
+use Rattle.std.specs.Prelude.{◌≡◌, ◌≢◌, ℕ, suc, max, ◌==◌, ◌≤◌, ◌<◌, true, false, cond, List, [], ◌∷◌, filter, fold, Option, Some, None, IsSome, IfSome, IsSomeAnd, Contains, All, option_map, if◌then◌else◌}
+use Rattle.std.proofs.Common.{refl, sym, ◌∙◌, ap, subst, arith, inl, inr, eq-eqb, rules}
+use Rattle.std.proofs.lemmas.Bool.{ne_eqb}
 use Rattle.std.proofs.lemmas.List.Elements.{All-contains, All-push, Contains-push, Contains-push_cases, Contains-append_left}
-use Rattle.geo_base.proofs.Options.{some_of, some_weaker, there_with_fact, if_some_weaker, some_and_of, some-with}
+use Rattle.geo_base.proofs.Options.{some_of, there_with_fact, if_some_weaker, some_and_of, some-with}
 use Rattle.geo_base.proofs.FindLists.{find-Contains, found-before, find-pushed_hit}
 use Rattle.geo_base.specs.declared.request.Counts.{Counts}
 use Rattle.geo_base.specs.declared.kind.Kind.TheVariants as kinds
@@ -25,17 +25,17 @@ use Rattle.geo_laws_graph.proofs.EdgeRanks.{climbing-ranked}
 use Rattle.geo_laws_counts.specs.DemandLaws.{Comes}
 use Rattle.geo_laws_counts.proofs.Openers.{wants_grant, came_more, came_stays, came_wants}
 use Rattle.geo_laws_counts.proofs.Refusing.{errors_came}
-use Rattle.geo_laws_counts.proofs.Raising.{Demands, Covers, coming_demands}
+use Rattle.geo_laws_counts.proofs.Raising.{Covers, coming_demands}
 use Rattle.geo_access.specs.declared.counts.Way.TheVariants.{Rises}
 use Rattle.geo_access.specs.declared.order.Order.{Order}
 use Rattle.geo_access.specs.declared.decide.Refused.{Refused}
-use Rattle.geo_access.specs.declared.decide.Refused.TheVariants.{Named, Writer, Exclusive}
-use Rattle.geo_access.specs.declared.refusal.GrantRefusal.TheVariants.{Enxio, Eperm, Eoverflow}
+use Rattle.geo_access.specs.declared.decide.Refused.TheVariants.{Named}
+use Rattle.geo_access.specs.declared.refusal.GrantRefusal.TheVariants.{Enxio}
 use Rattle.geo_access.specs.Access.{granted_by}
 use Rattle.geo_access.specs.Views.{CountsTell, order_of, finish_geom, IsTried, judged, errno_of_refused}
 use Rattle.geo_access.proofs.Trying.{trying}
 use Rattle.geo_access.proofs.Walked.{walk, walk_covers}
-use Rattle.geo_access.proofs.Verdict.{After, IsVerdict, refused}
+use Rattle.geo_access.proofs.Verdict.{After, refused}
 use Rattle.geo_access.proofs.Decided.{IsTold, consumer_known, new_is, tells, cleared, decided, end, IsDemand}
 use Rattle.geo_access.proofs.Walking.{none_numbered}
 
@@ -74,9 +74,7 @@ module _ {C : Type 0} {t : TopoView C} (sound : IsSoundGraph t.topology) (told :
 
   -- DEV holds grants
   pub dev_holds : HoldsGrants t.topology 1
-  dev_holds =
-      some_weaker (λ (x : Geom C). x.kind ≡ kinds.Dev) (λ (x : Geom C). is_granted_kind x.kind ≡ true)
-      (λ x dev. ap is_granted_kind dev) (geom_at t.topology 1) sound.orderly.first.dev
+  dev_holds = search rules
 
   -- it has no provider
   pub dev_bare : providers_of t.topology 1 ≡ []
@@ -86,15 +84,10 @@ module _ {C : Type 0} {t : TopoView C} (sound : IsSoundGraph t.topology) (told :
 
   -- so a consumer of DEV comes
   pub comes : Comes (granted_by t) t.topology opened_grants 1
-  comes = record {
-    free = newcomer_free;
-    kind = dev_holds;
-    agree = λ n other. ap (λ b. if b then add else granted_by t n) (ne_eqb n t.topology.next_consumer other);
-  }
+  comes = search (rules, newcomer_free)
 
   pub own_grant : opened_grants t.topology.next_consumer ≡ add
-  own_grant = ap (λ b. if b then add else granted_by t t.topology.next_consumer)
-      (eq-eqb t.topology.next_consumer t.topology.next_consumer refl)
+  own_grant = search rules
 
   -- numbers lead to providers
   pub opened_known : NumbersLead t.topology
@@ -106,14 +99,7 @@ module _ {C : Type 0} {t : TopoView C} (sound : IsSoundGraph t.topology) (told :
 
   -- a geom is no less tall than its rank
   tall_most : (g : ℕ) → rank t.topology g ≤ tall g
-  tall_most g = by (g == 1) refl
-    where
-      by : (b : Bool) → (g == 1) ≡ b
-          → rank t.topology g
-          ≤ (if b then suc (max (rank t.topology 1) (rank t.topology y.geom)) else rank t.topology g)
-      by true e = let same : rank t.topology g ≡ rank t.topology 1 =
-          ap (rank t.topology) (eqb-true g 1 e) in omega arith
-      by false e = omega arith
+  tall_most g = search rules
 
   -- the geom of a provider is as tall as its rank
   tall_offer : (q : ℕ) (z : Provider) → provider_at t.topology q ≡ Some z → tall z.geom ≡ rank t.topology z.geom
@@ -172,8 +158,7 @@ module _ {C : Type 0} {t : TopoView C} (sound : IsSoundGraph t.topology) (told :
       → want opened_grants opened c ≡ add_counts (want (granted_by t) t.topology c) (opened_mores c)
   old_wants c there =
       let g = some_of (geom_at t.topology c.geom)
-      (All-contains (λ (d : Consumer). IsSome (geom_at t.topology d.geom)) t.topology.consumers c
-      sound.orderly.parts.geoms there) in
+      (search rules) in
       let e = came_wants (granted_by t) opened_grants t.topology 1 p comes.free comes.kind comes.agree c g.0
       there g.1 in
       e ∙ ap (add_counts (want (granted_by t) t.topology c))
@@ -224,15 +209,14 @@ module _ {C : Type 0} {t : TopoView C} (sound : IsSoundGraph t.topology) (told :
   -- so it is a demand
   pub opener_demand : (order : List ℕ) → Covers t.topology p order
       → IsDemand t p t.topology.next_consumer add opened_grants opened order
-  opener_demand order covers = record {
-    gain = opened_gains;
-    more = opened_mores;
-    stands = opening_after;
-    demand =
-        subst (λ a. Demands t.topology p a (have (granted_by t) t.topology) opened_gains opened_mores order) own_grant
-        (coming_demands t.topology opened_known (granted_by t) opened_grants 1 p comes opened_ranked dev_bare
-        order covers);
-  }
+  opener_demand order covers =
+      search (
+        rules,
+        opening_after,
+        own_grant,
+        coming_demands t.topology opened_known (granted_by t) opened_grants 1 p comes opened_ranked dev_bare order
+            covers,
+      )
 
 -- where it was tried
 module _ {C : Type 0} {t : TopoView C} {p : ℕ} {add : Counts} {new : TopoView C} {o : Order}
@@ -265,14 +249,4 @@ module _ {C : Type 0} {t : TopoView C} {p : ℕ} {add : Counts} {new : TopoView 
 
   -- what it says of errors
   pub open_errors : SaysError t.topology p (judged new p add (order_of new o))
-  open_errors = by (judged new p add (order_of new o)) (decided sound told tried its_demand)
-    where
-      by : (r : Option Refused)
-          → IsVerdict t.topology p t.topology.next_consumer (with_grant (granted_by t) t.topology.next_consumer add)
-          (with_opener t.topology p) r → SaysError t.topology p r
-      by None says = says.0
-      by (Some (Named (Enxio q))) says = says
-      by (Some (Named (Eperm q w e))) says = says.0
-      by (Some (Named (Eoverflow q))) says = says.0
-      by (Some (Writer w)) says = says.0
-      by (Some (Exclusive e)) says = says.0
+  open_errors = search (rules, decided sound told tried its_demand)

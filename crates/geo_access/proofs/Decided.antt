@@ -2,8 +2,8 @@
 use Rattle.std.specs.Prelude.{◌≡◌, ℕ, ◌+◌, ◌==◌, ◌<◌, ◌≤◌, Bool, true, false, not, ◌||◌, cond, List, [], ◌∷◌, length, map, filter, flat_map, find, fold, Option, Some, None, IsSome, IsSomeAnd, Contains, AllPairs, option_map, unwrap_or, if◌then◌else◌}
 use Rattle.std.specs.List.{list_any}
 use Rattle.std.specs.Option.{option_map_or}
-use Rattle.std.proofs.Common.{refl, sym, ◌∙◌, ap, subst, arith, inl, inr, eq-eqb}
-use Rattle.std.proofs.lemmas.Bool.{eqb-true, cases_eq, ne_eqb}
+use Rattle.std.proofs.Common.{refl, sym, ◌∙◌, ap, subst, arith, inl, inr, eq-eqb, rules}
+use Rattle.std.proofs.lemmas.Bool.{eqb-true}
 use Rattle.std.proofs.lemmas.List.Elements.{All-contains}
 use Rattle.std.proofs.lemmas.List.Kept.{AllPairs-from_increasing}
 use Rattle.geo_base.proofs.FindLists.{any-contained}
@@ -79,35 +79,27 @@ holds_true (Some g) fact = fact
 pub granted_found : {C : Type 0} (t : TopoView C) (n : ℕ) (c : Consumer) → consumer_at t.topology n ≡ Some c
     → granted_by t n
     ≡ (if holds_grants t.topology c.geom then unwrap_or (value_at t.wants n) no_counts else no_counts)
-granted_found t n c found =
-    ap (λ o. option_map_or
-    (λ (x : Consumer). if holds_grants t.topology x.geom then unwrap_or (value_at t.wants n) no_counts
-    else no_counts) o no_counts) found
+granted_found t n c found = search rules
 
 -- one that holds nothing is granted nothing
 pub nothing_granted : {C : Type 0} (t : TopoView C) (n : ℕ) (c : Consumer) → consumer_at t.topology n ≡ Some c
     → value_at t.wants n ≡ Some no_counts → granted_by t n ≡ no_counts
-nothing_granted t n c found stored = granted_found t n c found ∙ by (holds_grants t.topology c.geom)
-  where
-    by : (b : Bool) → (if b then unwrap_or (value_at t.wants n) no_counts else no_counts) ≡ no_counts
-    by true = ap (λ o. unwrap_or o no_counts) stored
-    by false = refl
+nothing_granted t n c found stored = search rules
 
 -- a number of a part is one of the whole
 part_number : {X : Type 0} (key : X → ℕ) (keep : X → Bool) (xs : List X) (m : ℕ)
     → Contains (map key (filter keep xs)) m → Contains (map key xs) m
 part_number key keep [] m there = there
-part_number {X} key keep (x ∷ xs) m there = by (keep x) there (part_number key keep xs m)
-  where
-    by : (b : Bool) → Contains (map key (cond b (x ∷ filter keep xs) (filter keep xs))) m
-        → (Contains (map key (filter keep xs)) m → Contains (map key xs) m)
-        → Contains (map key (x ∷ xs)) m
-    by true inside so =
-        elim (Contains-cases (key x) m (map key (filter keep xs)) inside) [
-          | inl same ↦ subst (Contains (key x ∷ map key xs)) same (Contains-here (key x) (map key xs))
-          | inr rest ↦ Contains-there (key x) m (map key xs) (so rest)
-        ]
-    by false inside so = Contains-there (key x) m (map key xs) (so inside)
+part_number {X} key keep (x ∷ xs) m there =
+    search (
+      rules,
+      keep x,
+      part_number key keep xs m,
+      Contains-cases (key x) m (map key (filter keep xs)),
+      key x,
+      Contains-here (key x) (map key xs),
+      Contains-there (key x) m (map key xs),
+    )
 
 -- numbers of a part of a rising list differ
 pub part_apart : {X : Type 0} (key : X → ℕ) (keep : X → Bool) (xs : List X) → AllPairs (λ m n. m < n) (map key xs)
@@ -117,46 +109,21 @@ part_apart {X} key keep (x ∷ xs) rise =
     by (keep x) (part_apart key keep xs (pairs_tail (λ x y. x < y) (key x) (map key xs) rise))
   where
     by : (b : Bool) → Apart (map key (filter keep xs)) → Apart (map key (cond b (x ∷ filter keep xs) (filter keep xs)))
-    by true so = (
-      (λ there. let less : key x < key x =
-          first_below (key x) (map key xs) rise (key x) (part_number key keep xs (key x) there) in omega arith),
-      so,
-    )
+    by true so = search (rules, first_below (key x) (map key xs) rise (key x), part_number key keep xs (key x))
     by false so = so
 
 -- no more pass a stronger test
 length_weaker : {X : Type 0} (a b : X → Bool) (xs : List X) → ((x : X) → a x ≡ true → b x ≡ true)
     → length (filter a xs) ≤ length (filter b xs)
 length_weaker a b [] so = omega arith
-length_weaker {X} a b (x ∷ xs) so = by (a x) (b x) refl refl (length_weaker a b xs so)
-  where
-    by : (p q : Bool) → a x ≡ p → b x ≡ q → length (filter a xs) ≤ length (filter b xs)
-        → length (cond p (x ∷ filter a xs) (filter a xs)) ≤ length (cond q (x ∷ filter b xs) (filter b xs))
-    by true true ea eb rest = omega arith
-    by true false ea eb rest = let no : true ≡ false = sym (so x ea) ∙ eb in absurd (cc)
-    by false true ea eb rest = omega arith
-    by false false ea eb rest = rest
+length_weaker {X} a b (x ∷ xs) so = search (rules, a x, b x, length_weaker a b xs so)
 
 -- so many pass the one test or the other, where none passes both
 length_either : {X : Type 0} (a b c : X → Bool) (xs : List X) → ((x : X) → c x ≡ (a x || b x))
     → ((x : X) → a x ≡ true → b x ≡ false)
     → length (filter c xs) ≡ length (filter a xs) + length (filter b xs)
 length_either a b c [] is apart = refl
-length_either {X} a b c (x ∷ xs) is apart = by (a x) (b x) (c x) refl refl refl (length_either a b c xs is apart)
-  where
-    by : (p q r : Bool) → a x ≡ p → b x ≡ q → c x ≡ r
-        → length (filter c xs) ≡ length (filter a xs) + length (filter b xs)
-        → length (cond r (x ∷ filter c xs) (filter c xs))
-        ≡ length (cond p (x ∷ filter a xs) (filter a xs)) + length (cond q (x ∷ filter b xs) (filter b xs))
-    by true true r ea eb ec rest = let no : true ≡ false = sym eb ∙ apart x ea in absurd (cc)
-    by true false true ea eb ec rest = omega arith
-    by true false false ea eb ec rest = let no : false ≡ true = sym ec ∙ is x ∙ ap (λ z. z || b x) ea in absurd (cc)
-    by false true true ea eb ec rest = omega arith
-    by false true false ea eb ec rest = let no : false ≡ true = sym ec ∙ is x ∙ ap (λ z. z || b x) ea
-        ∙ eb in absurd (cc)
-    by false false true ea eb ec rest = let no : true ≡ false = sym ec ∙ is x ∙ ap (λ z. z || b x) ea
-        ∙ eb in absurd (cc)
-    by false false false ea eb ec rest = rest
+length_either {X} a b c (x ∷ xs) is apart = search (rules, a x, b x, c x, length_either a b c xs is apart, is x)
 
 -- none passes the test that fails
 length_none : {X : Type 0} (xs : List X) → length (filter (λ (x : X). false) xs) ≡ 0
@@ -175,11 +142,7 @@ over_is t (x ∷ xs) apart =
     (λ c e. not-has xs c.geom (λ there. apart.0 (subst (Contains xs) (eqb-true c.geom x e) there))))
   where
     flips : (n : ℕ) → (x == n) ≡ (n == x)
-    flips n =
-        elim (cases_eq n x) [
-          | inl same ↦ eq-eqb x n (sym same) ∙ sym (eq-eqb n x same)
-          | inr other ↦ ne_eqb x n (λ e. other (sym e)) ∙ sym (ne_eqb n x other)
-        ]
+    flips n = search rules
 
 module _ {C : Type 0} {t : TopoView C} (sound : IsSoundGraph t.topology) where
   module _ (clear : t.scratches ≡ clear_scratches t.topology) {p : ℕ} {add : Counts} {way : Way} {new : TopoView C}
@@ -349,8 +312,7 @@ module _ {C : Type 0} {t : TopoView C} (sound : IsSoundGraph t.topology) (told :
       pub tells : CountsTell new p
       tells =
           subst (λ v. CountsTell v p) (sym new_is) (record {
-            exclusive = λ zero. none_has Excludes (λ c at. ap not (eq-eqb (want (granted_by t) t.topology c).e 0
-                (omega (arith, (wants_within c at).e, zero))));
+            exclusive = search (rules, none_has Excludes, eq-eqb, wants_within);
             writes = λ zero. none_has Writes (λ c at. ap not (eq-eqb (want (granted_by t) t.topology c).w 0
                 (omega (arith, (wants_within c at).w, zero))));
           })

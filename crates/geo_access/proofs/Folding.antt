@@ -1,12 +1,11 @@
 -- Loops as folds: over what is left of a walk, and over what is left of an order; and how an order is gathered.
-use Rattle.std.specs.Prelude.{◌≡◌, ◌≢◌, ℕ, zero, suc, ◌+◌, ◌==◌, Bool, true, false, cond, List, [], ◌∷◌, length, filter_map, find, fold, Option, Some, None, Contains, option_map, ◌<◌, ◌≤◌, if◌then◌else◌}
-use Rattle.std.specs.List.{cons_option}
-use Rattle.std.specs.Option.{option_map_or, option_or, option_and_then}
-use Rattle.std.proofs.Common.{refl, sym, ◌∙◌, ap, arith, inl, inr, eq-eqb, subst}
-use Rattle.std.proofs.lemmas.Bool.{eqb-true, cases_eq, ne_eqb}
+use Rattle.std.specs.Prelude.{◌≡◌, ◌≢◌, ℕ, zero, suc, ◌+◌, ◌==◌, Bool, true, false, cond, List, [], ◌∷◌, length, filter_map, find, fold, Option, Some, None, Contains, option_map, ◌<◌, ◌≤◌}
+use Rattle.std.specs.Option.{option_map_or}
+use Rattle.std.proofs.Common.{refl, sym, ◌∙◌, ap, eq-eqb, subst, rules}
+use Rattle.std.proofs.lemmas.Bool.{eqb-true, ne_eqb}
 use Rattle.geo_base.specs.declared.request.Counts.{Counts}
 use Rattle.geo_base.proofs.MemberLists.{Contains-there, Contains-here}
-use Rattle.geo_model.specs.Topology.{Provider, Consumer, consumers_of, providers_of, provider_at}
+use Rattle.geo_model.specs.Topology.{Provider, Consumer, consumers_of, providers_of}
 use Rattle.geo_slots.specs.Slots.{value_at, with_value}
 use Rattle.geo_mesh.specs.declared.records.Scratch.{Scratch}
 use Rattle.geo_mesh.specs.Topo.{TopoView, no_scratch, with_geom_scratch, with_provider_scratch}
@@ -15,7 +14,7 @@ use Rattle.geo_laws_graph.proofs.Walks.{walks-meet}
 use Rattle.geo_access.specs.declared.counts.Way.{Way}
 use Rattle.geo_access.specs.declared.counts.Way.TheVariants.{Rises, Falls}
 use Rattle.geo_access.specs.declared.order.Order.{Order}
-use Rattle.geo_access.specs.Views.{numbers_along, first_given, mark_at, made_at, order_of, hand, give, gain_of, spread_from, raise_want, raise_wants, finish_provider, finish_geom, Gathered, put_geom, fresh_under, visit, visit_under}
+use Rattle.geo_access.specs.Views.{numbers_along, first_given, mark_at, made_at, order_of, hand, gain_of, spread_from, raise_want, raise_wants, finish_provider, finish_geom, Gathered, put_geom, fresh_under, visit, visit_under}
 pub use Rattle.geo_base.proofs.Options.{none_of as none_of_some}
 use Rattle.geo_model.specs.Rank.{rank, geoms_under}
 use Rattle.geo_model.proofs.DemandLemmas.{rank_within-positive}
@@ -35,8 +34,7 @@ module _ {X B : Type 0} (number : X → ℕ) (f : B → X → B) (xs : List X) w
   pub fold_more : (from_number id : ℕ) (x : X) (b new total : B)
       → left_from number from_number xs ≡ x ∷ left_from number (id + 1) xs → new ≡ f b x
       → fold f b (left_from number from_number xs) ≡ total → fold f new (left_from number (id + 1) xs) ≡ total
-  fold_more from_number id x b new total left step done =
-      ap (λ z. fold f z (left_from number (id + 1) xs)) step ∙ sym (ap (fold f b) left) ∙ done
+  fold_more from_number id x b new total left step done = search rules
 
   -- at the end
   pub fold_end : (from_number : ℕ) (b total : B) → left_from number from_number xs ≡ []
@@ -52,9 +50,7 @@ module _ {X Y : Type 0} (number : X → ℕ) (f : X → Option Y) (xs : List X) 
   pub some_more : (from_number id : ℕ) (x : X) (total : Option Y)
       → left_from number from_number xs ≡ x ∷ left_from number (id + 1) xs → f x ≡ None
       → first_given f (left_from number from_number xs) ≡ total → first_given f (left_from number (id + 1) xs) ≡ total
-  some_more from_number id x total left none done =
-      sym (ap (λ o. option_or o (first_given f (left_from number (id + 1) xs))) none)
-      ∙ sym (ap (first_given f) left) ∙ done
+  some_more from_number id x total left none done = search rules
 
 module _ {X : Type 0} (number : X → ℕ) (test : X → Bool) (xs : List X) where
   -- the number of the first item left that passes
@@ -66,17 +62,13 @@ module _ {X : Type 0} (number : X → ℕ) (test : X → Bool) (xs : List X) whe
       → left_from number from_number xs ≡ x ∷ left_from number (id + 1) xs → test x ≡ false
       → option_map number (find test (left_from number from_number xs)) ≡ total
       → option_map number (find test (left_from number (id + 1) xs)) ≡ total
-  found_more from_number id x total left fails done =
-      sym (ap (λ b. option_map number (cond b (Some x) (find test (left_from number (id + 1) xs)))) fails)
-      ∙ sym (ap (λ ys. option_map number (find test ys)) left) ∙ done
+  found_more from_number id x total left fails done = search rules
 
   -- at one that passes
   pub found_here : (from_number id : ℕ) (x : X) (total : Option ℕ)
       → left_from number from_number xs ≡ x ∷ left_from number (id + 1) xs → test x ≡ true
       → option_map number (find test (left_from number from_number xs)) ≡ total → Some (number x) ≡ total
-  found_here from_number id x total left passes done =
-      sym (ap (λ b. option_map number (cond b (Some x) (find test (left_from number (id + 1) xs)))) passes)
-      ∙ sym (ap (λ ys. option_map number (find test ys)) left) ∙ done
+  found_here from_number id x total left passes done = search rules
 
 -- Walks that change the mesh
 
@@ -129,26 +121,15 @@ value-other (row ∷ rows) n m v apart = other_step row rows n m v apart (value-
         ap (λ b. option_map (λ r. r.1) (cond b (Some (n, v)) (find (λ r. r.0 == m) (with_value rows n v))))
         (ne_eqb n m (λ same. apart (sym same)))
         ∙ so
-        ∙ sym (ap (λ b. option_map (λ r. r.1) (cond b (Some row) (find (λ r. r.0 == m) rows)))
-        (ne_eqb row.0 m (λ same. apart (sym same ∙ eqb-true row.0 n e))))
-    other_step row rows n m v apart so false e = here (row.0 == m) refl
-      where
-        here : (b : Bool) → (row.0 == m) ≡ b
-            → option_map (λ r. r.1) (cond b (Some row) (find (λ r. r.0 == m) (with_value rows n v)))
-            ≡ option_map (λ r. r.1) (cond b (Some row) (find (λ r. r.0 == m) rows))
-        here true same = refl
-        here false same = so
+        ∙ sym (search rules)
+    other_step row rows n m v apart so false e = search rules
 
 module _ {C : Type 0} where
   -- handing down leaves all but the providers' scratch
   pub hand_leaves : {V : Type 0} (see : TopoView C → V)
       → ((v : TopoView C) (q : ℕ) (s : Scratch) → see (with_provider_scratch v q s) ≡ see v)
       → (gain : Counts) (v : TopoView C) (c : Consumer) → see (hand gain v c) ≡ see v
-  hand_leaves see leaves gain v c = by (c.provider)
-    where
-      by : (o : Option ℕ) → see (option_map_or (give gain v) o v) ≡ see v
-      by None = refl
-      by (Some q) = leaves v q _
+  hand_leaves see leaves gain v c = search rules
 
   -- so over all of a geom's consumers
   pub hands_leave : {V : Type 0} (see : TopoView C → V)
@@ -165,12 +146,7 @@ module _ {C : Type 0} where
 pub fold_given : {X A B : Type 0} (given : X → Option A) (f : B → A → B) (xs : List X) (b : B)
     → fold (λ b x. option_map_or (f b) (given x) b) b xs ≡ fold f b (filter_map given xs)
 fold_given given f [] b = refl
-fold_given {X} {A} {B} given f (x ∷ xs) b =
-    fold_given given f xs (option_map_or (f b) (given x) b) ∙ over (given x) (filter_map given xs)
-  where
-    over : (o : Option A) (items : List A) → fold f (option_map_or (f b) o b) items ≡ fold f b (cons_option o items)
-    over None items = refl
-    over (Some a) items = refl
+fold_given {X} {A} {B} given f (x ∷ xs) b = search (rules, fold_given given f xs (option_map_or (f b) (given x) b))
 
 -- what a set value is at its own number
 pub value-here : {V : Type 0} (rows : List (ℕ × V)) (n : ℕ) (v : V)
@@ -186,36 +162,18 @@ value-here (row ∷ rows) n v = here_step row rows n v (value-here rows n v) (ro
     here_step row rows n v so true e =
         ap (λ b. option_map (λ r. r.1) (cond b (Some (n, v)) (find (λ r. r.0 == n) (with_value rows n v))))
         (eq-eqb n n refl)
-    here_step row rows n v so false e =
-        ap (λ b. option_map (λ r. r.1) (cond b (Some row) (find (λ r. r.0 == n) (with_value rows n v)))) e ∙ so
+    here_step row rows n v so false e = search rules
 
 module _ {C : Type 0} where
   -- another count for its consumers leaves a geom's mark
   pub mark_kept : (v : TopoView C) (x : ℕ) (m : Counts) (y : ℕ)
       → mark_at (with_geom_scratch v x (record { mark = mark_at v x; trial = m })) y ≡ mark_at v y
   mark_kept v x m y =
-      elim (cases_eq y x) [
-        | inl same ↦
-            ap (λ z. option_map_or (λ (s : Scratch). s.mark)
-            (value_at (with_value v.scratches.geoms x (record { mark = mark_at v x; trial = m })) z) 0) same
-            ∙ ap (λ o. option_map_or (λ (s : Scratch). s.mark) o 0)
-            (value-here v.scratches.geoms x (record { mark = mark_at v x; trial = m }))
-            ∙ stays (value_at v.scratches.geoms x)
-            ∙ sym (ap (mark_at v) same)
-        | inr other ↦
-            ap (λ o. option_map_or (λ (s : Scratch). s.mark) o 0)
-            (value-other v.scratches.geoms x y (record { mark = mark_at v x; trial = m }) other)
-      ]
-    where
-      stays : (o : Option Scratch)
-          → option_map_or (λ (s : Scratch). s.mark)
-          (option_map (λ (w : Scratch). record {
-            mark = option_map_or (λ (s : Scratch). s.mark) o 0;
-            trial = m;
-          }) o) 0
-          ≡ option_map_or (λ (s : Scratch). s.mark) o 0
-      stays None = refl
-      stays (Some s) = refl
+      search (
+        rules,
+        value-here v.scratches.geoms x (record { mark = mark_at v x; trial = m }),
+        value-other v.scratches.geoms x y (record { mark = mark_at v x; trial = m }),
+      )
 
   -- what is handed down from a geom leaves all marks
   pub spread_marks : (way : Way) (v : TopoView C) (x y : ℕ) → mark_at (spread_from way v x) y ≡ mark_at v y
@@ -292,29 +250,7 @@ module _ {C : Type 0} where
   -- the geom that a consumer adds is directly under its own
   pub fresh_is_under : (v : TopoView C) (c : Consumer) (h : ℕ) → Contains v.topology.consumers c
       → fresh_under v c ≡ Some h → Contains (geoms_under v.topology c.geom) h
-  fresh_is_under v c h there fresh = at (c.provider) refl fresh
-    where
-      marked : (q : ℕ) (y : Provider) → c.provider ≡ Some q → provider_at v.topology q ≡ Some y → (b : Bool)
-          → (if b then Some y.geom else None) ≡ Some h → Contains (geoms_under v.topology c.geom) h
-      marked q y place found true e =
-          let same : y.geom ≡ h = cc in
-          subst (Contains (geoms_under v.topology c.geom)) same
-          (is-under v.topology c.geom q y (directly_under v.topology c q there place) found)
-      marked q y place found false e = absurd (cc)
-
-      over : (q : ℕ) → c.provider ≡ Some q → (o : Option Provider) → provider_at v.topology q ≡ o
-          → option_and_then (λ (y : Provider). if mark_at v y.geom == 0 then Some y.geom else None) o ≡ Some h
-          → Contains (geoms_under v.topology c.geom) h
-      over q place None found e = absurd (cc)
-      over q place (Some y) found e = marked q y place found (mark_at v y.geom == 0) e
-
-      at : (o : Option ℕ) → c.provider ≡ o
-          → option_and_then
-          (λ q. option_and_then (λ (y : Provider). if mark_at v y.geom == 0 then Some y.geom else None)
-          (provider_at v.topology q)) o ≡ Some h
-          → Contains (geoms_under v.topology c.geom) h
-      at None place e = absurd (cc)
-      at (Some q) place e = over q place (provider_at v.topology q) refl e
+  fresh_is_under v c h there fresh = search (rules, is-under v.topology c.geom, directly_under v.topology c)
 
   -- so it has a smaller rank
   pub fresh_lower : (v : TopoView C) (geom from_number id : ℕ) (c : Consumer) (h : ℕ) → IsSoundGraph v.topology
@@ -323,8 +259,7 @@ module _ {C : Type 0} where
       → fresh_under v c ≡ Some h → rank v.topology h < rank v.topology geom
   fresh_lower v geom from_number id c h sound left fresh =
       let head : Contains (left_from (λ (y : Consumer). y.number) from_number (consumers_of v.topology geom)) c =
-      subst (λ ys. Contains ys c) (sym left)
-      (Contains-here c (left_from (λ (y : Consumer). y.number) (id + 1) (consumers_of v.topology geom))) in
+      search rules in
       let inside =
       of_filter (λ (y : Consumer). y.geom == geom) v.topology.consumers c
       (of_filter _ (consumers_of v.topology geom) c head).0 in
@@ -336,17 +271,12 @@ module _ {C : Type 0} where
       → fresh_under v c ≡ Some h
       → new ≡ visit levels h (record { view = v; order = o })
       → new ≡ visit_under levels (record { view = v; order = o }) c
-  visit_adds levels v o c h new fresh is =
-      is ∙ sym (ap
-      (λ z. option_map_or (λ g. visit levels g (record { view = v; order = o })) z
-      (record { view = v; order = o })) fresh)
+  visit_adds levels v o c h new fresh is = search rules
 
   -- and one that adds none
   pub visit_skips : (levels : ℕ) (v : TopoView C) (o : Order) (c : Consumer) → fresh_under v c ≡ None
       → ◌≡◌ {A = Gathered C} (record { view = v; order = o }) (visit_under levels (record { view = v; order = o }) c)
-  visit_skips levels v o c none =
-      sym (ap (λ z. option_map_or (λ g. visit levels g (record { view = v; order = o })) z
-      (record { view = v; order = o })) none)
+  visit_skips levels v o c none = search rules
 
   -- after one consumer more
   pub gather_more : (levels : ℕ) (v : TopoView C) (o : Order) (new : TopoView C) (after : Order)
@@ -360,11 +290,7 @@ module _ {C : Type 0} where
       (left_from (λ (y : Consumer). y.number) from_number (consumers_of v.topology geom)) ≡ total
       → fold (visit_under levels) (record { view = new; order = after })
       (left_from (λ (y : Consumer). y.number) (id + 1) (consumers_of new.topology geom)) ≡ total
-  gather_more levels v o new after geom from_number id x total left graph step done =
-      ap (λ u. fold (visit_under levels) (record { view = new; order = after })
-      (left_from (λ (y : Consumer). y.number) (id + 1) (consumers_of u geom))) graph
-      ∙ fold_more (λ (y : Consumer). y.number) (visit_under levels) (consumers_of v.topology geom) from_number id x
-      (record { view = v; order = o }) (record { view = new; order = after }) total left step done
+  gather_more levels v o new after geom from_number id x total left graph step done = search rules
 
   -- once all are passed, the geom itself
   pub gather_whole : (levels geom : ℕ) (old : Gathered C) (v : TopoView C) (o : Order) (from_number : ℕ)
@@ -377,8 +303,7 @@ module _ {C : Type 0} where
       ≡ fold (visit_under k) old (consumers_of old.view.topology geom))
       → new ≡ put_geom geom (record { view = v; order = o }) → new ≡ visit levels geom old
   gather_whole zero geom old v o from_number new high left done put =
-      let some : 1 ≤ rank old.view.topology geom =
-      rank_within-positive (length old.view.topology.geoms) old.view.topology geom in absurd (omega arith)
+      search (rules, rank_within-positive (length old.view.topology.geoms) old.view.topology geom)
   gather_whole (suc k) geom old v o from_number new high left done put =
       put ∙ ap (put_geom geom)
       (fold_end (λ (y : Consumer). y.number) (visit_under k) (consumers_of v.topology geom) from_number

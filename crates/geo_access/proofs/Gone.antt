@@ -1,7 +1,6 @@
 -- A consumer that was made and is taken away again leaves nothing but a number that is used up.
-use Rattle.std.specs.Prelude.{◌≡◌, ◌≢◌, ℕ, ◌+◌, ◌==◌, Bool, true, false, not, List, [], ◌∷◌, ◌++◌, length, map, filter, Option, Some, None, Contains, unwrap_or, if◌then◌else◌}
-use Rattle.std.specs.Option.{option_map_or}
-use Rattle.std.proofs.Common.{refl, sym, ◌∙◌, ap, subst, arith, inl, inr, eq-eqb}
+use Rattle.std.specs.Prelude.{◌≡◌, ◌≢◌, ℕ, ◌+◌, ◌==◌, false, not, List, [], ◌∷◌, ◌++◌, length, map, filter, Option, Some, None, Contains, if◌then◌else◌}
+use Rattle.std.proofs.Common.{refl, sym, ◌∙◌, ap, subst, arith, eq-eqb, rules}
 use Rattle.std.proofs.Math.Bool.{and-not_self}
 use Rattle.std.proofs.lemmas.Bool.{ne_eqb}
 use Rattle.std.proofs.lemmas.List.{map-append}
@@ -14,15 +13,15 @@ use Rattle.geo_slots.specs.Slots.{value_at, without}
 use Rattle.geo_slots.proofs.RowLemmas.{without_absent}
 use Rattle.geo_mesh.specs.Topo.{TopoView, Room, Scratches, no_scratch, with_consumer, without_consumer}
 use Rattle.geo_mesh.specs.Graph.{IsSoundGraph}
-use Rattle.geo_laws_graph.proofs.Members.{Origin, map-Contains, Contains-there, Contains-here}
+use Rattle.geo_laws_graph.proofs.Members.{map-Contains, Contains-there, Contains-here}
 use Rattle.geo_laws_counts.specs.CountWords.{DemandStays, AnyConsumer, HoldsGrants}
 use Rattle.geo_laws_counts.proofs.BareParts.{levels_same}
 use Rattle.geo_laws_counts.proofs.LimitFacts.{all_of}
 use Rattle.geo_laws_counts.proofs.Quiet.{granted_wants_nothing}
-use Rattle.geo_laws_counts.proofs.Stays.{stays_from, want_from, grants_agree, consumer_came}
-use Rattle.geo_access.specs.Access.{granted_by, holds_grants, IsCounted, IsQuiet, IsPlaced, leaves_zero}
+use Rattle.geo_laws_counts.proofs.Stays.{grants_agree, consumer_came}
+use Rattle.geo_access.specs.Access.{granted_by, IsCounted, IsQuiet, IsPlaced, leaves_zero}
 use Rattle.geo_access.specs.Join.{joined_view}
-use Rattle.geo_access.specs.GoneLaws.{next_number, HasUsedNumber, on, off, RefusedConsumersGo}
+use Rattle.geo_access.specs.GoneLaws.{next_number, on, off, RefusedConsumersGo}
 use Rattle.geo_access.proofs.Clearing.{rows-same_on, rows_agree}
 use Rattle.geo_access.proofs.NewJoiner.{old_number, comer_new, same_grants}
 
@@ -33,20 +32,13 @@ none_under : {X V : Type 0} (key : X → ℕ) (f : X → V) (n : ℕ) (xs : List
     → value_at (map (λ x. let row : ℕ × V = (key x, f x) in row) xs) n ≡ None
 none_under key f n [] apart = refl
 none_under key f n (x ∷ xs) apart =
-    rw (ne_eqb (key x) n (apart x (Contains-here x xs)))
-    (none_under key f n xs (λ y there. apart y (Contains-there x y xs there)))
+    search (rules, none_under key f n xs (λ y there. apart y (Contains-there x y xs there)))
 
 -- a row behind those that hadn't its number, taken away again
 without_last : {V : Type 0} (n : ℕ) (v : V) (rows : List (ℕ × V)) → value_at rows n ≡ None
     → without (rows ++ (n, v) ∷ []) n ≡ rows
 without_last n v rows none =
-    filter-append (λ row. not (row.0 == n)) rows ((n, v) ∷ [])
-    ∙ (rw (eq-eqb n n refl) (end (without rows n)))
-    ∙ without_absent n rows none
-  where
-    end : {X : Type 0} (xs : List X) → xs ++ [] ≡ xs
-    end [] = refl
-    end (x ∷ xs) = ap (λ ys. x ∷ ys) (end xs)
+    search (rules, filter-append (λ row. not (row.0 == n)) rows ((n, v) ∷ []), eq-eqb n n, without_absent n rows none)
 
 -- consumers of whom none has the number, with one behind that has it: without it they are as before
 rid : (n : ℕ) (d : Consumer) (xs : List Consumer) → d.number ≡ n → ((x : Consumer) → Contains xs x → x.number ≢ n)
@@ -72,12 +64,7 @@ module _ {C : Type 0} (granted : ℕ → Counts) (t : Topology C) (m : ℕ) wher
   number_unseen : DemandStays granted t granted (record t { next_consumer = m }) AnyConsumer
   number_unseen =
       let u : Topology C = record t { next_consumer = m } in
-      let haves : (p : ℕ) → have granted u p ≡ have granted t p =
-      λ p. levels_same granted granted t u (length t.geoms) (λ k h q. refl) (length t.geoms) (omega arith) p in
-      let wants : (c : Consumer) → want granted u c ≡ want granted t c =
-      λ c. want_from granted t granted u haves c refl in
-      stays_from granted t granted u AnyConsumer haves (λ c any. wants c) (λ x there. inl there)
-      (λ n a at. inr (record { before = a; attached = at; same = refl; wanted = wants a }))
+      search (rules, levels_same granted granted t u (length t.geoms) (λ k h q. refl) (length t.geoms) (omega arith))
 
 module _ {C : Type 0} (t : TopoView C) (room : Room) where
   -- with the next number used up
@@ -86,24 +73,7 @@ module _ {C : Type 0} (t : TopoView C) (room : Room) where
 
   -- all counts are kept
   used_counted : IsCounted t → IsCounted used
-  used_counted counted =
-      let stays = number_unseen (granted_by t) t.topology (next_number t + 1) in
-      record {
-        kinds = counted.kinds;
-        haves =
-            counted.haves
-            ∙ rows-same_on (λ (z : Provider). z.number) (have (granted_by t) t.topology)
-            (have (granted_by used) used.topology) t.topology.providers (λ z there. sym (stays.haves z.number));
-        wants =
-            counted.wants
-            ∙ rows_agree (λ (c : Consumer). c.number) (want (granted_by t) t.topology)
-            (want (granted_by used) used.topology) t.topology.consumers (λ c there. sym (stays.wants c tt));
-        exclusive = stays.exclusive counted.exclusive;
-        limit = stays.limit counted.limit;
-        risen = counted.risen;
-        fallen = counted.fallen;
-        clear = counted.clear;
-      }
+  used_counted counted = search (rules, number_unseen (granted_by t) t.topology (next_number t + 1))
 
 -- Made and taken away
 
@@ -139,38 +109,32 @@ module _ {C : Type 0} (t : TopoView C) (geom : ℕ) (sound : IsSoundGraph t.topo
   -- without it, wherever it is attached
   gone : (to : Option ℕ)
       → without_consumer (record mesh { topology = add_consumer t.topology geom to }) n ≡ used t room
-  gone to = λ i. record t {
-    topology = record t.topology {
-      consumers = rid n (comer to) t.topology.consumers refl others i;
-      next_consumer = n + 1;
-    };
-    wants = without_last n no_counts t.wants no_want i;
-    active = without_last n 0 t.active unknown i;
-    scratches = record t.scratches {
-      consumers = without_last n no_scratch t.scratches.consumers no_trial i;
-    };
-    room = room;
-  }
+  gone to =
+      search (
+        rules,
+        rid n (comer to) t.topology.consumers,
+        others,
+        without_last n no_counts t.wants no_want,
+        no_want,
+        without_last n 0 t.active unknown,
+        without_last n no_scratch t.scratches.consumers no_trial,
+        no_trial,
+      )
 
   -- attached it is as if it had come so
   attached_graph : (to prov : _) → attach (add_consumer t.topology geom to) n prov
       ≡ add_consumer t.topology geom (Some prov)
   attached_graph to prov =
-      ap (λ cs. record t.topology { consumers = cs; next_consumer = n + 1 })
-      (changed_last n (λ x. record x { provider = Some prov }) (comer to) t.topology.consumers refl others)
+      search (rules, changed_last n (λ x. record x { provider = Some prov }) (comer to) t.topology.consumers, others)
 
   -- and taken off too
   detached_graph : (to : Option ℕ) → detach (add_consumer t.topology geom to) n ≡ add_consumer t.topology geom None
   detached_graph to =
-      ap (λ cs. record t.topology { consumers = cs; next_consumer = n + 1 })
-      (changed_last n (λ x. record x { provider = None }) (comer to) t.topology.consumers refl others)
+      search (rules, changed_last n (λ x. record x { provider = None }) (comer to) t.topology.consumers, others)
 
   -- attached, taken off and taken away
   gone_off : (prov : ℕ) → without_consumer (off (on mesh n prov) n) n ≡ used t room
-  gone_off prov =
-      ap (λ (g : Topology C). without_consumer (record mesh { topology = g }) n)
-      (ap (λ (g : Topology C). detach g n) (attached_graph None prov) ∙ detached_graph (Some prov))
-      ∙ gone None
+  gone_off prov = search (rules, attached_graph None prov, detached_graph (Some prov), gone None)
 
   module _ (quiet : IsQuiet t) (holds : HoldsGrants t.topology geom) (prov : ℕ) where
     -- the graph with it attached
@@ -182,10 +146,7 @@ module _ {C : Type 0} (t : TopoView C) (geom : ℕ) (sound : IsSoundGraph t.topo
 
     -- nothing is granted to it
     none_granted : granted_by t n ≡ no_counts
-    none_granted =
-        ap (λ o. option_map_or
-        (λ (x : Consumer). if holds_grants t.topology x.geom then unwrap_or (value_at t.wants n) no_counts
-        else no_counts) o no_counts) (comer_new t geom sound)
+    none_granted = search (rules, comer_new t geom sound)
 
     -- neither before nor after
     agree_made : (c : Consumer) → Contains (add_consumer t.topology geom None).consumers c
@@ -194,18 +155,12 @@ module _ {C : Type 0} (t : TopoView C) (geom : ℕ) (sound : IsSoundGraph t.topo
 
     agree : (c : Consumer) → Contains joined_graph.consumers c → granted_by mesh c.number ≡ granted_by t c.number
     agree c there =
-        let from_one : Origin (λ (y : Consumer). (if y.number == n then record y { provider = Some prov } else y) ≡ c)
-        (add_consumer t.topology geom None).consumers =
-        map-Contains (λ (y : Consumer). if y.number == n then record y { provider = Some prov } else y)
-        (add_consumer t.topology geom None).consumers c there in
-        subst (λ k. granted_by mesh k ≡ granted_by t k)
-        (kept from_one.item (from_one.item.number == n) ∙ ap (λ (x : Consumer). x.number) from_one.fact)
-        (agree_made from_one.item from_one.stands)
-      where
-        kept : (y : Consumer) (b : Bool)
-            → y.number ≡ (if b then record y { provider = Some prov } else y).number
-        kept y true = refl
-        kept y false = refl
+        search (
+          rules,
+          map-Contains (λ (y : Consumer). if y.number == n then record y { provider = Some prov } else y)
+              (add_consumer t.topology geom None).consumers c there,
+          agree_made,
+        )
 
     -- so the demand is as before: with it, and with it attached
     made_stays : DemandStays (granted_by t) (add_consumer t.topology geom None) (granted_by mesh)
@@ -298,14 +253,11 @@ module _ {C : Type 0} (t : TopoView C) (geom : ℕ) (sound : IsSoundGraph t.topo
 -- a consumer that is refused leaves nothing but a number
 pub refused_consumers_go : {C : Type 0} → RefusedConsumersGo C
 refused_consumers_go = record {
-  loose = λ t made geom is. subst (λ m. HasUsedNumber t (without_consumer m (next_number t))) (sym is.comes)
-      (gone t geom is.sound is.counted is.unknown made.room None);
+  loose = λ t made geom is. search (rules, gone t geom is.sound is.counted is.unknown made.room None);
   attached = λ t made geom prov is.
-      subst (λ m. HasUsedNumber t (without_consumer (off (on m (next_number t) prov) (next_number t)) (next_number t)))
-      (sym is.comes) (gone_off t geom is.sound is.counted is.unknown made.room prov);
+      search (rules, gone_off t geom is.sound is.counted is.unknown made.room prov);
   joined = λ t made geom prov is quiet holds.
-      subst (λ m. joined_view m (next_number t) prov ≡ on m (next_number t) prov) (sym is.comes)
-      (joined_is t geom is.sound is.counted is.unknown made.room quiet holds prov);
+      search (rules, joined_is t geom is.sound is.counted is.unknown made.room quiet holds prov);
   counted = λ t new used counted. subst IsCounted (sym used) (used_counted t new.room counted);
   quiet = λ t new used quiet. subst IsQuiet (sym used) (record { risen = quiet.risen; fallen = quiet.fallen });
   placed = λ t new used placed. subst (λ v. IsPlaced v.topology) (sym used) placed;

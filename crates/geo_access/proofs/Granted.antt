@@ -1,7 +1,7 @@
 -- The end of a walk that is kept: what is gained or lost comes into the counts, once each; and new counts are kept.
-use Rattle.std.specs.Prelude.{◌⊎◌, ◌≡◌, ◌≢◌, ℕ, ◌==◌, Bool, true, false, List, [], ◌∷◌, map, fold, Some, IsSome, Contains, unwrap_or, if◌then◌else◌, cond, filter, All}
+use Rattle.std.specs.Prelude.{◌⊎◌, ◌≡◌, ◌≢◌, ℕ, ◌==◌, Bool, true, false, List, [], ◌∷◌, map, fold, Some, IsSome, Contains, unwrap_or, if◌then◌else◌, filter, All}
 use Rattle.std.specs.Option.{option_map_or}
-use Rattle.std.proofs.Common.{refl, sym, ◌∙◌, ap, subst, inl, inr, eq-eqb, arith}
+use Rattle.std.proofs.Common.{refl, sym, ◌∙◌, ap, subst, eq-eqb, arith, rules}
 use Rattle.std.proofs.lemmas.Bool.{eqb-true, cases_eq, ne_eqb}
 use Rattle.std.proofs.lemmas.List.Kept.{AllPairs-from_increasing}
 use Rattle.geo_base.proofs.Options.{some_of}
@@ -20,11 +20,11 @@ use Rattle.geo_access.specs.declared.counts.Way.TheVariants.{Rises, Falls}
 use Rattle.geo_laws_counts.proofs.Orders.{not-has}
 use Rattle.geo_access.specs.Tries.{shifted, Apart}
 use Rattle.geo_access.specs.Views.{have_at, gain_at, made_at, raise_want, finish_provider, finish_geom}
-use Rattle.geo_access.proofs.Trying.{rows_of, rows-set, rows-same, rows-at, set_through}
+use Rattle.geo_access.proofs.Trying.{rows_of, rows-set, rows-same, rows-at}
 use Rattle.geo_access.proofs.Clearing.{sets, sets-other, sets-here, has_step, has_first, rows-same_on, rows_agree, put_step}
 use Rattle.geo_access.proofs.Decided.{part_apart, item_at, consumer_known, granted_found, holds_is}
 use Rattle.geo_model.specs.Words.{is_granted_kind}
-use Rattle.geo_laws_counts.specs.CountWords.{IsAtMost, DemandStays}
+use Rattle.geo_laws_counts.specs.CountWords.{IsAtMost}
 use Rattle.geo_laws_counts.specs.LimitLaws.{greatest_counts}
 use Rattle.geo_laws_counts.proofs.Sums.{counts-same}
 use Rattle.geo_laws_counts.proofs.Stays.{grants_agree}
@@ -84,9 +84,7 @@ module _ {C : Type 0} (t : TopoView C) where
       → with_value (rows_of (λ (y : Provider). y.number) (λ m. see (cells m)) t.topology.providers) n (see c)
       ≡ rows_of (λ (y : Provider). y.number) (λ m. see (set_at cells n c m)) t.topology.providers
   cell_row see cells n c =
-      rows-set (λ (y : Provider). y.number) (λ m. see (cells m)) n (see c) t.topology.providers
-      ∙ rows-same (λ (y : Provider). y.number) (set_at (λ m. see (cells m)) n (see c))
-      (λ m. see (set_at cells n c m)) t.topology.providers (λ m. set_through see cells n c m)
+      search (rules, rows-set (λ (y : Provider). y.number) (λ m. see (cells m)) n (see c) t.topology.providers)
 
   -- with other rows for the providers
   abbrev rows_put : Parts → List (ℕ × Counts) → List (ℕ × Bool) → List (ℕ × Bool) → List (ℕ × Scratch) → TopoView C
@@ -113,8 +111,7 @@ module _ {C : Type 0} (t : TopoView C) where
   have_is : (f : Parts) (y : Provider) → provider_at t.topology y.number ≡ Some y
       → have_at (with_parts f) y.number ≡ (f.cells y.number).have
   have_is f y found =
-      ap (λ o. unwrap_or o no_counts)
-      (rows-at (λ (z : Provider). z.number) (λ n. (f.cells n).have) y.number t.topology.providers y found)
+      search (rules, rows-at (λ (z : Provider). z.number) (λ n. (f.cells n).have) y.number t.topology.providers y found)
 
   gain_is : (f : Parts) (y : Provider) → provider_at t.topology y.number ≡ Some y
       → gain_at (with_parts f) y.number ≡ (f.cells y.number).gain
@@ -184,18 +181,13 @@ module _ {C : Type 0} (t : TopoView C) where
       → with_geom_scratch (with_parts f) x no_scratch
       ≡ with_parts (record f { marks = set_at f.marks x 0; made = set_at f.made x no_counts })
   keep_mark f x =
-      ap (λ rows. record (with_parts f) { scratches = record (with_parts f).scratches { geoms = rows } })
-      (rows-set (λ (y : Geom C). y.number) (λ n. record { mark = f.marks n; trial = f.made n }) x no_scratch
-      t.topology.geoms
-      ∙ rows-same (λ (y : Geom C). y.number) (set_at (λ n. record { mark = f.marks n; trial = f.made n }) x no_scratch)
-      (λ n. record { mark = set_at f.marks x 0 n; trial = set_at f.made x no_counts n }) t.topology.geoms
-      (λ n. both (n == x) n))
-    where
-      both : (b : Bool) (n : ℕ)
-          → ◌≡◌ {A = Scratch} (if b then no_scratch else record { mark = f.marks n; trial = f.made n })
-          (record { mark = (if b then 0 else f.marks n); trial = (if b then no_counts else f.made n) })
-      both true n = refl
-      both false n = refl
+      search (
+        rules,
+        rows-set (λ (y : Geom C). y.number) (λ n. record { mark = f.marks n; trial = f.made n }) x no_scratch
+            t.topology.geoms,
+        rows-same (λ (y : Geom C). y.number) (set_at (λ n. record { mark = f.marks n; trial = f.made n }) x no_scratch)
+            (λ n. record { mark = set_at f.marks x 0 n; trial = set_at f.made x no_counts n }) t.topology.geoms,
+      )
 
   -- once a geom is passed
   abbrev pub passed : Way → Parts → ℕ → Parts
@@ -213,10 +205,7 @@ module _ {C : Type 0} (t : TopoView C) where
         ≡ with_geom_scratch
         (fold (finish_provider (Some way)) (fold (raise_want way m) (with_parts f) (consumers_of t.topology x))
         (providers_of t.topology x)) x no_scratch
-    keep_geom_wants way f x m same =
-        ap (λ a. with_geom_scratch
-        (fold (finish_provider (Some way)) (fold (raise_want way a) (with_parts f) (consumers_of t.topology x))
-        (providers_of t.topology x)) x no_scratch) same
+    keep_geom_wants way f x m same = search rules
 
     -- what is kept at a geom
     keep_geom : (way : Way) (f : Parts) (x : ℕ) → IsSome (geom_at t.topology x)
@@ -260,15 +249,7 @@ module _ {C : Type 0} (t : TopoView C) where
         → (n ≡ x → has_number xs n ≡ false) → new ≡ (if has_number xs n then change mid else mid)
         → (n ≡ x → mid ≡ change old) → (n ≢ x → mid ≡ old)
         → new ≡ (if has_number (x ∷ xs) n then change old else old)
-    keep_step x xs n change old mid new apart so here away =
-        elim (cases_eq n x) [
-          | inl is ↦
-              so ∙ ap (λ b. if b then change mid else mid) (apart is) ∙ here is
-              ∙ sym (ap (λ b. if b then change old else old) (has_first x xs n is))
-          | inr other ↦
-              so ∙ ap (λ m. if has_number xs n then change m else m) (away other)
-              ∙ sym (ap (λ b. if b then change old else old) (has_step x xs n other))
-        ]
+    keep_step x xs n change old mid new apart so here away = search rules
 
     -- the parts of a provider once a geom is passed
     cell_here : (way : Way) (f : Parts) (x : ℕ) (z : Provider) → Contains t.topology.providers z → z.geom ≡ x
@@ -333,22 +314,17 @@ module _ {C : Type 0} (t : TopoView C) where
         → new ≡ (if has_number (x ∷ xs) c.geom then shifted way (f.wants c.number) (f.made c.geom) else
         f.wants c.number)
     wants_step way x xs f c there apart new so =
-        elim (cases_eq c.geom x) [
-          | inl is ↦
-              so ∙ ap (λ b.
-              if b then shifted way ((passed way f x).wants c.number) (set_at f.made x no_counts c.geom) else
-              (passed way f x).wants c.number) (apart is)
-              ∙ want_here way f x c there is ∙ ap (λ n. shifted way (f.wants c.number) (f.made n)) (sym is)
-              ∙ sym (ap (λ b. if b then shifted way (f.wants c.number) (f.made c.geom) else f.wants c.number)
-              (has_first x xs c.geom is))
-          | inr other ↦
-              so ∙ ap (λ w. if has_number xs c.geom then shifted way w (set_at f.made x no_counts c.geom) else w)
-              (want_other way f x c there other)
-              ∙ ap (λ b. if has_number xs c.geom then shifted way (f.wants c.number)
-              (if b then no_counts else f.made c.geom) else f.wants c.number) (ne_eqb c.geom x other)
-              ∙ sym (ap (λ b. if b then shifted way (f.wants c.number) (f.made c.geom) else f.wants c.number)
-              (has_step x xs c.geom other))
-        ]
+        search (
+          rules,
+          cases_eq c.geom x,
+          want_here way f x c there,
+          f.wants c.number,
+          f.made c.geom,
+          has_first x xs c.geom,
+          want_other way f x c there,
+          ne_eqb c.geom x,
+          has_step x xs c.geom,
+        )
 
     pub keep_all : (way : Way) (xs : List ℕ) (f : Parts) → Apart xs
         → ((x : ℕ) → Contains xs x → IsSome (geom_at t.topology x)) → Kept way xs f
@@ -393,15 +369,7 @@ numbers_of key h (x ∷ xs) = ap (λ ns. key x ∷ ns) (numbers_of key h xs)
 pub noted_is : {X : Type 0} (key : X → ℕ) (test : X → Bool) (xs : List X)
     → noted (map (λ x. (key x, test x)) xs) ≡ map key (filter test xs)
 noted_is key test [] = refl
-noted_is {X} key test (x ∷ xs) = by (test x) (noted_is key test xs)
-  where
-    by : (b : Bool) → noted (map (λ y. (key y, test y)) xs) ≡ map key (filter test xs)
-        → map (λ row. row.0)
-        (cond b ((key x, b) ∷ filter (λ (row : ℕ × Bool). row.1) (map (λ y. (key y, test y)) xs))
-        (filter (λ (row : ℕ × Bool). row.1) (map (λ y. (key y, test y)) xs)))
-        ≡ map key (cond b (x ∷ filter test xs) (filter test xs))
-    by true so = ap (λ ns. key x ∷ ns) so
-    by false so = so
+noted_is {X} key test (x ∷ xs) = search (rules, noted_is key test xs)
 
 -- counts within the limit aren't stopped
 pub capped_is : (a : Counts) → IsAtMost a greatest_counts → cap a ≡ a
@@ -431,29 +399,21 @@ parts_rows {C} t clear counts wanted cons add f rises falls haves risens fallens
     let providers =
     rows-same_on (λ (z : Provider). z.number) (λ n. record { mark = 0; trial = (f.cells n).gain }) (λ n. no_scratch)
     t.topology.providers (λ z there i. record { mark = 0; trial = gains z there i }) in
-    let tried : ◌≡◌ {A = Scratches} (with_parts t f).scratches t.scratches =
-    (λ i. record t.scratches { geoms = geoms i; providers = providers i })
-    ∙ ap (λ (u : Scratches). record u {
-      geoms = (clear_scratches t.topology).geoms;
-      providers =
-          (clear_scratches t.topology).providers;
-    }) clear ∙ sym clear in
-    λ i. record t {
-      haves =
-          rows_agree (λ (z : Provider). z.number) (λ (z : Provider). (f.cells z.number).have) counts
-          t.topology.providers haves i;
-      risen =
-          rows_agree (λ (z : Provider). z.number) (λ (z : Provider). (f.cells z.number).risen) rises
-          t.topology.providers risens i;
-      fallen =
-          rows_agree (λ (z : Provider). z.number) (λ (z : Provider). (f.cells z.number).fallen) falls
-          t.topology.providers fallens i;
-      wants =
-          (rows-set (λ (c : Consumer). c.number) f.wants cons add t.topology.consumers
-          ∙ rows_agree (λ (c : Consumer). c.number) (λ (c : Consumer). set_at f.wants cons add c.number) wanted
-          t.topology.consumers wants) i;
-      scratches = tried i;
-    }
+    search (
+      rules,
+      ap
+          (λ (u : Scratches). record u
+          { geoms = (clear_scratches t.topology).geoms; providers = (clear_scratches t.topology).providers }) clear,
+      rows_agree (λ (z : Provider). z.number) (λ (z : Provider). (f.cells z.number).have) counts t.topology.providers
+          haves,
+      rows_agree (λ (z : Provider). z.number) (λ (z : Provider). (f.cells z.number).risen) rises t.topology.providers
+          risens,
+      rows_agree (λ (z : Provider). z.number) (λ (z : Provider). (f.cells z.number).fallen) falls t.topology.providers
+          fallens,
+      rows-set (λ (c : Consumer). c.number) f.wants cons add t.topology.consumers,
+      rows_agree (λ (c : Consumer). c.number) (λ (c : Consumer). set_at f.wants cons add c.number) wanted
+          t.topology.consumers wants,
+    )
 
 -- New counts
 
@@ -485,22 +445,12 @@ module _ {C : Type 0} (m : TopoView C) (after : ℕ → Counts)
       → map (λ row. row.0) m.fallen ≡ map (λ (p : Provider). p.number) m.topology.providers
       → m.scratches ≡ clear_scratches m.topology → IsCounted m
   counted_by kinds exclusive limit risen fallen clear =
-      let stay : DemandStays after m.topology (granted_by m) m.topology (Contains m.topology.consumers) =
-      grants_agree after (granted_by m) m.topology
-      (all_of (λ (c : Consumer). granted_by m c.number ≡ after c.number) m.topology.consumers grants_are) in
-      record {
-        kinds = kinds;
-        haves =
-            haves
-            ∙ rows-same_on (λ (z : Provider). z.number) (have after m.topology) (have (granted_by m) m.topology)
-            m.topology.providers (λ z there. sym (stay.haves z.number));
-        wants =
-            wants
-            ∙ rows_agree (λ (c : Consumer). c.number) (want after m.topology) (want (granted_by m) m.topology)
-            m.topology.consumers (λ c there. sym (stay.wants c there));
-        exclusive = stay.exclusive exclusive;
-        limit = stay.limit limit;
-        risen = risen;
-        fallen = fallen;
-        clear = clear;
-      }
+      search (
+        rules,
+        grants_agree after (granted_by m) m.topology
+            (all_of (λ (c : Consumer). granted_by m c.number ≡ after c.number) m.topology.consumers grants_are),
+        rows-same_on (λ (z : Provider). z.number) (have after m.topology) (have (granted_by m) m.topology)
+            m.topology.providers,
+        rows_agree (λ (c : Consumer). c.number) (want after m.topology) (want (granted_by m) m.topology)
+            m.topology.consumers,
+      )

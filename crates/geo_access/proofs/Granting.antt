@@ -1,11 +1,9 @@
 -- A grant that is tried at a consumer that holds nothing, and what it is told.
-use Rattle.std.specs.Prelude.{◌≡◌, ◌≢◌, ℕ, ◌==◌, Bool, true, false, List, [], ◌∷◌, map, filter, Option, Some, None, IsSome, IfSome, IsSomeAnd, Contains, unwrap_or, if◌then◌else◌, ◌≤◌, Result, option_map}
-use Rattle.std.specs.Option.{option_and_then}
-use Rattle.std.proofs.Common.{refl, sym, ◌∙◌, ap, subst, arith, inl, inr, eq-eqb}
+use Rattle.std.specs.Prelude.{◌≡◌, ◌≢◌, ℕ, ◌==◌, true, List, [], ◌∷◌, map, filter, Option, Some, None, IsSome, IfSome, Contains, if◌then◌else◌, ◌≤◌, Result, option_map}
+use Rattle.std.proofs.Common.{refl, ◌∙◌, ap, subst, inl, inr, eq-eqb, rules}
 use Rattle.std.proofs.lemmas.Bool.{eqb-true, cases_eq, ne_eqb}
 use Rattle.std.proofs.lemmas.List.Elements.{All-contains}
 use Rattle.std.proofs.lemmas.List.Kept.{AllPairs-from_increasing}
-use Rattle.geo_base.proofs.Options.{some_of, some_and_of}
 use Rattle.geo_base.proofs.FindLists.{found_in, find-Contains}
 use Rattle.geo_base.specs.declared.request.Counts.{Counts}
 use Rattle.geo_model.specs.Words.{names_number}
@@ -15,8 +13,8 @@ use Rattle.geo_model.specs.Demand.{no_counts, add_counts, have, want}
 use Rattle.geo_slots.specs.Slots.{value_at}
 use Rattle.geo_mesh.specs.Topo.{TopoView}
 use Rattle.geo_mesh.specs.Graph.{IsSoundGraph}
-use Rattle.geo_laws_counts.specs.CountWords.{IsAtMost, AreAtMost, more_counts, NumbersLead, HoldsGrants}
-use Rattle.geo_laws_counts.proofs.Sums.{counts-same, at_most-same, add-more, zero-add, at_most-zero}
+use Rattle.geo_laws_counts.specs.CountWords.{AreAtMost, more_counts, NumbersLead, HoldsGrants}
+use Rattle.geo_laws_counts.proofs.Sums.{add-more, zero-add}
 use Rattle.geo_laws_counts.proofs.Levels.{have-at_most, want-at_most}
 use Rattle.geo_laws_counts.proofs.LimitFacts.{of_filter, all_of}
 use Rattle.geo_laws_counts.proofs.Numbers.{numbers_lead, only_of}
@@ -24,7 +22,7 @@ use Rattle.geo_laws_counts.proofs.Upward.{have_is_sum}
 use Rattle.geo_laws_counts.specs.DemandLaws.{DiffersAt}
 use Rattle.geo_laws_counts.proofs.Singles.{differing_stays}
 use Rattle.geo_laws_counts.proofs.Openers.{wants_grant}
-use Rattle.geo_laws_counts.proofs.Raising.{Demands, Covers, grant_demands}
+use Rattle.geo_laws_counts.proofs.Raising.{Covers, grant_demands}
 use Rattle.geo_access.specs.declared.decide.Refused.{Refused}
 use Rattle.geo_access.specs.declared.decide.Refused.TheVariants.{Named, Writer, Exclusive}
 use Rattle.geo_access.specs.declared.refusal.GrantRefusal.TheVariants.{Enxio, Eperm, Eoverflow}
@@ -47,19 +45,7 @@ pub record Holder {C : Type 0} (t : Topology C) (cons : ℕ) : Type 0 where
 
 -- is what the condition says
 pub holder_is : {C : Type 0} (t : Topology C) (cons : ℕ) → IsHolder t cons → Holder t cons
-holder_is t cons holder =
-    let d = some_and_of (λ (x : Consumer). HoldsGrants t x.geom) (consumer_at t cons) holder.kind in
-    let attached : IsSome d.0.provider =
-    subst (λ o. IsSomeAnd o (λ (x : Consumer). IsSome x.provider)) d.1 holder.attached in
-    let p = some_of d.0.provider attached in
-    record {
-      one = d.0;
-      found = d.1;
-      kind = d.2;
-      place = p.1 ∙ ap (λ n. Some n)
-          (sym (ap (λ o. unwrap_or (option_and_then (λ (x : Consumer). x.provider) o) 0) d.1
-          ∙ ap (λ o. unwrap_or o 0) p.1));
-    }
+holder_is t cons holder = search rules
 
 -- its provider lives
 pub holder_lives : {C : Type 0} (t : Topology C) → IsSoundGraph t → (cons : ℕ) → Holder t cons
@@ -134,18 +120,11 @@ module _ {C : Type 0} {t : TopoView C} {cons : ℕ} (sound : IsSoundGraph t.topo
 
       -- no grant falls
       pub grants_rise : AreAtMost (granted_by t) after
-      grants_rise n = by (n == cons) refl
-        where
-          by : (b : Bool) → (n == cons) ≡ b → IsAtMost (granted_by t n) (if b then add else granted_by t n)
-          by true e = subst (λ a. IsAtMost a add) (sym (ap (granted_by t) (eqb-true n cons e) ∙ none_granted))
-              (at_most-zero add)
-          by false e = at_most-same (granted_by t n)
+      grants_rise n = search rules
 
       -- the demand is the whole grant
       first_is : more_counts (granted_by t cons) (after cons) ≡ add
-      first_is =
-          ap (λ a. more_counts a (after cons)) none_granted ∙ ap (more_counts no_counts) own_is
-          ∙ counts-same (more_counts no_counts add) add (omega arith) (omega arith) (omega arith)
+      first_is = search rules
 
       -- what providers and consumers gain by it
       abbrev pub gains : ℕ → Counts
@@ -159,21 +138,18 @@ module _ {C : Type 0} {t : TopoView C} {cons : ℕ} (sound : IsSoundGraph t.topo
       pub other_wants : (c : Consumer) → c.number ≢ cons
           → want after t.topology c ≡ add_counts (want (granted_by t) t.topology c) (mores c)
       other_wants c other =
-          sym (add-more (want (granted_by t) t.topology c) (want after t.topology c)
-          (want-at_most (granted_by t) after grants_rise t.topology c))
-          ∙ sym (ap (λ b.
-          add_counts (want (granted_by t) t.topology c)
-          (if b then no_counts else more_counts (want (granted_by t) t.topology c)
-          (want after t.topology c))) (ne_eqb c.number cons other))
+          search (
+            rules,
+            add-more (want (granted_by t) t.topology c) (want after t.topology c)
+                (want-at_most (granted_by t) after grants_rise t.topology c),
+          )
 
       -- how the state with the grant stands to the one without
       granting_after : After t.topology place cons add (granted_by t) after t.topology gains mores
       granting_after = record {
         providers = refl;
         stays = differing_stays (granted_by t) after t.topology cons place one_differs sound.ranked numbers_are;
-        haves = λ q.
-            sym (add-more (have (granted_by t) t.topology q) (have after t.topology q)
-            (have-at_most (granted_by t) after grants_rise t.topology q));
+        haves = search (rules, have-at_most (granted_by t) after grants_rise t.topology);
         sums = λ q. have_is_sum t.topology sound.ranked numbers_are after q;
         opener = holder.one;
         opener_there = one_is.0;
@@ -202,15 +178,14 @@ module _ {C : Type 0} {t : TopoView C} {cons : ℕ} (sound : IsSoundGraph t.topo
       -- so it is a demand
       pub grant_demand : (order : List ℕ) → Covers t.topology place order
           → IsDemand t place cons add after t.topology order
-      grant_demand order covers = record {
-        gain = gains;
-        more = mores;
-        stands = granting_after;
-        demand =
-            subst (λ a. Demands t.topology place a (have (granted_by t) t.topology) gains mores order) first_is
-            (grant_demands t.topology sound.ranked numbers_are (granted_by t) after grants_rise cons place
-            holder.one one_differs one_filtered holder.place one_number holder.kind order covers);
-      }
+      grant_demand order covers =
+          search (
+            rules,
+            granting_after,
+            first_is,
+            grant_demands t.topology sound.ranked numbers_are (granted_by t) after grants_rise cons place holder.one
+                one_differs one_filtered holder.place one_number holder.kind order covers,
+          )
 
       module _ {new : TopoView C} {o : Order} (tried : IsTried t place add Rises new o) where
         -- the demand that was tried
@@ -259,24 +234,11 @@ answered {C} {t} {p} {add} {new} {o} {judgement} {told} cons tried at sound coun
     let holder : Holder t.topology cons = holder_is t.topology cons holds in
     let here : IsTried t (place_of t.topology cons) add Rises new o =
     subst (λ n. IsTried t n add Rises new o) at tried in
-    let judgement_is : judgement ≡ judged new (place_of t.topology cons) add (order_of new o) =
-    judges ∙ ap (λ n. judged new n add (order_of new o)) at in
-    let is : grant_answer judgement cons (place_of t.topology cons) ≡ told =
-    sym (ap (grant_answer judgement cons) at) ∙ answers in
-    let says : IsVerdict t.topology (place_of t.topology cons) cons (with_grant (granted_by t) cons add) t.topology
-    judgement =
-    subst (IsVerdict t.topology (place_of t.topology cons) cons (with_grant (granted_by t) cons add) t.topology)
-    (sym judgement_is) (its_verdict sound counted holder add stored here) in
-    record {
-      answer =
-          subst (λ r. IsRefusal r (grant_refusal (with_grant (granted_by t) cons add) t.topology
-          (place_of t.topology cons))) is
-          (subst (IsRefusal (grant_answer judgement cons (place_of t.topology cons)))
-          (refused t.topology (place_of t.topology cons) cons (with_grant (granted_by t) cons add) t.topology refl
-          judgement says)
-          (refusal_told cons (place_of t.topology cons) judgement));
-      named =
-          subst (IsNamed (with_grant (granted_by t) cons add) t.topology (place_of t.topology cons)) is
-          (answer_names t.topology (place_of t.topology cons) cons (with_grant (granted_by t) cons add) judgement says);
-      bound = steps_bound sound counted.clear here;
-    }
+    search (
+      rules,
+      its_verdict sound counted holder add stored here,
+      refused t.topology (place_of t.topology cons) cons (with_grant (granted_by t) cons add) t.topology,
+      refusal_told cons (place_of t.topology cons) judgement,
+      answer_names t.topology (place_of t.topology cons) cons (with_grant (granted_by t) cons add) judgement,
+      steps_bound sound counted.clear here,
+    )

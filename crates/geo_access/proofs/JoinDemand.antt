@@ -1,10 +1,10 @@
 -- A consumer that would join: the mesh around it is told, what it wants, and that it is a demand at its provider.
 use Rattle.std.specs.Prelude.{◌≡◌, ◌≢◌, ℕ, ◌==◌, Bool, true, false, List, [], ◌∷◌, map, fold, Some, None, IsSome, Contains, unwrap_or, if◌then◌else◌, ◌⊎◌}
 use Rattle.std.specs.Option.{option_map_or}
-use Rattle.std.proofs.Common.{refl, sym, ◌∙◌, ap, eq-eqb, subst, arith, inl, inr}
+use Rattle.std.proofs.Common.{refl, sym, ◌∙◌, ap, eq-eqb, subst, arith, inl, inr, rules}
 use Rattle.std.proofs.lemmas.Bool.{eqb-true, ne_eqb, cases_eq}
 use Rattle.std.proofs.lemmas.List.Elements.{All-contains}
-use Rattle.geo_base.proofs.Options.{some_of, some_and_of}
+use Rattle.geo_base.proofs.Options.{some_of}
 use Rattle.geo_base.proofs.FindLists.{found_in}
 use Rattle.geo_base.specs.declared.request.Counts.{Counts}
 use Rattle.geo_base.specs.declared.kind.Kind.{Kind}
@@ -72,9 +72,7 @@ pub record Loose {C : Type 0} (t : TopoView C) (cons : ℕ) : Type 0 where
 
 -- is what the condition says
 pub loose_is : {C : Type 0} (t : TopoView C) (cons : ℕ) → IsLoose t cons → Loose t cons
-loose_is t cons loose =
-    let d = some_and_of (λ (x : Consumer). x.provider ≡ None) (consumer_at t.topology cons) loose.free in
-    record { one = d.0; found = d.1; free = d.2 }
+loose_is t cons loose = search rules
 
 module _ {C : Type 0} {t : TopoView C} {cons : ℕ} (sound : IsSoundGraph t.topology) (counted : IsCountedBut t cons)
     (loose : Loose t cons) where
@@ -101,13 +99,12 @@ module _ {C : Type 0} {t : TopoView C} {cons : ℕ} (sound : IsSoundGraph t.topo
   pub other_stored : (c : Consumer) → Contains t.topology.consumers c → c.number ≢ cons
       → want_at t c.number ≡ want (granted_by t) t.topology c
   other_stored c there other =
-      ap (λ rows. unwrap_or (value_at rows c.number) no_counts) counted.wants
-      ∙ ap (λ o. unwrap_or o no_counts)
-      (item_at (λ (x : Consumer). x.number)
-      (λ (x : Consumer). if x.number == cons then no_counts else want (granted_by t) t.topology x) c.number
-      t.topology.consumers c
-      (consumer_known t sound c there))
-      ∙ ap (λ b. if b then no_counts else want (granted_by t) t.topology c) (ne_eqb c.number cons other)
+      search (
+        rules,
+        item_at (λ (x : Consumer). x.number)
+            (λ (x : Consumer). if x.number == cons then no_counts else want (granted_by t) t.topology x) c.number
+            t.topology.consumers c (consumer_known t sound c there),
+      )
 
   -- and it holds nothing
   pub nothing_stored : value_at t.wants cons ≡ Some no_counts
@@ -212,11 +209,7 @@ detached_again t c p x order found free =
     each : (cs : List Consumer) → AllByRecursion (λ (y : Consumer). (y.number == c) ≡ true → y ≡ x) cs
         → AllByRecursion (λ (y : Consumer). (y.number == c) ≡ true → (record y { provider = None }) ≡ y) cs
     each [] all = tt
-    each (y ∷ ys) all = (
-      (λ e. let none : y.provider ≡ None = ap (λ (z : Consumer). z.provider) (all.0 e) ∙ free in
-          ap (λ o. record y { provider = o }) (sym none)),
-      each ys all.1,
-    )
+    each (y ∷ ys) all = search (rules, each ys all.1)
 
 module _ {C : Type 0} (granted : ℕ → Counts) {t : Topology C} {c p : ℕ} (j : Joins t c p) where
   -- the graph with it
@@ -275,8 +268,7 @@ module _ {C : Type 0} (granted : ℕ → Counts) {t : Topology C} {c p : ℕ} (j
 
   -- another consumer stands in both
   pub other_stays : (d : Consumer) → Contains t.consumers d → d.number ≢ c → Contains joined.consumers d
-  other_stays d there other =
-      subst (Contains joined.consumers) (put_other d other) (Contains-map put t.consumers d there)
+  other_stays d there other = search (rules, Contains-map put t.consumers d there)
 
   -- a consumer of the new graph is it, or another one that stood
   pub joined_cases : (d : Consumer) → Contains joined.consumers d
@@ -294,13 +286,11 @@ module _ {C : Type 0} (granted : ℕ → Counts) {t : Topology C} {c p : ℕ} (j
   pub was_other : (q : ℕ) (d : Consumer) → Contains (attached_to t q) d → Contains t.consumers d × (d.number ≢ c)
       × (names_number d.provider q ≡ true)
   was_other q d at =
-      let inside = of_filter (λ (x : Consumer). names_number x.provider q) t.consumers d at in (
-        inside.0,
-        (λ same.
-            let none : d.provider ≡ None = ap (λ (x : Consumer). x.provider) (its_only d inside.0 same) ∙ j.free in
-            let e : None ≡ Some q = sym none ∙ names_some d.provider q inside.1 in
-            cc),
-        inside.1,
+      search (
+        rules,
+        of_filter (λ (x : Consumer). names_number x.provider q) t.consumers d,
+        its_only d,
+        names_some d.provider q,
       )
 
   -- a consumer that stood wants what it wanted and gains
@@ -357,9 +347,5 @@ module _ {C : Type 0} (granted : ℕ → Counts) {t : Topology C} {c p : ℕ} (j
 pub join_demand : {C : Type 0} {t : TopoView C} {c p : ℕ} (j : Joins t.topology c p) (order : List ℕ)
     → Covers t.topology p order
     → IsDemand t p c (joined_want (granted_by t) j) (granted_by t) (attach t.topology c p) order
-join_demand {C} {t} j order covers = record {
-  gain = join_gains (granted_by t) j;
-  more = join_mores (granted_by t) j;
-  stands = join_after (granted_by t) j;
-  demand = join_demands (granted_by t) j order covers;
-}
+join_demand {C} {t} j order covers =
+    search (rules, join_after (granted_by t) j, join_demands (granted_by t) j order covers)

@@ -1,8 +1,6 @@
 -- What a consumer that would join is told, the end of a join that nothing refuses, and what its answers see of both.
-use Rattle.std.specs.Prelude.{◌≡◌, ℕ, ◌==◌, Bool, true, false, not, List, [], ◌∷◌, length, Option, Some, None, Result, Err, IsOk, fold, option_map, if◌then◌else◌, ◌≢◌, IsSome, Contains, unwrap_or}
-use Rattle.std.specs.Option.{option_or}
-use Rattle.std.proofs.Common.{refl, sym, ◌∙◌, ap, subst, inl, inr, eq-eqb}
-use Rattle.geo_base.proofs.FindLists.{any-contained}
+use Rattle.std.specs.Prelude.{◌≡◌, ℕ, ◌==◌, Bool, true, false, not, List, [], ◌∷◌, Option, Some, None, Result, Err, IsOk, fold, if◌then◌else◌, ◌≢◌, IsSome, Contains}
+use Rattle.std.proofs.Common.{refl, sym, ◌∙◌, ap, subst, eq-eqb, rules}
 use Rattle.geo_base.specs.declared.request.Counts.{Counts}
 use Rattle.geo_base.specs.declared.errno.Errno.{Errno}
 use Rattle.geo_base.specs.declared.errno.Errno.TheVariants.{ENXIO, EPERM, EOVERFLOW, ELOOP, EDEEP}
@@ -11,11 +9,9 @@ use Rattle.geo_model.specs.Topology.{Topology, provider_at, consumer_at, is_erro
 use Rattle.geo_model.specs.Rank.{would_loop, is_too_deep, attach_refusal}
 use Rattle.geo_model.specs.Demand.{is_exclusive, fits_limit, want, no_counts, have, risen}
 use Rattle.geo_model.specs.Opens.{below, has_error_below, join_refusal}
-use Rattle.geo_mesh.specs.Topo.{TopoView, with_provider_scratch, no_scratch, with_topology, with_want, with_geom_scratch}
+use Rattle.geo_mesh.specs.Topo.{TopoView, no_scratch, with_topology, with_want, with_geom_scratch}
 use Rattle.geo_mesh.specs.Graph.{IsSoundGraph}
 use Rattle.geo_laws_counts.specs.WalkWords.{cap, has_number}
-use Rattle.geo_laws_counts.proofs.Reach.{below_self}
-use Rattle.geo_laws_counts.proofs.Flows.{add-cap}
 use Rattle.geo_laws_growth.specs.JoinLaws.{Joins}
 use Rattle.geo_laws_growth.proofs.Joining.{joins_without_loop, its_number}
 use Rattle.geo_access.specs.declared.counts.Way.{Way}
@@ -23,21 +19,17 @@ use Rattle.geo_access.specs.declared.counts.Way.TheVariants.{Rises, Falls}
 use Rattle.geo_access.specs.declared.order.Order.{Order}
 use Rattle.geo_access.specs.declared.decide.Refused.{Refused}
 use Rattle.geo_access.specs.declared.decide.Refused.TheVariants.{Named, Writer, Exclusive}
-use Rattle.geo_access.specs.declared.decide.Asked.TheVariants.{Exclusion, Limit}
-use Rattle.geo_access.specs.declared.decide.Side.TheVariants.{Writes, Excludes}
 use Rattle.geo_access.specs.declared.refusal.GrantRefusal.TheVariants.{Enxio, Eperm, Eoverflow}
 use Rattle.geo_access.specs.Access.{granted_by, IsQuiet, leaves_zero, holds_grants, clear_scratches, IsCounted, noted}
 use Rattle.geo_access.specs.declared.refusal.JoinRefusal.{JoinRefusal}
-use Rattle.geo_access.specs.Views.{order_of, IsTried, judged, grant_answer, give, gain_at, other, first_errored, first_given, fault_in, gathered_from, spread_from, raise_want, raise_wants, finish_provider, finish_geom, made_at, MayEnd}
+use Rattle.geo_access.specs.Views.{order_of, IsTried, judged, grant_answer, other, raise_want, raise_wants, finish_provider, finish_geom, made_at, MayEnd}
 use Rattle.geo_access.specs.Join.{IsCountedBut, IsJoinRefusal, IsJoinNamed, join_answer, attach_told, errno_of_join, errored_below, error_answer, attach_answer, demand_answer, IsPlacedBut, joined_view, IsLoose, wanted}
-use Rattle.geo_access.proofs.Judging.{zero_min}
 use Rattle.geo_access.proofs.Walked.{walk, walk_covers, tried_graph, tried_order, walk_reached}
 use Rattle.geo_access.proofs.Verdict.{IsVerdict, After, opener_at}
 use Rattle.geo_access.proofs.Decided.{order, decided, IsDemand, IsTold, granted_found, grows}
 use Rattle.geo_access.proofs.Coming.{SaysError, open_errors, open_is}
 use Rattle.geo_access.proofs.JoinDemand.{Loose, but_told, joined_want, joined_want_is, join_demand, join_after, joined_cases, loose_is, loose_only, nothing_stored, other_stays, wanted_is, change_none}
 use Rattle.std.proofs.lemmas.Bool.{eqb-true, ne_eqb}
-use Rattle.std.proofs.lemmas.List.Elements.{All-contains}
 use Rattle.geo_laws_graph.specs.LookupLaws.{AttachedIsFound}
 use Rattle.geo_laws_graph.proofs.Found.{attached-found}
 use Rattle.geo_laws_graph.proofs.Lists.{map-changed}
@@ -58,37 +50,15 @@ use Rattle.geo_base.proofs.Options.{some_and_of, some_of}
 
 -- Counts that are stopped
 
--- a demand that is stopped is given as it is
-give_stopped : {C : Type 0} (a : Counts) (v : TopoView C) (p : ℕ) → give (cap a) v p ≡ give a v p
-give_stopped a v p = ap (λ b. with_provider_scratch v p (record { mark = 0; trial = b })) (add-cap (gain_at v p) a)
-
 -- so what is tried with it is tried with the whole
 pub tried_whole : {C : Type 0} {t : TopoView C} {p : ℕ} {a b : Counts} {way : Way} {new : TopoView C} {o : Order}
     → a ≡ cap b → IsTried t p a way new o → IsTried t p b way new o
-tried_whole {C} {t} {p} {a} {b} {way} {new} {o} is tried =
-    let same : give a (gathered_from t tried.offer.geom).view p ≡ give b (gathered_from t tried.offer.geom).view p =
-    ap (λ x. give x (gathered_from t tried.offer.geom).view p) is
-    ∙ give_stopped b (gathered_from t tried.offer.geom).view p in
-    record {
-      offer = tried.offer;
-      found = tried.found;
-      order = tried.order;
-      view = tried.view ∙ ap (λ (v : TopoView C). fold (spread_from way) v (order_of v o)) same;
-      orders = tried.orders ∙ ap (λ (v : TopoView C). order_of v o) same;
-    }
+tried_whole {C} {t} {p} {a} {b} {way} {new} {o} is tried = search rules
 
 -- and is judged alike
 pub judged_whole : {C : Type 0} (v : TopoView C) (p : ℕ) (a b : Counts) (xs : List ℕ) → a ≡ cap b
     → judged v p a xs ≡ judged v p b xs
-judged_whole v p a b xs is =
-    let judge : Bool → Bool → Option Refused = λ w e.
-    option_or (option_map (λ q. Named (Enxio q)) (first_errored v p xs))
-    (option_or
-    (option_or (if w then None else option_map (λ c. Exclusive c) (other v p 0 Excludes))
-    (if e then None else option_map (λ c. Writer c) (other v p 0 Writes)))
-    (option_map (λ r. Named r)
-    (option_or (first_given (fault_in v Exclusion) xs) (first_given (fault_in v Limit) xs)))) in
-    ap (λ (x : Counts). judge (x.w == 0) (x.e == 0)) is ∙ (λ i. judge (zero_min b.w i) (zero_min b.e i))
+judged_whole v p a b xs is = search rules
 
 -- The order of the tests
 
@@ -103,37 +73,21 @@ join_tests below loop deep exclusive limit =
 -- what refuses an attach at a provider without an error refuses a join, where there is no error below
 attach_first : (p : ℕ) (loop deep exclusive limit : Bool) (e : Errno) → attach_tests false loop deep ≡ Some e
     → join_tests false loop deep exclusive limit ≡ Some (errno_of_join (attach_told e p))
-attach_first p true deep exclusive limit e is = let same : ELOOP ≡ e = cc in
-    ap (λ x. Some (errno_of_join (attach_told x p))) same
-attach_first p false true exclusive limit e is = let same : EDEEP ≡ e = cc in
-    ap (λ x. Some (errno_of_join (attach_told x p))) same
+attach_first p true deep exclusive limit e is = search rules
+attach_first p false true exclusive limit e is = search rules
 attach_first p false false exclusive limit e is = absurd (cc)
 
 -- and names nothing
 attach_names : {C : Type 0} (granted : ℕ → Counts) (t : Topology C) (c p : ℕ) (loop deep : Bool) (e : Errno)
     → attach_tests false loop deep ≡ Some e
     → IsJoinNamed granted t c p (Err (attach_told e p))
-attach_names granted t c p true deep e is = let same : ELOOP ≡ e = cc in
-    subst (λ x. IsJoinNamed granted t c p (Err (attach_told x p))) same tt
-attach_names granted t c p false true e is = let same : EDEEP ≡ e = cc in
-    subst (λ x. IsJoinNamed granted t c p (Err (attach_told x p))) same tt
+attach_names granted t c p true deep e is = search rules
+attach_names granted t c p false true e is = search rules
 attach_names granted t c p false false e is = absurd (cc)
-
--- where nothing does, neither test holds
-attach_passed : (errored loop deep : Bool) → attach_tests errored loop deep ≡ None → (loop ≡ false) × (deep ≡ false)
-attach_passed true loop deep none = absurd (cc)
-attach_passed false true deep none = absurd (cc)
-attach_passed false false true none = absurd (cc)
-attach_passed false false false none = (refl, refl)
 
 -- no error is below, so there is none at the provider
 sound_here : {C : Type 0} (t : Topology C) (p : ℕ) → has_error_below t p ≡ false → is_errored t p ≡ false
-sound_here t p none = by (is_errored t p) refl
-  where
-    by : (b : Bool) → is_errored t p ≡ b → b ≡ false
-    by false e = refl
-    by true e = let no : true ≡ false =
-        sym (any-contained (is_errored t) (below t p) p (below_self (length t.geoms) t p) e) ∙ none in absurd (cc)
+sound_here t p none = search rules
 
 module _ {C : Type 0} (t : Topology C) (c p : ℕ) (granted : ℕ → Counts) where
   -- the tests of an attach there
@@ -147,8 +101,7 @@ module _ {C : Type 0} (t : Topology C) (c p : ℕ) (granted : ℕ → Counts) wh
   tests_are : {below loop deep exclusive limit : Bool} → has_error_below t p ≡ below → loops ≡ loop → too_deep ≡ deep
       → is_exclusive granted (attach t c p) ≡ exclusive → fits_limit granted (attach t c p) ≡ limit
       → join_refusal granted t c p ≡ join_tests below loop deep exclusive limit
-  tests_are errors looped deep exclusive limit = λ i.
-      join_tests (errors i) (looped i) (deep i) (exclusive i) (limit i)
+  tests_are errors looped deep exclusive limit = search rules
 
   -- the answer is right, and names what it has to
   abbrev pub IsRight : Result (Unit {0}) JoinRefusal → Type 0
@@ -177,8 +130,7 @@ module _ {C : Type 0} (t : Topology C) (c p : ℕ) (granted : ℕ → Counts) wh
   right_demand passed (Some (Named (Enxio q))) says none = absurd (cc)
   right_demand passed (Some (Named (Eperm q w e))) says none =
       (tests_are passed.0 passed.1 passed.2 says.1 refl, says.2)
-  right_demand passed (Some (Named (Eoverflow q))) says none =
-      (tests_are passed.0 passed.1 passed.2 says.1 says.2, says.3)
+  right_demand passed (Some (Named (Eoverflow q))) says none = search rules
   right_demand passed (Some (Writer w)) says none = (tests_are passed.0 passed.1 passed.2 says.1 refl, says.2)
   right_demand passed (Some (Exclusive e)) says none = (tests_are passed.0 passed.1 passed.2 says.1 refl, says.2)
 
@@ -197,8 +149,7 @@ module _ {C : Type 0} (t : Topology C) (c p : ℕ) (granted : ℕ → Counts) wh
   right_attached : has_error_below t p ≡ false → (o : Option Errno) → attach_refusal t c p ≡ o
       → (rest : Result (Unit {0}) JoinRefusal)
       → (IsPassed → IsRight rest) → IsRight (attach_answer o p rest)
-  right_attached none None refused rest so =
-      let tests = attach_passed (is_errored t p) loops too_deep refused in so (none, tests.0, tests.1)
+  right_attached none None refused rest so = search rules
   right_attached none (Some e) refused rest so = right_attach e none refused
 
 -- an answer that is Ok
@@ -254,8 +205,7 @@ module _ {C : Type 0} {t : TopoView C} {cons : ℕ} (sound : IsSoundGraph t.topo
 
     -- is what was tried, not stopped
     pub add_whole : add ≡ cap whole
-    add_whole = is ∙ ap (λ c. cap (want (granted_by t) t.topology c)) (sym one)
-        ∙ ap cap (sym (joined_want_is (granted_by t) j))
+    add_whole = search (rules, ap cap (sym (joined_want_is (granted_by t) j)))
 
     -- so that was tried
     pub whole_tried : IsTried t p whole Rises new o
@@ -286,16 +236,12 @@ module _ {C : Type 0} {t : TopoView C} {cons : ℕ} (sound : IsSoundGraph t.topo
   -- where nothing refuses the attach, its geom wouldn't reach itself
   pub around_free : attach_refusal t.topology cons p ≡ None
       → would_loop t.topology (consumer_at t.topology cons) (provider_at t.topology p) ≡ false
-  around_free none =
-      (attach_passed (is_errored t.topology p)
-      (would_loop t.topology (consumer_at t.topology cons) (provider_at t.topology p))
-      (is_too_deep (attach t.topology cons p)) none).0
+  around_free none = search rules
 
   -- and where nothing refuses the demand, none stands in another's way and no count is too great
   pub join_fits : (j : Joins t.topology cons p) → (one : j.consumer ≡ loose.one) → its_judgement ≡ None
       → IsVerdict t.topology p cons (granted_by t) (attach t.topology cons p) None
-  join_fits j one none =
-      subst (IsVerdict t.topology p cons (granted_by t) (attach t.topology cons p)) none (its_verdict j one)
+  join_fits j one none = search (rules, its_verdict j one)
 
 -- The end of a walk over another graph
 
@@ -320,8 +266,7 @@ module _ {C : Type 0} where
       → raise_wants keep (with_topology v u) x ≡ with_topology (raise_wants keep v x) u
   wants_over u None v x same = refl
   wants_over u (Some way) v x same =
-      ap (fold (raise_want way (made_at v x)) (with_topology v u)) same
-      ∙ fold_over u (raise_want way (made_at v x)) (λ w c. refl) (consumers_of v.topology x) v
+      search (rules, fold_over u (raise_want way (made_at v x)) (λ w c. refl) (consumers_of v.topology x) v)
 
   -- at a geom whose consumers and providers are the same in both graphs
   geom_over : (u : Topology C) (keep : Option Way) (v : TopoView C) (x : ℕ)
@@ -426,8 +371,7 @@ module _ {C : Type 0} {t : TopoView C} {cons : ℕ} (sound : IsSoundGraph t.topo
       → has_number its_order c.geom ≡ true → IsAtMost (want granted u c) greatest_counts
   want_fits c there other inside =
       let at = attached_below sound its_told full c there
-      (λ free. All-contains (λ (x : Consumer). x.number ≢ cons → x.provider ≡ None
-      → providers_of t.topology x.geom ≡ []) t.topology.consumers c placed there other free) inside in
+      (search rules) inside in
       let z = some_of (provider_at t.topology at.0) at.2 in
       let stands = provider_stands t sound at.0 z.0 z.1 in
       want_within granted u d.stands.sums limit at.0 z.0 stands.0 stands.1 c
@@ -461,8 +405,7 @@ module _ {C : Type 0} {t : TopoView C} {cons : ℕ} (sound : IsSoundGraph t.topo
       ∙ ap (λ v. with_want (fold (finish_geom (Some Rises)) (attached v) its_order) cons add)
       (walked_is sound its_told full d.demand (grows sound its_told full d) quiet joins_whole)
       ∙ ap (λ v. with_want v cons add)
-      (order_over t.topology u (Some Rises) its_order (trying t its_tries) refl
-      (λ x inside. (same_consumers x inside, refl)))
+      (search (rules, order_over t.topology u (Some Rises) its_order (trying t its_tries), same_consumers))
       ∙ ap (λ a. with_topology
       (with_want (fold (finish_geom (Some Rises)) (trying t its_tries) its_order) cons a) u) add_is
       ∙ ap (λ v. with_topology v u)
@@ -485,20 +428,14 @@ module _ {C : Type 0} {t : TopoView C} {cons : ℕ} (sound : IsSoundGraph t.topo
   none_granted : (c : Consumer) → Contains (attach t.topology cons p).consumers c
       → holds_grants t.topology c.geom ≡ false → granted_by t c.number ≡ no_counts
   none_granted c there none =
-      elim (joined_cases (granted_by t) j c there) [
-        | inl same ↦
-            at j.consumer (ap (λ (x : Consumer). consumer_at t.topology x.number) same
-            ∙ ap (consumer_at t.topology) (its_number t.topology cons p j) ∙ j.stands)
-            (ap (λ (x : Consumer). x.geom) (sym same))
-        | inr old ↦ at c (consumer_known t sound c old.0) refl
-      ]
-    where
-      at : (old : Consumer) → consumer_at t.topology c.number ≡ Some old → old.geom ≡ c.geom
-          → granted_by t c.number ≡ no_counts
-      at old found geom =
-          granted_found t c.number old found
-          ∙ ap (λ b. if b then unwrap_or (value_at t.wants c.number) no_counts else no_counts)
-          (ap (holds_grants t.topology) geom ∙ none)
+      search (
+        rules,
+        joined_cases (granted_by t) j c there,
+        ap (consumer_at t.topology) (its_number t.topology cons p j),
+        its_number t.topology cons p j,
+        consumer_known t sound c,
+        granted_found t c.number,
+      )
 
   -- so the mesh is counted
   joined_counted : IsCounted (joined_view t cons p)
@@ -534,20 +471,16 @@ pub may_admit : {C : Type 0} {t : TopoView C} {p : ℕ} {add : Counts} {new : To
     → IsTried t p add Rises new o → IsSoundGraph t.topology → IsCountedBut t cons → IsLoose t cons
     → MayAdmit new cons p
 may_admit {C} {t} {p} {add} {new} {o} cons tried sound counted free =
-    subst (λ (v : TopoView C). MayAdmit v cons p)
-    (sym (open_is tried sound (joiner_told t cons sound counted free)))
-    (record {
-      loose = record { free = free.free; idle = free.idle };
-      nothing = nothing_stored sound counted (loose_is t cons free);
-      lives = subst (λ y. IsSome y) (sym tried.found) refl;
-      sound = sound;
-    })
+    search (
+      rules,
+      open_is tried sound (joiner_told t cons sound counted free),
+      nothing_stored sound counted (loose_is t cons free),
+    )
 
 -- where a walk can be ended, it can with a consumer attached
 pub attached_may_end : {C : Type 0} {new v : TopoView C} {o : Order} (cons p : ℕ)
     → MayEnd new o → v ≡ with_topology new (attach new.topology cons p) → MayEnd v o
-attached_may_end {C} {new} {v} {o} cons p ends attached =
-    subst (λ (w : TopoView C). MayEnd w o) (sym attached) (record { lives = ends.lives; apart = ends.apart })
+attached_may_end {C} {new} {v} {o} cons p ends attached = search rules
 
 -- and its end leaves the consumer there
 pub joiner_stays : {C : Type 0} {t : TopoView C} {p : ℕ} {add : Counts} {new v last : TopoView C} {o : Order}
@@ -592,9 +525,7 @@ module _ {C : Type 0} {t : TopoView C} {p : ℕ} {add : Counts} {new : TopoView 
 
   -- and that is right
   pub join_told : IsRight t.topology cons p (granted_by t) told
-  join_told =
-      subst (IsRight t.topology cons p (granted_by t)) (sym told_is)
-      (told_right sound counted joiner tried wants_is)
+  join_told = search (rules, told_is, told_right sound counted joiner tried wants_is)
 
   -- where nothing refused it and the walk has ended, it stands
   pub join_stands : {v last : TopoView C} → IsOk told → IsQuiet t → IsPlacedBut t.topology cons

@@ -1,8 +1,8 @@
 -- What the judgement of a tried demand says.
 use Rattle.std.specs.Prelude.{◌≡◌, ◌≢◌, ◌⊎◌, ℕ, ◌==◌, ◌≤◌, min, Bool, true, false, not, ◌&&◌, List, [], ◌∷◌, flat_map, find, fold, Option, Some, None, Contains, option_map, if◌then◌else◌}
 use Rattle.std.specs.Option.{option_map_or, option_and_then, option_or}
-use Rattle.std.proofs.Common.{refl, sym, ◌∙◌, ap, subst, arith, inl, inr, eq-eqb}
-use Rattle.std.proofs.lemmas.Bool.{cases_eq, cases_lt, ne_eqb, and_parts}
+use Rattle.std.proofs.Common.{refl, sym, ◌∙◌, ap, subst, arith, inl, inr, eq-eqb, rules}
+use Rattle.std.proofs.lemmas.Bool.{cases_eq, ne_eqb, and_parts}
 use Rattle.std.proofs.lemmas.List.Sums.{fold-append}
 use Rattle.geo_base.proofs.FindLists.{found_in, none_passes}
 use Rattle.geo_base.proofs.Options.{none-mapped}
@@ -36,89 +36,22 @@ module _ {C : Type 0} (v : TopoView C) where
       → IsLeastOf v.topology (λ z. S z ⊎ (z ≡ q)) (if e then Some (smaller best q) else best)
   least_one S q None least false is = λ z among.
       elim among [ inl old ↦ least z old | inr same ↦ ap (errored_at v.topology) same ∙ is ]
-  least_one S q (Some b) least false is = (
-    inl least.0,
-    least.1,
-    (λ z among err. elim among [
-      | inl old ↦
-          least.2 z old err
-      | inr same ↦
-          let no : true ≡ false = sym err ∙ ap (errored_at v.topology) same ∙ is in absurd (cc)
-    ]),
-  )
-  least_one S q None least true is = (
-    inr refl,
-    is,
-    (λ z among err. elim among [
-      | inl old ↦
-          let no : true ≡ false = sym err ∙ least z old in absurd (cc)
-      | inr same ↦ omega arith
-    ]),
-  )
-  least_one S q (Some b) least true is =
-      elim (cases_lt b q) [
-        | inl low ↦
-            let lower : min b q ≡ b = omega arith in (
-              subst (λ n. S n ⊎ (n ≡ q)) (sym lower) (inl least.0),
-              ap (errored_at v.topology) lower ∙ least.1,
-              (λ z among err. elim among [
-                | inl old ↦
-                    let less : b ≤ z = least.2 z old err in omega arith
-                | inr same ↦ omega arith
-              ]),
-            )
-        | inr high ↦
-            let lower : min b q ≡ q = omega arith in (
-              subst (λ n. S n ⊎ (n ≡ q)) (sym lower) (inr refl),
-              ap (errored_at v.topology) lower ∙ is,
-              (λ z among err. elim among [
-                | inl old ↦
-                    let less : b ≤ z = least.2 z old err in omega arith
-                | inr same ↦ omega arith
-              ]),
-            )
-      ]
+  least_one S q (Some b) least false is = search rules
+  least_one S q None least true is = search rules
+  least_one S q (Some b) least true is = search rules
 
   -- with some numbers more
   least_all : (qs : List ℕ) (S : ℕ → Type 0) (best : Option ℕ) → IsLeastOf v.topology S best
       → IsLeastOf v.topology (λ z. S z ⊎ Contains qs z) (fold (lesser v) best qs)
-  least_all [] S best least = widen best least
-    where
-      widen : (o : Option ℕ) → IsLeastOf v.topology S o → IsLeastOf v.topology (λ z. S z ⊎ Contains [] z) o
-      widen None all = λ z among. elim among [ inl old ↦ all z old | inr none ↦ absurd (nothing_in z none) ]
-      widen (Some b) all = (
-        inl all.0,
-        all.1,
-        (λ z among err. elim among [
-          | inl old ↦
-              all.2 z old err
-          | inr none ↦ absurd (nothing_in z none)
-        ]),
-      )
+  least_all [] S best least = search rules
   least_all (q ∷ qs) S best least =
-      widen (fold (lesser v) (lesser v best q) qs)
-      (least_all qs (λ z. S z ⊎ (z ≡ q)) (lesser v best q) (least_one S q best least (errored_at v.topology q) refl))
-    where
-      into : (z : ℕ) → (S z ⊎ (z ≡ q)) ⊎ Contains qs z → S z ⊎ Contains (q ∷ qs) z
-      into z among =
-          elim among [
-            | inl first ↦
-                elim first
-                [ inl old ↦ inl old | inr same ↦ inr (subst (Contains (q ∷ qs)) (sym same) (Contains-here q qs)) ]
-            | inr rest ↦ inr (Contains-there q z qs rest)
-          ]
-
-      back : (z : ℕ) → S z ⊎ Contains (q ∷ qs) z → (S z ⊎ (z ≡ q)) ⊎ Contains qs z
-      back z among =
-          elim among [
-            | inl old ↦ inl (inl old)
-            | inr there ↦ elim (Contains-cases q z qs there) [ inl same ↦ inl (inr (sym same)) | inr rest ↦ inr rest ]
-          ]
-
-      widen : (o : Option ℕ) → IsLeastOf v.topology (λ z. (S z ⊎ (z ≡ q)) ⊎ Contains qs z) o
-          → IsLeastOf v.topology (λ z. S z ⊎ Contains (q ∷ qs) z) o
-      widen None all = λ z among. all z (back z among)
-      widen (Some b) all = (into b all.0, all.1, (λ z among err. all.2 z (back z among) err))
+      search (
+        rules,
+        least_all qs (λ z. S z ⊎ (z ≡ q)) (lesser v best q) (least_one S q best least (errored_at v.topology q) refl),
+        Contains-here q qs,
+        Contains-there q,
+        Contains-cases q,
+      )
 
   -- a fold over the lists of some items is one over their lists in a row
   fold_flat : (f : Option ℕ → ℕ → Option ℕ) (g : ℕ → List ℕ) (xs : List ℕ) (best : Option ℕ)
@@ -139,15 +72,7 @@ module _ {C : Type 0} (v : TopoView C) where
           → IsLeastOf v.topology (λ z. ⊥ ⊎ Contains (p ∷ flat_map (providers_under v.topology) xs) z) o
           → IsLeastOf v.topology (λ z. Contains (p ∷ flat_map (providers_under v.topology) xs) z) o
       widen None all = λ z there. all z (inr there)
-      widen (Some b) all = (
-        elim all.0 [
-          | inl none ↦
-              absurd none
-          | inr there ↦ there
-        ],
-        all.1,
-        (λ z there err. all.2 z (inr there) err),
-      )
+      widen (Some b) all = search rules
 
 -- Look-ups
 
@@ -195,17 +120,7 @@ module _ {C : Type 0} (v : TopoView C) (u : Consumer → Counts)
   -- where one is found
   pub other_some : (q but : ℕ) (side : Side) (n : ℕ) → other v q but side ≡ Some n → Has q but side n
   other_some q but side n found =
-      let test : Consumer → Bool = λ c. not (c.number == but) && has_side side (raised v c) in
-      let one = mapped_some (λ (c : Consumer). c.number) (find test (attached_to v.topology q)) n found in
-      let is = found_in test (attached_to v.topology q) one.0 one.1 in
-      let tests = and_parts (not (one.0.number == but)) (has_side side (raised v one.0)) is.1 in
-      record {
-        one = one.0;
-        at = is.0;
-        number = one.2;
-        apart = λ same. passes_apart one.0.number but tests.0 (one.2 ∙ same);
-        has = sym (side_at q side one.0 is.0) ∙ tests.1;
-      }
+      search (rules, mapped_some (λ (c : Consumer). c.number), found_in, and_parts, passes_apart, side_at q side)
 
   -- where none is found
   pub other_none : (q but : ℕ) (side : Side) → other v q but side ≡ None → (c : Consumer)
@@ -234,17 +149,7 @@ module _ {C : Type 0} (v : TopoView C) (u : Consumer → Counts)
 
   -- two that were found do
   clash_of : (q w e but : ℕ) → Has q but Writes w → Has q w Excludes e → Clash q w e
-  clash_of q w e but a b = record {
-    writer = a.one;
-    exclusive = b.one;
-    writer_at = a.at;
-    exclusive_at = b.at;
-    writer_is = a.number;
-    exclusive_is = b.number;
-    apart = λ same. b.apart (sym same);
-    writes = a.has;
-    excludes = b.has;
-  }
+  clash_of q w e but a b = search rules
 
   -- no two do
   abbrev pub NoClash : ℕ → Type 0
@@ -261,11 +166,7 @@ module _ {C : Type 0} (v : TopoView C) (u : Consumer → Counts)
   third_says : (q n m : ℕ)
       → Has q 0 Writes n → other v q n Excludes ≡ None → Has q n Writes m
       → (o : Option ℕ) → other v q m Excludes ≡ o → Says q (option_map (λ b. (m, b)) o)
-  third_says q n m first none second None e = λ a b at bt apart.
-      elim (cases_eq b.number n) [
-        | inl same ↦ inr (other_none q m Excludes e b bt (λ is. second.apart (sym is ∙ same)))
-        | inr other ↦ inr (other_none q n Excludes none b bt other)
-      ]
+  third_says q n m first none second None e = search (rules, other_none q m Excludes e, other_none q n Excludes none)
   third_says q n m first none second (Some b) e = clash_of q m b n second (other_some q m Excludes b e)
 
   -- where the first writer isn't of the pair
@@ -273,11 +174,7 @@ module _ {C : Type 0} (v : TopoView C) (u : Consumer → Counts)
       → Has q 0 Writes n → other v q n Excludes ≡ None
       → (o : Option ℕ) → other v q n Writes ≡ o
       → Says q (option_and_then (λ a. option_map (λ b. (a, b)) (other v q a Excludes)) o)
-  second_says q n first none None e = λ a b at bt apart.
-      elim (cases_eq b.number n) [
-        | inl same ↦ inl (other_none q n Writes e a at (λ is. apart (is ∙ sym same)))
-        | inr other ↦ inr (other_none q n Excludes none b bt other)
-      ]
+  second_says q n first none None e = search (rules, other_none q n Writes e, other_none q n Excludes none)
   second_says q n first none (Some m) e =
       third_says q n m first none (other_some q n Writes m e) (other v q m Excludes) refl
 

@@ -1,9 +1,8 @@
 -- The end of a demand that is kept: what is gained or lost below comes into the counts, once each.
 use Rattle.std.specs.Prelude.{◌≡◌, ◌≢◌, ℕ, ◌==◌, Bool, true, false, List, [], map, fold, Option, Some, None, IsSome, IfSome, Contains, if◌then◌else◌, unwrap_or, ◌≤◌}
-use Rattle.std.proofs.Common.{refl, sym, ◌∙◌, ap, subst, inl, inr, eq-eqb, arith}
+use Rattle.std.proofs.Common.{refl, sym, ◌∙◌, ap, subst, eq-eqb, arith, rules}
 use Rattle.std.proofs.Math.Bool.{and-not_self, not-and_self}
 use Rattle.std.proofs.lemmas.Bool.{cases_eq, ne_eqb}
-use Rattle.std.proofs.lemmas.List.Elements.{All-contains}
 use Rattle.geo_base.specs.declared.request.Counts.{Counts}
 use Rattle.geo_base.proofs.MemberLists.{nothing_in, Contains-filter}
 use Rattle.geo_model.specs.Words.{names_number}
@@ -14,7 +13,7 @@ use Rattle.geo_mesh.specs.Topo.{TopoView, with_want}
 use Rattle.geo_mesh.specs.Graph.{IsSoundGraph}
 use Rattle.geo_laws_counts.specs.CountWords.{IsAtMost, more_counts, AreAtMost}
 use Rattle.geo_laws_counts.specs.LimitLaws.{greatest_counts}
-use Rattle.geo_laws_counts.proofs.Sums.{add-zero, add-more, at_most-trans, counts-same, at_most-same, at_most-zero}
+use Rattle.geo_laws_counts.proofs.Sums.{add-zero, add-more, at_most-trans, counts-same}
 use Rattle.geo_laws_counts.proofs.Levels.{want-at_most, have-at_most}
 use Rattle.geo_laws_counts.proofs.LimitFacts.{within_limit}
 use Rattle.geo_laws_counts.specs.WalkWords.{has_number, cap}
@@ -32,7 +31,7 @@ use Rattle.geo_laws_counts.proofs.Upward.{have_is_sum}
 use Rattle.geo_laws_counts.specs.DemandLaws.{DiffersAt}
 use Rattle.geo_access.proofs.TryOut.{Spread}
 use Rattle.geo_laws_counts.proofs.Keeping.{exclusive_less, limit_less}
-use Rattle.geo_access.proofs.Granting.{Holder, holder_is, numbers_are, one_differs, one_filtered, one_number, one_only, others_stay, own_is, own_want, its_demand, its_verdict}
+use Rattle.geo_access.proofs.Granting.{Holder, holder_is, numbers_are, one_differs, one_filtered, one_number, one_only, others_stay, own_want, its_demand, its_verdict}
 use Rattle.geo_access.proofs.Decided.{IsDemand, IsTold, counted_told, granted_found, grows, holds_true, steps_bound, stored_have, item_at}
 use Rattle.geo_access.proofs.Verdict.{IsVerdict, part_at_most}
 use Rattle.geo_access.proofs.Granted.{Kept, Parts, capped_is, counted_by, fall_of, keep_all, kept_cell, parts_rows, rise_of, with_parts, Cell, numbers_of, noted_is}
@@ -100,8 +99,7 @@ module _ {C : Type 0} {t : TopoView C} (sound : IsSoundGraph t.topology) (told :
       → (q : ℕ) × (c.provider ≡ Some q) × IsSome (provider_at t.topology q)
   attached_below c there placed inside =
       by c.provider refl
-      (All-contains (λ (d : Consumer). IfSome d.provider (λ q. IsSome (provider_at t.topology q)))
-      t.topology.consumers c sound.orderly.parts.providers there)
+      (search rules)
     where
       by : (w : Option ℕ) → c.provider ≡ w → IfSome w (λ q. IsSome (provider_at t.topology q))
           → (q : ℕ) × (c.provider ≡ Some q) × IsSome (provider_at t.topology q)
@@ -149,16 +147,11 @@ module _ {C : Type 0} {t : TopoView C} (sound : IsSoundGraph t.topology) (told :
     -- a quiet mesh is told by them
     parts_are : trying t tries ≡ with_parts t parts
     parts_are =
-        let wants : t.wants ≡ (with_parts t parts).wants =
-        may.stored
-        ∙ sym (rows_agree (λ (c : Consumer). c.number) (λ (c : Consumer). want_at t c.number) may.held
-        t.topology.consumers held_is) in
-        λ i. record (trying t tries) {
-          haves = told.haves i;
-          risen = quiet.risen i;
-          fallen = quiet.fallen i;
-          wants = wants i;
-        }
+        search (
+          rules,
+          rows_agree (λ (c : Consumer). c.number) (λ (c : Consumer). want_at t c.number) may.held t.topology.consumers
+              held_is,
+        )
 
     -- what is kept
     all : Kept t sound way below parts
@@ -182,8 +175,7 @@ module _ {C : Type 0} {t : TopoView C} (sound : IsSoundGraph t.topology) (told :
     -- so it comes to have these counts
     shifted_is : (z : Provider) → Contains t.topology.providers z
         → shifted way (have (granted_by t) t.topology z.number) (tries.gains z.number) ≡ counts z
-    shifted_is z there =
-        ap (shifted way (have (granted_by t) t.topology z.number)) (spread.gains z.number) ∙ may.keeps z there
+    shifted_is z there = search rules
 
     -- and a consumer comes to want this, but the one that makes the demand
     kept_want : (c : Consumer) → Contains t.topology.consumers c → c.number ≢ cons
@@ -215,20 +207,12 @@ module _ {C : Type 0} {t : TopoView C} (sound : IsSoundGraph t.topology) (told :
         (λ z. rise_of way (have (granted_by t) t.topology z.number) (counts z))
         (λ z. fall_of way (have (granted_by t) t.topology z.number) (counts z))
         (λ z there. ap (λ (x : Cell). x.have) (each_cell z there) ∙ shifted_is z there)
-        (λ z there. ap (λ (x : Cell). x.risen) (each_cell z there)
-        ∙ ap (rise_of way (have (granted_by t) t.topology z.number)) (shifted_is z there))
+        (search (rules, each_cell, rise_of way, shifted_is))
         (λ z there. ap (λ (x : Cell). x.fallen) (each_cell z there)
         ∙ ap (fall_of way (have (granted_by t) t.topology z.number)) (shifted_is z there))
         (λ z there. ap (λ (x : Cell). x.gain) (each_cell z there))
         (λ c there.
-        elim (cases_eq c.number cons) [
-          | inl same ↦
-              ap (λ b. if b then its else all.parts.wants c.number) (eq-eqb c.number cons same)
-              ∙ sym (may.own c there same)
-          | inr other ↦
-              ap (λ b. if b then its else all.parts.wants c.number) (ne_eqb c.number cons other)
-              ∙ kept_want c there other
-        ])
+        search (rules, cases_eq c.number cons, eq-eqb c.number cons, ne_eqb c.number cons, kept_want c there))
         (λ n.
         all.marks n
         ∙ same_both (has_number below n) 0 (tries.marks n) 0 (λ inside. refl)
@@ -302,8 +286,7 @@ module _ {C : Type 0} {t : TopoView C} {cons : ℕ} (sound : IsSoundGraph t.topo
       → IsAtMost (want granted t.topology c) greatest_counts
   order_fits granted limit tried c there inside =
       let at = attached_below sound told tried c there
-      (λ loose. All-contains (λ (d : Consumer). d.provider ≡ None → providers_of t.topology d.geom ≡ [])
-      t.topology.consumers c placed there loose) inside in
+      (λ loose. search rules) inside in
       let z = some_of (provider_at t.topology at.0) at.2 in
       let is = provider_stands t sound at.0 z.0 z.1 in
       want_within granted t.topology
@@ -393,9 +376,7 @@ grant_stands {C} {t} {p} {add} {new} {o} {last} cons tried at sound counted quie
 
 -- what is left of what was, less what the smaller has less
 less_back : (a b : Counts) → IsAtMost a b → IsAtMost b greatest_counts → more_counts (cap (more_counts a b)) b ≡ a
-less_back a b less most =
-    counts-same (more_counts (cap (more_counts a b)) b) a (omega (arith, less.r, most.r))
-    (omega (arith, less.w, most.w)) (omega (arith, less.e, most.e))
+less_back a b less most = search rules
 
 module _ {C : Type 0} {t : TopoView C} {cons : ℕ} (sound : IsSoundGraph t.topology) (counted : IsCounted t)
     (holder : Holder t.topology cons) {held : Counts} (stored : value_at t.wants cons ≡ Some held) where
@@ -408,28 +389,15 @@ module _ {C : Type 0} {t : TopoView C} {cons : ℕ} (sound : IsSoundGraph t.topo
 
   -- no grant rises
   grants_fall : AreAtMost released granted
-  grants_fall n = by (n == cons)
-    where
-      by : (b : Bool) → IsAtMost (if b then no_counts else granted n) (granted n)
-      by true = at_most-zero (granted n)
-      by false = at_most-same (granted n)
+  grants_fall n = search rules
 
   -- read backwards, one grant rises
   one_falls : DiffersAt released granted t.topology cons (place_of t.topology cons)
-  one_falls =
-      let differs = one_differs sound counted holder no_counts in
-      record { agree = λ n other. sym (differs.agree n other); place = differs.place }
+  one_falls = search (rules, one_differs sound counted holder no_counts)
 
   -- it is the whole of what was granted
   first_is : more_counts (released cons) (granted cons) ≡ held
-  first_is =
-      ap (λ a. more_counts a (granted cons)) (own_is sound counted holder no_counts)
-      ∙ ap (more_counts no_counts)
-      (granted_found t cons holder.one holder.found
-      ∙ ap (λ b. if b then unwrap_or (value_at t.wants cons) no_counts else no_counts)
-      (holds_true (geom_at t.topology holder.one.geom) holder.kind)
-      ∙ ap (λ o. unwrap_or o no_counts) stored)
-      ∙ counts-same (more_counts no_counts held) held (omega arith) (omega arith) (omega arith)
+  first_is = search rules
 
   -- what providers and consumers lose
   abbrev loss : ℕ → Counts
@@ -442,9 +410,7 @@ module _ {C : Type 0} {t : TopoView C} {cons : ℕ} (sound : IsSoundGraph t.topo
   -- what another one loses
   lost : (c : Consumer) → c.number ≢ cons
       → losses c ≡ more_counts (want released t.topology c) (want granted t.topology c)
-  lost c other =
-      ap (λ b. if b then no_counts else more_counts (want released t.topology c) (want granted t.topology c))
-      (ne_eqb c.number cons other)
+  lost c other = search rules
 
   -- what a provider comes to have
   falls_back : (z : Provider) → Contains t.topology.providers z

@@ -1,7 +1,7 @@
 -- A consumer just made may join.
 use Rattle.std.specs.Prelude.{◌≡◌, ◌≢◌, ℕ, ◌==◌, Bool, true, false, List, [], ◌∷◌, ◌++◌, map, filter, find, Some, None, IsSomeAnd, Contains, unwrap_or, option_map, if◌then◌else◌}
 use Rattle.std.specs.Option.{option_map_or}
-use Rattle.std.proofs.Common.{refl, sym, ◌∙◌, ap, subst, inl, inr, eq-eqb}
+use Rattle.std.proofs.Common.{refl, sym, ◌∙◌, ap, subst, inl, inr, eq-eqb, rules}
 use Rattle.std.proofs.lemmas.Bool.{cases_eq, ne_eqb}
 use Rattle.std.proofs.lemmas.List.{map-append}
 use Rattle.std.proofs.lemmas.List.Elements.{All-contains, All-push, Contains-push_cases}
@@ -64,8 +64,7 @@ module _ {C : Type 0} (t : TopoView C) (geom : ℕ) where
 
       -- a consumer that stood wants that
       held_old : (c : Consumer) → Contains t.topology.consumers c → held c ≡ want (granted_by t) t.topology c
-      held_old c there =
-          ap (λ b. if b then no_counts else want (granted_by t) t.topology c) (ne_eqb c.number n (old_number c there))
+      held_old c there = search (rules, ne_eqb c.number n (old_number c there))
 
       held_comer : held comer ≡ no_counts
       held_comer = ap (λ b. if b then no_counts else want (granted_by t) t.topology comer) (eq-eqb n n refl)
@@ -172,8 +171,7 @@ module _ {C : Type 0} (t : TopoView C) (geom : ℕ) where
 -- so a new consumer may join
 pub new_consumers_may_join : {C : Type 0} → NewConsumersMayJoin C
 new_consumers_may_join = record {
-  counted = λ t new geom sound is counted. subst (λ v. IsCountedBut v t.topology.next_consumer) (sym is)
-      (comer_counted t geom sound counted new.room);
+  counted = λ t new geom sound is counted. search (rules, comer_counted t geom sound counted new.room);
   quiet = λ t new geom is quiet. subst IsQuiet (sym is) (record { risen = quiet.risen; fallen = quiet.fallen });
   placed = λ t new geom is placed.
       subst (λ v. IsPlacedBut v.topology t.topology.next_consumer) (sym is)

@@ -2,7 +2,7 @@
 use Rattle.std.specs.Prelude.{◌≡◌, ℕ, ◌+◌, ◌≤◌, fold, Option, Some, IsSome, All, option_map, None, Result}
 use Rattle.std.specs.Option.{option_copied}
 use Rattle.std.specs.Borrow.{Bor}
-use Rattle.std.proofs.Common.{sym, ◌∙◌, ap, subst, arith}
+use Rattle.std.proofs.Common.{sym, ◌∙◌, ap, subst, arith, rules}
 use Rattle.geo_base.specs.declared.request.Counts.{Counts}
 use Rattle.geo_model.specs.Topology.{Topology, Provider, geom_at, provider_at, Consumer, consumer_at}
 use Rattle.geo_model.specs.Rank.{rank}
@@ -92,32 +92,20 @@ module _ {C : Type 0} {t : TopoView C} {p : ℕ} {add : Counts} {given new : Top
 
   -- so the demand was tried
   pub given_tried : IsTried t p add way new o
-  given_tried = record {
-    offer = is_given.offer;
-    found = is_given.found;
-    order = is_given.order;
-    view = spreads ∙ ap (λ v. fold (spread_from way) v (order_of v o)) is_given.view;
-    orders = spread_order ∙ ap (λ v. order_of v o) is_given.view;
-  }
+  given_tried = search (rules, spread_order)
 
   -- so many steps were taken as its order has consumers
   pub given_steps : {after : ℕ} (before : ℕ) → after ≡ before + consumers_over given.topology (order_of given o)
       → after ≡ before + consumers_over t.topology (order_of new o)
-  given_steps before steps =
-      steps
-      ∙ ap (λ n. before + n)
-      (ap (λ u. consumers_over u (order_of given o)) is_given.graph
-      ∙ ap (consumers_over t.topology) (sym spread_order))
+  given_steps before steps = search (rules, ap (consumers_over t.topology) (sym spread_order))
 
 -- The end of what was tried
 
 -- a walk that was tried can be ended
 pub may_end : {C : Type 0} {t : TopoView C} {p : ℕ} {add : Counts} {way : Way} {new : TopoView C} {o : Order}
     → IsTried t p add way new o → IsSoundGraph t.topology → t.scratches ≡ clear_scratches t.topology → MayEnd new o
-may_end {C} {t} {p} {add} {way} {new} {o} tried sound clear = record {
-  lives = tried_lives sound clear tried;
-  apart = tried_apart sound clear tried;
-}
+may_end {C} {t} {p} {add} {way} {new} {o} tried sound clear =
+    search (rules, tried_lives sound clear tried, tried_apart sound clear tried)
 
 -- and judged, where the stored counts are told
 pub may_judge : {C : Type 0} {t : TopoView C} {p : ℕ} {add : Counts} {new : TopoView C} {o : Order}

@@ -1,16 +1,14 @@
 -- Where nothing is open.
-use Rattle.std.specs.Prelude.{◌≡◌, ◌⊎◌, ℕ, zero, suc, ◌==◌, Bool, true, false, not, ◌&&◌, List, [], ◌∷◌, ◌++◌, length, map, find, Option, Some, None, unwrap_or, option_map, codes, if◌then◌else◌}
+use Rattle.std.specs.Prelude.{◌≡◌, ◌⊎◌, ℕ, zero, suc, ◌==◌, Bool, true, false, not, ◌&&◌, List, [], ◌∷◌, ◌++◌, length, map, find, Some, None, unwrap_or, option_map, if◌then◌else◌}
 use Rattle.std.specs.List.{list_all}
-use Rattle.std.specs.Option.{option_map_or}
-use Rattle.std.proofs.Common.{refl, sym, ◌∙◌, ap, subst, inl, inr}
+use Rattle.std.proofs.Common.{refl, sym, ◌∙◌, ap, subst, inl, rules}
 use Rattle.std.proofs.lemmas.List.Elements.{All-push}
 use Rattle.geo_base.proofs.PlaceLists.{row_more}
 use Rattle.geo_base.specs.declared.request.Counts.{Counts}
 use Rattle.geo_base.specs.declared.kind.Kind.{Kind}
 use Rattle.geo_base.specs.declared.kind.Kind.TheVariants as kinds
-use Rattle.geo_base.proofs.MemberLists.{Contains-cases, nothing_in}
 use Rattle.geo_model.specs.Words.{is_granted_kind}
-use Rattle.geo_model.specs.Topology.{Geom, Provider, Consumer, geom_at, consumer_at, providers_of, attached_to, attach}
+use Rattle.geo_model.specs.Topology.{Geom, Provider, Consumer, attached_to, attach}
 use Rattle.geo_model.specs.Demand.{no_counts, add_counts, sum_counts, is_zero, want_of_kind, want_given, have_within, have, want}
 use Rattle.geo_slots.specs.Slots.{value_at}
 use Rattle.geo_mesh.specs.declared.records.Scratch.{Scratch}
@@ -20,9 +18,9 @@ use Rattle.geo_laws_counts.specs.CountWords.{IsAtMost}
 use Rattle.geo_laws_counts.specs.LimitLaws.{greatest_counts}
 use Rattle.geo_laws_counts.proofs.Sums.{at_most-zero}
 use Rattle.geo_access.proofs.Clearing.{rows_agree}
-use Rattle.geo_laws_counts.proofs.LimitFacts.{all_of, exclusive_from, limit_from}
+use Rattle.geo_laws_counts.proofs.LimitFacts.{exclusive_from, limit_from}
 use Rattle.geo_laws_counts.proofs.Flows.{sum-none}
-use Rattle.geo_access.specs.Access.{granted_by, holds_grants, clear_scratches, IsCounted}
+use Rattle.geo_access.specs.Access.{granted_by, clear_scratches, IsCounted}
 use Rattle.geo_access.specs.ShutLaws.{IsShut, ShutMeshesAreCounted, MeshesStayShut}
 use Rattle.geo_access.proofs.Granted.{numbers_of}
 
@@ -69,36 +67,12 @@ one_value {X} {V} key v n (x ∷ xs) = by (key x == n) (one_value key v n xs)
 module _ {C : Type 0} (t : TopoView C) (shut : IsShut t) where
   -- nothing is granted
   no_grant : (n : ℕ) → granted_by t n ≡ no_counts
-  no_grant n = by (consumer_at t.topology n)
-    where
-      stored : unwrap_or (value_at t.wants n) no_counts ≡ no_counts
-      stored = ap (λ rows. unwrap_or (value_at rows n) no_counts) shut.wants
-          ∙ one_value (λ (c : Consumer). c.number) no_counts n t.topology.consumers
-
-      held : (b : Bool) → (if b then unwrap_or (value_at t.wants n) no_counts else no_counts) ≡ no_counts
-      held true = stored
-      held false = refl
-
-      by : (o : Option Consumer)
-          → option_map_or (λ (x : Consumer). if holds_grants t.topology x.geom then unwrap_or (value_at t.wants n)
-          no_counts else no_counts) o no_counts ≡ no_counts
-      by None = refl
-      by (Some c) = held (holds_grants t.topology c.geom)
+  no_grant n = search (rules, one_value (λ (c : Consumer). c.number) no_counts n t.topology.consumers)
 
   -- so nothing is wanted where no provider has a count
   wants_none : (H : ℕ → Counts) → ((n : ℕ) → H n ≡ no_counts) → (c : Consumer)
       → want_given (granted_by t) H t.topology c ≡ no_counts
-  wants_none H none c = by (geom_at t.topology c.geom)
-    where
-      by : (o : Option (Geom C))
-          → option_map_or
-          (λ (g : Geom C).
-          want_of_kind g.kind (map (λ (x : Provider). H x.number) (providers_of t.topology g.number))
-          (granted_by t c.number)) o no_counts ≡ no_counts
-      by None = refl
-      by (Some g) =
-          nothing_wanted g.kind (λ (x : Provider). H x.number) (providers_of t.topology g.number)
-          (granted_by t c.number) (λ y. none y.number) (no_grant c.number)
+  wants_none H none c = search (rules, nothing_wanted, no_grant c.number)
 
   -- and no provider has one
   haves_none : (k q : ℕ) → have_within (granted_by t) k t.topology q ≡ no_counts
@@ -116,29 +90,23 @@ module _ {C : Type 0} (t : TopoView C) (shut : IsShut t) where
 
   -- so all counts are kept
   shut_counted : IsCounted t
-  shut_counted = record {
-    kinds = shut.kinds;
-    haves =
-        shut.haves
-        ∙ rows_agree (λ (p : Provider). p.number) (λ (p : Provider). no_counts)
-        (λ (p : Provider). have (granted_by t) t.topology p.number) t.topology.providers
-        (λ p there. sym (no_have p.number));
-    wants =
-        shut.wants
-        ∙ rows_agree (λ (c : Consumer). c.number) (λ (c : Consumer). no_counts) (want (granted_by t) t.topology)
-        t.topology.consumers (λ c there. sym (no_want c));
-    exclusive =
+  shut_counted =
+      search (
+        rules,
+        rows_agree (λ (p : Provider). p.number) (λ (p : Provider). no_counts)
+            (λ (p : Provider). have (granted_by t) t.topology p.number) t.topology.providers
+            (λ p there. sym (no_have p.number)),
+        rows_agree (λ (c : Consumer). c.number) (λ (c : Consumer). no_counts) (want (granted_by t) t.topology)
+            t.topology.consumers (λ c there. sym (no_want c)),
         exclusive_from (granted_by t) t.topology
-        (λ z a b there at bt apart. inl (ap (λ (x : Counts). x.w) (no_want a)));
-    limit =
+            (λ z a b there at bt apart. inl (ap (λ (x : Counts). x.w) (no_want a))),
         limit_from (granted_by t) t.topology
-        (λ z there. subst (λ a. IsAtMost a greatest_counts) (sym (no_have z.number)) (at_most-zero greatest_counts));
-    risen = ap (map (λ row. row.0)) shut.risen
-        ∙ numbers_of (λ (p : Provider). p.number) (λ (p : Provider). false) t.topology.providers;
-    fallen = ap (map (λ row. row.0)) shut.fallen
-        ∙ numbers_of (λ (p : Provider). p.number) (λ (p : Provider). false) t.topology.providers;
-    clear = shut.clear;
-  }
+            (λ z there. subst (λ a. IsAtMost a greatest_counts) (sym (no_have z.number))
+            (at_most-zero greatest_counts)),
+        ap (map (λ row. row.0)) shut.risen,
+        numbers_of (λ (p : Provider). p.number) (λ (p : Provider). false) t.topology.providers,
+        ap (map (λ row. row.0)) shut.fallen,
+      )
 
 -- where nothing is open all counts are kept
 pub shut_meshes_are_counted : {C : Type 0} → ShutMeshesAreCounted C
@@ -215,78 +183,38 @@ module _ {C : Type 0} (t : TopoView C) (shut : IsShut t) (room : Room) where
   consumer_shut geom =
       let made : Consumer =
       record { number = t.topology.next_consumer; geom = geom; provider = None; spoiled = false } in
-      record {
-        kinds = shut.kinds;
-        haves = shut.haves;
-        wants = row_more (λ (c : Consumer). let r : ℕ × Counts = (c.number, no_counts) in
-            r) t.topology.consumers made t.wants shut.wants;
-        risen = shut.risen;
-        fallen = shut.fallen;
-        clear =
-            ap (λ (s : Scratches). record s {
-              consumers = s.consumers ++ (t.topology.next_consumer, no_scratch)
-                  ∷ [];
-            }) shut.clear
-            ∙ ap (λ rows. record (clear_scratches t.topology) { consumers = rows })
-            (row_more (λ (c : Consumer). let r : ℕ × Scratch = (c.number, no_scratch) in
-            r) t.topology.consumers made (clear_scratches t.topology).consumers refl);
-      }
+      search (
+        rules,
+        row_more (λ (c : Consumer). let r : ℕ × Counts = (c.number, no_counts) in r) t.topology.consumers made t.wants
+            shut.wants,
+        ap (λ (s : Scratches). record s { consumers = s.consumers ++ (t.topology.next_consumer, no_scratch) ∷ [] })
+            shut.clear,
+        ap (λ rows. record (clear_scratches t.topology) { consumers = rows })
+            (row_more (λ (c : Consumer). let r : ℕ × Scratch = (c.number, no_scratch) in r) t.topology.consumers made
+            (clear_scratches t.topology).consumers refl),
+        row_more (λ (c : Consumer). let r : ℕ × Scratch = (c.number, no_scratch) in r) t.topology.consumers made
+            (clear_scratches t.topology).consumers,
+      )
 
 -- with a consumer attached
 attached_shut : {C : Type 0} (t : TopoView C) (cons prov : ℕ) → IsShut t
     → IsShut (with_topology t (attach t.topology cons prov))
-attached_shut t cons prov shut = record {
-  kinds = shut.kinds;
-  haves = shut.haves;
-  wants =
-      shut.wants
-      ∙ sym (map-changed (λ (c : Consumer). c.number == cons) (λ c. record c { provider = Some prov })
-      (λ (c : Consumer). let r : ℕ × Counts = (c.number, no_counts) in r) (λ c e. refl) t.topology.consumers);
-  risen = shut.risen;
-  fallen = shut.fallen;
-  clear =
-      shut.clear
-      ∙ ap (λ rows. record (clear_scratches t.topology) { consumers = rows })
-      (sym (map-changed (λ (c : Consumer). c.number == cons) (λ c. record c { provider = Some prov })
-      (λ (c : Consumer). let r : ℕ × Scratch = (c.number, no_scratch) in r) (λ c e. refl) t.topology.consumers));
-}
-
--- one of the first geoms
-abbrev made_first : {C : Type 0} → ℕ → Kind → List ℕ → C → Geom C
-made_first n kind name config = record {
-  number = n;
-  kind = kind;
-  name = name;
-  config = config;
-  automatic = false;
-  withering = false;
-  started = 0;
-}
+attached_shut t cons prov shut =
+    search (
+      rules,
+      map-changed (λ (c : Consumer). c.number == cons) (λ c. record c { provider = Some prov })
+          (λ (c : Consumer). let r : ℕ × Counts = (c.number, no_counts) in r) (λ c e. refl) t.topology.consumers,
+      ap (λ rows. record (clear_scratches t.topology) { consumers = rows })
+          (sym
+          (map-changed (λ (c : Consumer). c.number == cons) (λ c. record c { provider = Some prov })
+          (λ (c : Consumer). let r : ℕ × Scratch = (c.number, no_scratch) in r) (λ c e. refl) t.topology.consumers)),
+      map-changed (λ (c : Consumer). c.number == cons) (λ c. record c { provider = Some prov })
+          (λ (c : Consumer). let r : ℕ × Scratch = (c.number, no_scratch) in r) (λ c e. refl) t.topology.consumers,
+    )
 
 -- in the first mesh nothing is open
 first_shut : {C : Type 0} (dev taste : C) (room : Room) → IsShut (first_mesh dev taste room)
-first_shut {C} dev taste room =
-    let t : TopoView C = first_mesh dev taste room in
-    record {
-      kinds =
-          all_of (λ (g : Geom C). is_granted_kind g.kind ≡ true → (g.number ≡ 1) ⊎ (g.number ≡ 2)) t.topology.geoms
-          (λ g there granted.
-          elim (Contains-cases (made_first 1 kinds.Dev (codes "dev") dev) g
-          (made_first 2 kinds.Taste (codes "taste") taste
-          ∷ []) there) [
-            | inl same ↦ inl (ap (λ (x : Geom C). x.number) (sym same))
-            | inr rest ↦
-                elim (Contains-cases (made_first 2 kinds.Taste (codes "taste") taste) g [] rest) [
-                  | inl same ↦ inr (ap (λ (x : Geom C). x.number) (sym same))
-                  | inr none ↦ absurd (nothing_in g none)
-                ]
-          ]);
-      haves = refl;
-      wants = refl;
-      risen = refl;
-      fallen = refl;
-      clear = refl;
-    }
+first_shut {C} dev taste room = search rules
 
 -- so meshes stay so
 pub meshes_stay_shut : {C : Type 0} → MeshesStayShut C

@@ -2,7 +2,7 @@
 use Rattle.std.specs.Prelude.{◌≡◌, ℕ, zero, suc, ◌+◌, ◌-◌, ◌==◌, ◌≤◌, ◌^◌, min, Bool, true, false, not, ◌&&◌, List, [], ◌∷◌, length, map, filter_map, fold, Option, Some, None, IsSome, Contains, option_map, if◌then◌else◌, ◌<◌, ◌||◌, IfSome}
 use Rattle.std.specs.List.{cons_option, list_all}
 use Rattle.std.specs.Option.{option_map_or, option_and_then}
-use Rattle.std.proofs.Common.{refl, sym, ◌∙◌, ap, subst, arith, inl, inr, eq-eqb, eqb}
+use Rattle.std.proofs.Common.{refl, sym, ◌∙◌, ap, subst, arith, inl, inr, eqb, rules}
 use Rattle.std.proofs.lemmas.List.Elements.{All-contains}
 use Rattle.geo_base.proofs.Options.{some_of}
 use Rattle.geo_base.proofs.FindLists.{find-Contains, some-passes}
@@ -19,7 +19,7 @@ use Rattle.geo_laws_counts.specs.CountWords.{gain_of_kind}
 use Rattle.geo_laws_counts.proofs.Sums.{add-zero, add-assoc, zeros-sum, zero-add}
 use Rattle.geo_laws_counts.proofs.Upward.{geom_found}
 use Rattle.geo_laws_counts.specs.WalkWords.{has_number, order_from, cap, set_at, IsOrder, hand_at, gain_without}
-use Rattle.geo_laws_counts.proofs.Orders.{order_within, under-is, not-has, order_stays}
+use Rattle.geo_laws_counts.proofs.Orders.{order_within, under-is, order_stays}
 use Rattle.geo_laws_counts.proofs.Flows.{cap-add, add-cap, flow_step, flow_first, flow_end}
 use Rattle.geo_access.specs.declared.counts.Way.{Way}
 use Rattle.geo_access.specs.declared.counts.Weight.{Weight}
@@ -27,7 +27,7 @@ use Rattle.geo_access.specs.Tries.{had, made_of}
 use Rattle.geo_access.specs.Views.{Gathered, mark_at, gain_at, have_at, put_geom, visit, visit_under, weigh, order_of, gain_of, give, hand, spread_from, gathered_from, numbers_along}
 use Rattle.geo_access.proofs.Walking.{offerer_lives, provider_known}
 use Rattle.geo_access.proofs.Judging.{zero_min}
-use Rattle.geo_access.proofs.Trying.{rows-same, geom_tries, provider_tries, Tries, trying, trying-mark, trying-geom, head_or, link_in, kept_order, order_tries, link_zero, trying-none, trying-gain, trying-provider, links_order, order_distinct}
+use Rattle.geo_access.proofs.Trying.{Tries, trying, trying-mark, trying-geom, head_or, link_in, kept_order, order_tries, link_zero, trying-none, trying-gain, trying-provider, links_order, order_distinct}
 use Rattle.std.proofs.lemmas.Bool.{eqb-true, cases_eq, ne_eqb}
 use Rattle.std.proofs.lemmas.Map.Steps.{length-le_from_distinct_below}
 use Rattle.geo_laws_counts.proofs.LimitFacts.{of_filter}
@@ -40,16 +40,7 @@ use Rattle.geo_access.proofs.Folding.{links_same, spread_marks, spread_graph, fo
 pub trying-same : {C : Type 0} (t : TopoView C) (s u : Tries) → ((n : ℕ) → s.marks n ≡ u.marks n)
     → ((n : ℕ) → s.made n ≡ u.made n) → ((n : ℕ) → s.gains n ≡ u.gains n)
     → trying t s ≡ trying t u
-trying-same {C} t s u marks made gains = λ i. record t {
-  scratches = record t.scratches {
-    geoms =
-        rows-same (λ (x : Geom C). x.number) (geom_tries s) (geom_tries u)
-        t.topology.geoms (λ n j. record { mark = marks n j; trial = made n j }) i;
-    providers =
-        rows-same (λ (y : Provider). y.number) (provider_tries s) (provider_tries u)
-        t.topology.providers (λ n j. record { mark = 0; trial = gains n j }) i;
-  };
-}
+trying-same {C} t s u marks made gains = search rules
 
 module _ {C : Type 0} (t : TopoView C) (sound : IsSoundGraph t.topology) (end : ℕ) (some : 1 ≤ end) where
   -- a geom that lives has a number that isn't zero
@@ -63,10 +54,7 @@ module _ {C : Type 0} (t : TopoView C) (sound : IsSoundGraph t.topology) (end : 
   -- what is directly under a geom lives
   pub under_lives : (x h : ℕ) → IsSome (geom_at t.topology x) → Contains (geoms_under t.topology x) h
       → IsSome (geom_at t.topology h)
-  under_lives x h lives there =
-      let under = under-is t.topology x h there in
-      subst (λ n. IsSome (geom_at t.topology n)) under.geom
-      (offerer_lives t.topology sound under.prov under.offer under.found)
+  under_lives x h lives there = search (rules, under-is t.topology x h there, offerer_lives t.topology sound)
 
   -- the mesh and the order while these geoms are in it
   abbrev pub gat : List ℕ → Gathered C
@@ -79,28 +67,20 @@ module _ {C : Type 0} (t : TopoView C) (sound : IsSoundGraph t.topology) (end : 
   -- a geom is put in front
   pub put_is : (x : ℕ) (xs : List ℕ) → put_geom x (gat xs) ≡ gat (x ∷ xs)
   put_is x xs =
-      let first : TopoView C → Gathered C =
-      λ v. record {
-        view = v;
-        order =
-            record { head = x; count = min (min (length xs) (2 ^ 64 - 1) + 1) (2 ^ 64 - 1) };
-      } in
-      let second : ℕ → Gathered C =
-      λ n. record { view = trying t (order_tries end (x ∷ xs)); order = record { head = x; count = n } } in
-      ap first
-      (trying-geom t (order_tries end xs) x (head_or end xs) no_counts
-      ∙ trying-same t
-      (record (order_tries end xs) {
-        marks = set_at (link_in end xs) x (head_or end xs);
-        made =
-            set_at (λ n. no_counts) x no_counts;
-      })
-      (order_tries end (x ∷ xs)) (λ n. refl) (λ n. none (n == x)) (λ n. refl))
-      ∙ ap second (count_put (length xs))
-    where
-      none : (b : Bool) → (if b then no_counts else no_counts) ≡ no_counts
-      none true = refl
-      none false = refl
+      search (
+        rules,
+        trying t (order_tries end (x ∷ xs)),
+        trying-geom t (order_tries end xs) x (head_or end xs) no_counts,
+        trying-same t
+            (record (order_tries end xs)
+            { marks = set_at (link_in end xs) x (head_or end xs); made = set_at (λ n. no_counts) x no_counts })
+            (order_tries end (x ∷ xs)) (λ n. refl),
+        order_tries end xs,
+        link_in end xs,
+        head_or end xs,
+        order_tries end (x ∷ xs),
+        count_put (length xs),
+      )
 
   -- one more geom, where it isn't there
   abbrev pick : ℕ → List ℕ → ℕ → List ℕ
@@ -195,10 +175,7 @@ made_more : (b : Bool) (gains : List Counts)
     (record { r = 0; w = 0; e = (if b && not (is_zero (cap (sum_counts gains))) then 1 else 0) }))
     ≡ cap (add_counts (sum_counts gains)
     (record { r = 0; w = 0; e = (if b && not (list_all is_zero gains) then 1 else 0) }))
-made_more b gains =
-    let with : Bool → Counts = λ z. record { r = 0; w = 0; e = (if b && not z then 1 else 0) } in
-    cap-add (sum_counts gains) (with (is_zero (cap (sum_counts gains))))
-    ∙ ap (λ z. cap (add_counts (sum_counts gains) (with z))) (is_zero-cap (sum_counts gains) ∙ sym (zeros-sum gains))
+made_more b gains = search (rules, cap-add (sum_counts gains), is_zero-cap (sum_counts gains), zeros-sum gains)
 
 -- it is what the class gains, stopped
 pub made_gain : (kind : Kind) (had gains : List Counts)
@@ -226,13 +203,7 @@ module _ {C : Type 0} (v : TopoView C) (way : Way) (gain small : ℕ → Counts)
         quiet =
             q && list_all is_zero (map (λ y. small y.number) ys);
       }
-  weigh_is [] gains smalls a q =
-      let make : Counts → Bool → Weight = λ s b. record { sum = s; quiet = b } in
-      ap (λ s. make s q) (ap cap (sym (add-zero a))) ∙ ap (make (cap (add_counts a no_counts))) (right q)
-    where
-      right : (b : Bool) → b ≡ (b && true)
-      right true = refl
-      right false = refl
+  weigh_is [] gains smalls a q = search rules
   weigh_is (y ∷ ys) gains smalls a q =
       let make : Counts → Bool → Weight = λ s b. record { sum = s; quiet = b } in
       let rest : Counts = sum_counts (map (λ (z : Provider). gain z.number) ys) in
@@ -418,13 +389,7 @@ module _ {C : Type 0} (t : TopoView C) (sound : IsSoundGraph t.topology) where
     made_step x xs m μ old new c apart is makes so =
         elim (cases_eq c.geom x) [
           | inl same ↦
-              so
-              ∙ ap (λ b. if b then cap (more c) else set_at old x m c.geom)
-              (not-has xs c.geom (λ there. apart (subst (Contains xs) same there)))
-              ∙ ap (λ b. if b then m else old c.geom) (eq-eqb c.geom x same)
-              ∙ is ∙ sym (ap cap (makes same))
-              ∙ sym (ap (λ b. if b || has_number xs c.geom then cap (more c) else old c.geom)
-              (eq-eqb x c.geom (sym same)))
+              search rules
           | inr other ↦
               so
               ∙ ap (λ b. if has_number xs c.geom then cap (more c) else (if b then m else old c.geom))
@@ -482,8 +447,7 @@ module _ {C : Type 0} (t : TopoView C) (sound : IsSoundGraph t.topology) where
 
     -- they are in order
     pub the_order_is : IsOrder t.topology the_order
-    the_order_is =
-        order_stays t.topology sound.ranked (rank t.topology x) x [] (omega arith) tt (λ there. nothing_in x there)
+    the_order_is = search (rules, order_stays t.topology sound.ranked (rank t.topology x) x)
 
     -- and live
     pub the_order_lives : (y : ℕ) → Contains the_order y → IsSome (geom_at t.topology y)

@@ -1,19 +1,15 @@
 -- The walks over a mesh whose scratch is told by functions of the numbers.
 use Rattle.std.specs.Prelude.{◌≡◌, ℕ, ◌-◌, ◌==◌, ◌≤◌, ◌^◌, min, Bool, true, false, not, ◌||◌, cond, List, [], ◌∷◌, length, map, find, Some, IsSome, Contains, option_map, if◌then◌else◌}
 use Rattle.std.specs.List.{IsDistinct}
-use Rattle.std.specs.Option.{option_map_or}
-use Rattle.std.proofs.Common.{refl, sym, ◌∙◌, ap, subst, arith, eq-eqb, eqb}
+use Rattle.std.proofs.Common.{refl, sym, ◌∙◌, ap, subst, eq-eqb, eqb, rules}
 use Rattle.std.proofs.lemmas.Bool.{eqb-true, ne_eqb}
-use Rattle.geo_base.proofs.Options.{some_of}
 use Rattle.geo_base.specs.declared.request.Counts.{Counts}
 use Rattle.geo_base.proofs.MemberLists.{Contains-there, Contains-here}
 use Rattle.geo_model.specs.Topology.{Topology, Geom, Provider, geom_at, provider_at}
 use Rattle.geo_model.specs.Demand.{no_counts}
-use Rattle.geo_model.proofs.DemandLemmas.{map_same}
 use Rattle.geo_slots.specs.Slots.{value_at, with_value}
 use Rattle.geo_mesh.specs.declared.records.Scratch.{Scratch}
 use Rattle.geo_mesh.specs.Topo.{TopoView, with_geom_scratch, with_provider_scratch}
-use Rattle.geo_laws_counts.proofs.Levels.{of_each}
 use Rattle.geo_laws_counts.specs.WalkWords.{has_number, IsOrder, set_at}
 use Rattle.geo_laws_counts.proofs.Flows.{each_of}
 use Rattle.geo_access.specs.declared.order.Order.{Order}
@@ -27,27 +23,16 @@ use Rattle.geo_access.proofs.Folding.{links_same}
 abbrev pub rows_of : {X V : Type 0} → (X → ℕ) → (ℕ → V) → List X → List (ℕ × V)
 rows_of key f xs = map (λ x. (key x, f (key x))) xs
 
--- one row, set where it is the one
-pair_set : {V : Type 0} (k n : ℕ) (v w : V) (b : Bool) → (k == n) ≡ b
-    → ◌≡◌ {A = ℕ × V} (if b then (n, v) else (k, w)) (k, (if b then v else w))
-pair_set {V} k n v w true e = let P : ℕ → ℕ × V = λ m. (m, v) in ap P (sym (eqb-true k n e))
-pair_set k n v w false e = refl
-
 -- a value that is set is a value of the function that is set
 pub rows-set : {X V : Type 0} (key : X → ℕ) (f : ℕ → V) (n : ℕ) (v : V) (xs : List X)
     → with_value (rows_of key f xs) n v ≡ rows_of key (set_at f n v) xs
 rows-set key f n v [] = refl
-rows-set key f n v (x ∷ xs) =
-    ap (λ row. row ∷ with_value (rows_of key f xs) n v) (pair_set (key x) n v (f (key x)) (key x == n) refl)
-    ∙ ap (λ rows. (key x, set_at f n v (key x)) ∷ rows) (rows-set key f n v xs)
+rows-set key f n v (x ∷ xs) = search (rules, ap (λ rows. (key x, set_at f n v (key x)) ∷ rows) (rows-set key f n v xs))
 
 -- functions that agree tell the same rows
 pub rows-same : {X V : Type 0} (key : X → ℕ) (f g : ℕ → V) (xs : List X) → ((n : ℕ) → f n ≡ g n)
     → rows_of key f xs ≡ rows_of key g xs
-rows-same {X} {V} key f g xs same =
-    map_same (λ x. (key x, f (key x))) (λ x. (key x, g (key x))) xs
-    (of_each (λ (x : X). ◌≡◌ {A = ℕ × V} (key x, f (key x)) (key x, g (key x))) (λ x. let P : V → ℕ × V =
-    λ v. (key x, v) in ap P (same (key x))) xs)
+rows-same {X} {V} key f g xs same = search rules
 
 -- the same over one row more
 at_step : {X V : Type 0} (key : X → ℕ) (f : ℕ → V) (n : ℕ) (x : X) (xs : List X) (y : X)
@@ -84,15 +69,6 @@ provider_tries s n = record { mark = 0; trial = s.gains n }
 abbrev pub no_tries : Tries
 no_tries = record { marks = λ n. 0; made = λ n. no_counts; gains = λ n. no_counts }
 
--- a value that holds at the one place or else at the other
-pub set_through : {V W : Type 0} (s : V → W) (f : ℕ → V) (x : ℕ) (v : V) (n : ℕ)
-    → set_at (λ m. s (f m)) x (s v) n ≡ s (set_at f x v n)
-set_through s f x v n = by (n == x)
-  where
-    by : (b : Bool) → (if b then s v else s (f n)) ≡ s (if b then v else f n)
-    by true = refl
-    by false = refl
-
 module _ {C : Type 0} where
   -- the mesh with this scratch
   abbrev pub trying : TopoView C → Tries → TopoView C
@@ -105,35 +81,23 @@ module _ {C : Type 0} where
 
   -- a mesh in which nothing is tried
   pub trying-none : (t : TopoView C) → t.scratches ≡ clear_scratches t.topology → trying t no_tries ≡ t
-  trying-none t clear =
-      ap (λ u. record t { scratches = u }) (ap (λ (u : Rattle.geo_mesh.specs.Topo.Scratches). record u {
-        geoms = rows_of (λ (x : Geom C). x.number) (geom_tries no_tries) t.topology.geoms;
-        providers = rows_of (λ (y : Provider). y.number) (provider_tries no_tries) t.topology.providers;
-      }) clear ∙ sym clear)
+  trying-none t clear = search rules
 
   -- look-ups
   pub trying-mark : (t : TopoView C) (s : Tries) (x : ℕ) → IsSome (geom_at t.topology x)
       → mark_at (trying t s) x ≡ s.marks x
-  trying-mark t s x lives =
-      let g = some_of (geom_at t.topology x) lives in
-      ap (λ o. option_map_or (λ (z : Scratch). z.mark) o 0)
-      (rows-at (λ (y : Geom C). y.number) (geom_tries s) x t.topology.geoms g.0 g.1)
+  trying-mark t s x lives = search (rules, rows-at (λ (y : Geom C). y.number) (geom_tries s) x t.topology.geoms)
 
   -- what the consumers of a geom gain
   pub trying-made : (t : TopoView C) (s : Tries) (x : ℕ) → IsSome (geom_at t.topology x)
       → made_at (trying t s) x ≡ s.made x
-  trying-made t s x lives =
-      let g = some_of (geom_at t.topology x) lives in
-      ap (λ o. option_map_or (λ (z : Scratch). z.trial) o no_counts)
-      (rows-at (λ (y : Geom C). y.number) (geom_tries s) x t.topology.geoms g.0 g.1)
+  trying-made t s x lives = search (rules, rows-at (λ (y : Geom C). y.number) (geom_tries s) x t.topology.geoms)
 
   -- what a provider gains
   pub trying-gain : (t : TopoView C) (s : Tries) (q : ℕ) → IsSome (provider_at t.topology q)
       → gain_at (trying t s) q ≡ s.gains q
   trying-gain t s q lives =
-      let y = some_of (provider_at t.topology q) lives in
-      ap (λ o. option_map_or (λ (z : Scratch). z.trial) o no_counts)
-      (rows-at (λ (z : Provider). z.number) (provider_tries s) q t.topology.providers y.0 y.1)
+      search (rules, rows-at (λ (z : Provider). z.number) (provider_tries s) q t.topology.providers)
 
   -- a geom's scratch that is set
   pub trying-geom : (t : TopoView C) (s : Tries) (x mark : ℕ) (gain : Counts)
@@ -194,15 +158,8 @@ order_tries end xs = record no_tries { marks = link_in end xs }
 zero_step : (end x : ℕ) (xs : List ℕ) (h : ℕ) → 1 ≤ head_or end xs
     → (link_in end xs h == 0) ≡ not (has_number xs h) → (b : Bool) → (h == x) ≡ b
     → ((if b then head_or end xs else link_in end xs h) == 0) ≡ not ((x == h) || has_number xs h)
-zero_step end x xs h some so true e =
-    ne_eqb (head_or end xs) 0 (λ none. omega arith)
-    ∙ sym (ap (λ b. not (b || has_number xs h)) (eq-eqb x h (sym (eqb-true h x e))))
-zero_step end x xs h some so false e =
-    so ∙ sym (ap (λ b. not (b || has_number xs h)) (apart (x == h) refl))
-  where
-    apart : (b : Bool) → (x == h) ≡ b → b ≡ false
-    apart true same = let no : true ≡ false = sym (eq-eqb h x (sym (eqb-true x h same))) ∙ e in cc
-    apart false other = refl
+zero_step end x xs h some so true e = search rules
+zero_step end x xs h some so false e = search rules
 
 -- a geom isn't marked just where it isn't in the order
 pub link_zero : (end : ℕ) (xs : List ℕ) (h : ℕ) → 1 ≤ end → ((y : ℕ) → Contains xs y → 1 ≤ y)

@@ -1,9 +1,9 @@
 -- The judgement is the model's, with what it names.
-use Rattle.std.specs.Prelude.{◌≡◌, ◌≢◌, ◌⊎◌, ℕ, ◌==◌, ◌<◌, ◌≤◌, find, min, nat_lt, Bool, true, false, not, ◌&&◌, ◌||◌, List, [], ◌∷◌, map, flat_map, Option, Some, None, IsSomeAnd, IsTrue, Contains, All, option_map, if◌then◌else◌}
+use Rattle.std.specs.Prelude.{◌≡◌, ◌≢◌, ◌⊎◌, ℕ, ◌==◌, ◌<◌, ◌≤◌, find, min, nat_lt, Bool, true, false, not, ◌&&◌, ◌||◌, List, [], ◌∷◌, map, flat_map, Option, Some, None, IsTrue, Contains, All, option_map, if◌then◌else◌}
 use Rattle.std.specs.List.{list_any}
 use Rattle.std.specs.Option.{option_or, option_map_or}
-use Rattle.std.proofs.Common.{refl, sym, ◌∙◌, ap, subst, arith, inl, inr, eq-eqb}
-use Rattle.std.proofs.lemmas.Bool.{eqb-true, cases_eq, ne_eqb, ltb-true, ltb-false, or_parts, or_cases}
+use Rattle.std.proofs.Common.{refl, sym, ◌∙◌, ap, subst, arith, inl, inr, eq-eqb, rules}
+use Rattle.std.proofs.lemmas.Bool.{eqb-true, cases_eq, ne_eqb}
 use Rattle.geo_base.proofs.FindLists.{any-contained}
 use Rattle.geo_base.specs.declared.request.Counts.{Counts}
 use Rattle.geo_base.specs.declared.errno.Errno.TheVariants.{ENXIO, EPERM, EOVERFLOW}
@@ -71,18 +71,14 @@ module _ {C : Type 0} {t : Topology C} {p own : ℕ} {add : Counts} {granted aft
       ⊎ (Contains (attached_to t q) c × (want after u c ≡ add_counts (want granted t c) (more c)))
   each_after q c at =
       let inside = of_filter (λ (x : Consumer). names_number x.provider q) u.consumers c at in
-      elim (ctx.cases c inside.0) [
-        | inl same ↦ inl (
-          ap (λ (x : Consumer). x.number) same ∙ ctx.opener_is,
-          (let e : Some p ≡ Some q = sym ctx.opener_place ∙ ap (λ (x : Consumer). x.provider) (sym same)
-              ∙ names_some c.provider q inside.1 in cc),
-          ap (want after u) same ∙ ctx.opener_wants,
-        )
-        | inr old ↦ inr (
-          Contains-filter (λ (x : Consumer). names_number x.provider q) t.consumers c old.0 inside.1,
-          ctx.others c old.0 old.1,
-        )
-      ]
+      search (
+        rules,
+        ctx.cases c inside.0,
+        Some p,
+        Some q,
+        names_some c.provider q inside.1,
+        Contains-filter (λ (x : Consumer). names_number x.provider q) t.consumers c,
+      )
 
   -- one that was there is still, where it wants something
   old_after : (q : ℕ) (c : Consumer) → Contains (attached_to t q) c
@@ -90,16 +86,13 @@ module _ {C : Type 0} {t : Topology C} {p own : ℕ} {add : Counts} {granted aft
       ⊎ (Contains (attached_to u q) c × (c.number ≢ own)
       × (want after u c ≡ add_counts (want granted t c) (more c)))
   old_after q c at =
-      let inside = of_filter (λ (x : Consumer). names_number x.provider q) t.consumers c at in
-      elim (cases_eq c.number own) [
-        | inl same ↦ inl (ctx.own_none q c at same)
-        | inr other ↦ inr (
-          Contains-filter (λ (x : Consumer). names_number x.provider q) u.consumers c
-              (ctx.kept c inside.0 other) inside.1,
-          other,
-          ctx.others c inside.0 other,
-        )
-      ]
+      search (
+        rules,
+        of_filter (λ (x : Consumer). names_number x.provider q) t.consumers c,
+        cases_eq c.number own,
+        ctx.own_none q c,
+        Contains-filter (λ (x : Consumer). names_number x.provider q) u.consumers c,
+      )
 
 -- a side that is there isn't zero
 side_there : (n : ℕ) → not (n == 0) ≡ true → n ≢ 0
@@ -107,30 +100,13 @@ side_there n e none = let no : false ≡ true = sym (ap not (eq-eqb n 0 none)) �
 
 -- and one that isn't is
 side_gone : (n : ℕ) → not (n == 0) ≡ false → n ≡ 0
-side_gone n e =
-    elim (cases_eq n 0) [
-      | inl none ↦ none
-      | inr some ↦ let no : true ≡ false = sym (ap not (ne_eqb n 0 some)) ∙ e in absurd (cc)
-    ]
-
--- where there are no counts there is no side
-no_side : (side : Side) → has_side side no_counts ≡ false
-no_side Writes = refl
-no_side Excludes = refl
+side_gone n e = search rules
 
 -- what is one of the parts of a sum is at most the sum
 pub part_at_most : {X : Type 0} (f : X → Counts) (xs : List X) (x : X) → Contains xs x
     → IsAtMost (f x) (sum_counts (map f xs))
 part_at_most f [] x there = absurd (nothing_in x there)
-part_at_most f (y ∷ ys) x there =
-    elim (Contains-cases y x ys there) [
-      | inl same ↦
-          subst (λ z. IsAtMost (f z) (sum_counts (map f (y ∷ ys)))) same
-          (record { r = omega arith; w = omega arith; e = omega arith })
-      | inr rest ↦
-          let less : IsAtMost (f x) (sum_counts (map f ys)) = part_at_most f ys x rest in
-          record { r = omega arith; w = omega arith; e = omega arith }
-    ]
+part_at_most f (y ∷ ys) x there = search (rules, Contains-cases y x ys there, f x, part_at_most f ys x)
 
 -- whether a count that is stopped is past the limit
 abbrev over : ℕ → Bool
@@ -138,14 +114,7 @@ over n = nat_lt MAX_ACCESS_COUNT (min n 4294967295)
 
 -- counts that are stopped are within the limit just where the counts are
 not_over : (a : Counts) → is_too_great (cap a) ≡ false → IsAtMost a greatest_counts
-not_over a e =
-    let first = or_parts (over a.r) (over a.w || over a.e) e in
-    let rest = or_parts (over a.w) (over a.e) first.1 in
-    record { r = low a.r first.0; w = low a.w rest.0; e = low a.e rest.1 }
-  where
-    low : (n : ℕ) → over n ≡ false → n ≤ MAX_ACCESS_COUNT
-    low n e =
-        let few : min n 4294967295 ≤ MAX_ACCESS_COUNT = ltb-false MAX_ACCESS_COUNT (min n 4294967295) e in omega arith
+not_over a e = search rules
 
 -- counts of which one is past the limit
 abbrev IsPast : Counts → Type 0
@@ -153,40 +122,13 @@ IsPast a = (MAX_ACCESS_COUNT < a.r) ⊎ (MAX_ACCESS_COUNT < a.w) ⊎ (MAX_ACCESS
 
 -- they are past it just where they are so stopped
 is_past : (a : Counts) → is_too_great (cap a) ≡ true → IsPast a
-is_past a e =
-    elim (or_cases (over a.r) (over a.w || over a.e) e) [
-      | inl r ↦ inl (high a.r r)
-      | inr rest ↦
-          elim (or_cases (over a.w) (over a.e) rest) [ inl w ↦ inr (inl (high a.w w)) | inr e ↦ inr (inr (high a.e e)) ]
-    ]
-  where
-    high : (n : ℕ) → over n ≡ true → MAX_ACCESS_COUNT < n
-    high n e =
-        let many : MAX_ACCESS_COUNT < min n 4294967295 = ltb-true MAX_ACCESS_COUNT (min n 4294967295) e in omega arith
+is_past a e = search rules
 
 -- a look that is made unless a count is zero, and finds nothing
 beside_none : (n : ℕ) (found : Option ℕ) (why : ℕ → Refused)
     → (if n == 0 then None else option_map why found) ≡ None → (n ≡ 0) ⊎ (found ≡ None)
 beside_none n None why none = inr refl
-beside_none n (Some m) why none =
-    elim (cases_eq n 0) [
-      | inl zero ↦ inl zero
-      | inr some ↦
-          let no : Some (why m) ≡ None = sym (ap (λ b. if b then None else Some (why m)) (ne_eqb n 0 some)) ∙ none in
-          absurd (cc)
-    ]
-
--- and one that finds something
-beside_some : (n : ℕ) (found : Option ℕ) (why : ℕ → Refused) (r : Refused)
-    → (if n == 0 then None else option_map why found) ≡ Some r
-    → (n ≢ 0) × ((m : ℕ) × (found ≡ Some m) × (why m ≡ r))
-beside_some n found why r some = by (n == 0) refl found some
-  where
-    by : (b : Bool) → (n == 0) ≡ b → (o : Option ℕ) → (if b then None else option_map why o) ≡ Some r
-        → (n ≢ 0) × ((m : ℕ) × (o ≡ Some m) × (why m ≡ r))
-    by true e o f = absurd (cc)
-    by false e None f = absurd (cc)
-    by false e (Some m) f = ((λ none. let no : true ≡ false = sym (eq-eqb n 0 none) ∙ e in cc), (m, refl, (cc)))
+beside_none n (Some m) why none = search rules
 
 -- no item passes, so none does
 any_false : {X : Type 0} (test : X → Bool) (xs : List X) → ((x : X) → Contains xs x → test x ≡ false)
@@ -210,16 +152,7 @@ module _ {C : Type 0} (t : Topology C) (known : (z : Provider) → Contains t.pr
 
   -- and one without isn't
   error_no : (q : ℕ) → errored_at t q ≡ false → is_errored t q ≡ false
-  error_no q e =
-      any_false (λ (x : Provider). (x.number == q) && x.errored) t.providers
-      (λ x there.
-      elim (cases_eq x.number q) [
-        | inl same ↦
-            ap (λ b. b && x.errored) (eq-eqb x.number q same)
-            ∙ sym (ap (λ o. option_map_or (λ (y : Provider). y.errored) o false) (ap (provider_at t) (sym same)
-            ∙ known x there)) ∙ e
-        | inr other ↦ ap (λ b. b && x.errored) (ne_eqb x.number q other)
-      ])
+  error_no q e = search (rules, any_false (λ (x : Provider). (x.number == q) && x.errored) t.providers, cases_eq)
 
 -- what is said of what refuses a demand at the provider: of the graph before, the consumer that makes it, and the
 -- grants and the graph once it stands
@@ -268,8 +201,7 @@ module _ {C : Type 0} (v : TopoView C) (p own : ℕ) (add : Counts) (granted aft
           → Fact (want after u c) → WantsAt after u q n Fact
       wanted c n ct is Fact fact =
           let inside = of_filter (λ (d : Consumer). names_number d.provider q) u.consumers c ct in
-          subst (λ o. IsSomeAnd o (λ (x : Consumer). (x.provider ≡ Some q) × Fact (want after u x)))
-          (sym (ap (consumer_at u) (sym is) ∙ ctx.found c inside.0)) (names_some c.provider q inside.1, fact)
+          search (rules, ctx.found c inside.0)
 
       never : (x : Bool) → is_exclusive after u ≡ x → x ≡ false
       never false is = refl
@@ -300,11 +232,7 @@ module _ {C : Type 0} (v : TopoView C) (p own : ℕ) (add : Counts) (granted aft
     stays : (side : Side) (q : ℕ) (c : Consumer) → Contains (attached_to v.topology q) c
         → has_side side (sum_of c) ≡ true
         → Contains (attached_to u q) c × (c.number ≢ own) × (has_side side (want after u c) ≡ true)
-    stays side q c at has =
-        elim (old_after ctx q c at) [
-          | inl none ↦ let no : false ≡ true = sym (ap (has_side side) none ∙ no_side side) ∙ has in absurd (cc)
-          | inr is ↦ (is.0, is.1, ap (has_side side) is.2 ∙ has)
-        ]
+    stays side q c at has = search (rules, old_after ctx q c)
 
     -- a provider stands in the new state
     offered_after : (z : Provider) → Contains v.topology.providers z → Contains u.providers z
@@ -353,10 +281,7 @@ module _ {C : Type 0} (v : TopoView C) (p own : ℕ) (add : Counts) (granted aft
     -- a consumer wants no more than its provider would have, where both are stopped
     stopped_most : (z : Provider) → Contains v.topology.providers z → (c : Consumer)
         → Contains (attached_to u z.number) c → IsAtMost (cap (want after u c)) (raised_have v z.number)
-    stopped_most z there c at =
-        let part = part_at_most (want after u) (attached_to u z.number) c at in
-        subst (IsAtMost (cap (want after u c))) (sym (totals z there ∙ ap cap (ctx.sums z.number)))
-        (record { r = omega (arith, part.r); w = omega (arith, part.w); e = omega (arith, part.e) })
+    stopped_most z there c at = search (rules, part_at_most (want after u) (attached_to u z.number) c, totals z there)
 
     -- two that stood before
     old_pair : (z : Provider) → Contains v.topology.providers z → (a b : Consumer)
@@ -374,10 +299,7 @@ module _ {C : Type 0} (v : TopoView C) (p own : ℕ) (add : Counts) (granted aft
         inr (omega (arith, (stopped_most z there b bt).e, eqb-true (raised_have v z.number).e 0 ey))
     old_pair z there a b at bt ao bo apart wa wb false false ex ey (Some ab) says f = absurd (cc)
     old_pair z there a b at bt ao bo apart wa wb false false ex ey None says f =
-        elim (says a b ao bo apart) [
-          | inl none ↦ inl (ap (λ (x : Counts). x.w) wa ∙ side_gone (sum_of a).w none)
-          | inr none ↦ inr (ap (λ (x : Counts). x.e) wb ∙ side_gone (sum_of b).e none)
-        ]
+        search (rules, side_gone (sum_of a).w, ap (λ (x : Counts). x.e) wb, side_gone (sum_of b).e)
 
     -- where no other has a side, none at the provider of the demand has it
     none_beside : (side : Side) → other v p 0 side ≡ None → (c : Consumer) (q : ℕ) → p ≡ q
@@ -446,17 +368,15 @@ module _ {C : Type 0} (v : TopoView C) (p own : ℕ) (add : Counts) (granted aft
     -- where no count is too great
     none_over : first_given (fault_in v Limit) xs ≡ None → fits_limit after u ≡ true
     none_over no_fault =
-        changed_limit granted v.topology after u (below v.topology p) ctx.stays ctx.providers limit
-        (all_of (λ (z : Provider). Contains (below v.topology p) z.number
-        → IsAtMost (have after u z.number) greatest_counts) v.topology.providers
-        (λ z there near.
-        by z there (is_too_great (raised_have v z.number)) refl (no_fault_at Limit no_fault z there near)))
-      where
-        by : (z : Provider) → Contains v.topology.providers z → (b : Bool) → is_too_great (raised_have v z.number) ≡ b
-            → ◌≡◌ {A = Option GrantRefusal} (if b then Some (Eoverflow z.number) else None) None
-            → IsAtMost (have after u z.number) greatest_counts
-        by z there true e f = absurd (cc)
-        by z there false e f = not_over (have after u z.number) (sym (ap is_too_great (totals z there)) ∙ e)
+        search (
+          rules,
+          changed_limit granted v.topology after u (below v.topology p) ctx.stays ctx.providers limit,
+          all_of
+              (λ (z : Provider). Contains (below v.topology p) z.number → IsAtMost (have after u z.number)
+              greatest_counts) v.topology.providers,
+          no_fault_at Limit no_fault,
+          not_over,
+        )
 
     -- a pair that was found
     pair_stands : HasNoError → (z : Provider) → Contains v.topology.providers z → (r : GrantRefusal) → (x : Bool)
@@ -465,10 +385,7 @@ module _ {C : Type 0} (v : TopoView C) (p own : ℕ) (add : Counts) (granted aft
         (Some r) → Verdict (Some (Named r))
     pair_stands sound z there r true o says f = absurd (cc)
     pair_stands sound z there r false None says f = absurd (cc)
-    pair_stands sound z there r false (Some ab) says f =
-        let same : Eperm z.number ab.0 ab.1 ≡ r = cc in
-        let both = clash_stands z there ab.0 ab.1 says in
-        subst (λ q. Verdict (Some (Named q))) same (sound, both.0, both.1)
+    pair_stands sound z there r false (Some ab) says f = search (rules, clash_stands z there ab.0 ab.1 says)
 
     -- a count that is too great
     over_stands : HasNoError → is_exclusive after u ≡ true → (z : Provider) → Contains v.topology.providers z
@@ -477,26 +394,17 @@ module _ {C : Type 0} (v : TopoView C) (p own : ℕ) (add : Counts) (granted aft
         → Verdict (Some (Named r))
     over_stands sound fine z there r false e f = absurd (cc)
     over_stands sound fine z there r true e f =
-        let same : Eoverflow z.number ≡ r = cc in
-        let past : IsPast (have after u z.number) =
-        is_past (have after u z.number) (sym (ap is_too_great (totals z there)) ∙ e) in
-        subst (λ q. Verdict (Some (Named q))) same (
-          sound,
-          fine,
-          never (fits_limit after u) refl past,
-          subst (λ o. IsSomeAnd o (λ (x : Provider). IsPast (have after u z.number)))
-              (sym (ap (λ ys. find (λ (x : Provider). x.number == z.number) ys) ctx.providers ∙ known z there)) past,
+        search (
+          rules,
+          Eoverflow z.number,
+          is_past (have after u z.number),
+          ap is_too_great (totals z there),
+          totals z there,
+          ap (λ ys. find (λ (x : Provider). x.number == z.number) ys) ctx.providers,
+          known z there,
+          within_limit after u,
+          offered_after z there,
         )
-      where
-        never : (b : Bool) → fits_limit after u ≡ b → IsPast (have after u z.number) → b ≡ false
-        never false is past = refl
-        never true is past =
-            let most : IsAtMost (have after u z.number) greatest_counts =
-            within_limit after u is z (offered_after z there) in
-            elim past [
-              | inl r ↦ absurd (omega (arith, most.r))
-              | inr rest ↦ elim rest [ inl w ↦ absurd (omega (arith, most.w)) | inr e ↦ absurd (omega (arith, most.e)) ]
-            ]
 
     -- the provider that a fault names
     fault_of : (asked : Asked) → (r : GrantRefusal) → first_given (fault_in v asked) xs ≡ Some r
@@ -510,9 +418,7 @@ module _ {C : Type 0} (v : TopoView C) (p own : ℕ) (add : Counts) (granted aft
     by_limit : HasNoError → is_exclusive after u ≡ true → (o : Option GrantRefusal)
         → first_given (fault_in v Limit) xs ≡ o → Verdict (option_map (λ r. Named r) o)
     by_limit sound fine None e = (sound, fine, none_over e)
-    by_limit sound fine (Some r) e =
-        let at = fault_of Limit r e in
-        over_stands sound fine at.0 at.1 r (is_too_great (raised_have v at.0.number)) refl at.2
+    by_limit sound fine (Some r) e = search (rules, fault_of Limit r e, over_stands sound fine)
 
     by_fault : HasNoError → beside_exclusive v p add ≡ None → beside_writer v p add ≡ None
         → (o : Option GrantRefusal) → first_given (fault_in v Exclusion) xs ≡ o
@@ -520,10 +426,7 @@ module _ {C : Type 0} (v : TopoView C) (p own : ℕ) (add : Counts) (granted aft
     by_fault sound no_exclusive no_writer None e =
         by_limit sound (none_stand no_exclusive no_writer e) (first_given (fault_in v Limit) xs) refl
     by_fault sound no_exclusive no_writer (Some r) e =
-        let at = fault_of Exclusion r e in
-        pair_stands sound at.0 at.1 r (((raised_have v at.0.number).w == 0)
-        || ((raised_have v at.0.number).e == 0)) (pair_at v at.0.number)
-        (pair_says v sum_of raises positive at.0.number) at.2
+        search (rules, fault_of Exclusion r e, pair_stands sound, pair_says v sum_of raises positive)
 
     -- after the look for what stands beside the demand
     by_writer : HasNoError → beside_exclusive v p add ≡ None → (o : Option Refused) → beside_writer v p add ≡ o
@@ -531,20 +434,14 @@ module _ {C : Type 0} (v : TopoView C) (p own : ℕ) (add : Counts) (granted aft
         (option_map (λ r. Named r)
         (option_or (first_given (fault_in v Exclusion) xs) (first_given (fault_in v Limit) xs))))
     by_writer sound no_exclusive None e = by_fault sound no_exclusive e (first_given (fault_in v Exclusion) xs) refl
-    by_writer sound no_exclusive (Some r) e =
-        let is = beside_some add.e (other v p 0 Writes) (λ c. Writer c) r e in
-        let both = writer_stands is.1.0 is.0 is.1.1 in
-        subst (λ q. Verdict (Some q)) is.1.2 (sound, both.0, both.1)
+    by_writer sound no_exclusive (Some r) e = search (rules, writer_stands)
 
     by_exclusive : HasNoError → (o : Option Refused) → beside_exclusive v p add ≡ o
         → Verdict (option_or (option_or o (beside_writer v p add))
         (option_map (λ r. Named r)
         (option_or (first_given (fault_in v Exclusion) xs) (first_given (fault_in v Limit) xs))))
     by_exclusive sound None e = by_writer sound e (beside_writer v p add) refl
-    by_exclusive sound (Some r) e =
-        let is = beside_some add.w (other v p 0 Excludes) (λ c. Exclusive c) r e in
-        let both = exclusive_stands is.1.0 is.0 is.1.1 in
-        subst (λ q. Verdict (Some q)) is.1.2 (sound, both.0, both.1)
+    by_exclusive sound (Some r) e = search (rules, exclusive_stands)
 
     -- after the look for errors
     by_error : (o : Option ℕ) → IsLeastOf v.topology (λ z. Contains (p ∷ flat_map (providers_under v.topology) xs) z) o
@@ -582,21 +479,15 @@ module _ {C : Type 0} (v : TopoView C) (p own : ℕ) (add : Counts) (granted aft
 tests_say : {C : Type 0} (after : ℕ → Counts) (u : Topology C) (p : ℕ) (a b c : Bool) → has_error_below u p ≡ a
     → is_exclusive after u ≡ b → fits_limit after u ≡ c
     → grant_refusal after u p ≡ first_error ((a, ENXIO) ∷ (not b, EPERM) ∷ (not c, EOVERFLOW) ∷ [])
-tests_say after u p a b c errors exclusive limit = λ i.
-    first_error ((errors i, ENXIO) ∷ (not (exclusive i), EPERM) ∷ (not (limit i), EOVERFLOW) ∷ [])
+tests_say after u p a b c errors exclusive limit = search rules
 
 -- so the verdict is the model's refusal, where the demand adds no error below
 pub refused : {C : Type 0} (t : Topology C) (p own : ℕ) (after : ℕ → Counts) (u : Topology C)
     → has_error_below u p ≡ has_error_below t p → (r : Option Refused) → IsVerdict t p own after u r
     → option_map errno_of_refused r ≡ grant_refusal after u p
 refused t p own after u same None says = sym (tests_say after u p false true true (same ∙ says.0) says.1 says.2)
-refused t p own after u same (Some (Named (Enxio q))) says =
-    sym (tests_say after u p true (is_exclusive after u) (fits_limit after u) (same ∙ says.0) refl refl)
-refused t p own after u same (Some (Named (Eperm q w e))) says =
-    sym (tests_say after u p false false (fits_limit after u) (same ∙ says.0) says.1 refl)
-refused t p own after u same (Some (Named (Eoverflow q))) says =
-    sym (tests_say after u p false true false (same ∙ says.0) says.1 says.2)
-refused t p own after u same (Some (Writer w)) says =
-    sym (tests_say after u p false false (fits_limit after u) (same ∙ says.0) says.1 refl)
-refused t p own after u same (Some (Exclusive e)) says =
-    sym (tests_say after u p false false (fits_limit after u) (same ∙ says.0) says.1 refl)
+refused t p own after u same (Some (Named (Enxio q))) says = search rules
+refused t p own after u same (Some (Named (Eperm q w e))) says = search rules
+refused t p own after u same (Some (Named (Eoverflow q))) says = search rules
+refused t p own after u same (Some (Writer w)) says = search rules
+refused t p own after u same (Some (Exclusive e)) says = search rules

@@ -1,12 +1,12 @@
 -- A demand that was tried, as the walk leaves the mesh.
-use Rattle.std.specs.Prelude.{◌≡◌, ℕ, zero, suc, ◌==◌, ◌<◌, ◌≤◌, Bool, true, false, List, [], ◌∷◌, length, map, flat_map, fold, Some, IsSome, IsSomeAnd, Contains, All, if◌then◌else◌}
-use Rattle.std.proofs.Common.{refl, sym, ◌∙◌, ap, subst, arith}
+use Rattle.std.specs.Prelude.{◌≡◌, ℕ, zero, suc, ◌==◌, ◌≤◌, Bool, true, false, List, [], ◌∷◌, length, map, flat_map, fold, Some, IsSome, IsSomeAnd, Contains, All, if◌then◌else◌}
+use Rattle.std.proofs.Common.{refl, sym, ◌∙◌, ap, subst, arith, rules}
 use Rattle.std.proofs.lemmas.Bool.{eqb-true, ne_eqb}
 use Rattle.geo_base.specs.declared.request.Counts.{Counts}
 use Rattle.geo_base.proofs.MemberLists.{Contains-there, nothing_in, Contains-here, in_flat_map, filter_map-Contains}
 use Rattle.geo_model.specs.Words.{names_number}
 use Rattle.geo_model.specs.Topology.{Topology, Provider, Consumer, geom_at, provider_at, consumers_of, attached_to, providers_under}
-use Rattle.geo_model.specs.Rank.{rank, geoms_under}
+use Rattle.geo_model.specs.Rank.{rank}
 use Rattle.geo_model.specs.Opens.{below}
 use Rattle.geo_model.specs.Demand.{no_counts, add_counts, sum_counts}
 use Rattle.geo_model.proofs.DemandLemmas.{rank_within-positive}
@@ -16,7 +16,7 @@ use Rattle.geo_laws_counts.proofs.Sums.{zero-add}
 use Rattle.geo_laws_counts.proofs.LimitFacts.{of_filter, all_of}
 use Rattle.geo_laws_counts.proofs.Upward.{names_some}
 use Rattle.geo_laws_counts.specs.WalkWords.{has_number, IsOrder, order_from, cap, set_at, gain_without}
-use Rattle.geo_laws_counts.proofs.Reach.{below_self, below_closed, directly_under, under_of}
+use Rattle.geo_laws_counts.proofs.Reach.{below_self, below_closed, directly_under}
 use Rattle.geo_laws_counts.proofs.Orders.{order_within, order_closed, under_lower, under-is, is-under, below_least, has_not}
 use Rattle.geo_laws_counts.proofs.Flows.{flow_start, set_at-value, sum-none}
 use Rattle.geo_laws_counts.proofs.Raising.{Demands, Covers}
@@ -67,9 +67,7 @@ module _ {C : Type 0} (t : TopoView C) (sound : IsSoundGraph t.topology) (clear 
     where
       head : (k : ℕ) → 1 ≤ k → Contains (order_from k t.topology y.geom []) y.geom
       head zero some = absurd (omega arith)
-      head (suc k) some =
-          Contains-here y.geom (fold (λ ys h. if has_number ys h then ys else order_from k t.topology h ys) []
-          (geoms_under t.topology y.geom))
+      head (suc k) some = search rules
 
   -- each provider that is reached is p or one to which a consumer of these geoms is attached, and its geom is among
   -- them
@@ -88,8 +86,7 @@ module _ {C : Type 0} (t : TopoView C) (sound : IsSoundGraph t.topology) (clear 
       ))
       p (
         Contains-here p (flat_map (providers_under t.topology) geoms_below),
-        (λ z there. let same : y ≡ z = let e : Some y ≡ Some z = sym found ∙ there in cc in
-            subst (λ w. Contains geoms_below w.geom) same first_below),
+        search (rules, first_below),
       )
 
   -- so the order covers what is reached
@@ -114,11 +111,7 @@ module _ {C : Type 0} (t : TopoView C) (sound : IsSoundGraph t.topology) (clear 
   all_reached =
       order_within t.topology HasReached
       (λ x h has under.
-      let at = under-is t.topology x h under in (
-        at.prov,
-        attached_reached x at.prov has at.below,
-        subst (λ o. IsSomeAnd o (λ (z : Provider). z.geom ≡ h)) (sym at.found) at.geom,
-      ))
+      search (rules, under-is t.topology x h under, attached_reached x))
       (rank t.topology y.geom) y.geom [] (
         p,
         below_self (length t.topology.geoms) t.topology p,
@@ -130,20 +123,16 @@ module _ {C : Type 0} (t : TopoView C) (sound : IsSoundGraph t.topology) (clear 
   place_low : (x : ℕ) → Contains geoms_below x → rank t.topology x ≤ rank t.topology y.geom
   place_low =
       order_within t.topology (λ x. rank t.topology x ≤ rank t.topology y.geom)
-      (λ x h low under. let less : rank t.topology h < rank t.topology x =
-      under_lower t.topology sound.ranked x h under in omega arith)
+      (search (rules, under_lower t.topology sound.ranked))
       (rank t.topology y.geom) y.geom [] (omega arith) (λ x there. absurd (nothing_in x there))
 
   pub above_place : (c : Consumer) → Contains (attached_to t.topology p) c → Contains geoms_below c.geom → ⊥
   above_place c at there =
-      let inside = of_filter (λ (d : Consumer). names_number d.provider p) t.topology.consumers c at in
-      let low : rank t.topology c.geom ≤ rank t.topology y.geom = place_low c.geom there in
-      let under : IsSomeAnd (provider_at t.topology p) (λ z. rank t.topology z.geom < rank t.topology c.geom) =
-      under_of t.topology sound.ranked c.geom p
-      (directly_under t.topology c p inside.0 (names_some c.provider p inside.1)) in
-      let less : rank t.topology y.geom < rank t.topology c.geom =
-      subst (λ o. IsSomeAnd o (λ (z : Provider). rank t.topology z.geom < rank t.topology c.geom)) found under in
-      omega arith
+      search (
+        rules,
+        of_filter (λ (d : Consumer). names_number d.provider p) t.topology.consumers c,
+        place_low c.geom there,
+      )
 
   -- What was tried
 
@@ -197,11 +186,7 @@ module _ {C : Type 0} (t : TopoView C) (sound : IsSoundGraph t.topology) (clear 
 
     -- each consumer gains its part, in the order or not
     pub made_is : (c : Consumer) → Contains t.topology.consumers c → walked.tries.made c.geom ≡ cap (more c)
-    made_is c there = walked.made c there ∙ by (has_number geoms_below c.geom) refl
-      where
-        by : (b : Bool) → has_number geoms_below c.geom ≡ b → (if b then cap (more c) else no_counts) ≡ cap (more c)
-        by true e = refl
-        by false e = ap cap (sym (demand.flow.around c there (has_not geoms_below c.geom e)))
+    made_is c there = search (rules, has_not geoms_below c.geom)
 
     -- a provider of a geom outside the order gains nothing
     pub outside_gain : (z : Provider) → Contains t.topology.providers z → has_number geoms_below z.geom ≡ false
@@ -250,9 +235,7 @@ module _ {C : Type 0} {t : TopoView C} (sound : IsSoundGraph t.topology) (clear 
 
   -- the order that stands in the mesh
   pub tried_order : order_of new o ≡ walk
-  tried_order =
-      tried.orders ∙ ap (order_of (give add (gathered_from t tried.offer.geom).view p)) tried.order
-      ∙ given_order t sound clear p tried.offer tried.found add
+  tried_order = search (rules, given_order t sound clear p tried.offer tried.found add)
 
   -- the mesh is the walk over that order
   pub tried_view : new ≡ fold (spread_from way) (trying t (first_tries tried.offer.geom walk p add)) walk
@@ -272,10 +255,7 @@ module _ {C : Type 0} {t : TopoView C} (sound : IsSoundGraph t.topology) (clear 
 
   -- the geoms of the order live
   pub tried_lives : All (λ x. IsSome (geom_at new.topology x)) (order_of new o)
-  tried_lives =
-      subst (λ u. All (λ x. IsSome (geom_at u x)) (order_of new o)) (sym tried_graph)
-      (subst (All (λ x. IsSome (geom_at t.topology x))) (sym tried_order)
-      (all_of (λ x. IsSome (geom_at t.topology x)) walk walk_lives))
+  tried_lives = search (rules, tried_graph, tried_order, all_of (λ x. IsSome (geom_at t.topology x)) walk walk_lives)
 
   -- and differ
   pub tried_apart : Apart (order_of new o)

@@ -1,8 +1,8 @@
 -- Walks over some of the consumers or providers of a graph.
 use Rattle.std.specs.Prelude.{◌≡◌, ◌≢◌, ℕ, zero, suc, ◌+◌, ◌<◌, ◌≤◌, ◌==◌, nat_le, Bool, List, [], ◌∷◌, map, filter, find, Some, None, Contains, IsSome, IfSome, All}
 use Rattle.std.specs.Option.{option_map}
-use Rattle.std.proofs.Common.{refl, sym, ◌∙◌, ap, subst}
-use Rattle.std.proofs.lemmas.Bool.{eqb-true, ne_eqb}
+use Rattle.std.proofs.Common.{refl, sym, ◌∙◌, ap, subst, rules}
+use Rattle.std.proofs.lemmas.Bool.{ne_eqb}
 use Rattle.std.proofs.lemmas.List.Elements.{All-contains, All-head}
 use Rattle.std.proofs.lemmas.List.Kept.{AllPairs-from_increasing}
 use Rattle.geo_base.proofs.FindLists.{find-Contains, found_in}
@@ -39,8 +39,7 @@ next_item number keep xs next from_number n order first =
     WalksMeetAll.step walks-meet number (filter keep xs) next from_number n
     (WalksMeetAll.part walks-meet number keep xs next order) first in
     let left : Contains (left_from number from_number (filter keep xs)) step.item =
-    subst (λ ys. Contains ys step.item) (sym step.left)
-    (Contains-here step.item (left_from number (n + 1) (filter keep xs))) in
+    search rules in
     let inside =
     of_filter keep xs step.item
     (of_filter (λ y. nat_le from_number (number y)) (filter keep xs) step.item left).0 in
@@ -74,23 +73,17 @@ module _ {C : Type 0} (t : Topology C) (sound : IsSoundGraph t) where
       → consumer_at t n ≡ Some (consumer_seen n x)
       → IsNextConsumer t (filter keep t.consumers) from_number n x
   consumer_next keep from_number n x first found =
-      let next = next_item (λ (y : Consumer). y.number) keep t.consumers t.next_consumer from_number n
-      sound.orderly.order.consumers first in
-      let same : next.item ≡ consumer_seen n x = let e : Some next.item ≡ Some (consumer_seen n x) =
-      sym next.found ∙ found in cc in
-      record {
-        left = next.left ∙ ap (λ y. y ∷ left_from (λ (z : Consumer). z.number) (n + 1) (filter keep t.consumers)) same;
-        lives = found;
-        geom = All-contains (λ (c : Consumer). IsSome (geom_at t c.geom)) t.consumers (consumer_seen n x)
+      search (
+        rules,
+        next_item (λ (y : Consumer). y.number) keep t.consumers t.next_consumer from_number n
+            sound.orderly.order.consumers first,
+        All-contains (λ (c : Consumer). IsSome (geom_at t c.geom)) t.consumers (consumer_seen n x)
             sound.orderly.parts.geoms
-            (find-Contains (λ (c : Consumer). c.number == n) t.consumers (consumer_seen n x) found);
-        place = All-contains (λ (c : Consumer). IfSome c.provider (λ p. IsSome (provider_at t p))) t.consumers
+            (find-Contains (λ (c : Consumer). c.number == n) t.consumers (consumer_seen n x) found),
+        All-contains (λ (c : Consumer). IfSome c.provider (λ p. IsSome (provider_at t p))) t.consumers
             (consumer_seen n x) sound.orderly.parts.providers
-            (find-Contains (λ (c : Consumer). c.number == n) t.consumers (consumer_seen n x) found);
-        past = next.past;
-        known = next.known;
-        fits = sound.orderly.numbers.next_consumer.fits;
-      }
+            (find-Contains (λ (c : Consumer). c.number == n) t.consumers (consumer_seen n x) found),
+      )
 
   -- and there is one
   pub consumer_some : (keep : Consumer → Bool) (from_number n : ℕ)
@@ -109,17 +102,11 @@ module _ {C : Type 0} (t : Topology C) (sound : IsSoundGraph t) where
       → provider_at t n ≡ Some (provider_seen n x)
       → IsNextProvider t (filter keep t.providers) from_number n x
   provider_next keep from_number n x first found =
-      let next = next_item (λ (y : Provider). y.number) keep t.providers t.next_provider from_number n
-      sound.orderly.order.providers first in
-      let same : next.item ≡ provider_seen n x = let e : Some next.item ≡ Some (provider_seen n x) =
-      sym next.found ∙ found in cc in
-      record {
-        left = next.left ∙ ap (λ y. y ∷ left_from (λ (z : Provider). z.number) (n + 1) (filter keep t.providers)) same;
-        lives = found;
-        past = next.past;
-        known = next.known;
-        fits = sound.orderly.numbers.next_provider.fits;
-      }
+      search (
+        rules,
+        next_item (λ (y : Provider). y.number) keep t.providers t.next_provider from_number n
+            sound.orderly.order.providers first,
+      )
 
   -- and there is one
   pub provider_some : (keep : Provider → Bool) (from_number n : ℕ)
@@ -159,15 +146,12 @@ module _ {C : Type 0} (t : TopoView C) (sound : IsSoundGraph t.topology) where
   -- what is found stands
   pub provider_stands : (q : ℕ) (z : Provider) → provider_at t.topology q ≡ Some z
       → Contains t.topology.providers z × (z.number ≡ q)
-  provider_stands q z found =
-      let is = found_in (λ (y : Provider). y.number == q) t.topology.providers z found in
-      (is.0, eqb-true z.number q is.1)
+  provider_stands q z found = search (rules, found_in (λ (y : Provider). y.number == q) t.topology.providers z found)
 
   -- a consumer of the number at which one is found is it
   pub consumer_only : (n : ℕ) (one : Consumer) → consumer_at t.topology n ≡ Some one → (c : Consumer)
       → Contains t.topology.consumers c → c.number ≡ n → c ≡ one
-  consumer_only n one found c there same =
-      let e : Some c ≡ Some one = sym (consumer_known c there) ∙ ap (consumer_at t.topology) same ∙ found in cc
+  consumer_only n one found c there same = search (rules, consumer_known c there, ap (consumer_at t.topology) same)
 
 -- the geom of a provider lives
 pub offerer_lives : {C : Type 0} (t : Topology C) → IsSoundGraph t → (p : ℕ) (x : Provider)

@@ -1,9 +1,8 @@
 use Rattle.std.proofs.Common.{sym, ◌∙◌, arith}
-use Rattle.geo_access.proofs.Granting.{holder_is, holder_lives}
+use Rattle.geo_access.proofs.Granting.{holder_is, holder_lives, answered}
 use Rattle.geo_access.proofs.Decided.{counted_told}
 use Rattle.geo_access.proofs.Coming.{end_of}
 use Rattle.geo_access.proofs.Ready.{may_end, may_judge}
-use Rattle.geo_access.proofs.Granting.{answered}
 use Rattle.geo_access.proofs.access.allowed.Goals as goal
 
 -- the consumer is attached, so its provider stands; no walk has left anything to try

@@ -2,11 +2,10 @@ use Rattle.std.proofs.Common.{◌≡◌, refl, sym, ap, ◌∙◌, subst, arith,
 use Rattle.geo_mesh.specs.Topo.{with_want}
 use Rattle.geo_access.specs.declared.counts.Way.TheVariants.{Rises}
 use Rattle.geo_access.specs.Access.{IsCounted}
-use Rattle.geo_access.proofs.Granting.{holder_is, holder_lives}
+use Rattle.geo_access.proofs.Granting.{holder_is, holder_lives, answered}
 use Rattle.geo_access.proofs.Decided.{counted_told}
 use Rattle.geo_access.proofs.Coming.{end_of}
 use Rattle.geo_access.proofs.Ready.{may_end, holder_stays, may_judge}
-use Rattle.geo_access.proofs.Granting.{answered}
 use Rattle.geo_access.proofs.Kept.{grant_stands}
 use Rattle.geo_access.proofs.access.grant.Goals as goal
 
