@@ -1,7 +1,7 @@
 -- Opens: what is decided before, and what is made and kept.
 use Rattle.std.specs.Prelude.{◌≡◌, ◌≢◌, ◌⊎◌, ℕ, Bool, true, false, List, Option, Some, None, Result, Ok, Err, IsSome, is_some, if◌then◌else◌, [], OnOk, OnErr, IfSome, option_map, ◌≤◌}
 use Rattle.std.specs.Option.{option_map_or}
-use Rattle.std.proofs.Common.{refl, sym, ◌∙◌, ap, subst, inl, inr, arith}
+use Rattle.std.proofs.Common.{refl, sym, ◌∙◌, ap, subst, inl, inr, arith, rules}
 use Rattle.std.proofs.lemmas.Bool.{cases_eq, eq-eqb, ne_eqb}
 use Rattle.geo_base.specs.declared.request.Counts.{Counts}
 use Rattle.geo_base.specs.declared.errno.Errno.{Errno}
@@ -18,7 +18,7 @@ use Rattle.geo_model.specs.Opens.{open_refusal, open_refusal_at, grant_refusal, 
 use Rattle.geo_model.specs.Events.{announce_risen}
 use Rattle.geo_model.specs.World.{World, Config, Handle, granted_in, taste_grant, handle_of}
 use Rattle.geo_model.specs.WorldEvents.{queued_of, with_queued, after_open}
-use Rattle.geo_model.specs.HandleCommands.{with_handle, without_number, open_answered, do_open}
+use Rattle.geo_model.specs.HandleCommands.{with_handle, do_open}
 use Rattle.geo_model.proofs.DemandLemmas.{find_passes, names_some}
 use Rattle.geo_event.specs.EventQueue.{Queued}
 use Rattle.geo_mesh.specs.Topo.{TopoView, IsButForRoom}
@@ -37,7 +37,7 @@ use Rattle.geo_opens.specs.Handles.{refusal_in, refused_world, IsOpenRefusal, Is
 use Rattle.geo_state.proofs.FirmLemmas.{firm-order}
 use Rattle.geo_opens.proofs.Stepping.{held}
 use Rattle.geo_opens.proofs.Holding.{next_free}
-use Rattle.geo_base.proofs.Options.{none_of, there_with_fact, at-found, if-with, is_some-map}
+use Rattle.geo_base.proofs.Options.{there_with_fact, at-found, if-with}
 use Rattle.geo_base.specs.declared.block.NoMemory.{NoMemory}
 use Rattle.geo_model.specs.Graph.{IsInOrder}
 use Rattle.geo_slots.specs.Slots.{value_at}
@@ -53,38 +53,11 @@ use Rattle.geo_opens.proofs.Settling.{comer-of, come-settled, roomed-world, room
 -- What an open does, by what refuses it
 
 module _ (w : World) (line actor : ℕ) (name prov : List ℕ) (grant : Counts) where
-  -- by whether there is a handle of the name
-  abbrev opened_by : Bool → World × Outcome
-  opened_by b =
-      if b
-      then (w, outcomes.Replied line (replies.Refused EEXIST))
-      else open_answered w line actor name (find_provider w.topology prov) grant
-      (open_refusal (granted_in w) w.topology prov grant)
-
   -- where something refuses it
   pub refused-open : (e : Errno) → Some e ≡ refusal_in w actor name prov grant
       → do_open w line actor name prov grant
       ≡ (refused_world w actor name prov, outcomes.Replied line (replies.Refused e))
-  refused-open e is = by (is_some (handle_of w actor name)) is
-    where
-      -- by the provider
-      at : (o : Option ℕ) → Some e ≡ open_refusal_at (granted_in w) w.topology o grant
-          → open_answered w line actor name o grant (open_refusal_at (granted_in w) w.topology o grant)
-          ≡ (option_map_or (λ p. without_number w) o w, outcomes.Replied line (replies.Refused e))
-      at None is = ap (λ r. open_answered w line actor name None grant r) (sym is)
-      at (Some p) is = ap (λ r. open_answered w line actor name (Some p) grant r) (sym is)
-
-      by : (b : Bool)
-          → Some e ≡ (if b then Some EEXIST else open_refusal (granted_in w) w.topology prov grant)
-          → opened_by b
-          ≡ (
-            (if b then w else option_map_or (λ p. without_number w) (find_provider w.topology prov) w),
-            outcomes.Replied line (replies.Refused e),
-          )
-      by true is =
-          let same : EEXIST ≡ e = cc in
-          ap (λ r. let answer : World × Outcome = (w, outcomes.Replied line (replies.Refused r)) in answer) same
-      by false is = at (find_provider w.topology prov) is
+  refused-open e is = search rules
 
   -- where nothing does: there is no handle of the name, the provider is found, and nothing refuses its counts
   pub record IsFree : Type 0 where
@@ -96,28 +69,7 @@ module _ (w : World) (line actor : ℕ) (name prov : List ℕ) (grant : Counts) 
         ≡ (after_open w (with_handle w actor name provider grant), outcomes.Replied line replies.Ok)
 
   pub free-open : None ≡ refusal_in w actor name prov grant → IsFree
-  free-open is = by (is_some (handle_of w actor name)) refl is
-    where
-      -- by the provider
-      at : is_some (handle_of w actor name) ≡ false → (o : Option ℕ) → find_provider w.topology prov ≡ o
-          → None ≡ open_refusal_at (granted_in w) w.topology o grant → IsFree
-      at free None found never = absurd (cc)
-      at free (Some p) found none = record {
-        provider = p;
-        found = found;
-        name_free = none_of (handle_of w actor name) free;
-        allowed = sym none;
-        answer =
-            ap opened_by free
-            ∙ ap (λ o. open_answered w line actor name o grant (open_refusal_at (granted_in w) w.topology o grant))
-            found
-            ∙ ap (λ r. open_answered w line actor name (Some p) grant r) (sym none);
-      }
-
-      by : (b : Bool) → is_some (handle_of w actor name) ≡ b
-          → None ≡ (if b then Some EEXIST else open_refusal (granted_in w) w.topology prov grant) → IsFree
-      by true e never = absurd (cc)
-      by false e is = at e (find_provider w.topology prov) refl is
+  free-open is = search rules
 
 -- What is decided
 
@@ -163,21 +115,15 @@ found-there t name p sound found =
 
 -- no handle has the next consumer
 pub nobodys-next : (s : State) → Stands s → holding_handle s.handles.handles s.topo.topology.next_consumer ≡ None
-nobodys-next s stands = by (holding_handle s.handles.handles s.topo.topology.next_consumer) refl
-  where
-    by : (o : Option Handle) → holding_handle s.handles.handles s.topo.topology.next_consumer ≡ o
-        → holding_handle s.handles.handles s.topo.topology.next_consumer ≡ None
-    by None is = is
-    by (Some h) is =
-        let n : ℕ = s.topo.topology.next_consumer in
-        let names : h.consumer ≡ Some n =
-        names_some h.consumer n
-        (find_passes (λ (x : Handle). names_number x.consumer n) s.handles.handles h is) in
-        let one = held s stands h n
-        (find-Contains (λ (x : Handle). names_number x.consumer n) s.handles.handles h is) names in
-        let two : None ≡ Some one.one =
-        sym (next_free s.topo.topology (firm-order stands.firm.0 s stands.firm.1)) ∙ one.found in
-        absurd (cc)
+nobodys-next s stands =
+    search (
+      rules,
+      names_some,
+      find_passes,
+      held s stands,
+      find-Contains,
+      next_free s.topo.topology (firm-order stands.firm.0 s stands.firm.1),
+    )
 
 module _ (s : State) (kept : Holds s) where
   module _ (nobodys : holding_handle s.handles.handles s.topo.topology.next_consumer ≡ None) (actor : ℕ)
@@ -318,8 +264,7 @@ module _ (old s : State) (roomed : IsRoomed old s) (kept : Holds s) (actor : ℕ
   pub free-found : find_provider s.topo.topology prov ≡ None → ⊥
   free-found none =
       let is = free [] [] in
-      let bad : None ≡ Some is.provider = sym none ∙ is.found in
-      absurd (cc)
+      search rules
 
   -- the name is free
   pub free-name : named_handle s.handles.handles actor name ≡ None
@@ -344,8 +289,7 @@ module _ (s new : State) (line actor : ℕ) (name prov : List ℕ) (grant : Coun
   pub open-refused : (e : Errno) → IsOpenRefusal s actor name prov grant (Some e)
       → world actors log new ≡ refused_world before actor name prov → o ≡ outcomes.Replied line (replies.Refused e)
       → do_open before line actor name prov grant ≡ (world actors log new, o)
-  open-refused e decided made is =
-      refused-open before line actor name prov grant e (decided actors log) ∙ (λ i. (sym made i, sym is i))
+  open-refused e decided made is = search (rules, refused-open before line actor name prov grant e (decided actors log))
 
   pub open-done : IsOpenRefusal s actor name prov grant None
       → IfSome (find_provider s.topo.topology prov) (λ p. world actors log new
@@ -365,9 +309,7 @@ module _ (s new : State) (line actor : ℕ) (name prov : List ℕ) (grant : Coun
 pub free-of : (s : State) (actor : ℕ) (name : List ℕ) (r : Option ℕ) (b : Bool)
     → r ≡ option_map (λ (h : Handle). h.number) (named_handle s.handles.handles actor name) → b ≡ is_some r → b ≡ false
     → is_some (named_handle s.handles.handles actor name) ≡ false
-free-of s actor name r b is told none =
-    sym (is_some-map (λ (h : Handle). h.number) (named_handle s.handles.handles actor name))
-    ∙ ap (λ o. is_some o) (sym is) ∙ sym told ∙ none
+free-of s actor name r b is told none = search rules
 
 -- an answer without a value
 abbrev Ends : Type 0

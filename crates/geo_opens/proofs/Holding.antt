@@ -1,6 +1,6 @@
 -- Consumers of DEV that come and go: made and attached, with what they are granted, and released and gone.
-use Rattle.std.specs.Prelude.{◌≡◌, ℕ, ◌+◌, ◌≤◌, ◌==◌, Bool, true, false, not, ◌&&◌, cond, List, [], ◌∷◌, length, map, filter, count_by, nat_lt, Option, Some, None, IsSome, IsSomeAnd, IfSome, Contains, ◌⊎◌, ◌++◌, IsTrue, unwrap_or, if◌then◌else◌, ◌≢◌, option_map}
-use Rattle.std.proofs.Common.{refl, sym, ◌∙◌, ap, arith, subst, inl, inr}
+use Rattle.std.specs.Prelude.{◌≡◌, ℕ, ◌+◌, ◌≤◌, ◌==◌, Bool, true, false, not, ◌&&◌, cond, List, [], ◌∷◌, length, map, filter, count_by, nat_lt, Option, Some, None, IsSome, IsSomeAnd, IfSome, Contains, ◌++◌, IsTrue, unwrap_or, if◌then◌else◌, option_map}
+use Rattle.std.proofs.Common.{refl, sym, ◌∙◌, ap, arith, subst, rules}
 use Rattle.std.proofs.lemmas.Bool.{eqb-true, cases_eq, ne_eqb, false_from_ne_true, eq-eqb}
 use Rattle.std.proofs.lemmas.List.Sums.{length-filter}
 use Rattle.geo_base.specs.declared.request.Counts.{Counts}
@@ -12,7 +12,7 @@ use Rattle.std.specs.List.{list_any}
 use Rattle.std.specs.Option.{option_map_or, option_and_then}
 use Rattle.std.proofs.lemmas.List.Elements.{All-contains}
 use Rattle.std.proofs.lemmas.List.Folds.{list_any_none}
-use Rattle.geo_base.proofs.Options.{there_with_fact, some_weaker, some-with, if-with}
+use Rattle.geo_base.proofs.Options.{there_with_fact, some-with, if-with}
 use Rattle.geo_access.proofs.Coming.{bare_of}
 use Rattle.geo_base.specs.declared.errno.Errno.TheVariants.{ENXIO, ELOOP, EDEEP}
 use Rattle.geo_base.specs.declared.kind.Kind.TheVariants as kinds
@@ -36,14 +36,13 @@ use Rattle.geo_laws_counts.proofs.Refusing.{allowed, errors_came}
 use Rattle.geo_laws_counts.proofs.Openers.{below_came, wants_grant}
 use Rattle.geo_access.specs.GoneLaws.{HasUsedNumber}
 use Rattle.geo_access.proofs.Gone.{refused_consumers_go}
-use Rattle.geo_opens.specs.Holders.{opened_mesh, written, grants_with, holding_mesh, HasGone, HasCome}
+use Rattle.geo_opens.specs.Holders.{opened_mesh, written, grants_with, HasGone, HasCome}
 use Rattle.std.proofs.lemmas.List.{map-append}
 use Rattle.geo_model.specs.Demand.{no_counts, have, want, is_exclusive, fits_limit, risen, fallen}
 use Rattle.geo_model.specs.Events.{announce_risen, announce_fallen}
 use Rattle.geo_model.proofs.DemandLemmas.{map_same, find_passes}
 use Rattle.geo_event.specs.EventQueue.{Queued}
 use Rattle.geo_mesh.specs.declared.records.Scratch.{Scratch}
-use Rattle.geo_laws_counts.proofs.Sums.{at_most-same, at_most-zero}
 use Rattle.geo_laws_counts.proofs.Levels.{have-at_most}
 use Rattle.geo_laws_counts.proofs.Quiet.{granted_wants_nothing}
 use Rattle.geo_laws_counts.proofs.Stays.{consumer_came}
@@ -80,13 +79,7 @@ module _ (before after : ℕ → Counts) (less : (q : ℕ) → IsAtMost (after q
 
   -- one provider more
   more_counts_of : (a : Counts) (n : ℕ) (xs : List (ℕ × Counts)) → many ((n, a) ∷ xs) ≡ one (not (a.w == 0)) + many xs
-  more_counts_of a n xs = by (not (a.w == 0))
-    where
-      by : (b : Bool)
-          → length (cond b ((n, a) ∷ filter (λ (row : ℕ × Counts). not (row.1.w == 0)) xs)
-          (filter (λ (row : ℕ × Counts). not (row.1.w == 0)) xs)) ≡ one b + many xs
-      by true = omega arith
-      by false = omega arith
+  more_counts_of a n xs = search rules
 
   more_notes : (b : Bool) (n : ℕ) (xs : List (ℕ × Bool)) → notes ((n, b) ∷ xs) ≡ one b + notes xs
   more_notes true n xs = omega arith
@@ -95,17 +88,7 @@ module _ (before after : ℕ → Counts) (less : (q : ℕ) → IsAtMost (after q
   -- of one provider
   one_less : (a b : Counts) → IsAtMost b a
       → one (not (b.w == 0)) + one (comes_to_zero a b) ≡ one (not (a.w == 0))
-  one_less a b small = by (a.w == 0) (b.w == 0) refl refl
-    where
-      by : (x y : Bool) → (a.w == 0) ≡ x → (b.w == 0) ≡ y → one (not y) + one (not x && y) ≡ one (not x)
-      by true true is_a is_b = refl
-      by false true is_a is_b = refl
-      by false false is_a is_b = refl
-      by true false is_a is_b =
-          let zero_a : a.w ≡ 0 = eqb-true a.w 0 is_a in
-          let most : b.w ≤ a.w = small.w in
-          let zero_b : b.w ≡ 0 = omega (arith, zero_a, most) in
-          let no : true ≡ false = sym (ap (λ n. n == 0) zero_b) ∙ is_b in absurd (cc)
+  one_less a b small = search rules
 
   -- of all
   left_all : (ps : List Provider) → many (rows after ps) + notes (falls ps) ≡ many (rows before ps)
@@ -142,9 +125,7 @@ module _ {C : Type 0} (t : Topology C) (sound : IsSoundGraph t) where
 
   -- DEV holds grants
   pub dev_holds : HoldsGrants t 1
-  dev_holds =
-      some_weaker (λ (x : Geom C). x.kind ≡ kinds.Dev) (λ x. is_granted_kind x.kind ≡ true)
-      (λ x dev. ap is_granted_kind dev) (geom_at t 1) sound.orderly.first.dev
+  dev_holds = search rules
 
   -- it has no provider
   pub dev_bare : providers_of t 1 ≡ []
@@ -172,14 +153,12 @@ module _ {C : Type 0} (t : Topology C) (sound : IsSoundGraph t) where
     -- a geom is no deeper than it was, but for DEV
     no_deeper : (x : Geom C) → Contains t.geoms x → deep t x ≡ false → deep with_it x ≡ false
     no_deeper x there low =
-        elim (cases_eq x.number 1) [
-          | inl same ↦ ap (λ b. not b && nat_lt MAX_RANK (rank with_it x.number)) (of_dev x there same)
-          | inr other ↦
-              ap (λ n. not (is_granted_kind x.kind) && nat_lt MAX_RANK n)
-              ((open-rises t 1 p y sound.ranked sound.orderly.parts.geoms dev_stands dev_bare
-              offered).0.same x.number other)
-              ∙ low
-        ]
+        search (
+          rules,
+          cases_eq x.number 1,
+          of_dev x there,
+          open-rises t 1 p y sound.ranked sound.orderly.parts.geoms dev_stands dev_bare offered,
+        )
 
     -- so no geom is too deep
     still_shallow : is_too_deep with_it ≡ false
@@ -229,14 +208,13 @@ module _ {C : Type 0} (t : Topology C) (sound : IsSoundGraph t) where
 
     -- no provider is of DEV
     not_of_dev : (q : ℕ) → option_map_or (λ (z : Provider). z.geom == 1) (provider_at t q) false ≡ false
-    not_of_dev q = by (provider_at t q) refl
-      where
-        by : (o : Option Provider) → provider_at t q ≡ o → option_map_or (λ (z : Provider). z.geom == 1) o false ≡ false
-        by None is = refl
-        by (Some z) is =
-            ne_eqb z.geom 1
-            (All-contains (λ (w : Provider). IsOffer w) t.providers z sound.orderly.offers
-            (find-Contains (λ (w : Provider). w.number == q) t.providers z is)).not_dev
+    not_of_dev q =
+        search (
+          rules,
+          ne_eqb,
+          All-contains (λ (w : Provider). IsOffer w) t.providers,
+          find-Contains (λ (w : Provider). w.number == q) t.providers,
+        )
 
     -- as many consumers are below as before
     pub opener_below : consumers_below with_it p ≡ consumers_below t p
@@ -315,16 +293,7 @@ next_free t order =
 noted_counted : {C : Type 0} (t : TopoView C) (rises : List (ℕ × Bool)) (room : Room)
     → map (λ row. row.0) rises ≡ map (λ (p : Provider). p.number) t.topology.providers → IsCounted t
     → IsCounted (record t { risen = rises; room = room })
-noted_counted t rises room numbers counted = record {
-  kinds = counted.kinds;
-  haves = counted.haves;
-  wants = counted.wants;
-  exclusive = counted.exclusive;
-  limit = counted.limit;
-  risen = numbers;
-  fallen = counted.fallen;
-  clear = counted.clear;
-}
+noted_counted t rises room numbers counted = search rules
 
 pub rises_counted : {C : Type 0} (t : TopoView C) → IsCounted t → IsCounted (without_rises t)
 rises_counted t counted =
@@ -375,25 +344,20 @@ module _ {C : Type 0} (t : TopoView C) (sound : IsSoundGraph t.topology) (counte
 
   -- it is found
   comer_found : consumer_at opened.topology next ≡ Some comer
-  comer_found = at-new (λ (c : Consumer). c.number) next t.topology.consumers comer refl
-      sound.orderly.order.consumers
+  comer_found = search (rules, at-new (λ (c : Consumer). c.number) next t.topology.consumers comer)
 
   -- each consumer is granted what it was
   came_grants : (n : ℕ) → granted_by opened n ≡ granted_by t n
-  came_grants n = by (cases_eq n next)
-    where
-      none_either : (b : Bool) → (if b then no_counts else no_counts) ≡ no_counts
-      none_either true = refl
-      none_either false = refl
-
-      by : (n ≡ next) ⊎ (n ≢ next) → granted_by opened n ≡ granted_by t n
-      by (inl same) =
-          subst (λ m. granted_by opened m ≡ granted_by t m) (sym same)
-          ((λ i. granted_at (comer_stored i) (comer_found i)) ∙ none_either (holds_grants t.topology 1)
-          ∙ sym none_granted)
-      by (inr apart) = λ i.
-          granted_at (value_at-other next n no_counts t.wants (λ same. apart (sym same)) i)
-          (at-others (λ (c : Consumer). c.number) t.topology.consumers comer n apart i)
+  came_grants n =
+      search (
+        rules,
+        cases_eq n next,
+        comer_stored,
+        comer_found,
+        none_granted,
+        value_at-other next n no_counts t.wants,
+        at-others (λ (c : Consumer). c.number) t.topology.consumers comer n,
+      )
 
   grants_same : granted_by opened ≡ granted_by t
   grants_same = λ i n. came_grants n i
@@ -411,8 +375,7 @@ module _ {C : Type 0} (t : TopoView C) (sound : IsSoundGraph t.topology) (counte
 
   -- it wants nothing then
   comer_wants : want (granted_by t) u comer ≡ no_counts
-  comer_wants =
-      granted_wants_nothing (granted_by t) u comer none_granted (dev_holds t.topology sound)
+  comer_wants = search (rules, granted_wants_nothing (granted_by t) u comer none_granted (dev_holds t.topology sound))
 
   -- all counts are kept
   pub opened_counted : IsCounted opened
@@ -517,31 +480,30 @@ module _ {C : Type 0} (t : TopoView C) (sound : IsSoundGraph t.topology) (counte
           → queued new queue ≡ announce_risen G (noted m.risen) (queued m q))
           → RestStays (without_rises m) q new queue → queue.spare + notes m.risen ≡ q.spare
           → CountsStay (without_rises m) new → HasCome t q p add new queue
-      has_come new queue told rest left stay = record {
-        mesh =
-            rest.mesh
-            ∙ ap (λ (v : TopoView C). with_topology (without_rises v) new.topology) (granted ∙ with_room);
-        announced =
-            told after stored
-            ∙ ap (λ ps. announce_risen after ps (queued m q)) rose_there
-            ∙ ap (λ (v : Topology C). announce_risen after (risen (granted_by t) t.topology after u)
-            (record { topology = v; events = q.events })) graph_is;
-        granted = λ n. stay.granted n ∙ ap (λ (v : TopoView C). granted_by v n) (granted ∙ with_room);
-        counted = stay.counted (rises_counted m counted_then);
-        quiet = stay.quiet (record {
-          risen = refl;
-          fallen = subst (λ (v : TopoView C). v.fallen ≡ map (λ (x : Provider). (x.number, false)) v.topology.providers)
-              (sym granted) quiet.fallen;
-        });
-        room = let f = few in omega (arith, f, left);
-      }
-        where
-          -- the room is that of the end
-          room_is : room ≡ new.room
-          room_is = sym (ap (λ (v : TopoView C). v.room) rest.mesh ∙ ap (λ (v : TopoView C). v.room) granted)
-
-          with_room : granted_view opened next add ≡ holding_mesh t p add new.room
-          with_room = ap (holding_mesh t p add) room_is
+      has_come new queue told rest left stay =
+          search (
+            rules,
+            told after stored,
+            stored,
+            ap (λ ps. announce_risen after ps (queued m q)) rose_there,
+            rose_there,
+            ap
+                (λ (v : Topology C). announce_risen after (risen (granted_by t) t.topology after u)
+                (record { topology = v; events = q.events })) graph_is,
+            graph_is,
+            stay.counted (rises_counted m counted_then),
+            rises_counted m counted_then,
+            stay.quiet
+                (record {
+                  risen = refl;
+                  fallen = subst
+                      (λ (v : TopoView C). v.fallen ≡ map (λ (x : Provider). (x.number, false)) v.topology.providers)
+                      (sym granted) quiet.fallen;
+                }),
+            few,
+            ap (λ (v : TopoView C). v.room) rest.mesh,
+            ap (λ (v : TopoView C). v.room) granted,
+          )
 
 -- The steps of an open
 
@@ -552,14 +514,10 @@ module _ {C : Type 0} (t : TopoView C) (sound : IsSoundGraph t.topology) (counte
   comer_counted = subst IsCounted (sym attached) (opened_counted t sound counted p m.room)
 
   pub comer_holder : IsHolder m.topology cons
-  comer_holder =
-      subst (λ n. IsHolder m.topology n) (sym number)
-      (subst (λ (v : TopoView C). IsHolder v.topology t.topology.next_consumer) (sym attached)
-      (opened_holder t sound counted p m.room))
+  comer_holder = search (rules, opened_holder t sound counted p m.room)
 
   pub comer_nothing : value_at m.wants cons ≡ Some no_counts
-  comer_nothing =
-      (λ i. value_at (attached i).wants (number i)) ∙ comer_stored t sound counted p m.room
+  comer_nothing = search (rules, comer_stored t sound counted p m.room)
 
   -- as many consumers are below it as below the provider
   pub comer_below : (y : Provider) → provider_at t.topology p ≡ Some y
@@ -573,16 +531,12 @@ module _ {C : Type 0} (t : TopoView C) (sound : IsSoundGraph t.topology) (counte
     -- nothing refuses its counts
     pub comer_allowed : grant_refusal (grants_with t add) (with_opener t.topology p) p ≡ None
         → grant_refusal (with_grant (granted_by m) cons add) m.topology (place_of m.topology cons) ≡ None
-    comer_allowed passes =
-        (λ i. grant_refusal (with_grant (granted_by (attached i)) (number i) add) (attached i).topology
-        (place_of (attached i).topology (number i)))
-        ∙ opened_allowed t sound counted p m.room add passes
+    comer_allowed passes = search (rules, opened_allowed t sound counted p m.room add passes)
 
     -- the mesh with its counts
     pub comer_granted : (k : TopoView C) → k ≡ granted_view m cons add
         → k ≡ granted_view (opened_mesh t p m.room) t.topology.next_consumer add
-    comer_granted k granted =
-        granted ∙ (λ i. granted_view (attached i) (number i) add)
+    comer_granted k granted = search rules
 
     -- and where write counts left zero
     pub comer_rose : (ps : List ℕ)
@@ -591,10 +545,7 @@ module _ {C : Type 0} (t : TopoView C) (sound : IsSoundGraph t.topology) (counte
         ≡ risen (granted_by (opened_mesh t p m.room)) (opened_mesh t p m.room).topology
         (with_grant (granted_by (opened_mesh t p m.room)) t.topology.next_consumer add)
         (opened_mesh t p m.room).topology
-    comer_rose ps rose =
-        rose
-        ∙ (λ i. risen (granted_by (attached i)) (attached i).topology
-        (with_grant (granted_by (attached i)) (number i) add) (attached i).topology)
+    comer_rose ps rose = search rules
 
     -- it was granted, and rises were noted
     module _ (quiet : IsQuiet t) (q : Queued) (k : TopoView C) (granted : k ≡ granted_view m cons add)
@@ -632,11 +583,7 @@ module _ {C : Type 0} (t : TopoView C) (counted : IsCounted t) (c : ℕ) (holder
 
   -- no grant rises
   fall : AreAtMost left (granted_by t)
-  fall n = by (n == c)
-    where
-      by : (b : Bool) → IsAtMost (if b then no_counts else granted_by t n) (granted_by t n)
-      by true = at_most-zero (granted_by t n)
-      by false = at_most-same (granted_by t n)
+  fall n = search rules
 
   module _ (m : TopoView C) (released : m ≡ released_view t c) where
     -- it holds nothing then
@@ -661,10 +608,7 @@ module _ {C : Type 0} (t : TopoView C) (counted : IsCounted t) (c : ℕ) (holder
     module _ (gone : TopoView C) (dropped : gone ≡ without_consumer m c) (q : Queued) where
       -- there is room for what is announced
       pub gone_room : written t ≤ q.spare → notes gone.fallen ≤ q.spare
-      gone_room enough =
-          let same : notes gone.fallen ≡ notes m.fallen = ap (λ (v : TopoView C). notes v.fallen) dropped in
-          let all = places in
-          omega (arith, enough, same, all)
+      gone_room enough = search (rules, ap (λ (v : TopoView C). notes v.fallen) dropped, places)
 
       -- once that is announced, it has gone
       pub has_gone : IsQuiet t → CountsStay m gone

@@ -1,9 +1,9 @@
 -- What is kept beside the parts: requests out, and the handle that is reaped next; and what is kept after a consumer
 -- came or went, and with other room.
-use Rattle.std.specs.Prelude.{◌≡◌, ℕ, ◌==◌, Bool, true, false, not, ◌&&◌, List, Option, Some, None, Ok, Err, IsSome, option_map, ◌+◌, ◌*◌, ◌≤◌, length, count_by}
+use Rattle.std.specs.Prelude.{◌≡◌, ℕ, ◌==◌, Bool, true, false, not, ◌&&◌, List, Option, Some, None, Ok, Err, IsSome, option_map, ◌*◌, ◌≤◌, length, count_by}
 use Rattle.std.specs.List.{list_any}
 use Rattle.std.specs.Option.{option_map_or}
-use Rattle.std.proofs.Common.{refl, sym, ◌∙◌, ap, subst, arith}
+use Rattle.std.proofs.Common.{refl, sym, ◌∙◌, ap, subst, rules}
 use Rattle.std.proofs.Math.Bool.{not-not}
 use Rattle.std.proofs.lemmas.Bool.{and_parts, eqb-true}
 use Rattle.std.proofs.lemmas.List.Sums.{length-filter, count_by-le-length}
@@ -47,9 +47,8 @@ use Rattle.geo_access.specs.Access.{granted_by, released_view}
 use Rattle.geo_state.specs.Parts.{SameParts}
 use Rattle.geo_state.specs.Changes.{IsSettled, HasComer, HasGoer}
 use Rattle.geo_state.proofs.Frames.{parts-self, parts-count, parts-risen}
-use Rattle.geo_opens.specs.Holders.{written, grants_with, holding_mesh, HasGone, HasCome}
+use Rattle.geo_opens.specs.Holders.{grants_with, holding_mesh, HasGone, HasCome}
 use Rattle.geo_opens.specs.Handles.{IsRoomed}
-use Rattle.geo_opens.proofs.Holding.{room_counted}
 use Rattle.geo_state.proofs.ViewLemmas.{states_show}
 
 -- Requests out, and the handle that is reaped next, by what is kept beside the parts
@@ -104,13 +103,7 @@ module _ (s : State) (kept : Holds s) where
 
     -- the handles that can be reaped are those of the world
     to_reap : (h : Handle) → is_to_reap w h ≡ can_be_reaped (trips s.traffic.bios) h
-    to_reap h = ap (λ b. h.dead && b) (on h.consumer)
-      where
-        on : (o : Option ℕ) → option_map_or (λ c. not (is_active w c)) o false
-            ≡ option_map_or (λ c. out_through (trips s.traffic.bios) c == 0) o false
-        on None = refl
-        on (Some c) =
-            ap not (active-is log s.traffic.bios c) ∙ not-not (out_through (trips s.traffic.bios) c == 0)
+    to_reap h = search (rules, active-is log s.traffic.bios, not-not)
 
     -- the first that is noted is the one that is reaped next
     pub first-to-reap : first_ready s.handles.ready ≡ option_map (λ h. h.number) (reap_work w)
@@ -167,18 +160,15 @@ module _ (s : State) (kept : Holds s) where
         has : (h : Handle) (o : Option ℕ) → h.consumer ≡ o → reap_work w ≡ Some h → h.number ≡ n
             → option_map_or (λ c. not (is_active w c)) o false ≡ true → IsNext n
         has h None is work number never = absurd (cc)
-        has h (Some c) is work number idle = record {
-          handle = h;
-          work = work;
-          number = number;
-          there =
-              subst (λ m. handle_at s.handles.handles m ≡ Some h) number
-              (found_itself (λ (x : Handle). x.number) s.handles.next s.handles.handles h kept.numbers
-              (find-Contains (is_to_reap w) s.handles.handles h work));
-          consumer = c;
-          names = is;
-          idle = sym (not-not (is_active w c)) ∙ ap not idle;
-        }
+        has h (Some c) is work number idle =
+            search (
+              rules,
+              Some h,
+              found_itself (λ (x : Handle). x.number) s.handles.next s.handles.handles h kept.numbers
+                  (find-Contains (is_to_reap w) s.handles.handles h work),
+              not-not (is_active w c),
+              ap not idle,
+            )
 
         by : (o : Option Handle) → reap_work w ≡ o → option_map (λ (h : Handle). h.number) o ≡ Some n → IsNext n
         by None work never = absurd (cc)
@@ -209,16 +199,7 @@ module _ (t : TopoView Config) (q : Queued) (c : ℕ) (u : TopoView Config) (que
 
   -- the queue has the places that are owed
   pub gone-settled : owed_events t ≤ q.spare → IsSettled u queue
-  gone-settled enough = record {
-    counted = gone.counted;
-    quiet = gone.quiet;
-    room =
-        let same : good u.topology ≡ good t.topology = ap (λ (v : TopoView Config). good v.topology) gone.mesh in
-        let owed : good t.topology + written t ≤ q.spare = enough in
-        let more : q.spare + written u ≤ queue.spare + written t = gone.room in
-        let now : good u.topology + written u ≤ queue.spare = omega (arith, same, owed, more) in
-        now;
-  }
+  gone-settled enough = search rules
 
 -- A consumer that came
 
@@ -238,35 +219,20 @@ module _ (t : TopoView Config) (q : Queued) (p : ℕ) (add : Counts) (u : TopoVi
 
   -- it came, was granted its counts, and effects followed
   pub comer-of : HasComer t p add holding u
-  comer-of = record {
-    comes = refl;
-    followed = record {
-      parts = parts;
-      active = ap (λ (v : TopoView Config). v.active) come.mesh;
-      granted = come.granted;
-    };
-  }
+  comer-of = search (rules, parts, ap (λ (v : TopoView Config). v.active) come.mesh)
 
   -- the queue has the places that are owed
   pub come-settled : 3 * length t.topology.providers ≤ q.spare → IsSettled u queue
-  come-settled enough = record {
-    counted = come.counted;
-    quiet = come.quiet;
-    room =
-        let same : length u.topology.providers ≡ length t.topology.providers =
-        parts-count holding.topology u.topology parts in
-        let few : good u.topology ≤ length u.topology.providers =
-        count_by-le-length (λ (x : Provider). not x.errored) u.topology.providers in
-        let rows : written u ≤ length u.haves =
-        count_by-le-length (λ (row : ℕ × Counts). not (row.1.w == 0)) u.haves in
-        let many : length u.haves ≡ length u.topology.providers =
-        ap (λ (xs : List (ℕ × Counts)). length xs) come.counted.haves
-        ∙ length-map u.topology.providers (λ (x : Provider). let row : ℕ × Counts =
-        (x.number, have (granted_by u) u.topology x.number) in row) in
-        let more : q.spare ≤ queue.spare + length t.topology.providers = come.room in
-        let now : good u.topology + written u ≤ queue.spare = omega (arith, enough, same, few, rows, many, more) in
-        now;
-  }
+  come-settled enough =
+      search (
+        rules,
+        parts-count holding.topology u.topology parts,
+        count_by-le-length (λ (x : Provider). not x.errored) u.topology.providers,
+        count_by-le-length (λ (row : ℕ × Counts). not (row.1.w == 0)) u.haves,
+        ap (λ (xs : List (ℕ × Counts)). length xs) come.counted.haves,
+        length-map u.topology.providers
+            (λ (x : Provider). let row : ℕ × Counts = (x.number, have (granted_by u) u.topology x.number) in row),
+      )
 
 -- Other room
 
@@ -283,20 +249,4 @@ module _ (s new : State) (roomed : IsRoomed s new) where
   pub roomed-kept : Holds s → Holds new
   roomed-kept h =
       subst Holds (sym roomed.rest)
-      (record {
-        counted = room_counted s.topo new.topo.room h.counted;
-        quiet = record { risen = h.quiet.risen; fallen = h.quiet.fallen };
-        numbers = h.numbers;
-        grants = h.grants;
-        active = h.active;
-        ready = h.ready;
-        own = h.own;
-        read = h.read;
-        seats = h.seats;
-        providers = h.providers;
-        room =
-            let owed : owed_events s.topo ≤ s.queue.spare = h.room in
-            let more : s.queue.spare ≤ new.queue.spare = roomed.spare in
-            let now : owed_events s.topo ≤ new.queue.spare = omega (arith, owed, more) in
-            now;
-      })
+      (search rules)

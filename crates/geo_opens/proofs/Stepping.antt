@@ -1,10 +1,10 @@
 -- The steps of closes and reaps: the world once a handle or its consumer is gone, and that all is kept.
-use Rattle.std.specs.Prelude.{◌≡◌, ◌≢◌, ℕ, ◌≤◌, ◌==◌, Bool, true, false, not, ◌&&◌, List, [], ◌∷◌, map, filter, find, Option, Some, None, Ok, Err, Contains, IsSome, IsSomeAnd, IfSome, MatchOption, is_some, option_map, option_and_then, if◌then◌else◌}
+use Rattle.std.specs.Prelude.{◌≡◌, ◌≢◌, ℕ, ◌≤◌, ◌==◌, Bool, true, false, not, ◌&&◌, List, [], ◌∷◌, map, filter, find, Option, Some, None, Ok, Err, Contains, IsSome, IsSomeAnd, IfSome, MatchOption, option_map, option_and_then, if◌then◌else◌}
 use Rattle.std.specs.Option.{option_map_or}
-use Rattle.std.proofs.Common.{inl, inr, refl, sym, ◌∙◌, ap, subst, arith}
+use Rattle.std.proofs.Common.{refl, sym, ◌∙◌, ap, subst, arith, rules}
 use Rattle.std.proofs.lemmas.Bool.{cases_Bool, eq-eqb, ne_eqb}
-use Rattle.std.proofs.lemmas.List.Elements.{All-contains, All-weaker}
-use Rattle.geo_base.proofs.Options.{at-found, if-with, is_some-map, none-there, some_and_of, some_of, some-there, some-with}
+use Rattle.std.proofs.lemmas.List.Elements.{All-contains}
+use Rattle.geo_base.proofs.Options.{at-found, if-with, some_and_of, some-there, some-with}
 use Rattle.geo_base.specs.declared.errno.Errno.TheVariants.{EBUSY}
 use Rattle.geo_base.specs.declared.request.Counts.{Counts}
 use Rattle.geo_model.specs.declared.command.LineCommand.{LineCommand}
@@ -52,8 +52,7 @@ use Rattle.geo_opens.proofs.Settling.{IsNext, out-is, idle-stored, next-to-reap,
 -- no write count comes to zero where all stay
 none_falls : {X : Type 0} (test : X → Bool) (xs : List X) → filter (λ x. not (test x) && test x) xs ≡ []
 none_falls test [] = refl
-none_falls test (x ∷ xs) =
-    elim (cases_Bool (test x)) [ inl e ↦ rw e (none_falls test xs) | inr e ↦ rw e (none_falls test xs) ]
+none_falls test (x ∷ xs) = search (rules, cases_Bool (test x), none_falls test xs)
 
 module _ (s : State) (stands : Stands s) where
   abbrev kept : Holds s
@@ -85,13 +84,7 @@ module _ (s : State) (stands : Stands s) where
 
   -- no consumer is left unattached
   pub step-placed : IsPlaced t
-  step-placed =
-      All-weaker (λ (x : Consumer). IsSome (option_and_then (provider_at t) x.provider))
-      (λ x. x.provider ≡ None → filter (λ (y : Provider). y.geom == x.geom) t.providers ≡ [])
-      (λ x there none.
-      absurd
-      (none-there (option_and_then (provider_at t) x.provider) (ap (option_and_then (provider_at t)) none) there))
-      t.consumers firm.1.1.graph.attached
+  step-placed = search rules
 
   -- A consumer of DEV of a handle
 
@@ -421,13 +414,7 @@ module _ (s : State) (stands : Stands s) where
         → r ≡ option_map (λ (x : Handle). x.number) (named_handle hs actor name)
         → option_and_then (handle_at hs) r ≡ named_handle hs actor name → r ≡ Some id
         → (k : Handle) × ((handle_at hs id ≡ Some k) × (handle_at hs id ≡ named_handle hs actor name))
-    close-found r id numbered found_so is =
-        let same : handle_at hs id ≡ named_handle hs actor name =
-        ap (option_and_then (handle_at hs)) (sym is) ∙ found_so in
-        let k = some_of (named_handle hs actor name)
-        (sym (is_some-map (λ (x : Handle). x.number) (named_handle hs actor name))
-        ∙ ap (λ o. is_some o) (sym numbered ∙ is)) in
-        (k.0, (same ∙ k.1, same))
+    close-found r id numbered found_so is = search rules
 
     module _ (id : ℕ) (named : handle_at hs id ≡ named_handle hs actor name) (k : Handle)
         (is_k : handle_at hs id ≡ Some k) where
@@ -436,10 +423,7 @@ module _ (s : State) (stands : Stands s) where
           → o ≡ option_and_then (λ (h : Handle). h.consumer) (handle_at hs id)
           → b ≡ option_map_or (is_out s.topo) o false → b ≡ x
           → option_map_or (is_out s.topo) k.consumer false ≡ x
-      close-told o b x looked asked is_x =
-          sym (ap (λ p. option_map_or (is_out s.topo) p false)
-          (looked ∙ ap (option_and_then (λ (h : Handle). h.consumer)) is_k))
-          ∙ sym asked ∙ is_x
+      close-told o b x looked asked is_x = search rules
 
       -- as the world has it
       told : (actors : List (List LineCommand)) (log : List Entry)
@@ -470,8 +454,7 @@ module _ (s : State) (stands : Stands s) where
           → o ≡ outcomes.Replied line (replies.Refused EBUSY) → (actors : List (List LineCommand)) (log : List Entry)
           → close_handle (world actors log s) line (handle_of (world actors log s) actor name)
           ≡ (world actors log s, o)
-      close-busy busy o is_o actors log =
-          answer_by true busy actors log ∙ (λ i. (world actors log s, sym is_o i))
+      close-busy busy o is_o actors log = search (rules, answer_by true busy actors log)
 
       pub close-done : option_map_or (is_out s.topo) k.consumer false ≡ false → (next : State)
           → IfSome (handle_at hs id) (Closes next) → (o : Outcome) → o ≡ outcomes.Replied line replies.Ok
@@ -523,14 +506,12 @@ module _ (s : State) (stands : Stands s) where
     pub reap-steps : (c : ℕ) → IsIdle s n c → (actors : List (List LineCommand)) (log : List Entry)
         → counts_computed s (reap_work (world actors log s)) ≡ consumers_below t (place_of t c)
     reap-steps c idle actors log =
-        let x : IsNext s kept actors log n = next_at actors log in
-        let k = some_and_of (λ (h : Handle). (h.consumer ≡ Some c) × (value_at s.topo.active c ≡ Some 0))
-        (handle_at hs n)
-        idle in
-        let two : Some x.handle ≡ Some k.0 = sym x.there ∙ k.1 in
-        let one : x.handle ≡ k.0 = cc in
-        ap (counts_computed s) (x.work ∙ ap (λ h. Some h) one)
-        ∙ ap (λ o. option_map_or (λ m. consumers_below t (place_of t m)) o 0) k.2.0
+        search (
+          rules,
+          next_at actors log,
+          some_and_of (λ (h : Handle). (h.consumer ≡ Some c) × (value_at s.topo.active c ≡ Some 0)) (handle_at hs n)
+              idle,
+        )
 
   -- A handle that is forgotten, with its consumer or without: one with a consumer is idle
 
