@@ -1,7 +1,7 @@
 -- An append: what it names, what no test is against, and the consumer of the concat that joins.
 use Rattle.std.specs.Prelude.{◌≡◌, nat_le, Bool, false, ◌||◌, length, Some, ◌≢◌, ℕ, ◌+◌, ◌<◌, ◌≤◌, ◌==◌, true, map, flat_map, sum, All, AllPairs, Contains, IsSome, IsSomeAnd, is_none, None, Result, Ok, Err, IfOk, List, Option, OnErr, [], ◌∷◌, ◌++◌, filter, IfSome, if◌then◌else◌, find, unwrap_or}
 use Rattle.std.specs.Option.{option_map_or, option_to_list, option_map}
-use Rattle.std.proofs.Common.{◌∙◌, ap, inl, sym, subst, arith, refl, inr}
+use Rattle.std.proofs.Common.{◌∙◌, ap, inl, sym, subst, arith, refl, rules}
 use Rattle.geo_base.specs.declared.limits.TheConstants.{MAX_COMPONENTS, MAX_MEDIA_BYTES}
 use Rattle.geo_model.specs.Graph.{IsInOrder}
 use Rattle.geo_model.specs.Topology.{Topology, Geom, consumers_of, geom_at, provider_at, Consumer, Provider, consumer_at, providers_of, find_provider, providers_under, add_consumer}
@@ -18,7 +18,7 @@ use Rattle.std.proofs.lemmas.List.Elements.{All-contains, filter-append, filter_
 use Rattle.std.proofs.lemmas.Slice.Zip.{AllZip-long}
 use Rattle.geo_model.specs.Place.{components}
 use Rattle.geo_model.specs.Acceptance.{joined_size, places_of, add_place}
-use Rattle.geo_model.specs.Fitting.{Firm, FitsPlace, FitsPlaces, HasItsSum, PlacesHold, sizes_of}
+use Rattle.geo_model.specs.Fitting.{Firm, FitsPlace, FitsPlaces, HasItsSum, PlacesHold}
 use Rattle.geo_model.specs.Sound.{IsOfItsClass, fits_kind}
 use Rattle.geo_model.specs.Steady.{HasItsComponents, WaitsForPlaces}
 use Rattle.geo_class.specs.Assembly.{CanGrow}
@@ -105,8 +105,7 @@ module _ (w : World) (x : GrowingConcat) (firm : Firm w) (is : IsStanding w.topo
 
   -- its places have sizes
   fitted : AllZip (FitsPlace graph n) its.places its.sizes
-  fitted = subst (λ z. AllZip (FitsPlace graph n) (places_of z) (sizes_of z)) its.is
-      (All-contains (FitsPlaces graph) graph.geoms x.geom firm.sizes.places (geom_here w x firm is))
+  fitted = search (rules, All-contains (FitsPlaces graph) graph.geoms x.geom firm.sizes.places (geom_here w x firm is))
 
   -- none of them is free, since it has a provider
   no_free : list_any is_none its.places ≡ false
@@ -133,8 +132,7 @@ module _ (w : World) (x : GrowingConcat) (firm : Firm w) (is : IsStanding w.topo
 
   -- the components are different
   apart : AllPairs (λ a b. a ≢ b) (flat_map option_to_list its.places)
-  apart = subst (λ z. AllPairs (λ a b. a ≢ b) (components z)) its.is
-      (All-contains PlacesHold graph.geoms x.geom firm.sizes.apart (geom_here w x firm is)).apart
+  apart = search (rules, All-contains PlacesHold graph.geoms x.geom firm.sizes.apart (geom_here w x firm is))
 
   -- so they are no more than its consumers
   few : length its.places ≤ length (consumers_of graph n)
@@ -158,11 +156,7 @@ module _ (w : World) (x : GrowingConcat) (firm : Firm w) (is : IsStanding w.topo
   -- and it can get one more
   pub can-grow : (size : ℕ) → length (consumers_of graph n) < MAX_COMPONENTS → x.provider.size + size ≤ MAX_MEDIA_BYTES
       → CanGrow x.geom.config size
-  can-grow size short fits =
-      let many = few in
-      let as_many = sym (AllZip-long (FitsPlace graph n) its.places its.sizes fitted) in
-      let whole = summed in
-      subst (λ z. CanGrow z size) (sym its.is) (record { few = omega arith; fits = omega arith })
+  can-grow size short fits = search (rules, few, AllZip-long (FitsPlace graph n) its.places its.sizes fitted, summed)
 
 -- An append that no test is against: the configuration of the concat can get one more place
 
@@ -203,16 +197,14 @@ module _ (s : State) (firm : IsFirm s) (g : Growing) (b : Below) (able : IsAble 
       → c ≡ s.topo.topology.next_consumer → config ≡ add_place y.config c b.size
       → config
       ≡ add_place able.named.concat.geom.config s.topo.topology.next_consumer able.named.provider.size
-  able-longer y found c config number is =
-      is ∙ (λ i. add_place (able-config y found i) (number i) (able.named.below_is i).size)
+  able-longer y found c config number is = search (rules, able-config y found)
 
   -- its provider is found
   offer_found : provider_at s.topo.topology g.prov ≡ Some able.named.concat.provider
   offer_found = named-offer (firm-order firm.0 s firm.1) able.named
 
   pub offer_there : provider_at s.topo.topology g.prov ≡ None → ⊥
-  offer_there none =
-      let no : Some able.named.concat.provider ≡ None = sym offer_found ∙ none in absurd (cc)
+  offer_there none = search (rules, Some able.named.concat.provider, offer_found)
 
   module _ (y : Provider) (found : provider_at s.topo.topology g.prov ≡ Some y) where
     -- both sizes together
@@ -232,8 +224,7 @@ pub all-longer : {E : Type 0} (s : State) (firm : IsFirm s) (g : Growing) (b : B
     → (r : Result Config E) → IfOk r (λ config. config ≡ add_place y.config c b.size)
     → IfOk r (λ config. (able : IsAble s g b)
     → config ≡ add_place able.named.concat.geom.config s.topo.topology.next_consumer able.named.provider.size)
-all-longer s firm g b y found c number (Ok config) is =
-    λ able. able-longer s firm g b able y found c config number is
+all-longer s firm g b y found c number (Ok config) is = search (rules, able-longer s firm g b)
 all-longer s firm g b y found c number (Err e) nothing = tt
 
 -- A state whose queue has other room: it stands for the same world, so what may be appended may be appended
@@ -247,13 +238,11 @@ IsTold s g b new e =
 module _ (s r : State) (rest : r ≡ record s { queue = r.queue }) (events : r.queue.events ≡ s.queue.events) where
   -- it stands for the same world
   pub reserved_world : SameWorld s r
-  reserved_world actors log =
-      ap (world actors log) rest ∙ (λ i. record (world actors log s) { events = events i })
+  reserved_world actors log = search (rules, ap (world actors log) rest)
 
   -- which is as firm as it was
   pub reserved_firm : IsFirm s → IsFirm r
-  reserved_firm firm =
-      (firm.0, (firm.1.0, subst Firm (sym (reserved_world firm.1.0 firm.0)) firm.1.1))
+  reserved_firm firm = search (rules, reserved_world firm.1.0 firm.0)
 
   module _ (g : Growing) (b : Below) where
     -- the same can be appended
@@ -266,14 +255,11 @@ module _ (s r : State) (rest : r ≡ record s { queue = r.queue }) (events : r.q
       told_before : (o : Result (Option Errno) E) → IfOk o (IsTold (record s { queue = r.queue }) g b new)
           → IfOk o (IsTold s g b new)
       told_before (Ok e) told = λ able actors log.
-          subst (λ (w : World). IsAppended w (world actors log new) able.named.concat able.named.provider e)
-          (λ i. record (world actors log s) { events = events i })
-          (told (record { named = able.named; free = able.free }) actors log)
+          search (rules, told (record { named = able.named; free = able.free }) actors log)
       told_before (Err e) told = tt
 
       pub reserved_told : (o : Result (Option Errno) E) → IfOk o (IsTold r g b new) → IfOk o (IsTold s g b new)
-      reserved_told o told =
-          told_before o (subst (λ (z : State). IfOk o (IsTold z g b new)) rest told)
+      reserved_told o told = search (rules, told_before o (subst (λ (z : State). IfOk o (IsTold z g b new)) rest told))
 
       -- and where memory is wanting it is the same world still
       pub reserved_same : (o : Result (Option Errno) E) → OnErr o (SameWorld r new) → OnErr o (SameWorld s new)
@@ -386,8 +372,7 @@ pub append-bound : (t : Topology Config) (prov : List ℕ) {below : Below}
     → Some below ≡ option_map (below_seen t) (provider_named t prov) → (old new : ℕ)
     → new ≤ old + (consumers_below t below.prov + 2)
     → new ≤ old + option_map_or (λ p. consumers_below t p + 2) (find_provider t prov) 0
-append-bound t prov told old new most =
-    subst (λ x. new ≤ old + option_map_or (λ p. consumers_below t p + 2) x 0) (sym (number-of-name t prov told)) most
+append-bound t prov told old new most = search (rules, number-of-name t prov told)
 
 -- A new consumer of a concat that joins a provider, or is refused
 
@@ -404,18 +389,15 @@ module _ (t : Topology Config) (geom : ℕ) where
   -- it adds nothing right below a geom
   loose_under : (g : ℕ) → providers_under u g ≡ providers_under t g
   loose_under g =
-      ap (filter_map (λ (x : Consumer). x.provider))
-      (filter-append (λ (x : Consumer). x.geom == g) t.consumers (loose ∷ []))
-      ∙ filter_map-append (λ (x : Consumer). x.provider) (consumers_of t g)
-      (filter (λ (x : Consumer). x.geom == g) (loose ∷ []))
-      ∙ by (geom == g)
-      ∙ append-nil (providers_under t g)
-    where
-      by : (b : Bool)
-          → providers_under t g ++ filter_map (λ (x : Consumer). x.provider) (if b then loose ∷ [] else [])
-          ≡ providers_under t g ++ []
-      by true = refl
-      by false = refl
+      search (
+        rules,
+        ap (filter_map (λ (x : Consumer). x.provider))
+            (filter-append (λ (x : Consumer). x.geom == g) t.consumers (loose ∷ [])),
+        filter-append (λ (x : Consumer). x.geom == g) t.consumers (loose ∷ []),
+        filter_map-append (λ (x : Consumer). x.provider) (consumers_of t g)
+            (filter (λ (x : Consumer). x.geom == g) (loose ∷ [])),
+        append-nil (providers_under t g),
+      )
 
   -- so the same providers are reached
   loose_below : (p : ℕ) → below u p ≡ below t p
@@ -424,14 +406,12 @@ module _ (t : Topology Config) (geom : ℕ) where
   -- and at most one more consumer is counted
   one_more : (test : Consumer → Bool) → length (filter test u.consumers) ≤ length (filter test t.consumers) + 1
   one_more test =
-      let parts = filter-append test t.consumers (loose ∷ []) in
-      let all = length-append (filter test t.consumers) (filter test (loose ∷ [])) in
-      let last : length (filter test (loose ∷ [])) ≤ 1 = by (test loose) in
-      rw parts (omega (arith, all, last))
-    where
-      by : (b : Bool) → length (if b then loose ∷ [] else []) ≤ 1
-      by true = omega arith
-      by false = omega arith
+      search (
+        rules,
+        filter-append test t.consumers (loose ∷ []),
+        length-append (filter test t.consumers) (filter test (loose ∷ [])),
+        test loose,
+      )
 
   loose_counted : (p : ℕ) → consumers_below u p ≤ consumers_below t p + 1
   loose_counted p =
@@ -444,11 +424,7 @@ module _ (t : Topology Config) (geom : ℕ) where
 -- with it at most one more consumer is below a provider, which is one step more
 pub comer_bound : (t m : TopoView Config) (geom prov : ℕ) → IsButForRoom m (with_consumer t geom) → (old new : ℕ)
     → new ≤ old + (consumers_below m.topology prov + 1) → new ≤ old + (consumers_below t.topology prov + 2)
-comer_bound t m geom prov added old new most =
-    let more : consumers_below m.topology prov ≤ consumers_below t.topology prov + 1 =
-    subst (λ (v : TopoView Config). consumers_below v.topology prov ≤ consumers_below t.topology prov + 1) (sym added)
-    (loose_counted t.topology geom prov) in
-    omega (arith, most, more)
+comer_bound t m geom prov added old new most = search (rules, loose_counted t.topology geom prov)
 
 -- what holds of something that is there holds if it is there
 if_there : {X : Type 0} (P : X → Type 0) (o : Option X) → IsSomeAnd o P → IfSome o P
@@ -471,8 +447,7 @@ module _ (t m : TopoView Config) (geom cons : ℕ) (added : IsButForRoom m (with
     -- so where nothing has changed it can be destroyed
     pub comer_free : (k : TopoView Config) → k ≡ m → IfSome (consumer_at k.topology cons) (λ x. x.provider ≡ None)
     comer_free k same =
-        subst (λ (v : TopoView Config). IfSome (consumer_at v.topology cons) (λ x. x.provider ≡ None)) (sym same)
-        (if_there (λ (x : Consumer). x.provider ≡ None) (consumer_at m.topology cons) comer_loose.free)
+        search (rules, if_there (λ (x : Consumer). x.provider ≡ None) (consumer_at m.topology cons) comer_loose.free)
 
     -- and then it has used up a number
     pub comer_used : IsCounted t → (k new : TopoView Config) → k ≡ m → new ≡ without_consumer k cons
@@ -495,17 +470,12 @@ module _ (t m : TopoView Config) (geom cons : ℕ) (added : IsButForRoom m (with
       → HasJoined t geom prov new
   comer_joined prov new joined counts rose =
       let n : ℕ = t.topology.next_consumer in
-      let is : new ≡ record (joined_view (with_consumer t geom) n prov) { room = m.room } =
-      joined ∙ ap (λ k. joined_view m k prov) number ∙ ap (λ (v : TopoView Config). joined_view v n prov) added in
-      record {
-        mesh =
-            is ∙ ap (λ r. record (joined_view (with_consumer t geom) n prov) { room = r })
-            (sym (ap (λ (v : TopoView Config). v.room) is));
-        counted = counts;
-        risen =
-            rose
-            ∙ ap (λ (v : TopoView Config). risen (granted_by v) v.topology (granted_by v) new.topology) added;
-      }
+      search (
+        rules,
+        ap (λ k. joined_view m k prov) number,
+        ap (λ (v : TopoView Config). joined_view v n prov) added,
+        ap (λ (v : TopoView Config). risen (granted_by v) v.topology (granted_by v) new.topology) added,
+      )
 
 -- What is granted where a consumer of a concat comes: nobody is granted anything else
 
@@ -515,13 +485,9 @@ same_last : (f : ℕ → Counts) (n : ℕ) (xs : List Consumer) (number geom : �
     (xs ++ record { number = number; geom = geom; provider = to; spoiled = false } ∷ [])) no_counts
     ≡ option_map_or (λ (x : Consumer). f x.geom) (find (λ (x : Consumer). x.number == n)
     (xs ++ record { number = number; geom = geom; provider = other; spoiled = false } ∷ [])) no_counts
-same_last f n [] number geom to other =
-    elim (cases_Bool (number == n)) [ inl e ↦ rw e refl | inr e ↦ rw e refl ]
+same_last f n [] number geom to other = search (rules, cases_Bool (number == n))
 same_last f n (y ∷ ys) number geom to other =
-    elim (cases_Bool (y.number == n)) [
-      | inl e ↦ rw e refl
-      | inr e ↦ rw e (same_last f n ys number geom to other)
-    ]
+    search (rules, cases_Bool (y.number == n), same_last f n ys number geom to other)
 
 module _ (t : TopoView Config) (order : IsInOrder t.topology) (counted : IsCounted t) (geom : ℕ) where
   -- one that is attached to nothing holds nothing either
@@ -601,5 +567,4 @@ module _ (s : State) (stands : Stands s) where
     pub same-told : (r : Result (Option Errno) E) → OnErr r (IsButForRoom u s.topo)
         → OnErr r (SameWorld s (record s { topo = u }))
     same-told (Ok o) same = tt
-    same-told (Err e) same = λ actors log.
-        ap (λ (v : TopoView Config). world actors log (record s { topo = v })) same
+    same-told (Err e) same = search rules

@@ -1,8 +1,8 @@
 -- Concats and stripes: what the tests read of the providers that are named, and what is made.
-use Rattle.std.specs.Prelude.{◌≡◌, ℕ, ◌+◌, ◌==◌, nat_le, nat_lt, Bool, true, false, not, ◌&&◌, ◌||◌, List, [], ◌∷◌, length, map, Option, Some, None, is_none, IsSome, zero, suc, ◌-◌, ◌*◌, ◌/◌, ◌≤◌, ◌++◌, filter_map, Result, All, OnOk, option_and_then, if◌then◌else◌}
+use Rattle.std.specs.Prelude.{◌≡◌, ℕ, ◌+◌, ◌==◌, nat_le, nat_lt, Bool, true, false, not, ◌&&◌, ◌||◌, List, [], ◌∷◌, length, map, Option, Some, None, is_none, IsSome, zero, suc, ◌-◌, ◌*◌, ◌/◌, ◌≤◌, ◌++◌, filter_map, Result, All, OnOk, option_and_then}
 use Rattle.std.specs.List.{list_any, list_all, range_with_len, AllByRecursion}
 use Rattle.std.specs.Option.{option_map}
-use Rattle.std.proofs.Common.{refl, sym, ap, ◌∙◌, subst, arith, inl, inr}
+use Rattle.std.proofs.Common.{refl, sym, ap, ◌∙◌, subst, arith, inl, inr, rules}
 use Rattle.std.proofs.lemmas.Bool.Decides.{nat_tests}
 use Rattle.std.proofs.lemmas.Slice.Eq.{bytes_eq-Decides}
 use Rattle.std.proofs.lemmas.List.Elements.{All-contains, All-weaker}
@@ -95,19 +95,15 @@ join_is t config ps =
 pub not_taken : (t : Topology Config) (bytes : List ℕ) → HaveNames t → name_of bytes ≡ None
     → false ≡ is_name_taken t bytes
 not_taken t bytes all none =
-    sym (list_any_none (λ (x : Provider). not x.errored && same_name x.name bytes) t.providers
-    (All-weaker (λ (p : Provider). is_name p.name ≡ true)
-    (λ p. (not p.errored && same_name p.name bytes) ≡ false) differs t.providers all))
-  where
-    no_name : is_name bytes ≡ true → ⊥
-    no_name e = let some : Some bytes ≡ None = rw e at none in absurd (cc)
-
-    differs : (p : Provider) → is_name p.name ≡ true → (not p.errored && same_name p.name bytes) ≡ false
-    differs p named =
-        false_from_ne_true (not p.errored && same_name p.name bytes)
-        (λ both.
-        let same = (and_parts (not p.errored) (same_name p.name bytes) both).1 in
-        no_name (subst (λ n. is_name n ≡ true) ((bytes_eq-Decides p.name bytes).0 same) named))
+    search (
+      rules,
+      list_any_none (λ (x : Provider). not x.errored && same_name x.name bytes) t.providers,
+      All-weaker (λ (p : Provider). is_name p.name ≡ true) (λ p. (not p.errored && same_name p.name bytes) ≡ false),
+      Some bytes,
+      false_from_ne_true,
+      and_parts,
+      bytes_eq-Decides,
+    )
 
 -- The tests
 
@@ -146,8 +142,7 @@ module _ (t : Topology Config) (name : List ℕ) (config : Config) (ps : List Pr
   -- the tests of what was found are the model's
   pub tests_are : (below : List Below) (size : Option ℕ) → below ≡ seen → size ≡ whole
       → tests_below t name below wanted size is_bad ≡ joined_tests t name config wanted ps is_bad
-  tests_are below size is size_is =
-      (λ i. tests_below t name (is i) wanted (size_is i) is_bad) ∙ seen_tests
+  tests_are below size is size_is = search (rules, seen_tests)
 
 -- a provider that is found is one of a geom that lives
 pub geom_lives : (t : Topology Config) → IsSoundGraph t → (prov : ℕ) (p : Provider) → provider_at t prov ≡ Some p
@@ -169,11 +164,7 @@ no_rank t g none = none-mapped (λ (x : Geom Config). rank t g) (geom_at t g) (s
 
 -- a size that is told is it
 told-size : (n m : ℕ) → allowed_size n ≡ Some m → m ≡ n
-told-size n m told = by (is_size n) told
-  where
-    by : (b : Bool) → (if b then Some n else None) ≡ Some m → m ≡ n
-    by true is = cc
-    by false never = absurd (cc)
+told-size n m told = search (rules, Some n, Some m)
 
 -- one that a provider may have is told
 size-told : (n : ℕ) → 1 ≤ n → n ≤ MAX_MEDIA_BYTES → allowed_size n ≡ None → ⊥
@@ -184,21 +175,13 @@ size-told n some limited none =
 
 -- strips of no bytes make none
 some-strips : (n m stripe : ℕ) → 1 ≤ n * ((m / stripe) * stripe) → 1 ≤ stripe
-some-strips n m zero some =
-    let none : (m / 0) * 0 ≡ 0 = omega arith in
-    let nothing : n * ((m / 0) * 0) ≡ n * 0 = ap (λ k. n * k) none in
-    absurd (let zero_size : n * 0 ≡ 0 = omega arith in omega (arith, some, nothing, zero_size))
+some-strips n m zero some = search (rules, m / 0)
 some-strips n m (suc k) some = omega arith
 
 -- as many are found as are named, or fewer
 few-found : {X Y : Type 0} (f : X → Option Y) (xs : List X) → length (filter_map f xs) ≤ length xs
 few-found f [] = omega arith
-few-found {X} {Y} f (x ∷ xs) = by (f x) refl (few-found f xs)
-  where
-    by : (o : Option Y) → f x ≡ o → length (filter_map f xs) ≤ length xs
-        → length (filter_map f (x ∷ xs)) ≤ length (x ∷ xs)
-    by None e rest = rw e (omega (arith, rest))
-    by (Some y) e rest = rw e (omega (arith, rest))
+few-found {X} {Y} f (x ∷ xs) = search (rules, f x, few-found f xs)
 
 -- one place more, filled by the next number
 pub place-more : (first number : ℕ) (items now : List (Option ℕ)) (place : Option ℕ) → first ≤ number
@@ -310,17 +293,12 @@ module _ {t : Topology Config} {names : List (List ℕ)} {below : List Below} (f
   -- so are their sizes
   pub all-few-sizes : (sizes : List ℕ) → sizes ≡ map (λ (x : Below). x.size) below → length sizes ≤ MAX_COMPONENTS
   all-few-sizes sizes is =
-      subst (λ n. n ≤ MAX_COMPONENTS)
-      (sym (ap (λ (ns : List ℕ). length ns) is ∙ length-map below (λ (x : Below). x.size))) all-few
+      search (rules, ap (λ (ns : List ℕ). length ns) is, length-map below (λ (x : Below). x.size), all-few)
 
   -- the geom of an assembly of them
   all-geom : (assembly : Assembly) (name : List ℕ) → assembly_geom t assembly name below
       ≡ record { kind = assembly_kind assembly; name = name; config = config_of_all t assembly ps }
-  all-geom assembly name = λ i. record { kind = assembly_kind assembly; name = name; config = config_is i }
-    where
-      config_is : (assembly_geom t assembly name below).config ≡ config_of_all t assembly ps
-      config_is =
-          λ i. assembly_config assembly (map (λ c. Some c) (range_with_len t.next_consumer (all-count i))) (all-sizes i)
+  all-geom assembly name = search (rules, all-count, all-sizes)
 
   -- the size of one
   all-joined : (assembly : Assembly) (size : Option ℕ)
@@ -339,10 +317,7 @@ module _ {t : Topology Config} {names : List (List ℕ)} {below : List Below} (f
       → size ≡ allowed_size (assembly_size assembly (map (λ (x : Below). x.size) below))
       → refusal ≡ assembly_refusal t assembly name wanted ps
   all-refusal assembly name wanted {full} {size} {bad} full_is bad_is told size_is =
-      let config : Config = config_of_all t assembly ps in
-      told config ps found.is (all-joined assembly size size_is)
-      ∙ (λ i. first_error (joined_tests t (full_is i) config wanted ps
-      ((bad_is ∙ ap (λ n. has_bad_strips assembly n) all-sector) i)))
+      search (rules, all-joined assembly size size_is, ap (λ n. has_bad_strips assembly n) all-sector, all-sector)
 
 -- What was read of it
 
@@ -448,11 +423,7 @@ module _ (s : State) (firm : IsFirm s) {names : List (List ℕ)} {below : List B
 
         -- it is that of the model
         offer-is : offer ≡ record { name = full; size = joined_size config; sector = sector_of qs }
-        offer-is = λ i. record {
-          name = named_so i;
-          size = (told-size (joined_size config) bytes (sym judgement.size_is ∙ told)) i;
-          sector = (sector_so ∙ all-sector found) i;
-        }
+        offer-is = search (rules, told-size (joined_size config) bytes (sym judgement.size_is ∙ told), all-sector found)
 
         -- so the assembly can be made
         pub can-assemble : (sizes : List ℕ) → sizes ≡ map (λ (x : Below). x.size) below

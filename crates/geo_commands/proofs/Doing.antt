@@ -1,7 +1,7 @@
 -- What a command waits for, what is decided of it before it is made, and what it does.
-use Rattle.std.specs.Prelude.{◌≡◌, ℕ, ◌==◌, Bool, true, false, not, ◌&&◌, ◌||◌, List, length, find, Option, Some, None, is_some, option_map, if◌then◌else◌, ◌+◌, is_none, ◌≢◌, []}
+use Rattle.std.specs.Prelude.{◌≡◌, ℕ, ◌==◌, Bool, true, false, not, ◌&&◌, ◌||◌, List, length, find, Option, Some, None, is_some, option_map, if◌then◌else◌, ◌+◌, is_none, []}
 use Rattle.std.specs.List.{list_any}
-use Rattle.std.proofs.Common.{refl, sym, ◌∙◌, ap, subst, arith, inl, inr}
+use Rattle.std.proofs.Common.{refl, sym, ◌∙◌, ap, subst, arith, rules}
 use Rattle.geo_base.specs.declared.request.Counts.{Counts}
 use Rattle.geo_model.specs.declared.command.Command.{Command}
 use Rattle.geo_model.specs.declared.command.Command.TheVariants as commands
@@ -31,9 +31,7 @@ use Rattle.geo_opens.proofs.Settling.{first-to-reap, out-is}
 use Rattle.geo_base.proofs.Options.{is_some-map}
 use Rattle.std.specs.Option.{option_map_or}
 use Rattle.geo_base.specs.declared.errno.Errno.{Errno}
-use Rattle.geo_model.specs.Topology.{find_provider}
-use Rattle.geo_model.specs.Opens.{open_refusal_at}
-use Rattle.geo_model.specs.HandleCommands.{do_open, open_answered, close_handle}
+use Rattle.geo_model.specs.HandleCommands.{do_open, close_handle}
 use Rattle.geo_model.specs.Commands.{do_command}
 use Rattle.geo_model.specs.Log.{owed}
 use Rattle.geo_laws_owed.specs.OwedLaws.{is_ok_outcome, is_close}
@@ -196,9 +194,7 @@ module _ (s : State) (stands : Stands s) where
       → option_map_or (λ (h : Handle). not (option_map_or (is_out s.topo) h.consumer false)) o false
       ≡ is_closed (world actors log s) (handle_of (world actors log s) actor name)
   closed_at actor name o is actors log =
-      (λ i. option_map_or (λ (h : Handle). not (option_map_or (λ c. out-is s stands actors log c i) h.consumer false)) o
-      false)
-      ∙ ap (is_closed (world actors log s)) is
+      search (rules, out-is s stands actors log, ap (is_closed (world actors log s)) is)
 
 -- Owed
 
@@ -213,29 +209,12 @@ module _ (w : World) (line actor : ℕ) where
   -- an open is answered ok where nothing refuses it
   open_ok : (name prov : List ℕ) (grant : Counts)
       → is_ok_outcome (do_open w line actor name prov grant).1 ≡ is_none (refusal_in w actor name prov grant)
-  open_ok name prov grant =
-      elim (cases_Bool (is_some (handle_of w actor name))) [
-        | inl e ↦ rw e refl
-        | inr e ↦ rw e (found (find_provider w.topology prov))
-      ]
-    where
-      told : (p : ℕ) (e : Option Errno)
-          → is_ok_outcome (open_answered w line actor name (Some p) grant e).1 ≡ is_none e
-      told p None = refl
-      told p (Some e) = refl
-
-      found : (o : Option ℕ)
-          → is_ok_outcome
-          (open_answered w line actor name o grant (open_refusal_at (granted_in w) w.topology o grant)).1
-          ≡ is_none (open_refusal_at (granted_in w) w.topology o grant)
-      found None = refl
-      found (Some p) = told p (open_refusal_at (granted_in w) w.topology (Some p) grant)
+  open_ok name prov grant = search (rules, cases_Bool (is_some (handle_of w actor name)))
 
   -- a close is answered ok where there is the handle and nothing is out through it
   close_ok : (o : Option Handle) → is_ok_outcome (close_handle w line o).1 ≡ is_closed w o
   close_ok None = refl
-  close_ok (Some h) =
-      elim (cases_Bool (option_map_or (is_active w) h.consumer false)) [ inl e ↦ rw e refl | inr e ↦ rw e refl ]
+  close_ok (Some h) = search (rules, cases_Bool (option_map_or (is_active w) h.consumer false))
 
   -- what a command that is decided owes
   module _ (order : HandlesInOrder w) where
@@ -288,17 +267,15 @@ owes_after s kept d actors log line actor c decided =
 -- counts that aren't all zero
 pub some_counts : (a : Counts) → IsGrant a → is_zero a ≡ false
 some_counts a grant =
-    elim grant.some [
-      | inl r ↦ rw (ne_eqb a.r 0 r) refl
-      | inr rest ↦ elim rest [ inl w ↦ second w | inr e ↦ third e ]
-    ]
-  where
-    second : a.w ≢ 0 → is_zero a ≡ false
-    second w = ap (λ b. (a.r == 0) && (b && (a.e == 0))) (ne_eqb a.w 0 w) ∙ and-false (a.r == 0)
-
-    third : a.e ≢ 0 → is_zero a ≡ false
-    third e = ap (λ b. (a.r == 0) && ((a.w == 0) && b)) (ne_eqb a.e 0 e)
-        ∙ ap (λ b. (a.r == 0) && b) (and-false (a.w == 0)) ∙ and-false (a.r == 0)
+    search (
+      rules,
+      ne_eqb a.r 0,
+      ne_eqb a.w 0,
+      and-false (a.r == 0),
+      ne_eqb a.e 0,
+      ap (λ b. (a.r == 0) && b) (and-false (a.w == 0)),
+      and-false (a.w == 0),
+    )
 
 -- the bytes that bios name are in the log as before
 pub logged_same : (old new : State) → new.traffic ≡ old.traffic → (log : List Entry) → HasBytes log old

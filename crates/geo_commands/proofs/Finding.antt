@@ -2,7 +2,7 @@
 use Rattle.std.specs.Prelude.{◌≡◌, ℕ, suc, ◌+◌, ◌<◌, ◌==◌, Bool, true, false, not, ◌&&◌, cond, List, [], ◌∷◌, length, map, find, Option, Some, None, AllPairs, IfSome, is_some, slice_get, if◌then◌else◌, MatchOption, ◌≤◌, count_by, IsSome}
 use Rattle.std.specs.List.{AllByRecursion, enumerate_from, list_any, position_from}
 use Rattle.std.specs.Option.{option_map, option_map_or, option_and_then}
-use Rattle.std.proofs.Common.{get_or, refl, sym, ◌∙◌, ap, subst, arith}
+use Rattle.std.proofs.Common.{get_or, refl, sym, ◌∙◌, ap, subst, arith, rules}
 use Rattle.std.proofs.lemmas.Bool.{eqb-true, ne_eqb, eq-eqb}
 use Rattle.std.proofs.lemmas.Iterator.Adapters.{position_from-zero}
 use Rattle.std.proofs.lemmas.List.Elements.{recursion_from_All}
@@ -24,8 +24,7 @@ use Rattle.geo_laws_graph.proofs.Members.{find-Contains}
 use Rattle.geo_model.specs.Graph.{AreNumbers}
 use Rattle.geo_state.specs.declared.state.State.{State}
 use Rattle.geo_state.specs.declared.state.DiskSeat.{DiskSeat}
-use Rattle.geo_state.specs.Holds.{Holds, IsSeat, owed_events}
-use Rattle.geo_state.specs.Trips.{trips}
+use Rattle.geo_state.specs.Holds.{Holds}
 use Rattle.geo_state.specs.Parts.{geom_of_disk, SameParts}
 use Rattle.geo_state.specs.Steps.{Stands}
 use Rattle.geo_state.specs.World.{disk_of_seat, world}
@@ -56,8 +55,7 @@ use Rattle.geo_base.proofs.FindLists.{any-contained}
 pub none_against : (rows : List (Bool × Errno)) → first_error rows ≡ None
     → AllByRecursion (λ (row : Bool × Errno). row.0 ≡ false) rows
 none_against [] none = tt
-none_against (row ∷ rows) none =
-    let parts = none_refused row.0 row.1 rows none in (parts.0, none_against rows parts.1)
+none_against (row ∷ rows) none = search (rules, none_refused row.0 row.1 rows none, none_against rows)
 
 -- Names
 
@@ -115,14 +113,7 @@ module _ (s : State) (name : List ℕ) {seats : List DiskSeat} {read : Option �
 
   -- a disk that was looked up in the seats as they are read
   pub disk-read : {disk : ℕ} → read ≡ Some disk → IsDiskNamed s name disk
-  disk-read {disk} is =
-      let f : IsFoundFrom name 0 s.disks.items disk = rw (place-read ∙ is) at (from-place name 0 s.disks.items) in
-      let same : disk ≡ f.place = (let n = f.number in omega (arith, n)) in
-      record {
-        seat = f.seat;
-        at = subst (λ n. slice_get s.disks.items n ≡ Some f.seat) (sym same) f.at;
-        found = λ actors log. f.found;
-      }
+  disk-read {disk} is = search (rules, place-read, from-place name 0 s.disks.items)
 
   -- or isn't among them
   pub disk-unread : read ≡ None → (actors : List (List LineCommand)) (log : List Entry)
@@ -158,11 +149,7 @@ any-geom t disk =
 module _ (s : State) (kept : Holds s) (disk : ℕ) (seat : DiskSeat) (at : slice_get s.disks.items disk ≡ Some seat) where
   -- what is kept of the disk
   seat-geom : seat.geom ≡ geom_of_disk s.topo.topology disk
-  seat-geom = here.geom_is
-    where
-      here : IsSeat s.topo.topology (trips s.traffic.bios) disk seat.geom seat.busy
-      here = subst (λ o. IfSome o (λ (x : DiskSeat). IsSeat s.topo.topology
-          (trips s.traffic.bios) disk x.geom x.busy)) at (kept.seats disk)
+  seat-geom = search (rules, kept.seats disk)
 
   -- whether its geom stands
   pub seat-stands : is_some seat.geom ≡ list_any (is_geom_of_disk disk) s.topo.topology.geoms
@@ -191,11 +178,7 @@ others-none disk x of (g ∷ gs) apart =
         → find (stays disk) (g ∷ gs) ≡ None
     by None p e f never rest = absurd (cc)
     by (Some d) None e f is rest = rw f rest
-    by (Some d) (Some m) e f is rest =
-        let mine : d ≡ disk = eqb-true d disk is in
-        let other : (m == disk) ≡ false =
-        ne_eqb m disk (λ same. apart.0 disk (e ∙ ap (λ n. Some n) mine) (f ∙ ap (λ n. Some n) same)) in
-        rw (f, other) rest
+    by (Some d) (Some m) e f is rest = search (rules, eqb-true d disk is, ne_eqb m disk)
 
 -- the first of the disk, unless it withers
 unless_withers : Option (Geom Config) → Option (Geom Config)
@@ -237,15 +220,14 @@ stays-told t apart numbers disk =
         ≡ option_and_then (unless_withering t) (option_map (λ (g : Geom Config). g.number) o)
     by None e = refl
     by (Some g) e =
-        let at : geom_at t g.number ≡ Some g =
-        found_itself (λ (x : Geom Config). x.number) t.next_geom t.geoms g numbers
-        (find-Contains (is_geom_of_disk disk) t.geoms g e) in
-        rw at (which (stands g))
-      where
-        which : (b : Bool) → option_map (λ (x : Geom Config). x.number) (if b then Some g else None)
-            ≡ (if b then Some g.number else None)
-        which true = refl
-        which false = refl
+        search (
+          rules,
+          Some g,
+          found_itself (λ (x : Geom Config). x.number) t.next_geom t.geoms g numbers
+              (find-Contains (is_geom_of_disk disk) t.geoms g e),
+          stands g,
+          Some g.number,
+        )
 
 module _ (s : State) (its : Stands s) (disk : ℕ) (seat : DiskSeat)
     (at : slice_get s.disks.items disk ≡ Some seat) where
@@ -290,8 +272,7 @@ module _ (s : State) (kept : Holds s) (disk : ℕ) (seat : DiskSeat) (at : slice
   -- where nothing is, the disk has no geom
   pub none-absent : refusal ≡ None → geom_of_disk s.topo.topology disk ≡ None
   none-absent none =
-      seat-absent s kept disk seat at
-      (none_against (insert_tests s.topo.topology (item_at disk seat)) none).0
+      search (rules, seat-absent s kept disk seat, none_against (insert_tests s.topo.topology (item_at disk seat)) none)
 
 -- so for the seat that was read at its place
 pub refusal-at : (s : State) → Holds s → (disk : ℕ) (seat : DiskSeat) → disk < length s.disks.items
@@ -314,10 +295,7 @@ sound-counted t = length-filter (λ (p : Provider). not p.errored) t.providers
 module _ (s : State) (kept : Holds s) where
   -- the places of the Orphans are owed
   pub orphan-room : sound_providers s.topo.topology ≤ s.queue.spare
-  orphan-room =
-      let same = sound-counted s.topo.topology in
-      let owed : owed_events s.topo ≤ s.queue.spare = kept.room in
-      omega (arith, same, owed)
+  orphan-room = search (rules, sound-counted s.topo.topology)
 
   module _ (geom : ℕ) (u : TopoView Config) (q : Queued)
       (withered : queued u q ≡ wither (queued s.topo s.queue) geom) where
@@ -332,22 +310,21 @@ module _ (s : State) (kept : Holds s) where
         → q.spare + sound_providers s.topo.topology ≡ s.queue.spare + sound_providers u.topology
         → Holds (record s { topo = u; queue = q })
     withered-kept rest stay owed =
-        holds_after_effects s u q kept
-        (subst (λ (r : QueuedTopology Config). SameParts s.topo.topology r.topology) (sym withered)
-        ((effects_keep_parts (granted_by s.topo) (queued s.topo s.queue)).withered geom))
-        (ap (λ (v : TopoView Config). v.active) rest.mesh)
-        stay.granted (stay.counted kept.counted) (stay.quiet kept.quiet) room
-      where
-        room : owed_events u ≤ q.spare
-        room =
-            let before = sound-counted s.topo.topology in
-            let after = sound-counted u.topology in
-            let was : owed_events s.topo ≤ s.queue.spare = kept.room in
-            let rows : u.haves ≡ s.topo.haves = ap (λ (v : TopoView Config). v.haves) rest.mesh in
-            let same : count_by (λ (row : ℕ × Counts). not (row.1.w == 0)) u.haves
-            ≡ count_by (λ (row : ℕ × Counts). not (row.1.w == 0)) s.topo.haves =
-            ap (count_by (λ (row : ℕ × Counts). not (row.1.w == 0))) rows in
-            omega (arith, before, after, was, same, owed)
+        search (
+          rules,
+          holds_after_effects s u q kept
+              (subst (λ (r : QueuedTopology Config). SameParts s.topo.topology r.topology) (sym withered)
+              ((effects_keep_parts (granted_by s.topo) (queued s.topo s.queue)).withered geom))
+              (ap (λ (v : TopoView Config). v.active) rest.mesh) stay.granted (stay.counted kept.counted)
+              (stay.quiet kept.quiet),
+          effects_keep_parts (granted_by s.topo) (queued s.topo s.queue),
+          ap (λ (v : TopoView Config). v.active) rest.mesh,
+          stay.counted kept.counted,
+          stay.quiet kept.quiet,
+          sound-counted s.topo.topology,
+          sound-counted u.topology,
+          ap (λ (v : TopoView Config). v.haves) rest.mesh,
+        )
 
 -- Answers
 

@@ -1,8 +1,8 @@
 -- A geom that comes with its consumers and its provider: all is kept; and a disk that stands so.
-use Rattle.std.specs.Prelude.{◌≡◌, ℕ, ◌+◌, ◌==◌, Bool, false, List, [], ◌∷◌, ◌++◌, map, Option, Some, None, IsSome, IfSome, All, unwrap_or, if◌then◌else◌, ◌*◌, ◌≤◌, ◌<◌, length, ◌%◌, true, slice_get}
+use Rattle.std.specs.Prelude.{◌≡◌, ℕ, ◌+◌, ◌==◌, Bool, false, List, [], ◌∷◌, ◌++◌, map, Option, Some, None, IsSome, IfSome, All, ◌*◌, ◌≤◌, ◌<◌, length, ◌%◌, true, slice_get}
 use Rattle.std.specs.List.{AllByRecursion}
 use Rattle.std.specs.Option.{option_map_or}
-use Rattle.std.proofs.Common.{refl, sym, ◌∙◌, ap, subst, inl, inr, append_assoc, arith}
+use Rattle.std.proofs.Common.{refl, sym, ◌∙◌, ap, subst, inl, inr, append_assoc, arith, rules}
 use Rattle.std.proofs.lemmas.Bool.{cases_eq, eq-eqb, le-leb}
 use Rattle.std.proofs.lemmas.List.{append-nil, map-append, length-append, length-map}
 use Rattle.std.proofs.lemmas.List.Elements.{All-contains, All-push, All-weaker, All-from_recursion, recursion_from_All}
@@ -12,13 +12,12 @@ use Rattle.geo_access.proofs.Coming.{bare_of}
 use Rattle.geo_base.specs.declared.request.Counts.{Counts}
 use Rattle.geo_base.specs.declared.kind.Kind.{Kind}
 use Rattle.geo_model.specs.Words.{is_granted_kind}
-use Rattle.geo_model.specs.Topology.{Topology, Geom, Provider, Consumer, geom_at, provider_at, consumer_at, providers_of, add_provider, is_name_taken}
+use Rattle.geo_model.specs.Topology.{Topology, Geom, Provider, Consumer, geom_at, provider_at, providers_of, add_provider, is_name_taken}
 use Rattle.geo_model.specs.Graph.{IsInOrder, PartsLive, ProvidersLive}
 use Rattle.geo_model.specs.Rank.{Ranked, rank}
 use Rattle.geo_model.specs.Demand.{no_counts, have, want}
 use Rattle.geo_model.specs.Place.{disk_of}
 use Rattle.geo_model.specs.World.{Config, Disk}
-use Rattle.geo_slots.specs.Slots.{value_at}
 use Rattle.geo_mesh.specs.Topo.{TopoView, Room, with_geom, with_provider, is_provider_size}
 use Rattle.geo_laws_graph.specs.LookupLaws.{new_geom, new_provider, new_consumer}
 use Rattle.geo_laws_graph.proofs.Living.{steady-parts}
@@ -62,7 +61,7 @@ use Rattle.geo_model.specs.Fitting.{IsHeaderDisk}
 use Rattle.geo_laws_graph.proofs.Members.{Contains-map}
 use Rattle.geo_requests.proofs.ModelLemmas.{makes_as_model}
 use Rattle.geo_state.specs.declared.state.DiskSeat.{DiskSeat}
-use Rattle.geo_state.specs.Seats.{change_seat, with_disk_geom}
+use Rattle.geo_state.specs.Seats.{with_disk_geom}
 use Rattle.geo_commands.specs.Disks.{item_at}
 
 -- A geom with its consumers and its provider: all counts are kept, and nothing else comes
@@ -143,10 +142,7 @@ module _ (t : TopoView Config) (counted : IsCounted t) (quiet : IsQuiet t) (shap
 
     -- and so is what each consumer is granted
     geom-granted : (c : ℕ) → granted_by raised c ≡ granted_by t c
-    geom-granted c = λ i.
-        option_map_or
-        (λ (x : Consumer). if holds-same x.geom i then unwrap_or (value_at t.wants c) no_counts else no_counts)
-        (consumer_at t.topology c) no_counts
+    geom-granted c = search (rules, holds-same)
 
     -- nothing else has come yet
     pub geom-more : IsMore t raised []
@@ -210,13 +206,12 @@ all-more : (t : TopoView Config) (geom : ℕ) (provs : List ℕ) (m : TopoView C
     → IsMore t (with_all_attached m geom provs) (cs ++ numbers_for m.topology.next_consumer provs)
 all-more t geom [] m cs is bare live = subst (IsMore t m) (sym (append-nil cs)) is
 all-more t geom (p ∷ ps) m cs is bare live =
-    let n : ℕ = m.topology.next_consumer in
-    subst (IsMore t (with_all_attached (with_attached m geom p) geom ps))
-    (append_assoc cs (n ∷ []) (numbers_for (n + 1) ps))
-    (all-more t geom ps (with_attached m geom p) (cs ++ n ∷ [])
-    (attached-more t m cs is geom p bare live.0)
-    (record { item = bare.item; found = bare.found; kind = bare.kind; none = bare.none })
-    live.1)
+    search (
+      rules,
+      append_assoc cs,
+      all-more t geom ps (with_attached m geom p),
+      attached-more t m cs is geom p bare live.0,
+    )
 
 -- what each of them leaves as it was
 all-same : {X : Type 0} (read : Topology Config → X) (geom : ℕ)
@@ -356,10 +351,8 @@ module _ (s r : State) (rest : r ≡ record s { queue = r.queue }) (events : r.q
 fresh-from : (s : State) → Holds s → IsInOrder s.topo.topology → (ps : List ℕ) (n : ℕ)
     → s.topo.topology.next_consumer ≤ n → AreFresh s.topo (numbers_for n ps)
 fresh-from s kept order [] n past = tt
-fresh-from s kept order (p ∷ ps) n past = (
-  unknown-from s kept order n past,
-  fresh-from s kept order ps (n + 1) (omega arith),
-)
+fresh-from s kept order (p ∷ ps) n past =
+    search (rules, unknown-from s kept order n past, fresh-from s kept order ps (n + 1) (omega arith))
 
 -- what new consumers can be attached to is there
 all-there : (t : Topology Config) (ps : List ℕ) → AllByRecursion (CanStandOn t) ps
@@ -379,11 +372,7 @@ module _ (s new : State) (geom : NewGeom) (below : List ℕ) (x : Offer) (grown 
   pub grown-world : (actors : List (List LineCommand)) (log : List Entry)
       → world actors log new ≡ with_queued (world actors log s) (queued made)
   grown-world actors log =
-      ap (world actors log) grown.rest
-      ∙ (λ i. record (world actors log s) {
-        topology = (ap (λ (v : TopoView Config). v.topology) grown.made.mesh) i;
-        events = grown.made.events i;
-      })
+      search (rules, ap (world actors log) grown.rest, ap (λ (v : TopoView Config). v.topology) grown.made.mesh)
 
   module _ (stands : Stands s) (kind : is_granted_kind geom.kind ≡ false)
       (stand : All (CanStandOn s.topo.topology) below) where
@@ -438,21 +427,14 @@ module _ (s new : State) (geom : NewGeom) (below : List ℕ) (x : Offer) (grown 
 pub media_size : (size sector : ℕ) → IsSectorSize sector → IsMediaSize size sector
     → is_provider_size size sector ≡ true
 media_size size sector which media =
-    elim which [
-      | inl small ↦ (rw (
-        eq-eqb sector 512 small,
-        le-leb 1 size media.positive,
-        le-leb size MAX_MEDIA_BYTES media.limited,
-        eq-eqb (size % sector) 0 media.whole,
-      ) refl)
-      | inr large ↦ (rw (
-        ap (λ n. n == 512) large,
-        eq-eqb sector 4096 large,
-        le-leb 1 size media.positive,
-        le-leb size MAX_MEDIA_BYTES media.limited,
-        eq-eqb (size % sector) 0 media.whole,
-      ) refl)
-    ]
+    search (
+      rules,
+      eq-eqb sector 512,
+      le-leb 1 size media.positive,
+      le-leb size MAX_MEDIA_BYTES media.limited,
+      eq-eqb (size % sector) 0 media.whole,
+      eq-eqb sector 4096,
+    )
 
 module _ (s : State) (disk : ℕ) (seat : DiskSeat) (at : slice_get s.disks.items disk ≡ Some seat) where
   -- a disk of the header has the sizes of a provider
@@ -471,9 +453,7 @@ module _ (s : State) (disk : ℕ) (seat : DiskSeat) (at : slice_get s.disks.item
   -- the disks of the header stay, whatever geom stands for one
   same-disks : (geom : Option ℕ)
       → map disk_of_seat (with_disk_geom s.disks.items disk geom) ≡ map disk_of_seat s.disks.items
-  same-disks geom =
-      ap (λ o. map disk_of_seat (change_seat (λ x. record x { geom = geom }) s.disks.items disk o)) at
-      ∙ slot-seen disk_of_seat s.disks.items disk (record seat { geom = geom }) seat at refl
+  same-disks geom = search (rules, slot-seen disk_of_seat s.disks.items disk (record seat { geom = geom }) seat)
 
   module _ (g new : State) (config : Config) (is : config ≡ Disk disk) (id : ℕ)
       (number : id ≡ s.topo.topology.next_geom)
@@ -521,9 +501,7 @@ module _ (s : State) (disk : ℕ) (seat : DiskSeat) (at : slice_get s.disks.item
     pub stood-told : (actors : List (List LineCommand)) (log : List Entry)
         → IfSome (slice_get s.disks.items disk) (λ (x : DiskSeat).
         world actors log new ≡ stand (world actors log s) (item_at disk x))
-    stood-told actors log =
-        subst (λ o. IfSome o (λ (x : DiskSeat). world actors log new ≡ stand (world actors log s) (item_at disk x)))
-        (sym at) (stood-world actors log)
+    stood-told actors log = search (rules, stood-world actors log)
 
     -- and all is kept
     pub stood-kept : Stands s → geom_of_disk s.topo.topology disk ≡ None → Holds new

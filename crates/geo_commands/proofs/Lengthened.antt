@@ -1,10 +1,10 @@
 -- A concat that has one more component: counts, and its provider that grows.
-use Rattle.std.specs.Prelude.{◌≡◌, ℕ, ◌==◌, Bool, true, false, option_map, Option, Some, None, unwrap_or, if◌then◌else◌, ◌+◌, ◌-◌, ◌≤◌, [], ◌∷◌, ◌++◌, ◌*◌, not, ◌&&◌, List, length, map, filter, Contains, IsSome, IfSome}
+use Rattle.std.specs.Prelude.{◌≡◌, ℕ, ◌==◌, Bool, true, false, Option, Some, None, unwrap_or, if◌then◌else◌, ◌+◌, ◌-◌, ◌≤◌, [], ◌∷◌, ◌++◌, ◌*◌, not, ◌&&◌, List, length, map, filter, Contains, IsSome, IfSome}
 use Rattle.std.specs.Option.{option_map_or}
-use Rattle.std.proofs.Common.{refl, sym, ◌∙◌, ap, subst, arith}
+use Rattle.std.proofs.Common.{refl, sym, ◌∙◌, ap, subst, arith, rules}
 use Rattle.geo_base.specs.declared.request.Counts.{Counts}
 use Rattle.geo_model.specs.Words.{is_granted_kind}
-use Rattle.geo_model.specs.Topology.{Topology, Geom, Provider, Consumer, consumer_at, attach, set_config, set_size, geom_at, provider_at, add_consumer}
+use Rattle.geo_model.specs.Topology.{Topology, Geom, Provider, Consumer, attach, set_config, set_size, geom_at, provider_at, add_consumer}
 use Rattle.geo_model.specs.Graph.{IsInOrder}
 use Rattle.geo_model.specs.Demand.{no_counts, have, want, risen}
 use Rattle.geo_model.specs.World.{Config, World, granted_of}
@@ -13,7 +13,7 @@ use Rattle.geo_mesh.specs.declared.records.Scratch.{Scratch}
 use Rattle.geo_mesh.specs.Topo.{TopoView, no_scratch, with_topology, is_provider_size, with_consumer}
 use Rattle.geo_laws_graph.proofs.Lists.{changed, changed-keeps, find-changed, map-changed, found_itself}
 use Rattle.geo_laws_graph.proofs.Numbered.{number_found}
-use Rattle.geo_laws_graph.proofs.Found.{config-found, size_found, added-consumer}
+use Rattle.geo_laws_graph.proofs.Found.{config-found, added-consumer}
 use Rattle.geo_laws_counts.proofs.Unseen.{unseen_size}
 use Rattle.geo_laws_counts.proofs.Openers.{wants_grant}
 use Rattle.geo_access.specs.Access.{IsCounted, clear_scratches, granted_by, holds_grants, noted}
@@ -59,7 +59,7 @@ use Rattle.geo_life.proofs.Places.{counts_are_stored, places_are_few}
 use Rattle.geo_life.proofs.Spared.{handles_are_spared}
 use Rattle.geo_state.specs.declared.state.State.{State}
 use Rattle.geo_state.specs.Changes.{IsSettled}
-use Rattle.geo_state.specs.Holds.{Holds, owed_events}
+use Rattle.geo_state.specs.Holds.{Holds}
 use Rattle.geo_state.specs.Parts.{SameParts, disk_row, owner_row}
 use Rattle.geo_state.specs.Sites.{HasComers}
 use Rattle.geo_state.specs.Steps.{Stands}
@@ -89,30 +89,24 @@ module _ {C : Type 0} (t : TopoView C) (counted : IsCounted t) (order : IsInOrde
 
   -- another size of a provider leaves all counts
   size_kept : KeepsCounts t (with_topology t (set_size t.topology p size))
-  size_kept = record {
-    order = size_found.order t.topology p size order;
-    kinds = counted.kinds;
-    haves =
-        counted.haves
-        ∙ sym (map-changed hit resized (λ (y : Provider). let row : ℕ × Counts =
-        (y.number, have (granted_by t) t.topology y.number) in row) (λ y e. refl) t.topology.providers);
-    wants = counted.wants;
-    stays = among (granted_by t) t.topology (set_size t.topology p size) t.topology.consumers
-        (unseen_size (granted_by t) t.topology p size);
-    classes = λ c there. refl;
-    known = stood t counted order t.room;
-    risen =
-        counted.risen
-        ∙ sym (map-changed hit resized (λ (y : Provider). y.number) (λ y e. refl) t.topology.providers);
-    fallen =
-        counted.fallen
-        ∙ sym (map-changed hit resized (λ (y : Provider). y.number) (λ y e. refl) t.topology.providers);
-    clear =
-        counted.clear
-        ∙ ap (λ rows. record (clear_scratches t.topology) { providers = rows })
-        (sym (map-changed hit resized (λ (y : Provider). let row : ℕ × Scratch = (y.number, no_scratch) in row)
-        (λ y e. refl) t.topology.providers));
-  }
+  size_kept =
+      search (
+        rules,
+        order,
+        map-changed hit resized
+            (λ (y : Provider). let row : ℕ × Counts = (y.number, have (granted_by t) t.topology y.number) in row)
+            (λ y e. refl) t.topology.providers,
+        among (granted_by t) t.topology (set_size t.topology p size) t.topology.consumers
+            (unseen_size (granted_by t) t.topology p size),
+        stood t counted order t.room,
+        map-changed hit resized (λ (y : Provider). y.number) (λ y e. refl) t.topology.providers,
+        ap (λ rows. record (clear_scratches t.topology) { providers = rows })
+            (sym
+            (map-changed hit resized (λ (y : Provider). let row : ℕ × Scratch = (y.number, no_scratch) in row)
+            (λ y e. refl) t.topology.providers)),
+        map-changed hit resized (λ (y : Provider). let row : ℕ × Scratch = (y.number, no_scratch) in row) (λ y e. refl)
+            t.topology.providers,
+      )
 
 module _ (t : TopoView Config) (counted : IsCounted t) (order : IsInOrder t.topology) (x : Growing) (config : Config)
     (size : ℕ) where
@@ -139,10 +133,7 @@ module _ (t : TopoView Config) (counted : IsCounted t) (order : IsInOrder t.topo
 
   -- so grants are the same
   pub larger_granted : (n : ℕ) → granted_by (larger_mesh t x config size) n ≡ granted_by t n
-  larger_granted n = λ i.
-      option_map_or
-      (λ (y : Consumer). if holds_same y.geom i then unwrap_or (value_at t.wants n) no_counts else no_counts)
-      (consumer_at t.topology n) no_counts
+  larger_granted n = search (rules, holds_same)
 
 -- Grants
 
@@ -166,32 +157,18 @@ module _ {C : Type 0} (t : TopoView C) (cons p : ℕ) where
   -- a consumer that joins leaves all grants
   pub joined_granted : (n : ℕ) → granted_by (joined_view t cons p) n ≡ granted_by t n
   joined_granted n =
-      found-changed joiner joining (λ (c : Consumer). c.number == n) (seen (value_at (joined_view t cons p).wants n))
-      (λ c e. refl) (λ c e. refl) t.topology.consumers
-      ∙ by (consumer_at t.topology n) refl
-    where
-      at : (y : Consumer) → consumer_at t.topology n ≡ Some y → (b : Bool) → holds_grants t.topology y.geom ≡ b
-          → (if b then unwrap_or (value_at (joined_view t cons p).wants n) no_counts else no_counts)
-          ≡ (if b then unwrap_or (value_at t.wants n) no_counts else no_counts)
-      at y is true holds =
-          let z : Consumer = changed joiner joining y in
-          let same : z.geom ≡ y.geom = changed-keeps joiner joining (λ (c : Consumer). c.geom) (λ c e. refl) y in
-          let stands : consumer_at joined_graph n ≡ Some z =
-          find-changed joiner joining (λ (c : Consumer). c.number == n) (λ c e. refl) t.topology.consumers
-          ∙ ap (option_map (changed joiner joining)) is in
-          ap (λ o. unwrap_or o no_counts)
-          (item_at (λ (c : Consumer). c.number) (want (granted_by t) joined_graph) n joined_graph.consumers z stands)
-          ∙ wants_grant (granted_by t) joined_graph z
-          (holds_of joined_graph z.geom (ap (holds_grants t.topology) same ∙ holds))
-          ∙ ap (granted_by t) (number_found (λ (c : Consumer). c.number) joined_graph.consumers n z stands)
-          ∙ ap (seen (value_at t.wants n)) is
-          ∙ ap (λ b. if b then unwrap_or (value_at t.wants n) no_counts else no_counts) holds
-      at y is false holds = refl
-
-      by : (o : Option Consumer) → consumer_at t.topology n ≡ o
-          → seen (value_at (joined_view t cons p).wants n) o ≡ seen (value_at t.wants n) o
-      by None is = refl
-      by (Some y) is = at y is (holds_grants t.topology y.geom) refl
+      search (
+        rules,
+        found-changed joiner joining (λ (c : Consumer). c.number == n) (seen (value_at (joined_view t cons p).wants n))
+            (λ c e. refl) (λ c e. refl) t.topology.consumers,
+        changed joiner joining,
+        changed-keeps joiner joining (λ (c : Consumer). c.geom) (λ c e. refl),
+        find-changed joiner joining (λ (c : Consumer). c.number == n) (λ c e. refl) t.topology.consumers,
+        item_at (λ (c : Consumer). c.number) (want (granted_by t) joined_graph) n joined_graph.consumers,
+        wants_grant (granted_by t) joined_graph,
+        holds_of joined_graph,
+        number_found (λ (c : Consumer). c.number) joined_graph.consumers n,
+      )
 
 -- A provider that grows with its geom: what is announced of it
 
@@ -222,9 +199,7 @@ module _ (t : TopoView Config) (q : Queued) (x : Growing) (config : Config) (siz
       mesh = is.rest.mesh;
       kept = is.kept;
       room =
-          let left : mid.spare + notes t.risen ≡ q.spare = is.room in
-          let now : queue.spare ≡ mid.spare - 1 = ap (λ (z : Queued). z.spare) posted in
-          omega (arith, left, now, enough);
+          search (rules, ap (λ (z : Queued). z.spare) posted);
     }
 
     pub is-larger : (b : TopoView Config) → b ≡ larger_mesh t x config size
@@ -451,9 +426,7 @@ module _ (s : State) (stands : Stands s) (growing : Growing) (below : Below) (ab
             (grew_as : IsLarger v j.queue growing config size new queue) where
           -- it grew as it was found
           grew : IsLarger v s.queue g config size new queue
-          grew =
-              subst (λ (k : Growing). IsLarger v s.queue k config size new queue) able.named.growing_is
-              (subst (λ (z : Queued). IsLarger v z growing config size new queue) queue_is grew_as)
+          grew = search (rules, queue_is)
 
           -- all else is as it was
           end_is : record j { topo = new; queue = queue } ≡ record s { topo = new; queue = queue }
@@ -514,18 +487,14 @@ module _ (s : State) (stands : Stands s) (growing : Growing) (below : Below) (ab
           -- counts are kept, no note is set, and the queue has the places that are owed
           settled : 3 * length t.providers + 128 ≤ s.queue.spare → IsSettled new queue
           settled room =
-              let counted : IsCounted new = grew.kept.counted (rises_counted mesh mesh_counted) in
-              record {
-                counted = counted;
-                quiet = grew.kept.quiet (record { risen = refl; fallen = no_falls });
-                room =
-                    let few : notes v.risen ≤ length t.providers = few_notes in
-                    let owed : owed_events new ≤ 2 * length new.topology.providers = owed_are_few new counted in
-                    let as_many : length new.topology.providers ≡ length t.providers =
-                    parts-count added new.topology parts in
-                    let left : queue.spare + notes v.risen + 1 ≡ s.queue.spare = grew.room in
-                    omega (arith, few, owed, as_many, left, room);
-              }
+              search (
+                rules,
+                rises_counted mesh mesh_counted,
+                no_falls,
+                few_notes,
+                owed_are_few new,
+                parts-count added new.topology parts,
+              )
 
           -- and all is kept
           pub able_kept : 3 * length t.providers + 128 ≤ s.queue.spare

@@ -1,7 +1,7 @@
 -- Commands that make a geom: what nothing refuses, and what they answer.
-use Rattle.std.specs.Prelude.{◌≡◌, ℕ, ◌+◌, ◌≤◌, ◌<◌, ◌==◌, ◌%◌, nat_lt, max, Bool, true, false, not, ◌||◌, List, [], ◌∷◌, ◌++◌, map, Option, Some, None, All, Contains, option_and_then, Result, Ok, Err, MatchResult, if◌then◌else◌}
+use Rattle.std.specs.Prelude.{◌≡◌, ℕ, ◌+◌, ◌≤◌, ◌<◌, ◌==◌, ◌%◌, nat_lt, Bool, true, false, not, ◌||◌, List, [], ◌∷◌, ◌++◌, map, Option, Some, None, All, Contains, option_and_then, Result, Ok, Err, MatchResult}
 use Rattle.std.specs.List.{AllByRecursion, list_any, list_all}
-use Rattle.std.proofs.Common.{sym, ◌∙◌, ap, arith, refl, subst}
+use Rattle.std.proofs.Common.{sym, ◌∙◌, ap, subst, rules}
 use Rattle.std.proofs.lemmas.Bool.{or_parts, and_parts, not-false, ltb-false, leb-true}
 use Rattle.std.proofs.lemmas.List.Elements.{All-contains, All-from_recursion, Contains-append_right}
 use Rattle.geo_base.specs.Name.{is_name, name_of}
@@ -77,20 +77,17 @@ pub can-stand : (t : Topology Config) (ps : List Provider)
     → AllByRecursion (CanStandOn t) (map (λ (p : Provider). p.number) ps)
 can-stand t [] found none low = tt
 can-stand t (p ∷ ps) found none low =
-    let parts = or_parts p.errored (list_any (λ (x : Provider). x.errored) ps) none in
-    let here : max (rank t p.geom) (largest (map (λ (x : Provider). rank t x.geom) ps)) < MAX_RANK = low in
-    let mine : rank t p.geom < MAX_RANK = omega (arith, here) in
-    let rest : largest (map (λ (x : Provider). rank t x.geom) ps) < MAX_RANK = omega (arith, here) in (
-      some-with (provider_at t p.number) (λ x. (x.errored ≡ false) × (rank t x.geom < MAX_RANK)) p found.0
-          (parts.0, mine),
-      can-stand t ps found.1 parts.1 rest,
+    search (
+      rules,
+      or_parts p.errored (list_any (λ (x : Provider). x.errored) ps) none,
+      some-with (provider_at t p.number) (λ x. (x.errored ≡ false) × (rank t x.geom < MAX_RANK)) p found.0,
+      can-stand t ps found.1,
     )
 
 -- a rank over some providers that isn't above the limit
 pub low-below : (t : Topology Config) (ps : List Provider) → nat_lt MAX_RANK (rank_over t ps) ≡ false
     → largest (map (λ (p : Provider). rank t p.geom) ps) < MAX_RANK
-low-below t ps low =
-    let most : rank_over t ps ≤ MAX_RANK = ltb-false MAX_RANK (rank_over t ps) low in omega (arith, most)
+low-below t ps low = search (rules, ltb-false MAX_RANK (rank_over t ps) low)
 
 -- providers that were found by names are found by their numbers
 pub named-found : (w : World) (names : List (List ℕ))
@@ -145,9 +142,7 @@ module _ (s new : State) (line : ℕ) (o : Outcome) (actors : List (List LineCom
     pub insert-done : first_error (insert_tests w.topology item) ≡ None → world actors log new ≡ stand w item
         → o ≡ outcomes.Replied line replies.Ok → do_insert w line (header_disk w name) ≡ (world actors log new, o)
     insert-done none made is =
-        ap (do_insert w line) found
-        ∙ ap (λ r. answer w line r (stand w item)) none
-        ∙ told-so made is
+        search (rules, ap (do_insert w line) found, ap (λ r. answer w line r (stand w item)) none, told-so made is)
 
   -- Nops
 
@@ -233,11 +228,7 @@ name-told bytes (Err e) told o is = is ∙ sym told
 
 -- is the bytes
 name-is : (bytes name : List ℕ) → name_of bytes ≡ Some name → name ≡ bytes
-name-is bytes name told = by (is_name bytes) told
-  where
-    by : (b : Bool) → (if b then Some bytes else None) ≡ Some name → name ≡ bytes
-    by true is = cc
-    by false never = absurd (cc)
+name-is bytes name told = search (rules, Some bytes, Some name)
 
 -- there is one where they are a name
 name-there : (bytes : List ℕ) → is_name bytes ≡ true → name_of bytes ≡ None → ⊥
@@ -253,12 +244,7 @@ pub record IsBelow (t : Topology Config) (prov : List ℕ) (below : Below) : Typ
 
 pub below-of : (t : Topology Config) (prov : List ℕ) {below : Below}
     → Some below ≡ option_map (below_seen t) (provider_named t prov) → IsBelow t prov below
-below-of t prov {below} told = by (provider_named t prov) refl told
-  where
-    by : (o : Option Provider) → provider_named t prov ≡ o → Some below ≡ option_map (below_seen t) o
-        → IsBelow t prov below
-    by None e never = absurd (cc)
-    by (Some p) e is = record { p = p; named = e; is = cc }
+below-of t prov {below} told = search rules
 
 -- that provider, and the name of the nop's own, where that is one
 pub record IsNopFound (t : Topology Config) (prov : List ℕ) (below : Below) (name : Option (List ℕ)) : Type 0 where

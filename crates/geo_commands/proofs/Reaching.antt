@@ -1,7 +1,7 @@
 -- The providers that are reached upwards from one, and whether a bio goes to them.
 use Rattle.std.specs.Prelude.{◌≡◌, ◌≢◌, ◌⊎◌, ℕ, zero, suc, ◌+◌, ◌<◌, ◌≤◌, ◌==◌, Bool, true, false, not, List, [], ◌∷◌, ◌++◌, length, map, flat_map, fold, Option, Some, None, Contains, IsSomeAnd, slice_get, if◌then◌else◌, ◌||◌}
 use Rattle.std.specs.Option.{option_map_or}
-use Rattle.std.proofs.Common.{refl, sym, ◌∙◌, ap, subst, arith, inl, inr, append_assoc}
+use Rattle.std.proofs.Common.{refl, sym, ◌∙◌, ap, subst, arith, inl, inr, append_assoc, rules}
 use Rattle.std.proofs.lemmas.Bool.{cases_lt, eq-eqb, eqb-true, ne_eqb, false_from_ne_true, or_parts, le-leb, cases_Bool}
 use Rattle.std.proofs.lemmas.List.{length-append, length-map, append-nil}
 use Rattle.std.proofs.lemmas.List.Elements.{All-contains, Contains-append_left, Contains-push, Contains-push_cases}
@@ -46,16 +46,11 @@ use Rattle.geo_state.proofs.Walks.{walk_goes_on, walk_hits}
 
 -- one that is among them is contained
 contained-has : (ns : List ℕ) (n : ℕ) → has_number ns n ≡ true → Contains ns n
-contained-has ns n has =
-    let p = some-passes (λ m. m == n) ns has in subst (λ k. Contains ns k) (eqb-true p.item n p.passes) p.here
+contained-has ns n has = search (rules, some-passes (λ m. m == n) ns has, eqb-true)
 
 -- once it is put behind them it is there
 with-new : (ns : List ℕ) (m : ℕ) → Contains (with_number ns m) m
-with-new ns m = by (has_number ns m) refl
-  where
-    by : (b : Bool) → has_number ns m ≡ b → Contains (if b then ns else ns ++ m ∷ []) m
-    by true e = contained-has ns m e
-    by false e = Contains-push ns m
+with-new ns m = search (rules, contained-has ns m, Contains-push ns m)
 
 -- the only one
 alone : (n m : ℕ) → Contains (n ∷ []) m → n ≡ m
@@ -118,10 +113,7 @@ all-behind ms ns =
     ([], sym (append-nil ns))
 
 all-length : (ms ns : List ℕ) → length ns ≤ length (fold with_number ns ms)
-all-length ms ns =
-    let all = all-behind ms ns in
-    let many = ap length all.1 ∙ length-append ns all.0 in
-    omega (arith, many)
+all-length ms ns = search (rules, all-behind ms ns, length-append ns)
 
 -- so what stands at a place stays there
 all-place : (ms ns : List ℕ) (k : ℕ) → k < length ns → slice_get (fold with_number ns ms) k ≡ slice_get ns k
@@ -199,10 +191,7 @@ IsToldOf t prov above next = ((above ≡ prov ∷ []) × (next ≡ 0)) ⊎ IsSou
 -- at its end it is
 pub told-at_end : (t : Topology Config) (prov : ℕ) (above : List ℕ) (next : ℕ) → IsToldOf t prov above next
     → length above ≤ next → IsSoundGraph t
-told-at_end t prov above next (inl start) past =
-    let one : length above ≡ 1 = ap length start.0 in
-    let zero_is = start.1 in
-    absurd (omega (arith, one, zero_is, past))
+told-at_end t prov above next (inl start) past = search (rules, ap length start.0)
 told-at_end t prov above next (inr sound) past = sound
 
 -- What is reached downwards
@@ -222,15 +211,11 @@ module _ (t : Topology Config) (sound : IsSoundGraph t) where
   under-of y p x found there =
       let o : Origin (λ (c : Consumer). c.provider ≡ Some p) (consumers_of t x.geom) =
       filter_map-Contains (λ (c : Consumer). c.provider) (consumers_of t x.geom) p there in
-      let c = filter-Contains (λ (d : Consumer). d.geom == x.geom) t.consumers o.item o.stands in
-      record {
-        provider = x;
-        found = found;
-        consumer = o.item;
-        stands = c.0;
-        geom = eqb-true o.item.geom x.geom c.1;
-        attached = o.fact;
-      }
+      search (
+        rules,
+        filter-Contains (λ (d : Consumer). d.geom == x.geom) t.consumers o.item o.stands,
+        eqb-true o.item.geom x.geom,
+      )
 
   -- a fact that goes down from each provider to those right under it holds of all that is reached
   least : (P : ℕ → Type 0) → ((y p : ℕ) → P y → IsUnder y p → P p) → (k y : ℕ) → P y → (z : ℕ)
@@ -247,8 +232,7 @@ module _ (t : Topology Config) (sound : IsSoundGraph t) where
           → ((m : ℕ) → P m → Contains (below_within k t m) z → P z) → P z
       by None e never deeper = absurd (nothing_in z never)
       by (Some x) e here deeper =
-          let c = flat_map_cases (below_within k t) (providers_under t x.geom) z here in
-          deeper c.0 (down y c.0 fact (under-of y c.0 x e c.1)) c.2
+          search (rules, flat_map_cases (below_within k t) (providers_under t x.geom) z here, under-of y)
 
   -- what is right above a provider: it is right under them
   users-under : (p y : ℕ) → Contains (users_of t p) y → IsUnder y p
@@ -274,23 +258,20 @@ module _ (t : Topology Config) (sound : IsSoundGraph t) where
   -- and each under which it is right is among them
   under-users : (p y : ℕ) → IsUnder y p → Contains (users_of t p) y
   under-users p y is =
-      let there : Contains t.providers is.provider =
-      find-Contains (λ (z : Provider). z.number == y) t.providers is.provider is.found in
-      let offer : IsOffer is.provider =
-      All-contains (λ (z : Provider). IsOffer z) t.providers is.provider sound.orderly.offers there in
-      let number : is.provider.number ≡ y =
-      number_found (λ (z : Provider). z.number) t.providers y is.provider is.found in
-      let at : Contains (attached_to t p) is.consumer =
-      Contains-filter (λ (d : Consumer). names_number d.provider p) t.consumers is.consumer is.stands
-      (ap (λ o. names_number o p) is.attached ∙ eq-eqb p p refl) in
-      let above : Contains (consumers_above t p) is.consumer =
-      Contains-filter (λ (d : Consumer). not (d.geom == 1)) (attached_to t p) is.consumer at
-      (ap not (ne_eqb is.consumer.geom 1 (λ same. offer.not_dev (sym is.geom ∙ same)))) in
-      in_flat_map (λ (d : Consumer). offers_of t d.geom) (consumers_above t p) is.consumer y above
-      (subst (λ n. Contains (offers_of t is.consumer.geom) n) number
-      (Contains-map (λ (z : Provider). z.number) (providers_of t is.consumer.geom) is.provider
-      (Contains-filter (λ (z : Provider). z.geom == is.consumer.geom) t.providers is.provider there
-      (eq-eqb is.provider.geom is.consumer.geom (sym is.geom)))))
+      search (
+        rules,
+        find-Contains (λ (z : Provider). z.number == y) t.providers is.provider is.found,
+        All-contains (λ (z : Provider). IsOffer z) t.providers is.provider sound.orderly.offers,
+        number_found (λ (z : Provider). z.number) t.providers y is.provider is.found,
+        Contains-filter (λ (d : Consumer). names_number d.provider p) t.consumers is.consumer is.stands
+            (ap (λ o. names_number o p) is.attached ∙ eq-eqb p p refl),
+        Contains-filter (λ (d : Consumer). not (d.geom == 1)) (attached_to t p) is.consumer,
+        ne_eqb is.consumer.geom 1,
+        in_flat_map (λ (d : Consumer). offers_of t d.geom) (consumers_above t p) is.consumer y,
+        Contains-map (λ (z : Provider). z.number) (providers_of t is.consumer.geom) is.provider,
+        Contains-filter (λ (z : Provider). z.geom == is.consumer.geom) t.providers is.provider,
+        eq-eqb is.provider.geom is.consumer.geom (sym is.geom),
+      )
 
   -- below a provider stands what is below those right under it
   below-more : (p y z : ℕ) → IsUnder y p → Contains (below t p) z → Contains (below t y) z
@@ -309,14 +290,11 @@ module _ (t : Topology Config) (sound : IsSoundGraph t) where
   module _ (prov : ℕ) where
     pub reached-begin : IsReached t prov (prov ∷ []) 0
     reached-begin = record {
-      sound_so_far = λ p there.
-          subst (λ n. Contains (below t n) prov) (alone prov p there) (below_self (length t.geoms) t prov);
+      sound_so_far = search (rules, alone prov, below_self (length t.geoms) t prov);
       first = Contains-here prov [];
       closed = λ k p less. absurd (omega (arith, less));
       apart = (tt, tt);
-      among = λ p there.
-          subst (λ n. Contains (prov ∷ map (λ (x : Provider). x.number) t.providers) n) (alone prov p there)
-          (Contains-here prov (map (λ (x : Provider). x.number) t.providers));
+      among = search (rules, alone prov, Contains-here prov (map (λ (x : Provider). x.number) t.providers));
       far = omega arith;
     }
 
@@ -382,10 +360,7 @@ module _ (t : Topology Config) (sound : IsSoundGraph t) where
         by : (a b : Bool) → has_number above p ≡ a → is_below t prov p ≡ b → a ≡ b
         by true true e f = refl
         by false false e f = refl
-        by true false e f =
-            let told : is_below t prov p ≡ true =
-            contains-has (below t p) prov (is.sound_so_far p (contained-has above p e)) in
-            let never : true ≡ false = sym told ∙ f in absurd (cc)
+        by true false e f = search (rules, contains-has (below t p) prov (is.sound_so_far p (contained-has above p e)))
         by false true e f =
             let out : has_number above prov ≡ false =
             least (λ n. has_number above n ≡ false) (λ y m out under. apart y m out under) (length t.geoms) p e prov
@@ -399,25 +374,14 @@ pub none-passes : (test : BioOf Held → Bool) (bios : List (BioOf Held)) → fi
     → false ≡ list_any test bios
 none-passes test [] none = refl
 none-passes test (x ∷ xs) none =
-    elim (cases_Bool (test x)) [
-      | inl e ↦
-          (let never : Some x.number ≡ None = rw (le-leb 0 x.number (omega arith), e) at none in absurd (cc))
-      | inr e ↦
-          (let later : first_passing test xs 0 ≡ None = rw (le-leb 0 x.number (omega arith), e) at none in
-          rw e (none-passes test xs later))
-    ]
+    search (rules, cases_Bool (test x), Some x.number, le-leb 0 x.number (omega arith), none-passes test xs)
 
 -- where there is a first, one does
 one-passes : (test : BioOf Held → Bool) (bios : List (BioOf Held)) (b : ℕ) → first_passing test bios 0 ≡ Some b
     → true ≡ list_any test bios
 one-passes test [] b never = absurd (cc)
 one-passes test (x ∷ xs) b one =
-    elim (cases_Bool (test x)) [
-      | inl e ↦ rw e refl
-      | inr e ↦
-          (let later : first_passing test xs 0 ≡ Some b = rw (le-leb 0 x.number (omega arith), e) at one in
-          rw e (one-passes test xs b later))
-    ]
+    search (rules, cases_Bool (test x), Some b, le-leb 0 x.number (omega arith), one-passes test xs b)
 
 -- a walk over the bios that came to one, the first from a number on
 module _ {t : BioTableView} (order : AreInOrder t) (low : ℕ) {b : ℕ} (first : bio_from t.bios low ≡ Some b) where

@@ -1,7 +1,7 @@
 -- What walks over the geoms and the providers of the mesh meet: names, counts, and the lines that are printed.
 use Rattle.std.specs.Prelude.{◌≡◌, ℕ, ◌+◌, nat_le, Bool, true, false, not, ◌&&◌, List, [], ◌∷◌, filter, find, Option, Some, None, Contains, MatchOption, if◌then◌else◌, ◌==◌, ◌++◌, map, IsSome, unwrap_or, Result, Ok, Err, IfOk, ◌||◌}
 use Rattle.std.specs.Option.{option_map, option_and_then, option_map_or}
-use Rattle.std.proofs.Common.{refl, sym, ap, ◌∙◌, subst, arith, append_assoc}
+use Rattle.std.proofs.Common.{refl, sym, ap, ◌∙◌, subst, arith, append_assoc, rules}
 use Rattle.std.proofs.lemmas.Bool.{le-leb}
 use Rattle.geo_base.specs.declared.kind.Kind.{Kind}
 use Rattle.geo_base.specs.declared.kind.Kind.TheVariants as kinds
@@ -116,10 +116,7 @@ module _ (t : Topology Config) (kind : Kind) (name : List ℕ) where
         (so_far : find more (named_from t kind name from_number) ≡ find test t.geoms) where
       -- one that doesn't pass is passed over
       pub find_on : more next.geom ≡ false → find more (named_from t kind name (n + 1)) ≡ find test t.geoms
-      find_on fails =
-          let rest : find more (next.geom ∷ named_from t kind name (n + 1))
-          ≡ find more (named_from t kind name (n + 1)) = rw fails refl in
-          sym (ap (find more) next.left ∙ rest) ∙ so_far
+      find_on fails = search (rules, ap (find more) next.left)
 
 -- the geom that stands, as the model tests it
 pub stands_agree : (kind : Kind) (name : List ℕ) (g : Geom Config)
@@ -139,9 +136,7 @@ pub cannot_grow : (t : Topology Config) (name : List ℕ) (from_number n : ℕ)
     → can_grow t next.geom ≡ false
 cannot_grow t name from_number n next none =
     by (not next.geom.withering) (providers_of t next.geom.number) refl refl
-    (subst
-    (λ m. (if option_map_or stands (geom_at t n) false then first_provider (providers_of t m) 0 else None) ≡ None)
-    (sym next.number) none)
+    (search rules)
   where
     by : (b : Bool) (ps : List Provider) → not next.geom.withering ≡ b → providers_of t next.geom.number ≡ ps
         → (if option_map_or stands (geom_at t n) false then first_provider (providers_of t next.geom.number) 0
@@ -150,8 +145,7 @@ cannot_grow t name from_number n next none =
         → can_grow t next.geom ≡ false
     by false ps e f is = rw e refl
     by true [] e f is = rw (e, f) refl
-    by true (p ∷ ps) e f is =
-        let some : Some p.number ≡ None = rw (next.found, e, f, le-leb 0 p.number (omega arith)) at is in absurd (cc)
+    by true (p ∷ ps) e f is = search (rules, Some p.number, le-leb 0 p.number (omega arith))
 
 -- What the walks print, and that it is the model's listing
 
@@ -249,10 +243,7 @@ module _ (t : TopoView Config) (counted : IsCounted t) where
       ≡ cons_lines (granted_by t) t.topology geom
   cons_on geom from_number id x next stored name named lines new pushed so_far =
       let shown : cons_line (granted_by t) t.topology (consumer_seen id x) ≡ record { prov = name; counts = x.want } =
-      λ i. let l : ConsLine = record {
-        prov = sym named i;
-        counts = sym (want_shown id x next.lives stored) i;
-      } in l in
+      search (rules, want_shown id x next.lives stored) in
       print_on (λ (y : Consumer). y.number) (map (cons_line (granted_by t) t.topology)) (consumers_of t.topology geom)
       (record { prov = name; counts = x.want } ∷ []) (consumer_seen id x)
       (λ ys. ap (λ l. l ∷ map (cons_line (granted_by t) t.topology) ys) shown)
