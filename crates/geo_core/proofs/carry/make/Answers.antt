@@ -1,4 +1,4 @@
-use Rattle.std.proofs.Common.{subst}
+use Rattle.std.proofs.Common.{subst, rules}
 use Rattle.geo_model.specs.declared.step.Outcome.TheVariants as outcomes
 use Rattle.geo_model.specs.declared.step.Step.{Step}
 use Rattle.geo_model.specs.Step.{step}
@@ -142,10 +142,7 @@ returns-in-Reap-clause-made g c =
     (c.reap.ensures.made log)
 
 pub returns-in-Reap-clause-logged : goal.returns-in-Reap-clause-logged
-returns-in-Reap-clause-logged g c = λ e.
-    let log = c.args.log.now.items in
-    longer_bytes log e c.reap.new.state
-    (logged_same c.args.state.now c.reap.new.state c.reap.ensures.traffic log c.requires.logged)
+returns-in-Reap-clause-logged g c = search (rules, longer_bytes, logged_same, c.reap.ensures.traffic, c.requires.logged)
 
 pub returns-in-Wash-clause-made : goal.returns-in-Wash-clause-made
 unfolding step
@@ -156,9 +153,7 @@ returns-in-Wash-clause-made g c =
     (c.wash.ensures.made log)
 
 pub returns-in-Wash-clause-logged : goal.returns-in-Wash-clause-logged
-returns-in-Wash-clause-logged g c = λ e.
-    let log = c.args.log.now.items in
-    longer_bytes log e c.wash.new.state (c.wash.ensures.logged log c.requires.logged)
+returns-in-Wash-clause-logged g c = search (rules, longer_bytes, c.wash.ensures.logged, c.requires.logged)
 
 pub returns-in_ok-event-in-Event-clause-made : goal.returns-in_ok-event-in-Event-clause-made
 unfolding step
@@ -168,9 +163,7 @@ returns-in_ok-event-in-Event-clause-made g c =
     outcomes.Ran (c.event.ensures.logged log c.requires.logged) (c.in_ok-event-in-Event.ensures.made log)
 
 pub returns-in_ok-event-in-Event-clause-logged : goal.returns-in_ok-event-in-Event-clause-logged
-returns-in_ok-event-in-Event-clause-logged g c = λ e.
-    let log = c.args.log.now.items in
-    longer_bytes log e c.event.new.state (c.event.ensures.logged log c.requires.logged)
+returns-in_ok-event-in-Event-clause-logged g c = search (rules, longer_bytes, c.event.ensures.logged, c.requires.logged)
 
 pub returns-in_err-event-in-Event-clause-sure : goal.returns-in_err-event-in-Event-clause-sure
 returns-in_err-event-in-Event-clause-sure g c = λ sure.
@@ -180,11 +173,8 @@ returns-in_err-event-in-Event-clause-sure g c = λ sure.
 
 pub returns-in_err-event-in-Event-clause-bytes : goal.returns-in_err-event-in-Event-clause-bytes
 returns-in_err-event-in-Event-clause-bytes g c =
-    all_bytes c.args.log.now.items c.event.new.state c.from_residual.result
-    (c.event.ensures.logged c.args.log.now.items c.requires.logged)
+    search (rules, all_bytes, c.event.ensures.logged c.args.log.now.items c.requires.logged)
 
 -- the entry that comes next is that of the Deliver, so the bio may name its bytes by it
 pub returns-in-Deliver-clause-made : goal.returns-in-Deliver-clause-made
-returns-in-Deliver-clause-made g c =
-    deliver_moves c.args.plan.now.commands c.args.log.now.items c.args.left.now c.args.state.now c.deliver.new.state
-    c.args.seat c.in-Deliver.bio c.in-Deliver.got outcomes.Delivered c.in-Deliver.is c.deliver.ensures.made
+returns-in-Deliver-clause-made g c = search (rules, deliver_moves, c.in-Deliver.is, c.deliver.ensures.made)
