@@ -25,9 +25,8 @@ use Rattle.geo_state.proofs.ShownLemmas.{shown_are_found}
 use Rattle.geo_state.proofs.LoggedLemmas.{grown_log_shows_the_same, places_stay_logged}
 use Rattle.geo_state.specs.declared.state.State.{State}
 use Rattle.geo_state.specs.Holds.{Holds}
-use Rattle.geo_state.specs.Steps.{Makes, SameWorld}
+use Rattle.geo_state.specs.Steps.{Makes, SameWorld, Stands}
 use Rattle.geo_state.specs.World.{world, HasBytes}
-use Rattle.geo_state.specs.Steps.{Stands}
 use Rattle.geo_core.specs.declared.running.Running.{Running}
 use Rattle.geo_commands.specs.Decisions.{places_owed}
 use Rattle.geo_core.specs.Goes.{HasRoomFor}

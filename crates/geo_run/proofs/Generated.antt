@@ -1,16 +1,14 @@
 -- The disks of each generated script are in memory.
 use Rattle.std.specs.Prelude.{All, false, ◌≡◌, ℕ, zero, suc, ◌+◌, ◌*◌, ◌<◌, ◌≤◌, ◌==◌, true, List, [], ◌∷◌, ◌++◌, length, codes, fold, Ok, Err, Result, is_ok}
 use Rattle.std.specs.Fmt.{digits}
-use Rattle.std.specs.List.{enumerate_from, slice_split}
-use Rattle.std.proofs.Common.{refl, ◌∙◌, ap, arith}
+use Rattle.std.specs.List.{enumerate_from, slice_split, AllByRecursion}
+use Rattle.std.proofs.Common.{refl, ◌∙◌, ap, arith, sym, subst}
 use Rattle.std.proofs.lemmas.List.{append_assoc, length-append}
 use Rattle.std.proofs.lemmas.List.Splits.{slice_split_at}
 use Rattle.std.proofs.lemmas.List.Sums.{fold-append}
 use Rattle.geo_model.specs.declared.command.DiskDecl.{DiskDecl}
 use Rattle.geo_model.specs.World.{Plan}
 use Rattle.geo_headline.specs.Outside.{IsShelf}
-use Rattle.std.specs.List.{AllByRecursion}
-use Rattle.std.proofs.Common.{sym, subst}
 use Rattle.std.proofs.lemmas.List.Elements.{All-from_recursion}
 use Rattle.geo_base.specs.declared.limits.TheConstants.{MAX_SCRIPT_LINES}
 use Rattle.geo_model.specs.Generator.{actor_lines, disk_lines, drawn_lines, draws, draw_value, first_lines, generated, next_draw}

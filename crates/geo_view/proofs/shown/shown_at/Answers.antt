@@ -1,6 +1,5 @@
 use Rattle.std.proofs.Common.{rules, sym, subst}
-use Rattle.geo_steps.specs.Passes.{MeshPass}
-use Rattle.geo_steps.specs.Passes.{IsGoodPass}
+use Rattle.geo_steps.specs.Passes.{MeshPass, IsGoodPass}
 use Rattle.geo_view.proofs.shown.shown_at.Goals as goal
 
 -- the pass was good when it was kept
