@@ -153,8 +153,6 @@ pub can_take_is : (t : Topology Config) (sector : ℕ) (config : Config) (k : �
     → r ≡ can_take t sector config k
 can_take_is t sector config k b r cs free holds fit are = search rules
 
--- Places
-
 -- Standing geoms
 
 -- what a geom has that is of an assembly

@@ -163,8 +163,6 @@ module _ (granted : ℕ → Counts) (q : QueuedTopology Config) (s : Taste) (p :
       taken got asked v (sym is ∙ told ∙ ap (verdict_back granted s) known) z
       (same ∙ ap (λ x. weighed granted s x r) known ∙ ap (weighed granted s f) is)
 
-module _ (t : TopoView Config) (events : List Event) (s : Taste) where
-
 -- a verdict leaves the mesh
 pub said_plain : (v : Option Verdict) (t : TopoView Config) (c : ℕ) → t ≡ with_said t c (said_of v)
 said_plain (Some (Accept shape)) t c = refl
