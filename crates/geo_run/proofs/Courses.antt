@@ -56,8 +56,7 @@ course_fate a m b ds xs ys kept c = each_fate m b ds ys kept c.apart c.given
 -- what is lent after the course
 pub course_lent : (a m b : ShelfView) (ds : List DiskDecl) (xs ys : List DriveView) (kept : List (List ℕ))
     → Course a m b ds xs ys kept → b.lent ≡ a.lent ++ kept
-course_lent a m b ds xs ys kept c =
-    gives_lend a.lent m b ds ys kept c.lent (none_lent a m ds xs c.had) c.apart c.given
+course_lent a m b ds xs ys kept c = gives_lend a.lent m b ds ys kept c.lent (none_lent a m ds xs c.had) c.apart c.given
 
 -- what is kept back
 pub course_back : (a m b : ShelfView) (ds : List DiskDecl) (xs ys : List DriveView) (kept : List (List ℕ))

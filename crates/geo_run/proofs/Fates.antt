@@ -95,8 +95,7 @@ each_before a m b n x first rest kept kind _ _ h e others each = absurd each
 
 -- a count that was counted on rose
 pub counted_rose : (before now after : ℕ) → now ≡ counted_on before → after ≡ now → Rose before after
-counted_rose before now after e s =
-    subst (λ (k : ℕ). Rose before k) (sym (s ∙ e)) (counted_many_rose 1 before)
+counted_rose before now after e s = subst (λ (k : ℕ). Rose before k) (sym (s ∙ e)) (counted_many_rose 1 before)
 
 -- the first disk
 fate_first : (a m b : ShelfView) (name : List ℕ) (x : DriveView) (first rest kept : List (List ℕ)) (kind : DiskKind)

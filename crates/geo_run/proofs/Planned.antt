@@ -89,8 +89,7 @@ fact_had a b d x disk_kinds.Shelf k decl h = record {
 pub facts_had : (a b : ShelfView) (ds : List DiskDecl) (xs : List DriveView) → AllByRecursion IsDiskDecl ds
     → EachHad a b ds xs → AllZip IsFact ds (map size_of xs)
 facts_had a b [] [] decls h = tt
-facts_had a b (d ∷ ds) (x ∷ xs) decls h =
-    (fact_had a b d x d.kind refl decls.0 h.0, facts_had a b ds xs decls.1 h.1)
+facts_had a b (d ∷ ds) (x ∷ xs) decls h = (fact_had a b d x d.kind refl decls.0 h.0, facts_had a b ds xs decls.1 h.1)
 facts_had a b _ _ decls h = absurd h
 
 -- What was there

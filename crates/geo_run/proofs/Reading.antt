@@ -46,8 +46,7 @@ text_ran text mode finish plan a b is ran due =
 -- the fault that a reading told
 fault_told : (text : List ℕ) (refusal : ParseRefusal) (line : ℕ) (cause : Cause) → Parses (Err refusal) (script text)
     → refusal ≡ refusals.Fault line cause → script text ≡ Err (record { line = line; cause = cause })
-fault_told text refusal line cause answer is =
-    subst (λ (r : ParseRefusal). Parses (Err r) (script text)) is answer
+fault_told text refusal line cause answer is = subst (λ (r : ParseRefusal). Parses (Err r) (script text)) is answer
 
 -- a text isn't a script
 pub text_faulty : (text : List ℕ) (mode : Mode) (finish : Finish) (refusal : ParseRefusal) (line : ℕ) (cause : Cause)
@@ -177,8 +176,7 @@ source_found limit s t text bytes finish stop a limit_is whole is found due log 
 pub script_refused : (answer : Result Verified TraceFault) (refusal : VerifyRefusal) (line : ℕ) (cause : Cause)
     → refusal ≡ verify_refusals.Script line cause → IsVerifyRefusal answer refusal
     → IsFoundIn answer (stops.NoScript line cause)
-script_refused answer refusal line cause is refused =
-    subst (λ (r : VerifyRefusal). IsVerifyRefusal answer r) is refused
+script_refused answer refusal line cause is refused = subst (λ (r : VerifyRefusal). IsVerifyRefusal answer r) is refused
 
 pub trace_refused : (answer : Result Verified TraceFault) (refusal : VerifyRefusal) (line : ℕ)
     → refusal ≡ verify_refusals.Trace line → IsVerifyRefusal answer refusal → IsFoundIn answer (stops.NoTrace line)

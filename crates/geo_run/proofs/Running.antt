@@ -59,10 +59,8 @@ whole_after : (mode : Mode) (read : List ℕ) (m : MeshView) (answer : Result (U
     (kept : Option (List ℕ)) (due : Due) → IsDueOf mode read m answer kept due → IsWhole (ending_by due)
     → IsWhole (ending_after answer)
 whole_after mode read m (Ok u) kept due is whole = tt
-whole_after mode read m (Err refusals.LogFull) kept due is whole =
-    subst (λ (d : Due). IsWhole (ending_by d)) is whole
-whole_after mode read m (Err refusals.NoMemory) kept due is whole =
-    subst (λ (d : Due). IsWhole (ending_by d)) is whole
+whole_after mode read m (Err refusals.LogFull) kept due is whole = subst (λ (d : Due). IsWhole (ending_by d)) is whole
+whole_after mode read m (Err refusals.NoMemory) kept due is whole = subst (λ (d : Due). IsWhole (ending_by d)) is whole
 
 report_cause : (mode : Mode) (plan : Plan) (w : World) (log : List Entry) (names : List (List ℕ))
     (kept : Option (List ℕ)) → kept ≡ slice_get names 0

@@ -59,8 +59,7 @@ module _ (words : List (List ℕ)) (mode : Mode) (finish : Finish) (source sourc
 
   -- the call, whatever is then written
   abbrev call_then : ℕ → SinkView → SinkView → Call
-  call_then status sink sink_after =
-      finished words finish source source_after shelf shelf_after status sink sink_after
+  call_then status sink sink_after = finished words finish source source_after shelf shelf_after status sink sink_after
 
   no_gen : {A : Type 0} → IsGen mode ⊎ ⊥ → A
   no_gen (inl gen) = absurd (not_gen gen)

@@ -104,14 +104,12 @@ shelf_names (d ∷ ds) = with_shelf d.kind d.name (shelf_names ds)
 take_lends : (a b : ShelfView) (d : DiskDecl) (x : DriveView) (rest : List (List ℕ)) (kind : DiskKind)
     → OpensDrive a d x b kind → b.lent ++ rest ≡ a.lent ++ with_shelf kind d.name rest
 take_lends a b d x rest disk_kinds.Ram h = ap (λ (v : ShelfView). v.lent ++ rest) h.1
-take_lends a b d x rest disk_kinds.Shelf h =
-    ap (λ names. names ++ rest) h.lent ∙ append_assoc a.lent (d.name ∷ []) rest
+take_lends a b d x rest disk_kinds.Shelf h = ap (λ names. names ++ rest) h.lent ∙ append_assoc a.lent (d.name ∷ []) rest
 
 pub takes_lend : (a b : ShelfView) (ds : List DiskDecl) (xs : List DriveView)
     → OpensDrives a ds xs b → b.lent ≡ a.lent ++ shelf_names ds
 takes_lend a b [] [] h = ap (λ (v : ShelfView). v.lent) h ∙ sym (append-nil a.lent)
-takes_lend a b (d ∷ ds) (x ∷ xs) h =
-    takes_lend h.0 b ds xs h.2 ∙ take_lends a h.0 d x (shelf_names ds) d.kind h.1
+takes_lend a b (d ∷ ds) (x ∷ xs) h = takes_lend h.0 b ds xs h.2 ∙ take_lends a h.0 d x (shelf_names ds) d.kind h.1
 takes_lend a b _ _ h = absurd h
 
 -- what was lent stays so

@@ -85,8 +85,7 @@ gives_no_fault a b (d ∷ ds) (x ∷ xs) kept h none = by d.kind h.4 (λ e. give
 
     by : (kind : DiskKind) → GivesDrive a d.name x h.1 h.0 kind → (h.2 ≡ [] → b.faults ≡ h.0.faults)
         → b.faults ≡ a.faults
-    by disk_kinds.Ram g more =
-        more (sym (h.3 ∙ ap (λ ks. ks ++ h.2) g.0) ∙ none) ∙ ap (λ (v : ShelfView). v.faults) g.1
+    by disk_kinds.Ram g more = more (sym (h.3 ∙ ap (λ ks. ks ++ h.2) g.0) ∙ none) ∙ ap (λ (v : ShelfView). v.faults) g.1
     by disk_kinds.Shelf g more = elim g [
       | inl given ↦ more (sym (h.3 ∙ ap (λ ks. ks ++ h.2) given.0) ∙ none) ∙ given.1.no_fault
       | inr held ↦ absurd (nothing_first d.name h.2 (sym (h.3 ∙ ap (λ ks. ks ++ h.2) held.0) ∙ none))

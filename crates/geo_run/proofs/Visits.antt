@@ -65,8 +65,7 @@ take_called a b d x rest disk_kinds.Shelf h =
 takes_called : (a b : ShelfView) (ds : List DiskDecl) (xs : List DriveView) → OpensDrives a ds xs b
     → b.calls ≡ a.calls ++ takes_of (shelf_names ds)
 takes_called a b [] [] h = ap (λ (v : ShelfView). v.calls) h ∙ sym (append-nil a.calls)
-takes_called a b (d ∷ ds) (x ∷ xs) h =
-    takes_called h.0 b ds xs h.2 ∙ take_called a h.0 d x (shelf_names ds) d.kind h.1
+takes_called a b (d ∷ ds) (x ∷ xs) h = takes_called h.0 b ds xs h.2 ∙ take_called a h.0 d x (shelf_names ds) d.kind h.1
 takes_called a b _ _ h = absurd h
 
 -- so is one by which no disk was had
@@ -126,8 +125,7 @@ all_in_order plan ending log a m b xs ys kept missed opens gives = record {
 -- the disk that couldn't be had is the one that is told
 missed_told : (a b : ShelfView) (d : DiskDecl) (stop : Stop) (kind : DiskKind) → OpensNoDrive a d stop b kind
     → IsMissedAt (ending_of stop) (with_shelf kind d.name [])
-missed_told a b d stop disk_kinds.Ram h =
-    subst (λ (s : Stop). IsMissedAt (ending_of s) []) (sym h.0) (omega arith)
+missed_told a b d stop disk_kinds.Ram h = subst (λ (s : Stop). IsMissedAt (ending_of s) []) (sym h.0) (omega arith)
 missed_told a b d stop disk_kinds.Shelf h = by stop h.cause
   where
     by : (s : Stop) → TakeCause a d s b → IsMissedAt (ending_of s) (d.name ∷ [])

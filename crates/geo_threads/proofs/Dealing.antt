@@ -81,8 +81,7 @@ module _ {X : Type 0} where
       → AllZip R (merged xs ys) (merged us vs)
   merged_zip R [] [] ys vs one two = two
   merged_zip R (x ∷ xs) (u ∷ us) [] [] one two = one
-  merged_zip R (x ∷ xs) (u ∷ us) (y ∷ ys) (v ∷ vs) one two =
-      (one.0, (two.0, merged_zip R xs us ys vs one.1 two.1))
+  merged_zip R (x ∷ xs) (u ∷ us) (y ∷ ys) (v ∷ vs) one two = (one.0, (two.0, merged_zip R xs us ys vs one.1 two.1))
   merged_zip R [] (u ∷ us) ys vs one two = absurd one
   merged_zip R (x ∷ xs) [] ys vs one two = absurd one
   merged_zip R (x ∷ xs) (u ∷ us) [] (v ∷ vs) one two = absurd two
@@ -204,8 +203,7 @@ module _ {D : Type 0} (seen : Drive D → DriveView) (log : List Entry) where
   served_from n [] [] zip k = tt
   served_from n [] (y ∷ ys) zip k = absurd zip
   served_from n (x ∷ xs) [] zip k = absurd zip
-  served_from n (x ∷ xs) (y ∷ ys) zip zero =
-      subst (λ m. IsServed log m (seen x) (seen y.1)) (omega arith) zip.0.1
+  served_from n (x ∷ xs) (y ∷ ys) zip zero = subst (λ m. IsServed log m (seen x) (seen y.1)) (omega arith) zip.0.1
   served_from n (x ∷ xs) (y ∷ ys) zip (suc k) =
       subst (λ m. IsServedAt log m (slice_get (map seen xs) k)
       (slice_get (map seen (map (λ (z : ℕ × Drive D). z.1) ys)) k)) (omega arith)

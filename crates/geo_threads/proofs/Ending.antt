@@ -208,8 +208,7 @@ module _ {D : Type 0} (opened : World) (plan : Plan) (drives : List (Drive D)) (
       subst (λ k. IsWaiting opened q k) (sym kept.0) cause
   ended_as seen added (roles.Client a) (roles.Client b) turns.Finished role kept cause =
       subst (λ k. HasFinished opened q.seen k) (sym kept.0) cause
-  ended_as seen added (roles.Events a) (roles.Events b) turns.Idle role kept cause =
-      tried_each (λ s is. cause s is)
+  ended_as seen added (roles.Events a) (roles.Events b) turns.Idle role kept cause = tried_each (λ s is. cause s is)
   ended_as seen added _ (roles.Client b) turns.Idle role kept cause = absurd kept
   ended_as seen added _ (roles.Events b) turns.Idle role kept cause = absurd kept
   ended_as seen added _ _ turns.Idle role kept cause = tt
@@ -291,8 +290,7 @@ module _ (plan : Plan) (mine : List Entry) (n : ℕ) where
   down_mine is _ of = absurd of
 
   up_mine : n ≡ length plan.actors + 3 → (s : Step) → IsOfUp s → IsMine plan mine n s
-  up_mine is (steps.Up bio) of =
-      known (λ none. omega (arith, is, none)) (steps.Up bio) (omega (arith, is)) tt tt tt
+  up_mine is (steps.Up bio) of = known (λ none. omega (arith, is, none)) (steps.Up bio) (omega (arith, is)) tt tt tt
   up_mine is _ of = absurd of
 
   disk_mine : {X : Type 0} (worker : ℕ) (drives : List X) → worker < 2 → n ≡ length plan.actors + 4 + worker
@@ -367,8 +365,7 @@ module _ {D : Type 0} (y : MeshYard) (seen : Drive D → DriveView) (drives : Li
       → AllByRecursion (λ (p : MeshPass). IsGoodIn (λ (e : Entry). e.seat) p log) (passes_of ws)
       → AllByRecursion (λ (p : MeshPass). All (IsMineOf p.number) p.own) (passes_of ws)
   mine_all n [] ended good = tt
-  mine_all n (w ∷ ws) ended good =
-      (mine_one n w ended.0 good.0, mine_all (n + 1) ws ended.1 good.1)
+  mine_all n (w ∷ ws) ended good = (mine_one n w ended.0 good.0, mine_all (n + 1) ws ended.1 good.1)
 
   -- each entry of the log
   pub each_mine : (first : MeshPass) (ws : List (Worker D)) → first.own ≡ []

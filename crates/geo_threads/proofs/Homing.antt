@@ -54,8 +54,7 @@ pub ran_view : {D : Type 0} (y : MeshYard) (lanes : Lanes) (seen : Drive D → D
 ran_view y lanes seen [] [] ran = refl
 ran_view y lanes seen [] (v ∷ vs) ran = absurd ran
 ran_view y lanes seen (w ∷ ws) [] ran = absurd ran
-ran_view y lanes seen (w ∷ ws) (v ∷ vs) ran =
-    role_view seen ran.0.ran.added w.job.role v.job.role ran.0.ran.kept
+ran_view y lanes seen (w ∷ ws) (v ∷ vs) ran = role_view seen ran.0.ran.added w.job.role v.job.role ran.0.ran.kept
 
 -- who looked at what the first shows still looks at what is taken away from the first
 pub looks_meet : {D : Type 0} (before after : Option WatcherView) (p : Option PublisherView) (ws vs : List (Worker D))
@@ -116,8 +115,7 @@ module _ {D : Type 0} (ws vs : List (Worker D)) (same : answers_of vs ≡ answer
 
   -- the same end
   pub ends_alike : (e : JobsEnd) → IsEndOf vs e → IsEndOf ws e
-  ends_alike ends.Idle ended =
-      all_alike (λ (t : Turn). (t ≢ turns.NoMemory) × (t ≢ turns.LogFull)) ended
+  ends_alike ends.Idle ended = all_alike (λ (t : Turn). (t ≢ turns.NoMemory) × (t ≢ turns.LogFull)) ended
   ends_alike ends.LogFull ended = (
     all_alike (λ (t : Turn). t ≢ turns.NoMemory) ended.0,
     any_alike (λ (t : Turn). t ≡ turns.LogFull) ended.1,
@@ -164,8 +162,7 @@ module _ {D : Type 0} (ws : List (Worker D)) (w : Worker D) where
   by_answer : (f : JobsEnd) (a : Turn) → w.answer ≡ a → IsEndOf ws f → IsEndOf (ws ++ w ∷ []) (worse f a)
   by_answer f turns.NoMemory is of = any_last Lacks ws w is
   by_answer ends.NoMemory turns.LogFull is of = any_front Lacks ws w of
-  by_answer ends.LogFull turns.LogFull is of =
-      (All-push HasMemory ws w of.0 (full_memory is), any_last IsFull ws w is)
+  by_answer ends.LogFull turns.LogFull is of = (All-push HasMemory ws w of.0 (full_memory is), any_last IsFull ws w is)
   by_answer ends.Idle turns.LogFull is of = (
     All-push HasMemory ws w (All-weaker IsCalm HasMemory (λ x its. its.0) ws of) (full_memory is),
     any_last IsFull ws w is,

@@ -81,8 +81,7 @@ module _ {D : Type 0} (seen : Drive D → DriveView) (actors : ℕ) (drives : Li
 
   has_list : (n worker : ℕ) (q : MeshPass) (role : Role D) → n ≡ actors + 4 + worker
       → DidAs seen actors drives n q role → HasList worker q role
-  has_list n worker q (roles.Client j) is did =
-      absurd (let lt = did.0 in let e = did.1 in omega (arith, e, lt, is))
+  has_list n worker q (roles.Client j) is did = absurd (let lt = did.0 in let e = did.1 in omega (arith, e, lt, is))
   has_list n worker q (roles.Disk j) is did =
       let same : j.worker ≡ worker = (let e = did.1 in omega (arith, e, is)) in
       (j.drives, refl, subst (λ k. HasServed seen q.own (dealt k drives) j.drives.items) same did.3)
@@ -395,8 +394,7 @@ module _ {D : Type 0} {y : MeshYard} {lanes : Lanes} {seen : Drive D → DriveVi
 
 module _ (m : MeshView) (y : MeshYard) (none : m.log ≡ []) (start : y.start ≡ mesh_start m) where
   pub begins : mesh_of y.start [] ≡ m
-  begins =
-      ap (λ (s : MeshStart). mesh_of s []) start ∙ ap (λ (l : List Entry). mesh_of (mesh_start m) l) (sym none)
+  begins = ap (λ (s : MeshStart). mesh_of s []) start ∙ ap (λ (l : List Entry). mesh_of (mesh_start m) l) (sym none)
 
   pub begins_history : IsHistory m → IsHistory (mesh_of y.start [])
   begins_history law = subst (λ (x : MeshView). IsHistory x) (sym begins) law

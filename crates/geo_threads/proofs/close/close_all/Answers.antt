@@ -50,5 +50,4 @@ returns-clause-drives g c =
     (c.take_back.ensures.lists ∙ ap (λ l. l ++ lists_of c.args.workers.items) c.requires.room.no_list)
 
 pub returns-clause-ended : goal.returns-clause-ended
-returns-clause-ended g c =
-    subst (λ l. IsEndOf l c.end_of-ended.result) c.as_slice.ensures.value c.end_of-ended.ensures
+returns-clause-ended g c = subst (λ l. IsEndOf l c.end_of-ended.result) c.as_slice.ensures.value c.end_of-ended.ensures
