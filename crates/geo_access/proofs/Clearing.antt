@@ -179,8 +179,10 @@ module _ {C : Type 0} (t : TopoView C) where
               (λ n. all.made n ∙ none (has_number xs n) no_counts (s.made n) (made n)) (λ n. refl),
           ap
               (λ rows. record t {
-                scratches = record t.scratches
-                    { geoms = rows_of (λ (x : Geom C). x.number) (geom_tries no_tries) t.topology.geoms; providers = rows };
+                scratches = record t.scratches {
+                  geoms = rows_of (λ (x : Geom C). x.number) (geom_tries no_tries) t.topology.geoms;
+                  providers = rows;
+                };
               })
               (rows-same_on (λ (y : Provider). y.number) (provider_tries (record no_tries { gains = all.tries.gains }))
               (provider_tries no_tries) t.topology.providers

@@ -186,8 +186,8 @@ module _ {C : Type 0} (t : TopoView C) (sound : IsSoundGraph t.topology) where
                     (all_of (λ (y : Consumer). not (y.number == c) ≡ false → want granted t.topology y ≡ no_counts)
                     t.topology.consumers (wants_nothing granted stored)));
                 wants = λ granted stored. ap
-                    (λ rows. without rows c) stored ∙ without_rows (λ (y : Consumer). y.number) (want granted t.topology)
-                    t.topology.consumers c;
+                    (λ rows. without rows c) stored
+                    ∙ without_rows (λ (y : Consumer). y.number) (want granted t.topology) t.topology.consumers c;
                 haves = λ f same. same;
                 geoms = λ g there. there;
                 risen_keys = λ same. same;

@@ -233,7 +233,11 @@ module _ {C : Type 0} (t : Tables C) (whole : IsWhole t) where
         };
       })
   whole-without_consumer n v rising at free = record {
-    tables = search (rules, without_consumer-view t n, indexed-remove_consumer (graph t) t.edges.index whole.tables.indexed n);
+    tables = search (
+      rules,
+      without_consumer-view t n,
+      indexed-remove_consumer (graph t) t.edges.index whole.tables.indexed n,
+    );
     ranks =
         beside_index t.geoms
         (record t.edges { consumers = record t.edges.consumers { rows = without t.edges.consumers.rows n } }) t.live
