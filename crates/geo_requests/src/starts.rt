@@ -34,7 +34,7 @@ pub fn start(alloc: Global, state: &mut State, bio: BioId) -> Result<Outcome, No
     ensures logged { (log : List Entry) → HasBytes log state.old → HasBytes log state.new }
 {
     let Some(found) = state.traffic.get(bio) else {
-        return Err(NoMemory);
+        unreachable!()
     };
     let way = way_of(alloc, &state.topo, found)?;
     match way {

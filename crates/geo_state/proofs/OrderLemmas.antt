@@ -1,5 +1,5 @@
 -- Bios in order of their numbers, and the one of a number among them.
-use Rattle.std.proofs.Common.{◌≡◌, ℕ, suc, ◌+◌, ◌<◌, ◌≤◌, ◌==◌, List, [], ◌∷◌, ◌++◌, length, map, not, cond, Bool, true, false, Some, sym, refl, ap, ◌∙◌, subst, arith, rules}
+use Rattle.std.proofs.Common.{◌≡◌, ℕ, suc, ◌+◌, ◌<◌, ◌≤◌, ◌==◌, List, [], ◌∷◌, ◌++◌, length, map, not, cond, Bool, true, false, Some, None, sym, refl, ap, ◌∙◌, subst, arith, rules}
 use Rattle.std.specs.List.{AllByRecursion}
 use Rattle.std.specs.List.Sorted.{IsStrictlyIncreasing}
 use Rattle.std.proofs.lemmas.Bool.{eqb-true, eq-eqb, ne_eqb}
@@ -100,6 +100,11 @@ number_below t order n x found =
 pub bio_in : (test : Phase → Bool) (bios : List (BioOf Held)) (n : ℕ) → has_phase test bios n ≡ true
     → (x : BioOf Held) × (bio_among bios n ≡ Some x) × (test x.phase ≡ true)
 bio_in test bios n passes = search rules
+
+-- so none of its number isn't
+pub bio_stands : (test : Phase → Bool) (bios : List (BioOf Held)) (n : ℕ) → has_phase test bios n ≡ true
+    → bio_among bios n ≡ None → ⊥
+bio_stands test bios n passes none = search (rules, bio_in test bios n passes)
 
 -- where the bio of a number stands: those before it have lower numbers, those behind it higher ones
 pub record StandsAt (bios : List (BioOf Held)) (n : ℕ) (x : BioOf Held) : Type 0 where

@@ -41,7 +41,7 @@ pub fn up<B: LogBytes>(
     ensures kept { Holds state.new }
 {
     let Some(found) = state.traffic.get(bio) else {
-        return Err(NoMemory);
+        unreachable!()
     };
     let from = found.from;
     let owner = found.owner;

@@ -1,13 +1,23 @@
-use Rattle.std.proofs.Common.{sym, subst}
+use Rattle.std.proofs.Common.{Option, sym, ◌∙◌, ap, subst}
+use Rattle.std.specs.Option.{option_copied, option_map}
 use Rattle.std.specs.Prelude.{IsTrue}
 use Rattle.geo_model.specs.declared.step.Outcome.TheVariants as outcomes
 use Rattle.geo_model.specs.World.{is_down}
 use Rattle.geo_model.specs.Bios.{Bounces, Fails, Sends, Splits, Passes}
 use Rattle.geo_bio.specs.BioTable.{has_phase}
+use Rattle.geo_bio.specs.declared.bio.Bio.{Bio}
 use Rattle.geo_bio.specs.Rows.{as_bio}
 use Rattle.geo_state.specs.declared.state.State.{State}
+use Rattle.geo_state.proofs.OrderLemmas.{bio_stands}
 use Rattle.geo_requests.proofs.Started.{can_go_down, went, went_by, split_well, pass_well, bounced_started, failed_started, sent_started}
 use Rattle.geo_requests.proofs.starts.start.Goals as goal
+
+-- a bio that is Down is there
+pub unreachable-requires : goal.unreachable-requires
+unreachable-requires c =
+    bio_stands is_down c.args.state.now.traffic.bios c.args.bio c.requires.down
+    (sym c.get.ensures.found ∙ ap (λ (o : Option Bio). option_map (as_bio c.args.bio) o)
+    (ap option_copied c.in_default.is))
 
 -- a bio that is there can go down
 pub way_of-requires : goal.way_of-requires

@@ -1,6 +1,18 @@
+use Rattle.std.proofs.Common.{Option, sym, ◌∙◌, ap}
+use Rattle.std.specs.Option.{option_copied, option_map}
+use Rattle.geo_model.specs.World.{is_up}
+use Rattle.geo_bio.specs.declared.bio.Bio.{Bio}
 use Rattle.geo_bio.specs.Rows.{as_bio}
+use Rattle.geo_state.proofs.OrderLemmas.{bio_stands}
 use Rattle.geo_state.proofs.Rises.{back-lives, back-out, back-own, holds-back}
 use Rattle.geo_state.proofs.ups.up.Goals as goal
+
+-- a bio that is Up is there
+pub unreachable-requires : goal.unreachable-requires
+unreachable-requires g c =
+    bio_stands is_up c.args.state.now.traffic.bios c.args.bio c.requires.up
+    (sym c.get.ensures.found ∙ ap (λ (o : Option Bio). option_map (as_bio c.args.bio) o)
+    (ap option_copied c.in_default.is))
 
 -- for each condition: a bio that is Up is out through its consumer still, and is counted there and of its owner
 pub come_back-requires-clause-lives : goal.come_back-requires-clause-lives
