@@ -4,3 +4,4 @@ pub mod Noting
 pub mod Full
 pub mod Lines
 pub mod Waiting
+pub mod HandedOn

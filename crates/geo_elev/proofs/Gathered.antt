@@ -16,8 +16,8 @@ use Rattle.geo_model.specs.Fitting.{Firm}
 use Rattle.geo_headline.specs.Sweep.{Waiting, waiting_of, is_sent_to, head_after, head_of, waiting_for}
 use Rattle.geo_laws_graph.proofs.Lists.{Rise, rise-from, found_itself}
 use Rattle.geo_laws_graph.proofs.Members.{find-Contains}
-use Rattle.geo_laws_disks.proofs.Legal.{firm_after}
 use Rattle.geo_drain.specs.Meshes.{Spot, MeshView, IsHistory, world_of, spot_in, spot_of}
+use Rattle.geo_drain.proofs.HandedOn.{firm_after}
 use Rattle.geo_elev.specs.declared.disks.DiskHead.{DiskHead}
 use Rattle.geo_elev.specs.Lists.{are_below, one_at}
 use Rattle.geo_elev.specs.Disks.{ChangesOne, HeadMoves, Queues}

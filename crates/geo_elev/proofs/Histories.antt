@@ -16,10 +16,10 @@ use Rattle.geo_model.specs.Step.{Answer, step}
 use Rattle.geo_model.specs.Log.{IsPrefixOf, Legal, after_entry, world_after, replay}
 use Rattle.geo_model.specs.Fitting.{Firm}
 use Rattle.geo_model.proofs.LogLemmas.{replay-append, Legal-back}
-use Rattle.geo_laws_disks.proofs.Legal.{firm_after, opening_none}
 use Rattle.geo_headline.specs.Sweep.{waiting_for, head_of, head_after, Waiting, is_sent_to, waiting_of}
 use Rattle.geo_laws_sweep.specs.SweepLaws.{is_queued, is_asked}
 use Rattle.geo_drain.specs.Meshes.{MeshView, IsHistory, opened, world_of, spot_of}
+use Rattle.geo_drain.proofs.HandedOn.{firm_after, opening_disks, opening_none}
 use Rattle.geo_elev.specs.declared.disks.DiskHead.{DiskHead}
 use Rattle.geo_elev.specs.Lists.{one_at}
 use Rattle.geo_elev.specs.Heads.{AreHeads, HeadsView, disk_head, disk_heads, no_head, no_heads}
@@ -29,7 +29,6 @@ use Rattle.geo_elev.proofs.Gathered.{spot_waits}
 use Rattle.geo_model.specs.declared.command.DiskDecl.{DiskDecl}
 use Rattle.geo_model.specs.Opening.{disk_in_size}
 use Rattle.geo_model.specs.Plans.{IsFact}
-use Rattle.geo_laws_disks.proofs.Drives.{opening_disks}
 use Rattle.geo_model.specs.declared.step.Outcome.TheVariants as outcomes
 
 -- an answer that is made as the entry says

@@ -10,12 +10,11 @@ use Rattle.geo_model.specs.Step.{is_enabled}
 use Rattle.geo_model.specs.Words.{first_some}
 use Rattle.geo_model.specs.World.{World, HeaderDisk}
 use Rattle.geo_headline.specs.Sweep.{Waiting, candidates, enabled_one, first_take, head_of, next_of, next_take, waiting_for, pick_sweep}
-use Rattle.geo_laws_disks.proofs.Inside.{disks_are_asked}
-use Rattle.geo_laws_disks.proofs.Legal.{firm_after}
 use Rattle.geo_laws_sweep.proofs.ElevatorFacts.{next_holds}
 use Rattle.geo_laws_sweep.proofs.Sweeping.{first_holds}
 use Rattle.geo_drain.proofs.Waiting.{waiting_can_be_taken}
 use Rattle.geo_drain.specs.Meshes.{MeshView, IsHistory, opened, world_of}
+use Rattle.geo_drain.proofs.HandedOn.{disks_are_asked, firm_after}
 use Rattle.geo_elev.specs.declared.disks.DiskHead.{DiskHead}
 use Rattle.geo_elev.specs.Heads.{AreHeads, HeadsView, disk_head, first_by, take_by}
 use Rattle.geo_elev.specs.Due.{before_takes, behind_takes, steps_before, steps_behind}
