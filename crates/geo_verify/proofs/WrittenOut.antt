@@ -1,8 +1,8 @@
 -- What is written as a trace is one.
-use Rattle.std.specs.Prelude.{◌≡◌, ℕ, ◌+◌, ◌-◌, ◌<◌, ◌≤◌, ◌==◌, ◌^◌, true, false, List, [], ◌∷◌, ◌++◌, length, take, flat_map, zip, All, Option, slice_get, zero, suc}
+use Rattle.std.specs.Prelude.{◌≡◌, ℕ, ◌+◌, ◌-◌, ◌<◌, ◌≤◌, ◌==◌, ◌^◌, true, false, List, [], ◌∷◌, ◌++◌, length, take, flat_map, zip, All, Option, slice_get, suc}
 use Rattle.std.specs.List.{AllByRecursion}
 use Rattle.std.specs.Option.{option_map_or}
-use Rattle.std.proofs.Common.{refl, sym, ◌∙◌, ap, arith, subst, get_or, add-one}
+use Rattle.std.proofs.Common.{refl, sym, ◌∙◌, ap, arith, subst}
 use Rattle.std.proofs.lemmas.List.{take_all}
 use Rattle.std.proofs.lemmas.List.Elements.{All-from_recursion, recursion_from_All}
 use Rattle.std.proofs.lemmas.List.Folds.{flat_map-map}
@@ -51,18 +51,6 @@ is_trace_text script plan facts log report =
 -- an entry within its ranges, if it delivers few bytes
 abbrev pub FitsLine : Entry → Type 0
 FitsLine e = (e.seat < 2 ^ 32) × (FewBytes e.step → IsWritable e.step)
-
--- one more of some
-pub one_more : (es : List Entry) (i : ℕ) (e : Entry) → i < length es → e ≡ get_or es i e
-    → AllByRecursion FitsLine (take i es) → FitsLine e → AllByRecursion FitsLine (take (i + 1) es)
-one_more es i e within is all one =
-    subst (λ (n : ℕ). AllByRecursion FitsLine (take n es)) (sym (add-one i)) (by es i within is all)
-  where
-    by : (es : List Entry) (i : ℕ) → i < length es → e ≡ get_or es i e → AllByRecursion FitsLine (take i es)
-        → AllByRecursion FitsLine (take (suc i) es)
-    by [] i within is all = absurd (omega arith)
-    by (x ∷ xs) zero within is all = (subst FitsLine is one, tt)
-    by (x ∷ xs) (suc i) within is all = (all.0, by xs i (omega arith) is all.1)
 
 items_fit : (log : List Entry) → AllByRecursion (λ (e : Entry). FewBytes e.step) log → AllByRecursion FitsLine log
     → AllByRecursion (λ (item : ℕ × Step). (item.0 < 2 ^ 32) × IsWritable item.1) (steps_of log)

@@ -26,7 +26,6 @@
 mod answer;
 mod cut;
 mod finding;
-mod fits;
 mod line;
 mod make;
 mod place;

@@ -1,14 +1,15 @@
 //! Traces are written.
-ghost use Rattle.std.specs.Prelude.{◌≡◌, ◌++◌, length, zip, flat_map, IfOk, OnOk};
+ghost use Rattle.std.specs.Prelude.{◌≡◌, ◌++◌, ◌<◌, ◌^◌, length, zip, flat_map, All, IfOk, OnOk};
+ghost use Rattle.geo_model.specs.declared.step.DeviceResult.TheVariants.{Bytes};
 ghost use Rattle.geo_model.specs.Log.{Legal};
 ghost use Rattle.geo_model.specs.Opening.{opening};
 ghost use Rattle.geo_model.specs.Plans.{FactsFit};
 ghost use Rattle.geo_model.specs.Report.{end_line};
 ghost use Rattle.geo_model.specs.Script.{IsScript};
-ghost use Rattle.geo_headline.specs.Traces.{answer_text, ended_script, report_mark, size_line, step_line, step_text, trace_text, IsTrace};
-ghost use Rattle.geo_verify.specs.Written.{is_last_line_ended, trace_of, written_of};
+ghost use Rattle.geo_headline.specs.Traces.{answer_text, ended_script, report_mark, size_line, step_line, step_text, trace_text, IsTrace, steps_of};
+ghost use Rattle.geo_laws_traces.specs.TraceLaws.{AreWritable, FewBytes, IsWritable, IsWritableAnswer};
+ghost use Rattle.geo_verify.specs.Written.{is_last_line_ended, trace_of, written_of, IsShortAnswer};
 
-use crate::fits::are_writable;
 use geo_base::{Block, NoMemory};
 use geo_log::{DiskFacts, Log};
 use geo_model::{DeviceResult, DiskDecl, DiskKind, Entry, Step};
@@ -23,23 +24,31 @@ const REPORT_LINE: &[u8] = b"% report\n";
 /// As many bytes as the sizes of sixteen disks, two line feeds and the mark of the report can take.
 const FRAME: usize = 512;
 
-/// What a device answered.
+/// Bytes that a disk gave, as runs. Each is below 256.
+fn add_bytes(text: &mut Text, bytes: &[u8]) -> Result<(), NoMemory>
+    ensures text { OnOk result (text.new ≡ text.old ++ answer_text (Bytes bytes.now)) }
+    ensures fits { OnOk result (All (λ b. b < 256) bytes.now) }
+{
+    text.add(b"bytes ")?;
+    add_runs(text, bytes)
+}
+
+/// What a device answered. What is written is within the ranges of its line, where the bytes aren't too many.
 fn add_answer(text: &mut Text, got: &DeviceResult) -> Result<(), NoMemory>
-    ensures { OnOk result (text.new ≡ text.old ++ answer_text got.now) }
+    ensures text { OnOk result (text.new ≡ text.old ++ answer_text got.now) }
+    ensures fits { OnOk result (IsShortAnswer got.now → IsWritableAnswer got.now) }
 {
     match got {
         DeviceResult::Done => text.add(b"done"),
         DeviceResult::Failed { done } => text.add_labelled(b"failed ", u64::from(*done)),
-        DeviceResult::Bytes(bytes) => {
-            text.add(b"bytes ")?;
-            add_runs(text, bytes.bytes())
-        }
+        DeviceResult::Bytes(bytes) => add_bytes(text, bytes.bytes()),
     }
 }
 
-/// A step.
+/// A step. Its numbers and bytes are within the ranges of a trace, where it doesn't deliver too many bytes.
 fn add_step(text: &mut Text, step: &Step) -> Result<(), NoMemory>
-    ensures { OnOk result (text.new ≡ text.old ++ step_text step.now) }
+    ensures text { OnOk result (text.new ≡ text.old ++ step_text step.now) }
+    ensures fits { OnOk result (FewBytes step.now → IsWritable step.now) }
 {
     match step {
         Step::Go { actor } => text.add_labelled(b"go ", u64::from(*actor)),
@@ -63,18 +72,23 @@ fn add_step(text: &mut Text, step: &Step) -> Result<(), NoMemory>
 
 /// The line of an entry: its seat and its step.
 fn add_line(text: &mut Text, entry: &Entry) -> Result<(), NoMemory>
-    ensures { OnOk result (text.new ≡ text.old ++ step_line (entry.now.seat, entry.now.step)) }
+    ensures text { OnOk result (text.new ≡ text.old ++ step_line (entry.now.seat, entry.now.step)) }
+    ensures seat { OnOk result (entry.now.seat < 2 ^ 32) }
+    ensures fits { OnOk result (FewBytes entry.now.step → IsWritable entry.now.step) }
 {
-    text.add_labelled(b"% ", u64::from(entry.seat))?;
+    let seat = entry.seat;
+    text.add_labelled(b"% ", u64::from(seat))?;
     text.add(b" ")?;
     add_step(text, &entry.step)?;
     text.add(b"\n")
 }
 
-/// The lines of the entries of a log.
+/// The lines of the entries of a log. They can be read again where no step delivers more bytes than a request can ask
+/// for.
 fn add_lines(text: &mut Text, entries: &[Entry]) -> Result<(), NoMemory>
-    ensures { OnOk result (text.new
+    ensures text { OnOk result (text.new
         ≡ text.old ++ flat_map (λ e. step_line (e.seat, e.step)) entries.now) }
+    ensures fits { OnOk result (All (λ e. FewBytes e.step) entries.now → AreWritable (steps_of entries.now)) }
 {
     for entry in entries {
         add_line(text, entry)?;
@@ -162,8 +176,9 @@ fn add_trace(
     report: &[u8],
 ) -> Result<(), NoMemory>
     requires { FactsFit plan.now facts.now.items }
-    ensures { OnOk result (text.new
+    ensures text { OnOk result (text.new
         ≡ text.old ++ written_of script.now plan.now facts.now.items log.now.items report.now) }
+    ensures fits { OnOk result (All (λ e. FewBytes e.step) log.now.items → AreWritable (steps_of log.now.items)) }
 {
     add_front(text, script, plan.disks(), facts.items())?;
     add_lines(text, log.entries())?;
@@ -200,7 +215,6 @@ pub fn trace_text(
         b ≡ trace_text script.now (trace_of plan.now facts.now.items log.now.items report.now)) }
     ensures trace { IfOk result (λ b. IsTrace b (trace_of plan.now facts.now.items log.now.items report.now)) }
 {
-    are_writable(log.entries());
     let lines = lines_len(alloc, log.entries())?;
     let room = lines
         .saturating_add(script.len())
