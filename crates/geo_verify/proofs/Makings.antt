@@ -1,7 +1,7 @@
 -- Steps that are made one after the other.
-use Rattle.std.specs.Prelude.{◌≡◌, ℕ, ◌+◌, ◌<◌, ◌≤◌, nat_lt, true, false, List, [], ◌∷◌, ◌++◌, length, Some, None, Result, Ok, Err, IsErr, IsTrue}
-use Rattle.std.proofs.Common.{refl, sym, ◌∙◌, ap, arith, subst}
-use Rattle.std.proofs.lemmas.Bool.{le-ltb, lt-ltb}
+use Rattle.std.specs.Prelude.{◌≡◌, ℕ, ◌+◌, ◌≤◌, nat_lt, true, false, List, [], ◌∷◌, ◌++◌, length, Some, None, Result, Ok, Err, IsErr, IsTrue}
+use Rattle.std.proofs.Common.{refl, sym, ◌∙◌, ap, arith, subst, rules}
+use Rattle.std.proofs.lemmas.Bool.{le-ltb}
 use Rattle.std.proofs.lemmas.List.{append_assoc, append-nil, length-append}
 use Rattle.geo_base.specs.declared.limits.TheConstants.{MAX_LOG_ENTRIES, MAX_TRACE_BYTES}
 use Rattle.geo_model.specs.declared.step.Entry.{Entry}
@@ -14,13 +14,13 @@ use Rattle.geo_model.specs.Step.{Answer, step}
 use Rattle.geo_model.specs.Fitting.{Firm}
 use Rattle.geo_laws_traces.proofs.Owes.{firm_after, owes_one_more, owes_few}
 use Rattle.geo_headline.specs.Traces.{read_steps, report_mark, parts_of, marked, seat_and_step, then_read}
-use Rattle.geo_core.specs.Mesh.{MeshView, opened, world_of, IsHistory, Made, Advances, entry_of}
+use Rattle.geo_core.specs.Mesh.{MeshView, opened, world_of, IsHistory, Advances, entry_of}
 use Rattle.geo_core.specs.declared.refusal.ApplyRefusal.{ApplyRefusal}
 use Rattle.geo_core.specs.declared.refusal.ApplyRefusal.TheVariants as refusals
 use Rattle.geo_verify.specs.declared.place.Place.{Place}
 use Rattle.geo_verify.specs.Forms.{steps_from}
 use Rattle.geo_verify.specs.Making.{MakesSteps, TriesLine}
-use Rattle.geo_verify.proofs.StepsRead.{Rest, line_read, mark_read}
+use Rattle.geo_verify.proofs.StepsRead.{Rest, line_read}
 
 -- a log of few entries has a place for each step
 room_by : (n : ℕ) (w : World) (a : Answer) → n + 1 + owed (world_after w a) ≤ MAX_LOG_ENTRIES
@@ -97,8 +97,7 @@ pub ends : (old now : MeshView) (start : Place) (number : ℕ) (text line behind
     → MakesSteps old now start None
 ends old now start number text line behind going parts mark =
     let none : going.left ≡ [] =
-    no_more going.left going.report behind (read_steps number (parts_of text)) going.reads
-    (mark_read number text line behind parts mark) in
+    search rules in
     let log : made (opened old) going.items ≡ now.log =
     going.makes ∙ ap (λ (l : List (ℕ × Step)). now.log ++ made (world_of now) l) none ∙ append-nil now.log in
     let long : length going.items ≡ length (made (opened old) going.items) =
@@ -126,10 +125,7 @@ record IsNext (left : List (ℕ × Step)) (report : List ℕ) (item : ℕ × Ste
 next_is : (left : List (ℕ × Step)) (report : List ℕ) (item : ℕ × Step) (rest : Result Rest ℕ)
     → then_read {A = Rest} {B = Rest} rest (λ more. Ok (item ∷ more.0, more.1)) ≡ Ok (left, report)
     → IsNext left report item rest
-next_is left report item (Ok more) is =
-    let same : (item ∷ more.0) ≡ left = ap left_of is in
-    let same_report : more.1 ≡ report = ap report_of is in
-    record { further = more.0; left_is = sym same; reads = ap (λ (x : List ℕ). Ok (more.0, x)) same_report }
+next_is left report item (Ok more) is = search rules
 next_is left report item (Err n) is = absurd (let bad : ⊥ = cc in bad)
 
 next_step : (old now : MeshView) (start : Place) (number : ℕ) (text line behind : List ℕ) (item : ℕ × Step)
@@ -148,35 +144,7 @@ none_made item (Err found) log is = refl
 pub stops : (old now new : MeshView) (start : Place) (number : ℕ) (text line behind : List ℕ)
     → Going old now start number text → parts_of text ≡ line ∷ parts_of behind → same_name line report_mark ≡ false
     → TriesLine false now new line → MakesSteps old new start (Some number)
-stops old now new start number text line behind going parts other tries =
-    let item : ℕ × Step = tries.0 in
-    let next = next_step old now start number text line behind item going parts other tries.1.0 in
-    let none : made (world_of now) going.left ≡ [] =
-    ap (made (world_of now)) next.left_is
-    ∙ none_made item (step (world_of now) item.0 item.1)
-    (made (world_after (world_of now) (step (world_of now) item.0 item.1)) next.further) tries.1.1.0 in
-    let log : made (opened old) going.items ≡ now.log =
-    going.makes ∙ ap (λ (l : List Entry). now.log ++ l) none ∙ append-nil now.log in
-    let some : length going.left ≡ 1 + length next.further =
-    ap length next.left_is ∙ (let one : length (item ∷ next.further) ≡ 1 + length next.further = omega arith in one) in
-    let short : length (made (opened old) going.items) < length going.items =
-    omega (arith, going.long, some, ap length log) in
-    let line_is : number ≡ start.line + length (made (opened old) going.items) =
-    going.line ∙ ap (λ (l : List Entry). start.line + length l) (sym log) in
-    let same : new ≡ now = tries.1.1.1 in
-    subst (λ (m : MeshView). MakesSteps old m start (Some number)) (sym same)
-    (record {
-      plan = going.plan;
-      facts = going.facts;
-      items = going.items;
-      report = going.report;
-      read = going.read;
-      log = sym log;
-      stops =
-          let less : nat_lt (length (made (opened old) going.items)) (length going.items) ≡ true =
-          lt-ltb (length (made (opened old) going.items)) (length going.items) short in
-          rw less (ap Some line_is);
-    })
+stops old now new start number text line behind going parts other tries = search rules
 
 -- a step was made
 entry_made : (item : ℕ × Step) (a : Answer) (w : World) (outcome : Outcome) (log : List Entry) → a ≡ Ok (w, outcome)
@@ -188,41 +156,14 @@ pub goes_on : (old now new : MeshView) (start : Place) (number : ℕ) (text line
     → TriesLine true now new line → Going old new start (number + 1) behind
 goes_on old now new start number text line behind going parts other tries =
     let item : ℕ × Step = tries.0 in
-    let next = next_step old now start number text line behind item going parts other tries.1.0 in
-    let outcome : Outcome = tries.1.1.0 in
-    let one : Made now new item.0 item.1 outcome = tries.1.1.1 in
-    let e : Entry = entry_of item.0 item.1 outcome in
-    let w : World = world_of now in
-    let after : world_after w (step w item.0 item.1) ≡ world_of new = ap (world_after w) one.does in
-    let rest : made w going.left ≡ e ∷ made (world_of new) next.further =
-    ap (made w) next.left_is
-    ∙ entry_made item (step w item.0 item.1) (world_of new) outcome
-    (made (world_after w (step w item.0 item.1)) next.further) one.does
-    ∙ ap (λ (v : World). e ∷ made v next.further) after in
-    let log : new.log ≡ now.log ++ e ∷ [] = ap (λ (m : MeshView). m.log) one.logged in
-    let longer : length new.log ≡ length now.log + 1 = ap length log ∙ length-append now.log (e ∷ []) in
-    let some : length going.left ≡ 1 + length next.further =
-    ap length next.left_is
-    ∙ (let more : length (item ∷ next.further) ≡ 1 + length next.further = omega arith in more) in
-    record {
-      plan = ap (λ (m : MeshView). m.plan) one.logged ∙ going.plan;
-      facts = ap (λ (m : MeshView). m.facts) one.logged ∙ going.facts;
-      items = going.items;
-      left = next.further;
-      report = going.report;
-      read = going.read;
-      reads = next.reads;
-      makes =
-          going.makes ∙ ap (λ (l : List Entry). now.log ++ l) rest
-          ∙ sym (append_assoc now.log (e ∷ []) (made (world_of new) next.further))
-          ∙ ap (λ (l : List Entry). l ++ made (world_of new) next.further) (sym log);
-      long = omega (arith, going.long, some, longer);
-      line = omega (arith, going.line, longer);
-    }
+    search (
+      rules,
+      next_step old now start number text line behind item going parts other tries.1.0,
+      length-append now.log,
+      append_assoc now.log,
+    )
 
 -- the log has its entry
 pub log_longer : (now new : MeshView) (line : List ℕ) → TriesLine true now new line
     → length new.log ≡ length now.log + 1
-log_longer now new line tries =
-    let e : Entry = entry_of tries.0.0 tries.0.1 tries.1.1.0 in
-    ap (λ (m : MeshView). length m.log) tries.1.1.1.logged ∙ length-append now.log (e ∷ [])
+log_longer now new line tries = search (rules, length-append now.log)

@@ -1,6 +1,6 @@
 -- Sizes that are read one after the other.
 use Rattle.std.specs.Prelude.{◌≡◌, ℕ, ◌+◌, ◌≤◌, true, List, [], ◌∷◌, ◌++◌, length, Ok, Err}
-use Rattle.std.proofs.Common.{refl, sym, ◌∙◌, ap, arith, ◌<◌, get_or, drop}
+use Rattle.std.proofs.Common.{refl, sym, ◌∙◌, ap, arith, ◌<◌, get_or, drop, rules}
 use Rattle.std.proofs.lemmas.List.{append_assoc, drop_more}
 use Rattle.geo_model.specs.declared.command.Cause.{Cause}
 use Rattle.geo_model.specs.declared.command.DiskDecl.{DiskDecl}
@@ -30,8 +30,7 @@ one_before (Err n) fact done = refl
 pub fault_behind : (whole r : Reading Sized) (done : List (ℕ × ℕ)) (refusal : VerifyRefusal)
     → whole ≡ then_read r (add_facts done) → IsFormFault r refusal → IsFormFault whole refusal
 fault_behind whole r done (refusals.Script line cause) is fault = fault
-fault_behind whole r done (refusals.Trace line) is fault =
-    is ∙ ap (λ (x : Reading Sized). then_read x (add_facts done)) fault
+fault_behind whole r done (refusals.Trace line) is fault = search rules
 fault_behind whole r done refusals.NoMemory is fault = tt
 
 -- a line that isn't of its form is a fault

@@ -1,6 +1,6 @@
 -- Steps that are read one after the other.
 use Rattle.std.specs.Prelude.{◌≡◌, ℕ, ◌+◌, ◌≤◌, true, false, List, [], ◌∷◌, ◌++◌, length, Result, Ok, Err, IsErr}
-use Rattle.std.proofs.Common.{refl, sym, ◌∙◌, ap, arith}
+use Rattle.std.proofs.Common.{refl, sym, ◌∙◌, ap, arith, rules}
 use Rattle.std.proofs.lemmas.List.{append_assoc}
 use Rattle.geo_model.specs.declared.command.Cause.{Cause}
 use Rattle.geo_model.specs.declared.step.Step.{Step}
@@ -78,10 +78,7 @@ mark_read n text line behind parts mark =
 pub report_behind : (whole : Reading Rest) (n : ℕ) (text line behind : List ℕ)
     → IsLeft whole (read_steps n (parts_of text)) → parts_of text ≡ line ∷ parts_of behind
     → same_name line report_mark ≡ true → (items : List (ℕ × Step)) × (whole ≡ Ok (items, behind))
-report_behind whole n text line behind left parts mark = (
-  left.0 ++ [],
-  left.1 ∙ ap (λ (r : Reading Rest). then_read r (add_steps left.0)) (mark_read n text line behind parts mark),
-)
+report_behind whole n text line behind left parts mark = search (rules, mark_read n text line behind parts mark)
 
 -- a fault behind some steps is a fault of all
 fault_of_line : (n : ℕ) (said : Result (ℕ × Step) Cause) (next : ℕ × Step → Reading Rest) → IsErr said
@@ -92,14 +89,9 @@ fault_of_line n (Err cause) next is = refl
 pub fault_behind : (whole : Reading Rest) (n : ℕ) (text line behind : List ℕ)
     → IsLeft whole (read_steps n (parts_of text)) → parts_of text ≡ line ∷ parts_of behind
     → same_name line report_mark ≡ false → IsErr (marked seat_and_step line) → whole ≡ Err n
-fault_behind whole n text line behind left parts other is =
-    left.1 ∙ ap (λ (r : Reading Rest). then_read r (add_steps left.0))
-    (ap (read_steps n) parts ∙ line_step n line (parts_of behind) (some_part behind) other
-    ∙ fault_of_line n (marked seat_and_step line) (λ item.
-    then_read (read_steps (n + 1) (parts_of behind)) (λ more. Ok (item ∷ more.0, more.1))) is)
+fault_behind whole n text line behind left parts other is = search rules
 
 -- and so is a line that isn't ended
 pub last_fault : (whole : Reading Rest) (n : ℕ) (text : List ℕ) → IsLeft whole (read_steps n (parts_of text))
     → parts_of text ≡ text ∷ [] → whole ≡ Err n
-last_fault whole n text left parts =
-    left.1 ∙ ap (λ (r : Reading Rest). then_read r (add_steps left.0)) (ap (read_steps n) parts)
+last_fault whole n text left parts = search rules

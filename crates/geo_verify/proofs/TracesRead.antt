@@ -1,7 +1,7 @@
 -- A trace that is read and replayed.
-use Rattle.std.specs.Prelude.{◌≡◌, ℕ, ◌+◌, List, [], length, Option, Result, Ok, Err, MatchResult}
+use Rattle.std.specs.Prelude.{◌≡◌, ℕ, ◌+◌, List, [], length, Result, Ok, Err, MatchResult}
 use Rattle.std.specs.List.{AllByRecursion}
-use Rattle.std.proofs.Common.{refl, sym, ◌∙◌, ap, subst}
+use Rattle.std.proofs.Common.{refl, sym, ◌∙◌, ap, subst, rules}
 use Rattle.geo_model.specs.declared.step.Step.{Step}
 use Rattle.geo_model.specs.World.{Plan}
 use Rattle.geo_model.specs.Log.{made}
@@ -9,7 +9,7 @@ use Rattle.geo_model.specs.Plans.{IsDiskDecl, FactsFit}
 use Rattle.geo_model.specs.Script.{Fault, script, lines_of}
 use Rattle.geo_headline.specs.declared.verified.Verified.{Verified}
 use Rattle.geo_headline.specs.Traces.{Trace, ReadTrace, TraceFault, InScript, Reading, then_read, Sized, read_sizes, read_steps, read_behind, read_after, read_trace, told_line, script_part, marked_part, parts_of}
-use Rattle.geo_headline.specs.Verifying.{found_of, found_read, verified, found_unless, log_of, stopped_at}
+use Rattle.geo_headline.specs.Verifying.{found_of, found_read, verified, log_of}
 use Rattle.geo_laws_traces.proofs.Lines.{some_part}
 use Rattle.geo_laws_traces.proofs.Sizes.{sizes_tell}
 use Rattle.geo_core.specs.Mesh.{MeshView, opened}
@@ -19,7 +19,7 @@ use Rattle.geo_verify.specs.declared.refusal.VerifyRefusal.TheVariants as refusa
 use Rattle.geo_verify.specs.declared.replaying.Replayed.{Replayed}
 use Rattle.geo_verify.specs.Forms.{IsFormFault, steps_from}
 use Rattle.geo_verify.specs.Making.{MakesSteps, stop_of}
-use Rattle.geo_verify.specs.Replays.{IsVerifyRefusal, Replays, IsReplayOf, ReplaysRead, trace_from, replayed_mesh, found_from, found_with}
+use Rattle.geo_verify.specs.Replays.{IsVerifyRefusal, Replays, IsReplayOf, ReplaysRead, trace_from, found_with}
 
 -- Faults
 
@@ -149,11 +149,7 @@ text_faulty text fault is = ap (read_after text) is
 -- What is found
 
 pub found_is : (t : ReadTrace) (r : Replayed) → Replays t r → found_with r ≡ found_of t
-found_is t r replays =
-    ap (λ (o : Option ℕ). found_unless o (found_from r.mesh r.report)) replays.stopped
-    ∙ ap (λ (m : MeshView). found_unless (stopped_at t.line t.trace) (found_from m r.report)) replays.mesh
-    ∙ ap
-    (λ (x : List ℕ). found_unless (stopped_at t.line t.trace) (found_from (replayed_mesh t.trace) x)) replays.report
+found_is t r replays = search rules
 
 pub text_found : (text : List ℕ) (r : Replayed) (found : Verified) → IsReplayOf (read_trace text) r
     → found ≡ found_with r → verified text ≡ Ok found
