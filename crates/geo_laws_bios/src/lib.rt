@@ -8,8 +8,8 @@
 //! request. [`frames`] answers what a change of bios or of commands alone leaves ([`frames::bios_are_apart`],
 //! [`frames::commands_are_apart`]); [`ups::sources_serve_all`] whether bios have still their counts where grants fall.
 //!
-//! The laws of handles, making, maps, steps, requests and rest need them; so do geo_requests and geo_drain. Read
-//! `specs/BioStepLaws.antt` first.
+//! The laws of handles, maps, steps, what is owed, rest, requests, the elevator order and traces need them; so do
+//! geo_requests and geo_drain. Read `specs/BioStepLaws.antt` first.
 #![tactic(auto)]
 
 pub mod frames;
