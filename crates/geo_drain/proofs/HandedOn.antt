@@ -1,4 +1,4 @@
--- Laws of disks along a log that the elevator order rests on too: its crate has them from here, and lists one crate less.
+-- Laws of disks along a log, handed on to the crate of the elevator order, which rests on them too.
 pub use Rattle.geo_laws_disks.proofs.Legal.{firm_after, opening_none}
 pub use Rattle.geo_laws_disks.proofs.Drives.{opening_disks}
 pub use Rattle.geo_laws_disks.proofs.Inside.{disks_are_asked}

@@ -8,8 +8,8 @@
 //! [`washes::wash_steps_keep_firm`] are the steps: Event keeps a firm world firm, and so does Wash, which takes only
 //! what was closed, detached and idle.
 //!
-//! The laws of handles, of making and of all steps need them; so do geo_requests, geo_taste and geo_core. Read
-//! `specs/LessLaws.antt` first.
+//! The laws of handles, making, maps, all steps, rest, the elevator order and traces need them; so do geo_taste,
+//! geo_requests, geo_commands, geo_core and geo_rows. Read `specs/LessLaws.antt` first.
 #![tactic(auto)]
 
 pub mod effects;

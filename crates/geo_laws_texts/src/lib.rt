@@ -12,7 +12,8 @@
 //! - [`naming`]: where a legal log leads, each provider has a name that is one ([`naming::legal_logs_have_names`]).
 //!
 //! geo_gen and geo_run need the generator's law, geo_core and geo_commands that of names, geo_taste and
-//! geo_laws_making those of sectors. Read `specs/GeneratorLaws.antt` and `specs/Naming.antt` first.
+//! geo_laws_making those of sectors; geo_laws_scripts and geo_laws_traces need how numbers are written. Read
+//! `specs/GeneratorLaws.antt` and `specs/Naming.antt` first.
 #![tactic(auto)]
 
 pub mod chains;
