@@ -7,7 +7,8 @@
 //! [`decode`] answers exactly the model's record or the first cause to decline it (`concat_record`). [`encode`]
 //! leaves the record and zeros behind it. [`what_is_encoded_is_decoded`], where the place is one of 1 to 16 places.
 //!
-//! geo_class asks and judges by it, and geo_requests writes the records. Tests stand in geo_tests_low. Read `src/concat_map.rt` first.
+//! geo_class asks and judges by it, and geo_requests writes the records. Tests stand in geo_tests_low. Read
+//! `src/concat_map.rt` first.
 #![tactic(auto)]
 
 mod concat_map;

@@ -5,7 +5,8 @@
 //! model's record or the first cause to decline it (`stripe_record`). [`encode`] leaves the record and zeros behind
 //! it. [`what_is_encoded_is_decoded`], where place and stripe size fit.
 //!
-//! geo_class asks and judges by it, and geo_requests writes the records. Tests stand in geo_tests_low. Read `src/stripe_map.rt` first.
+//! geo_class asks and judges by it, and geo_requests writes the records. Tests stand in geo_tests_low. Read
+//! `src/stripe_map.rt` first.
 #![tactic(auto)]
 
 mod record;

@@ -3,7 +3,7 @@ use Rattle.std.specs.Prelude.{◌≡◌, ◌≢◌, ℕ, ◌+◌, ◌-◌, ◌�
 use Rattle.std.specs.List.{range_with_len}
 use Rattle.std.proofs.Common.{arith, subst, sym, ap, inl, inr, refl, ◌∙◌}
 use Rattle.std.proofs.lemmas.List.Elements.{All-contains, All-from_recursion, Contains-append_left, All-append, Contains-append_right, filter-append}
-use Rattle.std.proofs.lemmas.Bool.{eq-eqb}
+use Rattle.std.proofs.lemmas.Bool.{cases_lt, eq-eqb}
 use Rattle.std.proofs.lemmas.List.{append-nil, append_assoc, append_cancel_left}
 use Rattle.std.proofs.lemmas.List.FromFn.{length-map-range_with_len}
 use Rattle.std.proofs.lemmas.Option.{slice_get_past}
@@ -309,15 +309,6 @@ module _ {D : Type 0} (y : MeshYard) (seen : Drive D → DriveView) (drives : Li
               (none_there plan_of_yard y.start.facts log mine earlier actor past none))
         ]
 
-    -- one number is below another or not
-    below_or_not : (a b : ℕ) → (a < b) ⊎ (b ≤ a)
-    below_or_not a zero = inr (omega arith)
-    below_or_not zero (suc b) = inl (omega arith)
-    below_or_not (suc a) (suc b) = elim (below_or_not a b) [
-      | inl lt ↦ inl (omega (arith, lt))
-      | inr le ↦ inr (omega (arith, le))
-    ]
-
     -- what the event worker tried
     tried : TriedEach (opened_by y.start)
         (worker_at y seen count drives 1 ws count ended (omega (arith, many))).worker.job.pass event_steps
@@ -339,7 +330,7 @@ module _ {D : Type 0} (y : MeshYard) (seen : Drive D → DriveView) (drives : Li
           clients = λ actor earlier e split.
               stopped actor earlier split.split.0 e
               (subst (λ (l : List Entry). Legal (opened_by y.start) (log ++ l)) split.split.1 legal) split.go
-              split.first (below_or_not actor count);
+              split.first (cases_lt actor count);
           judge = last_idle (opened_by y.start) log (event_seat plan_of_yard) q steps.Judge its number tried.0;
           event = last_idle (opened_by y.start) log (event_seat plan_of_yard) q steps.Event its number tried.1.0;
           reap = last_idle (opened_by y.start) log (event_seat plan_of_yard) q steps.Reap its number tried.1.1.0;
