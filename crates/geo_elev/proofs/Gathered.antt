@@ -1,9 +1,9 @@
 -- The heads of disks, and what waits for them, gathered anew.
 use Rattle.geo_base.proofs.MemberLists.{Contains-map}
-use Rattle.std.specs.Prelude.{◌≡◌, ℕ, zero, suc, ◌+◌, ◌<◌, ◌≤◌, nat_le, Bool, true, false, not, ◌&&◌, List, [], ◌∷◌, ◌++◌, find, filter, map, length, Option, Some, None, option_map, slice_set, if◌then◌else◌, nat_lt, ◌/◌, ◌==◌}
+use Rattle.std.specs.Prelude.{◌≡◌, ℕ, zero, suc, ◌+◌, ◌<◌, ◌≤◌, nat_le, Bool, true, false, not, ◌&&◌, List, [], ◌∷◌, ◌++◌, find, filter, map, length, Option, Some, None, option_map, slice_set, if◌then◌else◌, ◌/◌, ◌==◌}
 use Rattle.std.specs.List.{range_with_len, AllByRecursion}
-use Rattle.std.proofs.Common.{append-nil, refl, sym, ◌∙◌, ap, subst, arith, inl, inr}
-use Rattle.std.proofs.lemmas.Bool.{eq-eqb, ne_eqb, leb-true, cases_Bool, leb-false, lt-ltb, le-ltb, ltb-true, eqb-true}
+use Rattle.std.proofs.Common.{append-nil, refl, sym, ◌∙◌, ap, subst, arith, inl, inr, rules}
+use Rattle.std.proofs.lemmas.Bool.{eq-eqb, ne_eqb, leb-true, cases_Bool, le-ltb, eqb-true}
 use Rattle.std.proofs.lemmas.List.Sums.{fold-append}
 use Rattle.std.proofs.lemmas.List.Elements.{All-contains}
 use Rattle.geo_base.proofs.FindLists.{found_passes}
@@ -11,7 +11,7 @@ use Rattle.geo_model.specs.declared.step.Entry.{Entry}
 use Rattle.geo_model.specs.declared.step.Outcome.{Outcome}
 use Rattle.geo_model.specs.declared.step.Request.{Request}
 use Rattle.geo_model.specs.Words.{is_flush}
-use Rattle.geo_model.specs.World.{World, Bio, bio_at, is_sent}
+use Rattle.geo_model.specs.World.{World, Bio, bio_at}
 use Rattle.geo_model.specs.Fitting.{Firm}
 use Rattle.geo_headline.specs.Sweep.{Waiting, waiting_of, is_sent_to, head_after, head_of, waiting_for}
 use Rattle.geo_laws_graph.proofs.Lists.{Rise, rise-from, found_itself}
@@ -21,11 +21,11 @@ use Rattle.geo_drain.proofs.HandedOn.{firm_after}
 use Rattle.geo_elev.specs.declared.disks.DiskHead.{DiskHead}
 use Rattle.geo_elev.specs.Lists.{are_below, one_at}
 use Rattle.geo_elev.specs.Disks.{ChangesOne, HeadMoves, Queues}
-use Rattle.geo_elev.specs.Heads.{disk_head, disk_heads, no_head}
+use Rattle.geo_elev.specs.Heads.{disk_heads, no_head}
 use Rattle.geo_elev.specs.Following.{place_of}
 use Rattle.geo_elev.specs.Gathering.{numbered_below, waiting_below, bare_head, bare_heads, head_below, heads_below, PutsAtSpot}
 use Rattle.geo_elev.proofs.Following.{all_same, change_one, of_waiting}
-use Rattle.geo_model.specs.Bios.{disk_at, sector_at}
+use Rattle.geo_model.specs.Bios.{sector_at}
 use Rattle.geo_model.specs.declared.step.Outcome.TheVariants as outcomes
 
 -- What waits for a disk, gathered by a walk over the bios in order of numbers.
@@ -43,8 +43,7 @@ none_below (x ∷ xs) = rw (le-ltb x.number 0 (omega arith)) (none_below xs)
 high_none : (n low high : ℕ) (xs : List Bio) → Rising low xs high → n ≤ low → numbered_below n xs ≡ []
 high_none n low high [] rise most = refl
 high_none n low high (x ∷ xs) rise most =
-    rw (le-ltb x.number n (omega (arith, rise.0, most)))
-    (high_none n (x.number + 1) high xs rise.2 (omega (arith, rise.0, most)))
+    search (rules, high_none n (x.number + 1) high xs rise.2 (omega (arith, rise.0, most)))
 
 -- up to the next one
 pub below_more : (from low high : ℕ) (y : Bio) (xs : List Bio) → Rising low xs high
@@ -53,34 +52,24 @@ below_more from low high y [] rise found = absurd (let bad : ⊥ = cc in bad)
 below_more from low high y (x ∷ xs) rise found =
     elim (cases_Bool (nat_le from x.number)) [
       | inl e ↦
-          let it : x ≡ y = let is : Some x ≡ Some y = rw e at found in cc in
-          let high_enough : from ≤ x.number = leb-true from x.number e in
-          let last : numbered_below (x.number + 1) (x ∷ xs) ≡ x ∷ [] =
-          rw (lt-ltb x.number (x.number + 1) (omega arith))
-          (ap (λ zs. x ∷ zs) (high_none (x.number + 1) (x.number + 1) high xs rise.2 (omega arith))) in
-          let none : numbered_below from (x ∷ xs) ≡ [] =
-          rw (le-ltb x.number from high_enough)
-          (high_none from (x.number + 1) high xs rise.2 (omega (arith, high_enough))) in
-          subst (λ (z : Bio). numbered_below (z.number + 1) (x ∷ xs) ≡ numbered_below from (x ∷ xs) ++ z ∷ []) it
-          (last ∙ ap (λ zs. zs ++ x ∷ []) (sym none))
+          search (
+            rules,
+            high_none (x.number + 1) (x.number + 1) high xs rise.2 (omega arith),
+            le-ltb x.number from,
+            high_none from (x.number + 1) high xs rise.2,
+          )
       | inr e ↦
-          let found_later : find (λ z. nat_le from z.number) xs ≡ Some y = rw e at found in
-          let less : x.number < from = leb-false from x.number e in
-          let later : from ≤ y.number =
-          leb-true from y.number (found_passes (λ (z : Bio). nat_le from z.number) xs y found_later) in
-          rw (lt-ltb x.number (y.number + 1) (omega (arith, less, later)), lt-ltb x.number from less)
-          (ap (λ zs. x ∷ zs) (below_more from (x.number + 1) high y xs rise.2 found_later))
+          search (
+            rules,
+            found_passes (λ (z : Bio). nat_le from z.number) xs y,
+            below_more from (x.number + 1) high y xs rise.2,
+          )
     ]
 
 -- where there is no next one, these are all
 pub all_below : (from : ℕ) (xs : List Bio) → find (λ x. nat_le from x.number) xs ≡ None → numbered_below from xs ≡ xs
 all_below from [] none = refl
-all_below from (x ∷ xs) none =
-    elim (cases_Bool (nat_le from x.number)) [
-      | inl e ↦ absurd (let no : Some x ≡ None = rw e at none in let bad : ⊥ = cc in bad)
-      | inr e ↦
-          rw (lt-ltb x.number from (leb-false from x.number e)) (ap (λ zs. x ∷ zs) (all_below from xs (rw e at none)))
-    ]
+all_below from (x ∷ xs) none = search (rules, all_below from xs)
 
 module _ (w : World) (disk : ℕ) where
   -- one bio more, that waits for the disk or not
@@ -89,28 +78,13 @@ module _ (w : World) (disk : ℕ) where
       ≡ map (waiting_of w) (filter (is_sent_to w disk) xs) ++ (if c then waiting_of w y ∷ [] else [])
   one_more y true e [] = rw e refl
   one_more y false e [] = rw e refl
-  one_more y c e (x ∷ xs) =
-      let rest = one_more y c e xs in
-      elim (cases_Bool (is_sent_to w disk x)) [
-        | inl f ↦ rw f (ap (λ zs. waiting_of w x ∷ zs) rest)
-        | inr f ↦ rw f rest
-      ]
+  one_more y c e (x ∷ xs) = search (rules, one_more y c e xs)
 
   -- all that were gathered have smaller numbers
   pub gathered_below : (from b : ℕ) (xs : List Bio) → from ≤ b
       → are_below b (map (waiting_of w) (filter (is_sent_to w disk) (numbered_below from xs))) ≡ true
   gathered_below from b [] most = refl
-  gathered_below from b (x ∷ xs) most =
-      by (nat_lt x.number from) (is_sent_to w disk x) refl refl (gathered_below from b xs most)
-    where
-      by : (c d : Bool) → nat_lt x.number from ≡ c → is_sent_to w disk x ≡ d
-          → are_below b (map (waiting_of w) (filter (is_sent_to w disk) (numbered_below from xs))) ≡ true
-          → are_below b (map (waiting_of w) (filter (is_sent_to w disk) (numbered_below from (x ∷ xs)))) ≡ true
-      by true true e f rest =
-          let less = ltb-true x.number from e in
-          rw (e, f, lt-ltb x.number b (omega (arith, less, most))) rest
-      by true false e f rest = rw (e, f) rest
-      by false d e f rest = rw e rest
+  gathered_below from b (x ∷ xs) most = search (rules, gathered_below from b xs most)
 
 -- The spot of a bio is what waits for its disk.
 
@@ -126,25 +100,11 @@ module _ (w : World) (y : Bio) where
 
   -- a bio with a spot waits for its disk alone
   pub spot_says : (spot : Spot) → spot_in w.topology y ≡ Some spot → Says spot
-  spot_says spot is = by (is_sent y.phase) (disk_at w.topology y.target) refl refl
-    where
-      by : (c : Bool) (o : Option ℕ) → is_sent y.phase ≡ c → disk_at w.topology y.target ≡ o → Says spot
-      by true (Some d) e f =
-          let it : spot_on d ≡ spot = let so : Some (spot_on d) ≡ Some spot = rw (e, f) at is in cc in
-          subst Says it ((λ k. rw (e, f) refl), refl)
-      by true None e f = absurd (let no : None ≡ Some spot = rw (e, f) at is in let bad : ⊥ = cc in bad)
-      by false o e f = absurd (let no : None ≡ Some spot = rw e at is in let bad : ⊥ = cc in bad)
+  spot_says spot is = search rules
 
   -- a bio without one waits for none
   pub no_spot_says : spot_in w.topology y ≡ None → (d : ℕ) → is_sent_to w d y ≡ false
-  no_spot_says is k = by (is_sent y.phase) (disk_at w.topology y.target) refl refl
-    where
-      by : (c : Bool) (o : Option ℕ) → is_sent y.phase ≡ c → disk_at w.topology y.target ≡ o
-          → is_sent_to w k y ≡ false
-      by true (Some d) e f =
-          absurd (let no : Some (spot_on d) ≡ None = rw (e, f) at is in let bad : ⊥ = cc in bad)
-      by true None e f = rw (e, f) refl
-      by false o e f = rw e refl
+  no_spot_says is k = search rules
 
 -- so what holds of all that waits for the disk holds of it
 pub spot_waits : (w : World) (b : ℕ) (spot : Spot) → spot_of w b ≡ Some spot → (P : Waiting → Type 0)
@@ -154,13 +114,11 @@ spot_waits w b spot is P all = by (bio_at w b) refl
     by : (o : Option Bio) → bio_at w b ≡ o → P (one_at b (place_of spot))
     by None e = absurd (let no : None ≡ Some spot = rw e at is in let bad : ⊥ = cc in bad)
     by (Some y) e =
-        let here : spot_in w.topology y ≡ Some spot = rw e at is in
-        let says : Says w y spot = spot_says w y spot here in
-        let number : y.number ≡ b =
-        eqb-true y.number b (found_passes (λ (x : Bio). x.number == b) w.bios y e) in
-        subst P (says.1 ∙ ap (λ k. one_at k (place_of spot)) number)
-        (of_waiting w spot.disk (λ (x : Bio). x.number == b) y P w.bios e
-        (says.0 spot.disk ∙ eq-eqb spot.disk spot.disk refl) all)
+        search (
+          rules,
+          eqb-true y.number b (found_passes (λ (x : Bio). x.number == b) w.bios y e),
+          of_waiting w spot.disk (λ (x : Bio). x.number == b) y P w.bios e,
+        )
 
 -- Forgetting
 
@@ -247,15 +205,7 @@ module _ (m : MeshView) (history : IsHistory m) where
   -- all are at the end
   pub walk_ends : (from : ℕ) → None ≡ option_map (λ (x : Bio). x.number) (find (λ x. nat_le from x.number) w.bios)
       → (log : List Entry) (n : ℕ) → heads_below w log from n ≡ disk_heads w log n
-  walk_ends from is log n =
-      all_same (head_below w log from) (disk_head w log)
-      (λ j.
-      ap (λ (xs : List Bio). record { head = head_of log j; waiting = map (waiting_of w) (filter (is_sent_to w j) xs) })
-      (all_below from w.bios (none_found (find (λ x. nat_le from x.number) w.bios) is))) 0 n
-    where
-      none_found : (o : Option Bio) → None ≡ option_map (λ (x : Bio). x.number) o → o ≡ None
-      none_found None is = refl
-      none_found (Some y) is = absurd (let bad : ⊥ = cc in bad)
+  walk_ends from is log n = search (rules, all_below from w.bios)
 
   module _ (from b : ℕ)
       (next : Some b ≡ option_map (λ (x : Bio). x.number) (find (λ x. nat_le from x.number) w.bios)) where
@@ -268,8 +218,7 @@ module _ (m : MeshView) (history : IsHistory m) where
     -- it isn't below
     pub not_before : from ≤ b
     not_before =
-        subst (λ (k : ℕ). from ≤ k) found.2
-        (leb-true from y.number (found_passes (λ (x : Bio). nat_le from x.number) w.bios y found.1))
+        search (rules, leb-true from y.number (found_passes (λ (x : Bio). nat_le from x.number) w.bios y found.1))
 
     -- it is the bio of its number
     here : bio_at w b ≡ Some y
@@ -334,10 +283,7 @@ module _ (m : MeshView) (history : IsHistory m) where
                 so.1 ∙ ap (λ (xs : List Waiting). record { head = head_of log spot.disk; waiting = xs })
                 (ap (λ (x : Waiting). waiting_below w from spot.disk ++ x ∷ []) (sym one)
                 ∙ sym (then_waits spot.disk true sent))
-            this spot sent one z false so =
-                absurd (let low : are_below b (waiting_below w from spot.disk) ≡ true =
-                gathered_below w spot.disk from b w.bios not_before in
-                let bad : ⊥ = cc (so.0, low) in bad)
+            this spot sent one z false so = search (rules, gathered_below w spot.disk from b w.bios not_before)
 
 -- Forgotten from the first on
 
@@ -348,5 +294,4 @@ none_more low zero = refl
 none_more low (suc n) = ap (λ ds. no_head 0 ∷ ds) (none_more (low + 1) n)
 
 pub none_one : (n : ℕ) → map no_head (range_with_len 0 n) ++ no_head 0 ∷ [] ≡ map no_head (range_with_len 0 (n + 1))
-none_one n =
-    let next : suc n ≡ n + 1 = omega arith in none_more 0 n ∙ ap (λ k. map no_head (range_with_len 0 k)) next
+none_one n = search (rules, none_more 0 n)

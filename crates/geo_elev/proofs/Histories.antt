@@ -1,9 +1,8 @@
 -- How the heads of disks, and what waits for them, follow the log of a mesh.
 use Rattle.std.specs.Prelude.{◌≡◌, ℕ, suc, ◌+◌, ◌==◌, Bool, true, false, List, [], ◌∷◌, ◌++◌, Result, Ok, Err, Some, IfOk, IsOkAnd, IsTrue, drop, length, slice_get, take, filter, map, zip, OnErr}
 use Rattle.std.specs.List.{AllByRecursion, AllZip, range_with_len}
-use Rattle.std.proofs.Common.{refl, sym, ◌∙◌, ap, subst, arith}
+use Rattle.std.proofs.Common.{refl, sym, ◌∙◌, ap, subst, arith, rules}
 use Rattle.std.proofs.lemmas.List.{drop_all, length-map}
-use Rattle.std.proofs.lemmas.Bool.{eqb-true}
 use Rattle.std.proofs.lemmas.List.FromFn.{length-map-range_with_len}
 use Rattle.std.proofs.Math.Seq.{take-append_seam}
 use Rattle.std.proofs.lemmas.Slice.Zip.{AllZip-long, length-zip}
@@ -91,9 +90,7 @@ module _ (m : MeshView) (history : IsHistory m) (seen : List Entry) (e : Entry) 
       new does ∙ then_at
     where
       world_is : world_of m ≡ after_entry w e
-      world_is =
-          ap (replay (opened m)) (comes.split ∙ ap (λ (es : List Entry). seen ++ e ∷ es) (comes.last last))
-          ∙ replay-append (opened m) seen (e ∷ [])
+      world_is = search (rules, replay-append (opened m) seen (e ∷ []))
 
 -- where a result tells of the heads as they stood, and from that the entry was followed, it was
 pub if_followed : {E : Type 0} (m : MeshView) (e : Entry) (is_last : Bool) (old new : List DiskHead)
@@ -103,8 +100,7 @@ pub if_followed : {E : Type 0} (m : MeshView) (e : Entry) (is_last : Bool) (old 
     → IfOk r (λ b. Says old b)
     → IfOk r (λ b. (seen : List Entry) (n : ℕ) → ComesAfter m.log seen e is_last → old ≡ heads_at (opened m) seen n
     → Followed b (opened m) seen e n new)
-if_followed m e is_last old new (Ok b) Says follows says =
-    λ seen n comes same. follows seen n b comes (subst (λ (ds : List DiskHead). Says ds b) same says)
+if_followed m e is_last old new (Ok b) Says follows says = search rules
 if_followed m e is_last old new (Err none) Says follows says = tt
 
 -- From an entry on
@@ -119,8 +115,7 @@ follows_on m at n e is_last here last old new b went follows was =
     let after : ComesAfter m.log (take at m.log) e is_last = record {
       later = drop (suc at) m.log;
       split = parted m.log at e here;
-      last = λ is. drop_all (suc at) m.log
-          (let end : at + 1 ≡ length m.log = eqb-true (at + 1) (length m.log) (sym last ∙ is) in omega (arith, end));
+      last = search (rules, drop_all (suc at) m.log);
     } in
     let did : new ≡ heads_at (opened m) (take at m.log ++ e ∷ []) n =
     subst (λ (c : Bool). Followed c (opened m) (take at m.log) e n new) went (follows (take at m.log) n after was) in
@@ -133,31 +128,14 @@ pub noted_then : (m : MeshView) (old : HeadsView) (ds : List DiskHead) (k : ℕ)
     → ((seen : List Entry) × IsPrefixOf seen m.log × AreHeads (opened m) seen old) → (new : List DiskHead)
     → (ds ≡ heads_at (opened m) (take k m.log) (length ds) → new ≡ heads_at (opened m) m.log (length ds))
     → (n : ℕ) → n ≡ length m.log → AreHeads (opened m) m.log (record { disks = new; noted = n })
-noted_then m old ds k view (seen, begins, are) new gives n all = record {
-  noted = all;
-  disks = gives this ∙ ap (heads_at (opened m) m.log) count;
-}
-  where
-    disks_are : ds ≡ heads_at (opened m) seen (length (opened m).disks)
-    disks_are = ap (λ (h : HeadsView). h.disks) view ∙ are.disks
-
-    count : length ds ≡ length (opened m).disks
-    count =
-        ap (λ (xs : List DiskHead). length xs) disks_are
-        ∙ length-map-range_with_len (disk_head (replay (opened m) seen) seen) 0 (length (opened m).disks)
-
-    noted_is : k ≡ length seen
-    noted_is = ap (λ (h : HeadsView). h.noted) view ∙ are.noted
-
-    part : take k m.log ≡ seen
-    part =
-        ap (λ (i : ℕ). take i m.log) noted_is ∙ ap (λ (es : List Entry). take (length seen) es) begins.1
-        ∙ take-append_seam seen begins.0
-
-    this : ds ≡ heads_at (opened m) (take k m.log) (length ds)
-    this =
-        disks_are ∙ ap (heads_at (opened m) seen) (sym count)
-        ∙ ap (λ (es : List Entry). heads_at (opened m) es (length ds)) (sym part)
+noted_then m old ds k view (seen, begins, are) new gives n all =
+    search (
+      rules,
+      length-map-range_with_len (disk_head (replay (opened m) seen) seen) 0 (length (opened m).disks),
+      take k m.log,
+      ap (λ (es : List Entry). take (length seen) es) begins.1,
+      take-append_seam seen begins.0,
+    )
 
 -- a list that is written over one of its length is there whole
 pub written_whole : {X : Type 0} (k : ℕ) (xs ys : List X) → length xs ≡ k → take k (xs ++ ys) ≡ xs
@@ -176,17 +154,12 @@ none_waits w disk none = ap (λ (bs : List Bio). map (waiting_of w) (filter (is_
 -- so of each disk nothing is known
 none_known : (w : World) → w.bios ≡ [] → (disks : List ℕ) → map no_head disks ≡ map (disk_head w []) disks
 none_known w none [] = refl
-none_known w none (d ∷ ds) =
-    ap (λ (waiting : List Waiting). at_first waiting ∷ map no_head ds) (sym (none_waits w d none))
-    ∙ ap (λ (rest : List DiskHead). at_first (waiting_for w d) ∷ rest) (none_known w none ds)
+none_known w none (d ∷ ds) = search rules
 
 -- before the first entry
 none_noted : (m : MeshView) (count : ℕ) → count ≡ length (opened m).disks → AreHeads (opened m) [] (no_heads count)
-none_noted m count is = record {
-  noted = refl;
-  disks = ap (λ n. map no_head (range_with_len 0 n)) is
-      ∙ none_known (opened m) (opening_none m.plan m.facts) (range_with_len 0 (length (opened m).disks));
-}
+none_noted m count is =
+    search (rules, none_known (opened m) (opening_none m.plan m.facts) (range_with_len 0 (length (opened m).disks)))
 
 -- the header has one disk for each of the plan
 header_length : (decls : List DiskDecl) (facts : List (ℕ × ℕ)) → AllZip IsFact decls facts

@@ -1,19 +1,19 @@
 -- What the lists keep, as one more waits and as one less does.
-use Rattle.std.specs.Prelude.{◌≡◌, ℕ, ◌+◌, ◌*◌, ◌%◌, ◌^◌, ◌<◌, ◌≤◌, ◌==◌, nat_lt, Bool, true, false, not, ◌&&◌, ◌||◌, List, [], ◌∷◌, ◌++◌, length, Option, Some, None, option_map, Result, Ok, Err, OnOk}
+use Rattle.std.specs.Prelude.{◌≡◌, ℕ, ◌+◌, ◌*◌, ◌%◌, ◌^◌, ◌<◌, ◌≤◌, ◌==◌, nat_lt, Bool, true, false, not, ◌&&◌, ◌||◌, List, [], ◌∷◌, ◌++◌, Option, Some, None, option_map, Result, Ok, Err, OnOk}
 use Rattle.std.specs.List.{list_all}
 use Rattle.std.specs.Ordering.{nat_cmp}
 use Rattle.std.specs.BTreeMap.{is_at}
 use Rattle.std.specs.BTreeSet.{insert_key}
 use Rattle.std.specs.Set.{remove_key}
-use Rattle.std.proofs.Common.{append-nil, append_assoc, length-append, refl, sym, ◌∙◌, ap, subst, arith, inl, inr}
-use Rattle.std.proofs.lemmas.Bool.{and_parts, eqb-true, lt-ltb, ltb-true, not-true, cases_Bool}
+use Rattle.std.proofs.Common.{append-nil, append_assoc, length-append, refl, sym, ◌∙◌, ap, subst, arith, inl, inr, rules}
+use Rattle.std.proofs.lemmas.Bool.{eqb-true, cases_Bool}
 use Rattle.std.proofs.lemmas.List.Elements.{filter-append}
 use Rattle.std.proofs.lemmas.List.Folds.{list_all-append}
 use Rattle.std.proofs.lemmas.Nat.{mod-mul-add}
 use Rattle.geo_headline.specs.Sweep.{Waiting, before_flush, candidates, next_of}
 use Rattle.geo_elev.specs.declared.lists.Place.{Place}
-use Rattle.geo_elev.specs.Lists.{AreLists, HasKeys, IsNextKey, Rises, all_waiting, are_below, at_key, has_no_flush, is_kept, is_none_of, joins, key_of, listed, waiting_at, waiting_in, without}
-use Rattle.geo_elev.proofs.Candidates.{absent_stays, candidates_joined, front_at, gone, has_bio, joined, kept, next_at, one_less, wider, without_rises, next_ahead, next_least, among_listed, at_own, listed_below, listed_keys, listed_less, listed_more, listed_open, none_listed, open_listed}
+use Rattle.geo_elev.specs.Lists.{AreLists, HasKeys, IsNextKey, Rises, all_waiting, are_below, has_no_flush, is_kept, is_none_of, joins, key_of, listed, waiting_at, waiting_in, without}
+use Rattle.geo_elev.proofs.Candidates.{absent_stays, candidates_joined, has_bio, joined, one_less, wider, without_rises, next_ahead, next_least, among_listed, at_own, listed_below, listed_keys, listed_less, listed_more, listed_open, none_listed, open_listed}
 
 -- What went well
 
@@ -31,11 +31,7 @@ some_behind (x ∷ xs) y ys = refl
 
 -- they are fewer than with more behind
 not_longer : (xs : List Waiting) (y : Waiting) (ys : List Waiting) → xs ≡ xs ++ y ∷ ys → ⊥
-not_longer xs y ys same =
-    let longer : length xs ≡ length xs + length (y ∷ ys) =
-    ap (λ (zs : List Waiting). length zs) same ∙ length-append xs (y ∷ ys) in
-    let one : length (y ∷ ys) ≡ length ys + 1 = omega arith in
-    omega (arith, longer, one)
+not_longer xs y ys same = search (rules, length-append xs (y ∷ ys))
 
 -- numbers that rise in a whole list rise in its first part
 rises_front : (low : ℕ) (xs ys : List Waiting) → Rises low (xs ++ ys) → Rises low xs
@@ -52,13 +48,7 @@ rises_back low (x ∷ xs) ys rise =
 front_below : (low : ℕ) (xs : List Waiting) (y : Waiting) (ys : List Waiting) → Rises low (xs ++ y ∷ ys)
     → (low ≤ y.bio) × (are_below y.bio xs ≡ true)
 front_below low [] y ys rise = (rise.0, refl)
-front_below low (x ∷ xs) y ys rise =
-    let rest = front_below (x.bio + 1) xs y ys rise.2 in
-    let more = rest.0 in
-    let least = rise.0 in (
-      omega (arith, more, least),
-      ap (λ (c : Bool). c && are_below y.bio xs) (lt-ltb x.bio y.bio (omega (arith, more))) ∙ rest.1,
-    )
+front_below low (x ∷ xs) y ys rise = search (rules, front_below (x.bio + 1) xs y ys rise.2)
 
 -- what stands in front isn't behind
 without_behind : (bio low : ℕ) (xs ys : List Waiting) → Rises low (xs ++ ys) → has_bio bio xs ≡ true
@@ -75,46 +65,30 @@ without_behind bio low (x ∷ xs) ys rise has =
 -- all are below a greater number too
 below_wider : (a b : ℕ) (xs : List Waiting) → a ≤ b → are_below a xs ≡ true → are_below b xs ≡ true
 below_wider a b [] most below = refl
-below_wider a b (x ∷ xs) most below =
-    let both = and_parts (nat_lt x.bio a) (are_below a xs) below in
-    let less = ltb-true x.bio a both.0 in
-    ap (λ (c : Bool). c && are_below b xs) (lt-ltb x.bio b (omega (arith, less, most))) ∙ below_wider a b xs most both.1
+below_wider a b (x ∷ xs) most below = search (rules, below_wider a b xs most)
 
 -- with one more
 below_joined : (b : ℕ) (xs : List Waiting) (y : Waiting) → are_below b xs ≡ true → y.bio < b
     → are_below b (xs ++ y ∷ []) ≡ true
-below_joined b xs y below less =
-    list_all-append (λ x. nat_lt x.bio b) xs (y ∷ []) ∙ ap (λ (c : Bool). c && are_below b (y ∷ [])) below
-    ∙ ap (λ (c : Bool). c && true) (lt-ltb y.bio b less)
+below_joined b xs y below less = search (rules, list_all-append (λ x. nat_lt x.bio b) xs (y ∷ []))
 
 -- and with one less
 below_without : (b bio : ℕ) (xs : List Waiting) → are_below b xs ≡ true → are_below b (without bio xs) ≡ true
 below_without b bio [] below = refl
-below_without b bio (x ∷ xs) below =
-    let both = and_parts (nat_lt x.bio b) (are_below b xs) below in
-    let rest = below_without b bio xs both.1 in
-    elim (cases_Bool (x.bio == bio)) [
-      | inl e ↦ ap (are_below b) (gone bio x xs e) ∙ rest
-      | inr e ↦
-          ap (are_below b) (kept bio x xs e) ∙ ap (λ (c : Bool). c && are_below b (without bio xs)) both.0 ∙ rest
-    ]
+below_without b bio (x ∷ xs) below = search (rules, below_without b bio xs)
 
 -- What may be taken next of a list in two parts
 
 -- where no FLUSH waits all may be
 open_front : (xs ys : List Waiting) → has_no_flush xs ≡ true → before_flush ys ≡ [] → before_flush (xs ++ ys) ≡ xs
 open_front [] ys all end = end
-open_front (x ∷ xs) ys all end =
-    let both = and_parts (not x.flush) (has_no_flush xs) all in
-    front_at false x (xs ++ ys) (not-true x.flush both.0) ∙ ap (λ zs. x ∷ zs) (open_front xs ys both.1 end)
+open_front (x ∷ xs) ys all end = search (rules, open_front xs ys)
 
 -- so are those that stand before the first one
 pub open_next : (xs ys : List Waiting) → is_none_of xs ≡ false → has_no_flush xs ≡ true → before_flush ys ≡ []
     → candidates (xs ++ ys) ≡ xs
 open_next [] ys some all end = absurd (let bad : ⊥ = cc in bad)
-open_next (x ∷ xs) ys some all end =
-    let both = and_parts (not x.flush) (has_no_flush xs) all in
-    next_at false x (xs ++ ys) (not-true x.flush both.0) ∙ ap (λ zs. x ∷ zs) (open_front xs ys both.1 end)
+open_next (x ∷ xs) ys some all end = search (rules, open_front xs ys)
 
 -- whether one more joins some
 joins_some : (xs : List Waiting) (flush : Bool) → is_none_of xs ≡ false → joins xs flush
@@ -128,8 +102,7 @@ module _ (keys : List ℕ) (flush : Bool) where
       → is_none_of later ≡ false → false ≡ joins (all_waiting keys flush later) more
   joins_later [] last more are some = absurd (let bad : ⊥ = cc in bad)
   joins_later (e ∷ later) last more are some =
-      sym (joins_some all more (some_behind (listed flush keys) (waiting_at e) (waiting_in later))
-      ∙ ap (λ (c : Bool). c && not more) (shut (has_no_flush all) refl))
+      sym (search (rules, shut (has_no_flush all)))
     where
       all : List Waiting
       all = all_waiting keys flush (e ∷ later)
@@ -155,10 +128,7 @@ module _ (keys : List ℕ) (flush : Bool) where
       by : (es : List (ℕ × Place)) (ks : List ℕ) → is_none_of es ≡ true → is_none_of ks ≡ false
           → not (flush || more) ≡ joins (all_waiting ks flush es) more
       by [] (k ∷ ks) no_more some_key =
-          not_or flush more
-          ∙ sym (ap (λ (xs : List Waiting). joins xs more) (append-nil (listed flush (k ∷ ks)))
-          ∙ joins_some (listed flush (k ∷ ks)) more (none_listed flush (k ∷ ks))
-          ∙ ap (λ (c : Bool). c && not more) (open_listed flush k ks))
+          search (rules, joins_some (listed flush (k ∷ ks)) more (none_listed flush (k ∷ ks)), open_listed flush k ks)
       by (e ∷ es) ks no_more some_key = absurd (let bad : ⊥ = cc in bad)
       by [] [] no_more some_key = absurd (let bad : ⊥ = cc in bad)
 
@@ -168,10 +138,7 @@ module _ (keys : List ℕ) (flush : Bool) where
 rise_joined : (low : ℕ) (xs : List Waiting) (y : Waiting) → Rises low xs → low ≤ y.bio → y.bio < 2 ^ 64
     → are_below y.bio xs ≡ true → Rises low (xs ++ y ∷ [])
 rise_joined low [] y rise high small below = (high, small, tt)
-rise_joined low (x ∷ xs) y rise high small below =
-    let both = and_parts (nat_lt x.bio y.bio) (are_below y.bio xs) below in
-    let less = ltb-true x.bio y.bio both.0 in
-    (rise.0, rise.1, rise_joined (x.bio + 1) xs y rise.2 (omega (arith, less)) small both.1)
+rise_joined low (x ∷ xs) y rise high small below = search (rules, rise_joined (x.bio + 1) xs y rise.2)
 
 -- one more waits behind all, and the lists have it
 pub record Put (keys more : List ℕ) (flush now : Bool) (later es : List (ℕ × Place)) (y : Waiting) : Type 0 where
@@ -202,8 +169,7 @@ pub put_next : (keys : List ℕ) (flush : Bool) (later : List (ℕ × Place)) (l
     → joins (all_waiting keys flush later) y.flush ≡ true
     → Put keys (insert_key nat_cmp keys (key_of y)) flush y.flush later later y
 put_next keys flush (e ∷ later) last y are small below is_next =
-    absurd (let no : false ≡ true = joins_later keys flush (e ∷ later) last y.flush are refl ∙ is_next in
-    let bad : ⊥ = cc in bad)
+    search (rules, joins_later keys flush (e ∷ later) last y.flush are)
 put_next keys flush [] last y are small below is_next =
     lists_put keys (insert_key nat_cmp keys (key_of y)) flush y.flush [] [] last y are small below put
     (ap (λ (b : Bool). joined b (listed flush keys) y) is_next ∙ sym more)
@@ -222,9 +188,7 @@ put_next keys flush [] last y are small below is_next =
     number = mod-mul-add y.first (2 ^ 64) y.bio small
 
     under : are_below (key_of y % 2 ^ 64) (listed y.flush keys) ≡ true
-    under =
-        ap (λ (n : ℕ). are_below n (listed y.flush keys)) number
-        ∙ ap (are_below y.bio) (same keys is_next ∙ sym (append-nil (listed flush keys))) ∙ below
+    under = search (rules, ap (are_below y.bio) (same keys is_next ∙ sym (append-nil (listed flush keys))))
 
     more : listed y.flush (insert_key nat_cmp keys (key_of y)) ≡ listed flush keys ++ y ∷ []
     more =
@@ -233,9 +197,7 @@ put_next keys flush [] last y are small below is_next =
         ∙ ap (λ (xs : List Waiting). xs ++ y ∷ []) (same keys is_next)
 
     put : all_waiting (insert_key nat_cmp keys (key_of y)) y.flush [] ≡ all_waiting keys flush [] ++ y ∷ []
-    put =
-        append-nil (listed y.flush (insert_key nat_cmp keys (key_of y))) ∙ more
-        ∙ ap (λ (xs : List Waiting). xs ++ y ∷ []) (sym (append-nil (listed flush keys)))
+    put = search (rules, more)
 
 -- one that comes behind
 pub put_later : (keys : List ℕ) (flush : Bool) (later es : List (ℕ × Place)) (last : ℕ) (y : Waiting)
@@ -255,23 +217,16 @@ pub moved_on : (keys : List ℕ) (e : ℕ × Place) (es : List (ℕ × Place)) �
     → e.1.flush ≡ false
     → all_waiting (insert_key nat_cmp keys (e.1.first * 2 ^ 64 + e.0)) false es ≡ all_waiting keys false (e ∷ es)
 moved_on keys e es rise still =
-    ap (λ (xs : List Waiting). xs ++ waiting_in es)
-    (listed_more false (key_of y) keys under ∙ ap (λ (x : Waiting). listed false keys ++ x ∷ []) own)
-    ∙ append_assoc (listed false keys) (y ∷ []) (waiting_in es)
-  where
-    y : Waiting
-    y = waiting_at e
-
-    small : e.0 < 2 ^ 64
-    small = (rises_back 0 (listed false keys) (waiting_in (e ∷ es)) rise).1
-
-    own : at_key false (key_of y) ≡ y
-    own = ap (λ (b : Bool). at_key b (key_of y)) (sym still) ∙ at_own y small
-
-    under : are_below (key_of y % 2 ^ 64) (listed false keys) ≡ true
-    under =
-        ap (λ (n : ℕ). are_below n (listed false keys)) (mod-mul-add e.1.first (2 ^ 64) e.0 small)
-        ∙ (front_below 0 (listed false keys) y (waiting_in es) rise).1
+    search (
+      rules,
+      listed_more false,
+      append_assoc (listed false keys),
+      rises_back 0 (listed false keys) (waiting_in (e ∷ es)) rise,
+      at_own,
+      mod-mul-add e.1.first (2 ^ 64) e.0,
+      front_below 0 (listed false keys),
+      rise,
+    )
 
 -- where some have keys and what comes behind begins with a FLUSH, these may be taken next
 pub keys_next : (keys : List ℕ) (later : List (ℕ × Place)) → is_none_of keys ≡ false
@@ -297,14 +252,10 @@ module _ (keys new : List ℕ) (flush : Bool) (later : List (ℕ × Place)) (las
   rise = rises_front 0 (listed flush keys) (waiting_in later) are.rises
 
   has : has_bio bio (listed flush keys) ≡ true
-  has =
-      subst (λ (k : ℕ). has_bio k (listed flush keys) ≡ true) number
-      (among_listed flush n 0 keys rise (sym was ∙ yes))
+  has = search (rules, among_listed flush n 0 keys rise (sym was ∙ yes))
 
   less : listed flush new ≡ without bio (listed flush keys)
-  less =
-      ap (listed flush) took ∙ listed_less flush n 0 keys rise (sym was ∙ yes)
-      ∙ ap (λ (k : ℕ). without k (listed flush keys)) number
+  less = search (rules, listed_less flush n 0 keys rise (sym was ∙ yes))
 
   -- the others wait
   pub take_waits : all_waiting new flush later ≡ without bio (all_waiting keys flush later)
@@ -363,8 +314,7 @@ module _ (keys : List ℕ) (flush : Bool) (later : List (ℕ × Place)) (last : 
     (head : ℕ) where
   -- what may be taken next has the keys
   next_rises : Rises 0 (candidates (all_waiting keys flush later))
-  next_rises =
-      subst (Rises 0) (sym are.next) (rises_front 0 (listed flush keys) (waiting_in later) are.rises)
+  next_rises = search (rules, rises_front 0 (listed flush keys) (waiting_in later) are.rises)
 
   next_has : HasKeys keys (candidates (all_waiting keys flush later))
   next_has = subst (HasKeys keys) (sym are.next) (listed_keys flush keys)
