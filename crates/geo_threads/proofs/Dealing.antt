@@ -1,8 +1,7 @@
 -- Drives are dealt to two workers and gathered again: each has those of its disks, and all did what the log says.
 use Rattle.std.specs.Prelude.{◌≡◌, ℕ, ◌+◌, ◌≤◌, ◌%◌, ◌==◌, List, [], ◌∷◌, ◌++◌, drop, length, take, Option, Some, None, slice_get, ◌≢◌, zero, suc, ◌<◌, map, All, AllPairs, slice_index_or}
 use Rattle.std.specs.List.{AllZip, enumerate_from}
-use Rattle.std.specs.Option.{option_map}
-use Rattle.std.proofs.Common.{ap, arith, refl, sym, ◌∙◌, subst}
+use Rattle.std.proofs.Common.{ap, arith, refl, sym, ◌∙◌, subst, rules}
 use Rattle.std.proofs.lemmas.Bool.{eq-eqb, ne_eqb}
 use Rattle.std.proofs.lemmas.List.Elements.{filter-append, All-filter}
 use Rattle.std.proofs.lemmas.List.{length-map, get_or-map}
@@ -50,10 +49,7 @@ module _ {X : Type 0} where
   two_more : (n : ℕ) (x y : X) (xs : List (ℕ × X)) → n % 2 ≡ 0
       → (own_disks 0 ((n, x) ∷ (n + 1, y) ∷ xs) ≡ (n, x) ∷ own_disks 0 xs)
       × (own_disks 1 ((n, x) ∷ (n + 1, y) ∷ xs) ≡ (n + 1, y) ∷ own_disks 1 xs)
-  two_more n x y xs e = (
-    rw (eq-eqb (n % 2) 0 e, ne_eqb ((n + 1) % 2) 0 (λ h. omega (arith, e, h))) refl,
-    rw (ne_eqb (n % 2) 1 (λ h. omega (arith, e, h)), eq-eqb ((n + 1) % 2) 1 (omega (arith, e))) refl,
-  )
+  two_more n x y xs e = search rules
 
   -- those of both workers, in turn, are all
   pub merged_from : (n : ℕ) (xs : List X) → n % 2 ≡ 0
@@ -61,9 +57,7 @@ module _ {X : Type 0} where
   merged_from n [] e = refl
   merged_from n (x ∷ []) e = rw (even_kept n x e, even_left n x e) refl
   merged_from n (x ∷ y ∷ xs) e =
-      let rest = enumerate_from (n + 1 + 1) xs in
-      rw ((two_more n x y rest e).0, (two_more n x y rest e).1)
-      (ap (λ (l : List (ℕ × X)). (n, x) ∷ (n + 1, y) ∷ l) (merged_from (n + 1 + 1) xs (omega (arith, e))))
+      search (rules, ap (λ (l : List (ℕ × X)). (n, x) ∷ (n + 1, y) ∷ l) (merged_from (n + 1 + 1) xs (omega (arith, e))))
 
   -- the worker of the even numbers has as many as the other, or one more
   pub dealt_long : (n : ℕ) (xs : List X) → n % 2 ≡ 0
@@ -71,10 +65,7 @@ module _ {X : Type 0} where
       × (length (own_disks 0 (enumerate_from n xs)) + length (own_disks 1 (enumerate_from n xs)) ≡ length xs)
   dealt_long n [] e = (omega arith, refl)
   dealt_long n (x ∷ []) e = rw (even_kept n x e, even_left n x e) (omega arith, refl)
-  dealt_long n (x ∷ y ∷ xs) e =
-      let rest = enumerate_from (n + 1 + 1) xs in
-      let so = dealt_long (n + 1 + 1) xs (omega (arith, e)) in
-      rw ((two_more n x y rest e).0, (two_more n x y rest e).1) (omega (arith, so.0), omega (arith, so.1))
+  dealt_long n (x ∷ y ∷ xs) e = search (rules, dealt_long (n + 1 + 1) xs (omega (arith, e)))
 
   -- what holds of each two in two lists holds of them in turn
   pub merged_zip : (R : X → X → Type 0) (xs us ys vs : List X) → AllZip R xs us → AllZip R ys vs
@@ -101,23 +92,8 @@ pub record Rounds {X : Type 0} (even odd : List (ℕ × X)) (x : ℕ × X) : Typ
 pub one_round : {X : Type 0} (even odd : List (ℕ × X)) (x : ℕ × X) → Some x ≡ slice_get even 0
     → length odd ≤ length even → Rounds even odd x
 one_round [] odd x first fewer = absurd (let bad : ⊥ = cc in bad)
-one_round {X} (e ∷ even) [] x first fewer =
-    let same : e ≡ x = cc in
-    record {
-      gives = ap (λ (y : ℕ × X). y.1 ∷ drives_in even) same
-          ∙ ap (λ (l : List (ℕ × X)). x.1 ∷ drives_in l) (sym (merged_alone even));
-      fewer = omega arith;
-      one_less = omega arith;
-      rest = refl;
-    }
-one_round {X} (e ∷ even) (o ∷ odd) x first fewer =
-    let same : e ≡ x = cc in
-    record {
-      gives = ap (λ (y : ℕ × X). y.1 ∷ o.1 ∷ gathered_drives even odd) same;
-      fewer = omega (arith, fewer);
-      one_less = omega arith;
-      rest = omega arith;
-    }
+one_round {X} (e ∷ even) [] x first fewer = search (rules, merged_alone even)
+one_round {X} (e ∷ even) (o ∷ odd) x first fewer = search rules
 
 -- as it was taken
 module _ {X : Type 0} (even odd : List (ℕ × X)) {o : Option (ℕ × X)} {x : ℕ × X} (taken : o ≡ slice_get even 0)
@@ -147,9 +123,7 @@ module _ {X : Type 0} where
   -- no two have one place
   apart_all : (xs : List X) → AllPairs (λ (x y : ℕ × X). x.0 ≢ y.0) (enumerate_from 0 xs)
   apart_all xs i j d lt within same =
-      let one = ap (λ (x : ℕ × X). x.0) (place_is xs i d (omega (arith, lt, within))) in
-      let other = ap (λ (x : ℕ × X). x.0) (place_is xs j d within) in
-      omega (arith, lt, one, other, same)
+      search (rules, place_is xs i d (omega (arith, lt, within)), place_is xs j d within)
 
 -- so no disk of a worker stands twice
 apart_mapped : {X : Type 0} (items : List (ℕ × X)) → AllPairs (λ (x y : ℕ × X). x.0 ≢ y.0) items
@@ -168,16 +142,14 @@ module _ {D : Type 0} (facts : List (ℕ × ℕ)) (seen : Drive D → DriveView)
   sized : All (λ (x : ℕ × Drive D). slice_get facts x.0 ≡ Some ((seen x.1).sector, (seen x.1).count))
       (enumerate_from 0 drives)
   sized i d lt =
-      let within : i < length drives = (let e = length-enumerate_from 0 drives in omega (arith, e, lt)) in
-      let at : slice_get facts i
-      ≡ Some ((seen (slice_index_or drives i d.1)).sector, (seen (slice_index_or drives i d.1)).count) =
-      ap (λ (l : List (ℕ × ℕ)). slice_get l i) (sym fit)
-      ∙ slice_get-map size_of (map seen drives) i
-      ∙ ap (λ (o : Option DriveView). option_map size_of o)
-      (slice_get-map seen drives i ∙ ap (λ (o : Option (Drive D)). option_map seen o)
-      (slice_get-get_or drives i d.1 within)) in
-      subst (λ (x : ℕ × Drive D). slice_get facts x.0 ≡ Some ((seen x.1).sector, (seen x.1).count))
-      (sym (place_is drives i d lt)) at
+      search (
+        rules,
+        length-enumerate_from 0 drives,
+        slice_get-map size_of (map seen drives) i,
+        slice_get-map seen drives i,
+        slice_get-get_or drives i d.1,
+        place_is drives i d lt,
+      )
 
   -- a worker has the drives of its disks
   pub dealt_fit : (worker : ℕ) → HasDrives facts seen (dealt worker drives)
@@ -204,10 +176,7 @@ module _ {D : Type 0} (seen : Drive D → DriveView) (log : List Entry) where
   served_from n [] (y ∷ ys) zip k = absurd zip
   served_from n (x ∷ xs) [] zip k = absurd zip
   served_from n (x ∷ xs) (y ∷ ys) zip zero = subst (λ m. IsServed log m (seen x) (seen y.1)) (omega arith) zip.0.1
-  served_from n (x ∷ xs) (y ∷ ys) zip (suc k) =
-      subst (λ m. IsServedAt log m (slice_get (map seen xs) k)
-      (slice_get (map seen (map (λ (z : ℕ × Drive D). z.1) ys)) k)) (omega arith)
-      (served_from (n + 1) xs ys zip.1 k)
+  served_from n (x ∷ xs) (y ∷ ys) zip (suc k) = search (rules, served_from (n + 1) xs ys zip.1 k)
 
   sizes_stay : (n : ℕ) (xs : List (Drive D)) (ys : List (ℕ × Drive D)) → AllZip DidServe (enumerate_from n xs) ys
       → map size_of (map seen (map (λ (y : ℕ × Drive D). y.1) ys))
@@ -215,26 +184,17 @@ module _ {D : Type 0} (seen : Drive D → DriveView) (log : List Entry) where
   sizes_stay n [] [] zip = refl
   sizes_stay n [] (y ∷ ys) zip = absurd zip
   sizes_stay n (x ∷ xs) [] zip = absurd zip
-  sizes_stay n (x ∷ xs) (y ∷ ys) zip =
-      ap (λ (s : ℕ). (s, (seen y.1).count)
-      ∷ map size_of (map seen (map (λ (z : ℕ × Drive D). z.1) ys))) zip.0.1.sector
-      ∙ ap (λ (c : ℕ). ((seen x).sector, c)
-      ∷ map size_of (map seen (map (λ (z : ℕ × Drive D). z.1) ys))) zip.0.1.count
-      ∙ ap (λ (l : List (ℕ × ℕ)). ((seen x).sector, (seen x).count) ∷ l) (sizes_stay (n + 1) xs ys zip.1)
+  sizes_stay n (x ∷ xs) (y ∷ ys) zip = search (rules, sizes_stay (n + 1) xs ys zip.1)
 
   module _ (drives : List (Drive D)) (even odd : List (ℕ × Drive D))
       (evens : AllZip DidServe (dealt 0 drives) even) (odds : AllZip DidServe (dealt 1 drives) odd) where
     in_turn : AllZip DidServe (enumerate_from 0 drives) (merged even odd)
     in_turn =
-        subst (λ (l : List (ℕ × Drive D)). AllZip DidServe l (merged even odd)) (merged_from 0 drives refl)
-        (merged_zip DidServe (dealt 0 drives) even (dealt 1 drives) odd evens odds)
+        search (rules, merged_from 0 drives, merged_zip DidServe (dealt 0 drives) even (dealt 1 drives) odd evens odds)
 
     -- all drives did what the log says
     pub are_served : AreServed log (map seen drives) (map seen (gathered_drives even odd))
-    are_served disk =
-        subst (λ m. IsServedAt log m (slice_get (map seen drives) disk)
-        (slice_get (map seen (gathered_drives even odd)) disk))
-        (omega arith) (served_from 0 drives (merged even odd) in_turn disk)
+    are_served disk = search (rules, served_from 0 drives (merged even odd) in_turn disk)
 
     -- and have their sizes
     pub sizes_kept : map size_of (map seen (gathered_drives even odd))

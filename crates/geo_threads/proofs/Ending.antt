@@ -2,14 +2,14 @@
 use Rattle.geo_base.proofs.AllLists.{all_mapped}
 use Rattle.std.specs.Prelude.{◌≡◌, ◌⊎◌, ℕ, zero, suc, ◌+◌, ◌<◌, ◌%◌, ◌==◌, true, List, [], ◌∷◌, ◌++◌, length, All, Contains, ◌≢◌, Bool, false, filter, find, map, slice_index_or, Any, Option, Some, None, IsSome, option_and_then, ⊤}
 use Rattle.std.specs.List.{AllByRecursion, AllZip, enumerate_from}
-use Rattle.std.proofs.Common.{ap, arith, inl, inr, refl, subst, sym, ◌∙◌}
-use Rattle.std.proofs.lemmas.Bool.{eqb-true, both_ways, eq-eqb}
+use Rattle.std.proofs.Common.{ap, arith, inl, inr, refl, subst, sym, ◌∙◌, rules}
+use Rattle.std.proofs.lemmas.Bool.{eqb-true, eq-eqb}
 use Rattle.std.proofs.lemmas.List.Elements.{All-weaker, filter_passes, recursion_from_All, All-contains, All-from_recursion, All-nil}
 use Rattle.geo_disk.specs.declared.drive.Drive.{Drive}
 use Rattle.geo_model.specs.declared.step.Entry.{Entry}
 use Rattle.geo_model.specs.declared.step.Step.{Step}
 use Rattle.geo_model.specs.World.{Plan, World}
-use Rattle.geo_model.specs.FixedOrder.{HasFinished, IsOfItsJob, event_seat, disk_seat}
+use Rattle.geo_model.specs.FixedOrder.{IsOfItsJob, event_seat, disk_seat}
 use Rattle.geo_serve.specs.Drives.{DriveView}
 use Rattle.geo_laws_graph.proofs.Members.{All-from_contained, at_contained, filter-Contains, find-Contains}
 use Rattle.geo_work.specs.Lanes.{Lanes}
@@ -21,7 +21,6 @@ use Rattle.geo_work.specs.declared.client.ClientJob.{ClientJob}
 use Rattle.geo_work.specs.declared.job.Role.{Role}
 use Rattle.geo_work.specs.declared.run.Worker.{Worker}
 use Rattle.geo_work.specs.Causes.{Cause, WasInVain}
-use Rattle.geo_work.specs.Clients.{IsWaiting}
 use Rattle.geo_work.specs.Jobs.{IsOfRole}
 use Rattle.geo_work.specs.Kinds.{IsOfClient, IsOfDown, IsOfEvents, IsOfUp, event_steps}
 use Rattle.geo_work.specs.Runs.{IsKept}
@@ -55,8 +54,7 @@ module _ (p q : MeshPass) (none : p.own ≡ []) where
 
   kind_of_own : (kind : Step → Type 0) (added : List Entry) → Goes p q added
       → All (λ (e : Entry). kind e.step) added → AreOfKind kind q
-  kind_of_own kind added goes kinds =
-      subst (λ (l : List Entry). All (λ (e : Entry). kind e.step) l) (sym (added_are_own added goes)) kinds
+  kind_of_own kind added goes kinds = search rules
 
 -- What a job did
 
@@ -65,37 +63,22 @@ module _ {D : Type 0} (seen : Drive D → DriveView) (actors : ℕ) (drives : Li
   -- a client that ran
   client_did : (a b : ClientJob) → (a.actor < actors) × (n ≡ a.actor + 1) → AreOfKind (IsOfClient a.actor) q
       → b.actor ≡ a.actor → (b.actor < actors) × (n ≡ b.actor + 1) × AreOfKind (IsOfClient b.actor) q
-  client_did a b role kinds same =
-      let P : ℕ → Type 0 = λ k. (k < actors) × (n ≡ k + 1) × AreOfKind (IsOfClient k) q in
-      subst P (sym same) (role.0, role.1, kinds)
+  client_did a b role kinds same = search rules
 
   -- a disk worker that ran
   disk_did : (worker : ℕ) (items left : List (ℕ × Drive D)) (added : List Entry) → items ≡ dealt worker drives
       → Goes p q added → AreOfKind (IsOfDisks (disks_of items)) q → HasServed seen added items left
       → AreOfKind (IsOfDisks (disks_of (dealt worker drives))) q × HasServed seen q.own (dealt worker drives) left
-  disk_did worker items left added is goes kinds served = (
-    subst (λ (xs : List (ℕ × Drive D)). AreOfKind (IsOfDisks (disks_of xs)) q) is kinds,
-    subst (λ (xs : List (ℕ × Drive D)). HasServed seen q.own xs left) is
-        (subst (λ (l : List Entry). HasServed seen l items left) (sym (added_are_own p q none added goes)) served),
-  )
+  disk_did worker items left added is goes kinds served = search rules
 
   -- the job with a number
   did_as : (a b : Role D) (added : List Entry) → HasRole actors drives n a → Goes p q added
       → All (λ (e : Entry). IsOfRole a e.step) added → IsKept seen added a b → DidAs seen actors drives n q b
-  did_as (roles.Client a) (roles.Client b) added role goes kinds kept =
-      client_did a b role (kind_of_own p q none (IsOfClient a.actor) added goes kinds) kept.0
-  did_as (roles.Events a) (roles.Events b) added role goes kinds kept =
-      (role, kind_of_own p q none IsOfEvents added goes kinds)
-  did_as (roles.Down a) (roles.Down b) added role goes kinds kept =
-      (role, kind_of_own p q none IsOfDown added goes kinds)
+  did_as (roles.Client a) (roles.Client b) added role goes kinds kept = search rules
+  did_as (roles.Events a) (roles.Events b) added role goes kinds kept = search rules
+  did_as (roles.Down a) (roles.Down b) added role goes kinds kept = search rules
   did_as (roles.Up a) (roles.Up b) added role goes kinds kept = (role, kind_of_own p q none IsOfUp added goes kinds)
-  did_as (roles.Disk a) (roles.Disk b) added role goes kinds kept =
-      let P : ℕ → Type 0 =
-      λ k. (k < 2) × (n ≡ actors + 4 + k) × AreOfKind (IsOfDisks (disks_of (dealt k drives))) q
-      × HasServed seen q.own (dealt k drives) b.drives.items in
-      let its = disk_did a.worker a.drives.items b.drives.items added role.2 goes
-      (kind_of_own p q none (IsOfDisks (disks_of a.drives.items)) added goes kinds) kept.0 in
-      subst P (sym kept.1) (role.0, role.1, its.0, its.1)
+  did_as (roles.Disk a) (roles.Disk b) added role goes kinds kept = search rules
   did_as _ _ added role goes kinds kept = absurd kept
 
 -- The place of a job among its kind
@@ -153,13 +136,8 @@ module _ (plan : Plan) (k : ℕ) where
   disk_kind : {D : Type 0} (worker : ℕ) (items : List (ℕ × Drive D)) (s : Step) → worker < 2
       → AreOfWorker worker items → k ≡ event_seat plan + 3 + worker → IsOfDisks (disks_of items) s
       → IsOfItsJob plan k s
-  disk_kind worker items (steps.Take disk bio) two of number is =
-      number ∙ ap (λ n. event_seat plan + 3 + n) (sym (own_disk worker disk items of is))
-  disk_kind worker items (steps.Deliver bio got) two of number is =
-      elim (of_two worker two) [
-        | inl zeroth ↦ inl (number ∙ ap (λ n. event_seat plan + 3 + n) zeroth)
-        | inr first ↦ inr (number ∙ ap (λ n. event_seat plan + 3 + n) first)
-      ]
+  disk_kind worker items (steps.Take disk bio) two of number is = search (rules, own_disk worker disk items of is)
+  disk_kind worker items (steps.Deliver bio got) two of number is = search rules
   disk_kind worker items _ two of number is = absurd is
 
 module _ {D : Type 0} (opened : World) (plan : Plan) (drives : List (Drive D)) (n : ℕ) (q : MeshPass)
@@ -169,10 +147,8 @@ module _ {D : Type 0} (opened : World) (plan : Plan) (drives : List (Drive D)) (
       → IsOfItsJob plan q.number s
   kind_of_role (roles.Client a) s role is = client_kind plan q.number a.actor s (number ∙ role.1) is
   kind_of_role (roles.Events a) s role is = events_kind plan q.number s (number ∙ role) is
-  kind_of_role (roles.Down a) s role is =
-      down_kind plan q.number s (let e : n ≡ length plan.actors + 2 = role in omega (arith, number, e)) is
-  kind_of_role (roles.Up a) s role is =
-      up_kind plan q.number s (let e : n ≡ length plan.actors + 3 = role in omega (arith, number, e)) is
+  kind_of_role (roles.Down a) s role is = search rules
+  kind_of_role (roles.Up a) s role is = search rules
   kind_of_role (roles.Disk a) s role is =
       disk_kind plan q.number a.worker a.drives.items s role.0
       (subst (λ (xs : List (ℕ × Drive D)). AreOfWorker a.worker xs) (sym role.2) (dealt_of_worker a.worker drives))
@@ -180,12 +156,7 @@ module _ {D : Type 0} (opened : World) (plan : Plan) (drives : List (Drive D)) (
 
   -- a step that the event worker tried in vain
   tried_last : (s : Step) → WasInVain opened q s → TriedLast opened q s
-  tried_last s vain = record {
-    seen = vain.seen;
-    before_last = vain.within;
-    own = vain.own;
-    was_idle = vain.was_idle;
-  }
+  tried_last s vain = search rules
 
   tried_each : ((s : Step) → IsOfEvents s → WasInVain opened q s) → TriedEach opened q event_steps
   tried_each vain =
@@ -202,12 +173,9 @@ module _ {D : Type 0} (opened : World) (plan : Plan) (drives : List (Drive D)) (
       → EndedAs opened plan q b answer
   ended_as seen added a b turns.Worked role kept cause = cause
   ended_as seen added a b turns.NoMemory role kept cause = tt
-  ended_as seen added a b turns.LogFull role kept cause =
-      (cause.tried, kind_of_role a cause.tried role cause.is_of, cause.full)
-  ended_as seen added (roles.Client a) (roles.Client b) turns.Idle role kept cause =
-      subst (λ k. IsWaiting opened q k) (sym kept.0) cause
-  ended_as seen added (roles.Client a) (roles.Client b) turns.Finished role kept cause =
-      subst (λ k. HasFinished opened q.seen k) (sym kept.0) cause
+  ended_as seen added a b turns.LogFull role kept cause = search (rules, kind_of_role a cause.tried role cause.is_of)
+  ended_as seen added (roles.Client a) (roles.Client b) turns.Idle role kept cause = search rules
+  ended_as seen added (roles.Client a) (roles.Client b) turns.Finished role kept cause = search rules
   ended_as seen added (roles.Events a) (roles.Events b) turns.Idle role kept cause = tried_each (λ s is. cause s is)
   ended_as seen added _ (roles.Client b) turns.Idle role kept cause = absurd kept
   ended_as seen added _ (roles.Events b) turns.Idle role kept cause = absurd kept
@@ -224,16 +192,7 @@ module _ {D : Type 0} (y : MeshYard) (lanes : Lanes) (seen : Drive D → DriveVi
   -- a worker that was started and ran
   has_ended : (n : ℕ) (old new : Worker D) → IsStarted y lanes seen actors_of_yard drives n old
       → WorkerRan y lanes seen old new → HasEnded y seen actors_of_yard drives n new
-  has_ended n old new started ran =
-      let number = ran.ran.goes.same.number ∙ started.number in
-      record {
-        of_yard = ran.ready.job.pass;
-        number = number;
-        did = did_as seen actors_of_yard drives n old.job.pass new.job.pass started.own old.job.role new.job.role
-            ran.ran.added started.role ran.ran.goes ran.ran.kinds ran.ran.kept;
-        ended = ended_as (opened_by y.start) y.start.plan drives n new.job.pass number seen ran.ran.added old.job.role
-            new.job.role new.answer started.role ran.ran.kept ran.ended.cause;
-      }
+  has_ended n old new started ran = search (rules, ended_as (opened_by y.start) y.start.plan drives n new.job.pass)
 
   -- all of them
   pub have_ended : (n : ℕ) (old new : List (Worker D)) → AreStarted y lanes seen actors_of_yard drives n old
@@ -267,14 +226,11 @@ pub record IsMine (plan : Plan) (mine : List Entry) (n : ℕ) (s : Step) : Type 
 module _ (plan : Plan) (mine : List Entry) (n : ℕ) where
   known : n ≢ 0 → (s : Step) → IsOfItsJob plan n s → IsOfActors (length plan.actors) s → IsTaken mine s
       → AnswersIfTake mine s → IsMine plan mine n s
-  known some_job s kind actor taken answered =
-      record { some_job = some_job; kind = kind; actor = actor; taken = taken; answered = answered }
+  known some_job s kind actor taken answered = search rules
 
   client_mine : (actor : ℕ) → actor < length plan.actors → n ≡ actor + 1 → (s : Step) → IsOfClient actor s
       → IsMine plan mine n s
-  client_mine actor lt is (steps.Go other) of =
-      known (λ none. omega (arith, is, none)) (steps.Go other) (is ∙ ap (λ k. k + 1) (sym of))
-      (subst (λ k. k < length plan.actors) (sym of) lt) tt tt
+  client_mine actor lt is (steps.Go other) of = search rules
   client_mine actor lt is _ of = absurd of
 
   events_mine : n ≡ length plan.actors + 1 → (s : Step) → IsOfEvents s → IsMine plan mine n s
@@ -285,8 +241,7 @@ module _ (plan : Plan) (mine : List Entry) (n : ℕ) where
   events_mine is _ of = absurd of
 
   down_mine : n ≡ length plan.actors + 2 → (s : Step) → IsOfDown s → IsMine plan mine n s
-  down_mine is (steps.Start bio) of =
-      known (λ none. omega (arith, is, none)) (steps.Start bio) (omega (arith, is)) tt tt tt
+  down_mine is (steps.Start bio) of = search rules
   down_mine is _ of = absurd of
 
   up_mine : n ≡ length plan.actors + 3 → (s : Step) → IsOfUp s → IsMine plan mine n s
@@ -296,47 +251,19 @@ module _ (plan : Plan) (mine : List Entry) (n : ℕ) where
   disk_mine : {X : Type 0} (worker : ℕ) (drives : List X) → worker < 2 → n ≡ length plan.actors + 4 + worker
       → (s : Step) → IsOfDisks (map (λ (x : ℕ × X). x.0) (dealt worker drives)) s → IsTaken mine s → AreAnswered mine
       → IsMine plan mine n s
-  disk_mine {X} worker drives two is (steps.Take disk bio) of taken answered = record {
-    some_job = λ none. omega (arith, is, none);
-    kind = seat ∙ ap (λ k. event_seat plan + 3 + k) (sym its);
-    actor = tt;
-    taken = tt;
-    answered = answered;
-  }
-    where
-      seat : n ≡ event_seat plan + 3 + worker
-      seat = omega (arith, is)
-
-      its : disk % 2 ≡ worker
-      its = own_disk worker disk (dealt worker drives) (dealt_of_worker worker drives) of
-  disk_mine {X} worker drives two is (steps.Deliver bio got) of taken answered = record {
-    some_job = λ none. omega (arith, is, none);
-    kind = elim (of_two worker two) [
-      | inl one ↦ inl (omega (arith, is, one))
-      | inr one ↦ inr (omega (arith, is, one))
-    ];
-    actor = tt;
-    taken = taken;
-    answered = tt;
-  }
+  disk_mine {X} worker drives two is (steps.Take disk bio) of taken answered =
+      search (rules, own_disk worker disk (dealt worker drives) (dealt_of_worker worker drives) of)
+  disk_mine {X} worker drives two is (steps.Deliver bio got) of taken answered = search rules
   disk_mine worker drives two is _ of taken answered = absurd of
 
 -- the own entries of the job with a number
 mine_of : {D : Type 0} (seen : Drive D → DriveView) (plan : Plan) (drives : List (Drive D)) (n : ℕ) (q : MeshPass)
     (role : Role D) → DidAs seen (length plan.actors) drives n q role
     → All (λ (e : Entry). IsMine plan q.own n e.step) q.own
-mine_of seen plan drives n q (roles.Client j) did =
-    All-weaker (λ (e : Entry). IsOfClient j.actor e.step) (λ (e : Entry). IsMine plan q.own n e.step)
-    (λ e of. client_mine plan q.own n j.actor did.0 did.1 e.step of) q.own did.2
-mine_of seen plan drives n q (roles.Events j) did =
-    All-weaker (λ (e : Entry). IsOfEvents e.step) (λ (e : Entry). IsMine plan q.own n e.step)
-    (λ e of. events_mine plan q.own n did.0 e.step of) q.own did.1
-mine_of seen plan drives n q (roles.Down j) did =
-    All-weaker (λ (e : Entry). IsOfDown e.step) (λ (e : Entry). IsMine plan q.own n e.step)
-    (λ e of. down_mine plan q.own n did.0 e.step of) q.own did.1
-mine_of seen plan drives n q (roles.Up j) did =
-    All-weaker (λ (e : Entry). IsOfUp e.step) (λ (e : Entry). IsMine plan q.own n e.step)
-    (λ e of. up_mine plan q.own n did.0 e.step of) q.own did.1
+mine_of seen plan drives n q (roles.Client j) did = search rules
+mine_of seen plan drives n q (roles.Events j) did = search rules
+mine_of seen plan drives n q (roles.Down j) did = search rules
+mine_of seen plan drives n q (roles.Up j) did = search rules
 mine_of {D} seen plan drives n q (roles.Disk j) did = λ k d lt.
     disk_mine plan q.own n {X = Drive D} j.worker drives did.0 did.1 (slice_index_or q.own k d).step (did.2 k d lt)
     (All-from_recursion (λ (e : Entry). IsTaken q.own e.step) q.own did.3.taken k d lt) did.3.answered
@@ -354,12 +281,7 @@ module _ {D : Type 0} (y : MeshYard) (seen : Drive D → DriveView) (drives : Li
   -- the own entries of a worker
   mine_one : (n : ℕ) (w : Worker D) → HasEnded y seen (length plan.actors) drives n w
       → IsGoodIn (λ (e : Entry). e.seat) w.job.pass log → All (IsMineOf w.job.pass.number) w.job.pass.own
-  mine_one n w ended good =
-      let q = w.job.pass in
-      let did : All (λ (e : Entry). IsMine plan q.own n e.step) q.own =
-      mine_of seen plan drives n q w.job.role ended.did in
-      subst (λ (l : List Entry). All (λ (e : Entry). IsMine plan l q.number e.step) q.own) (sym good.own)
-      (subst (λ k. All (λ (e : Entry). IsMine plan q.own k e.step) q.own) (sym ended.number) did)
+  mine_one n w ended good = search (rules, mine_of seen plan drives n)
 
   mine_all : (n : ℕ) (ws : List (Worker D)) → HaveEnded y seen (length plan.actors) drives n ws
       → AllByRecursion (λ (p : MeshPass). IsGoodIn (λ (e : Entry). e.seat) p log) (passes_of ws)
@@ -394,10 +316,7 @@ found_kept {X} test keep (z ∷ xs) x found kept =
     by : (c : Bool) → test z ≡ c → (k : Bool) → keep z ≡ k → find test (z ∷ xs) ≡ Some x
         → (find test xs ≡ Some x → find test (filter keep xs) ≡ Some x) → find test (filter keep (z ∷ xs)) ≡ Some x
     by true is true stays here rest = rw (stays, is) (rw is at here)
-    by true is false stays here rest =
-        let one : Some z ≡ Some x = rw is at here in
-        let same : z ≡ x = cc in
-        absurd (both_ways (keep x) (subst (λ (v : X). keep v ≡ false) same stays) kept)
+    by true is false stays here rest = search rules
     by false is true stays here rest = rw (stays, is) (rest (rw is at here))
     by false is false stays here rest = rw stays (rest (rw is at here))
 
@@ -434,16 +353,12 @@ module _ (plan : Plan) (log : List Entry)
 
   -- each is of a job and of its kind
   pub are_of_kind : All (λ (e : Entry). (e.seat ≢ 0) × IsOfItsJob plan e.seat e.step) log
-  are_of_kind =
-      All-weaker (λ (e : Entry). IsMine plan (entries_of_seat e.seat log) e.seat e.step)
-      (λ (e : Entry). (e.seat ≢ 0) × IsOfItsJob plan e.seat e.step) (λ e its. (its.some_job, its.kind)) log mine
+  are_of_kind = search rules
 
   -- the disks are served by their seats
   pub are_by_seats : AreBySeats (disk_seat plan) log
   are_by_seats = record {
-    takes = All-weaker (λ (e : Entry). IsMine plan (entries_of_seat e.seat log) e.seat e.step)
-        (λ (e : Entry). (disk b : ℕ) → e.step ≡ steps.Take disk b → e.seat ≡ disk_seat plan disk)
-        (λ e its disk b is. subst (λ (s : Step). IsOfItsJob plan e.seat s) is its.kind) log mine;
+    takes = search rules;
     delivers = λ seat. All-from_contained (λ (e : Entry). IsTaken (entries_of_seat seat log) e.step)
         (entries_of_seat seat log) (λ e here.
         let at = filter-Contains (λ (x : Entry). x.seat == seat) log e here in
@@ -455,10 +370,7 @@ module _ (plan : Plan) (log : List Entry)
   all_delivered b some = by (find (λ (e : Entry). is_take_of b e.step) log) refl
     where
       by : (o : Option Entry) → find (λ (e : Entry). is_take_of b e.step) log ≡ o → IsSome (device_answer_of log b)
-      by None none =
-          let bad : IsSome (option_and_then (λ (e : Entry). request_in e.outcome) None) =
-          subst (λ (o : Option Entry). IsSome (option_and_then (λ (e : Entry). request_in e.outcome) o)) none some in
-          absurd (let wrong : ⊥ = cc in wrong)
+      by None none = search rules
       by (Some e) found =
           let here : Contains log e = find-Contains (λ (x : Entry). is_take_of b x.step) log e found in
           let own = entries_of_seat e.seat log in

@@ -2,9 +2,9 @@
 use Rattle.std.specs.Prelude.{◌≡◌, ◌≢◌, ℕ, ◌<◌, List, [], ◌∷◌, length, All, Any, Option, Some, None, slice_index_or, ◌+◌, ◌≤◌, ◌++◌}
 use Rattle.std.specs.List.{AllZip, cons_option}
 use Rattle.std.specs.Option.{option_to_list}
-use Rattle.std.proofs.Common.{ap, arith, refl, subst, sym, ◌∙◌}
-use Rattle.std.proofs.lemmas.List.{get_or-map, get_or_default, length-map, length-append, map-append}
-use Rattle.std.proofs.lemmas.Option.{none-some, same_Some}
+use Rattle.std.proofs.Common.{ap, arith, refl, subst, sym, ◌∙◌, rules}
+use Rattle.std.proofs.lemmas.List.{get_or-map, length-map, length-append, map-append}
+use Rattle.std.proofs.lemmas.Option.{none-some}
 use Rattle.std.proofs.lemmas.List.Elements.{All-push, All-weaker, Contains-append_left, Contains-append_right, filter_map-append}
 use mathlib.Core.List.{IsPrefix}
 use Rattle.geo_disk.specs.declared.drive.Drive.{Drive}
@@ -63,25 +63,19 @@ pub looks_meet : {D : Type 0} (before after : Option WatcherView) (p : Option Pu
 looks_meet before None p ws vs looks same kept taken = tt
 looks_meet before (Some a) None ws vs looks same kept taken = tt
 looks_meet None (Some a) (Some q) ws vs looks same kept taken = absurd (none-some a.view (sym same))
-looks_meet (Some b) (Some a) (Some q) ws vs looks same kept taken =
-    same_Some q.view a.view (taken ∙ kept ∙ looks ∙ sym same)
+looks_meet (Some b) (Some a) (Some q) ws vs looks same kept taken = search rules
 
 -- nobody looks where nobody looked
 pub nobody_looks : (before after : Option WatcherView) → seen_by after ≡ seen_by before → before ≡ None → after ≡ None
 nobody_looks before None same none = refl
-nobody_looks before (Some a) same none =
-    absurd (none-some a.view (sym (same ∙ ap (λ (w : Option WatcherView). seen_by w) none)))
+nobody_looks before (Some a) same none = search rules
 
 -- Answers
 
 module _ {D : Type 0} (ws vs : List (Worker D)) (same : answers_of vs ≡ answers_of ws) where
   -- as many workers
   pub as_many : length ws ≡ length vs
-  as_many =
-      let one = length-map ws (λ (w : Worker D). w.answer) in
-      let two = length-map vs (λ (w : Worker D). w.answer) in
-      let both = ap (λ (l : List Turn). length l) same in
-      omega (arith, one, two, both)
+  as_many = search (rules, length-map ws (λ (w : Worker D). w.answer), length-map vs (λ (w : Worker D). w.answer))
 
   -- at each place the same answer
   answer_at : (k : ℕ) (d : Worker D) → k < length vs → (slice_index_or vs k d).answer ≡ (slice_index_or ws k d).answer
@@ -93,25 +87,10 @@ module _ {D : Type 0} (ws vs : List (Worker D)) (same : answers_of vs ≡ answer
 
   -- what holds of each answer, or of some
   all_alike : (P : Turn → Type 0) → All (λ (w : Worker D). P w.answer) vs → All (λ (w : Worker D). P w.answer) ws
-  all_alike P each k d lt =
-      let many = as_many in
-      let short : k < length vs = omega (arith, many, lt) in
-      subst (λ (t : Turn). P t) (answer_at k d short) (each k d short)
+  all_alike P each k d lt = search (rules, as_many, answer_at k d)
 
   any_alike : (P : Turn → Type 0) → Any (λ (w : Worker D). P w.answer) vs → Any (λ (w : Worker D). P w.answer) ws
-  any_alike P some =
-      let k = some.0 in
-      let x = some.1 in
-      let many = as_many in
-      let lt = some.2 in
-      let short : k < length ws = omega (arith, many, lt) in
-      let w = slice_index_or ws k x in (
-        k,
-        w,
-        short,
-        get_or_default ws k w x short,
-        subst (λ (t : Turn). P t) (ap (λ (v : Worker D). v.answer) (sym some.3) ∙ answer_at k x lt) some.4,
-      )
+  any_alike P some = search (rules, as_many, answer_at)
 
   -- the same end
   pub ends_alike : (e : JobsEnd) → IsEndOf vs e → IsEndOf ws e
@@ -127,13 +106,10 @@ module _ {D : Type 0} (ws vs : List (Worker D)) (same : answers_of vs ≡ answer
 module _ {X : Type 0} (P : X → Type 0) (xs : List X) (x : X) where
   -- some element of more
   any_front : Any P xs → Any P (xs ++ x ∷ [])
-  any_front some =
-      let at = Contains-append_left xs (x ∷ []) some.1 (some.0, some.2, some.3) in
-      (at.0, some.1, at.1, at.2, some.4)
+  any_front some = search (rules, Contains-append_left xs (x ∷ []) some.1 (some.0, some.2, some.3))
 
   any_last : P x → Any P (xs ++ x ∷ [])
-  any_last its =
-      let at = Contains-append_right xs (x ∷ []) x (Contains-here x []) in (at.0, x, at.1, at.2, its)
+  any_last its = search (rules, Contains-append_right xs (x ∷ []) x (Contains-here x []))
 
 -- what is known of a worker by its answer
 module _ {D : Type 0} where
@@ -189,9 +165,7 @@ module _ {D : Type 0} (ws : List (Worker D)) (w : Worker D) where
   passes_push = map-append (λ (x : Worker D). x.job.pass) ws (w ∷ [])
 
   pub lists_push : lists_of (ws ++ w ∷ []) ≡ lists_of ws ++ option_to_list (drives_of w.job.role)
-  lists_push =
-      filter_map-append (λ (x : Worker D). drives_of x.job.role) ws (w ∷ [])
-      ∙ ap (λ (l : List (DriveListView D)). lists_of ws ++ l) (one_option (drives_of w.job.role))
+  lists_push = search (rules, filter_map-append (λ (x : Worker D). drives_of x.job.role) ws (w ∷ []))
 
 -- the first of two lists and the second
 pub record Pair {D : Type 0} (count : ℕ) (lists : List (DriveListView D)) : Type 0 where
@@ -210,17 +184,9 @@ pair_of count (even ∷ odd ∷ x ∷ rest) two = absurd two
 -- two that stand behind a list are its last two
 pub last_two : {X : Type 0} (xs ys : List X) (a b c d : X) → a ∷ b ∷ [] ≡ xs → xs ≡ ys ++ c ∷ [] ++ d ∷ []
     → (a ≡ c) × (b ≡ d)
-last_two xs [] a b c d is split =
-    let all : a ∷ b ∷ [] ≡ c ∷ d ∷ [] = is ∙ split in
-    let one : a ≡ c = cc in
-    let two : b ≡ d = cc in
-    (one, two)
+last_two xs [] a b c d is split = search rules
 last_two xs (y ∷ ys) a b c d is split =
-    let all = ap (λ l. length l) (is ∙ split) in
-    let long = length-append ys (c ∷ [] ++ d ∷ []) in
-    let more = length-append (y ∷ ys ++ c ∷ []) (d ∷ []) in
-    let some = length-append (y ∷ ys) (c ∷ []) in
-    absurd (omega (arith, all, long, more, some))
+    search (rules, length-append (y ∷ ys ++ c ∷ []) (d ∷ []), length-append (y ∷ ys) (c ∷ []))
 
 pub two_are : {D : Type 0} (count : ℕ) (lists front : List (DriveListView D)) (even odd : DriveListView D)
     → AreTwo count lists → lists ≡ front ++ even ∷ [] ++ odd ∷ []
@@ -228,17 +194,7 @@ pub two_are : {D : Type 0} (count : ℕ) (lists front : List (DriveListView D)) 
     × (gathered_of lists ≡ gathered_drives even.items odd.items)
 two_are count lists front even odd two split =
     let p = pair_of count lists two in
-    let same = last_two lists front p.even p.odd even odd (sym p.both) split in
-    let fewer = p.fewer in
-    let fits = p.fits in
-    let long = ap (λ (l : DriveListView _). length l.items) same.0 in
-    let other = ap (λ (l : DriveListView _). length l.items) same.1 in (
-      omega (arith, fewer, long, other),
-      omega (arith, fits, long, other),
-      ap (λ (l : List (DriveListView _)). gathered_of l) p.both
-          ∙ ap (λ (l : DriveListView _). gathered_drives l.items p.odd.items) same.0
-          ∙ ap (λ (l : DriveListView _). gathered_drives even.items l.items) same.1,
-    )
+    search (rules, last_two lists front p.even p.odd even odd (sym p.both) split)
 
 -- so it is where the two were taken from the end
 module _ {D : Type 0} (count : ℕ) (lists front : List (DriveListView D)) {mid : List (DriveListView D)}

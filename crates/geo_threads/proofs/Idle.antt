@@ -1,7 +1,7 @@
 -- Why the jobs of a run ended: one found the log full, or each tried its steps in vain.
 use Rattle.std.specs.Prelude.{◌≡◌, ◌≢◌, ℕ, ◌+◌, ◌-◌, ◌≤◌, List, [], ◌++◌, length, All, Contains, ◌⊎◌, zero, suc, ◌<◌, ◌==◌, ◌∷◌, map, Option, Some, None, Err, IsOkAnd, IsSomeAnd, option_and_then, slice_get}
 use Rattle.std.specs.List.{range_with_len}
-use Rattle.std.proofs.Common.{arith, subst, sym, ap, inl, inr, refl, ◌∙◌}
+use Rattle.std.proofs.Common.{arith, subst, sym, ap, inl, inr, refl, ◌∙◌, rules}
 use Rattle.std.proofs.lemmas.List.Elements.{All-contains, All-from_recursion, Contains-append_left, All-append, Contains-append_right, filter-append}
 use Rattle.std.proofs.lemmas.Bool.{cases_lt, eq-eqb}
 use Rattle.std.proofs.lemmas.List.{append-nil, append_assoc, append_cancel_left}
@@ -15,7 +15,7 @@ use Rattle.geo_model.specs.Fitting.{Firm}
 use Rattle.geo_model.specs.Log.{owed, replay, IsMade, Legal}
 use Rattle.geo_model.specs.Opening.{opening}
 use Rattle.geo_model.specs.Plans.{FactsFit, IsPlan}
-use Rattle.geo_laws_graph.proofs.Members.{All-from_contained, Contains-filter, Contains-here, Contains-map, Contains-there, nothing_in}
+use Rattle.geo_laws_graph.proofs.Members.{All-from_contained, Contains-filter, Contains-map, Contains-there, nothing_in}
 use Rattle.geo_laws_owed.proofs.Full.{full_logs_are_long, owed_never_falls}
 use Rattle.geo_laws_disks.proofs.Legal.{firm_after}
 use Rattle.geo_work.specs.Passes.{MeshPass, opened_by}
@@ -43,7 +43,7 @@ use Rattle.geo_work.specs.Clients.{IsWaiting}
 use Rattle.geo_work.specs.Kinds.{event_steps}
 use Rattle.geo_threads.specs.Closing.{passes_of}
 use Rattle.geo_threads.specs.Started.{MeshYard}
-use Rattle.geo_threads.proofs.Ending.{IsMine, IsOfActors, mine_at}
+use Rattle.geo_threads.proofs.Ending.{IsMine, mine_at}
 use Rattle.geo_model.specs.declared.step.Found.TheVariants as founds
 use Rattle.geo_model.specs.declared.step.Step.TheVariants as steps
 use Rattle.geo_work.specs.Turn.TheVariants as turns
@@ -94,18 +94,9 @@ pub worker_at : {D : Type 0} (y : MeshYard) (seen : Drive D → DriveView) (acto
     (ws : List (Worker D)) (k : ℕ) → HaveEnded y seen actors drives n ws → k < length ws
     → Standing y seen actors drives (n + k) ws
 worker_at y seen actors drives n [] k ended lt = absurd (omega (arith, lt))
-worker_at y seen actors drives n (w ∷ ws) zero ended lt = record {
-  worker = w;
-  here = Contains-here w ws;
-  ended = subst (λ m. HasEnded y seen actors drives m w) (omega arith) ended.0;
-}
+worker_at y seen actors drives n (w ∷ ws) zero ended lt = search rules
 worker_at y seen actors drives n (w ∷ ws) (suc k) ended lt =
-    let rest = worker_at y seen actors drives (n + 1) ws k ended.1 (omega (arith, lt)) in
-    record {
-      worker = rest.worker;
-      here = Contains-there w rest.worker ws rest.here;
-      ended = subst (λ m. HasEnded y seen actors drives m rest.worker) (omega arith) rest.ended;
-    }
+    search (rules, worker_at y seen actors drives (n + 1) ws k ended.1 (omega (arith, lt)), Contains-there w)
 
 module _ {D : Type 0} (opened : World) (plan : Plan) (seen : Drive D → DriveView) (drives : List (Drive D)) (n : ℕ)
     (q : MeshPass) where
@@ -119,12 +110,8 @@ module _ {D : Type 0} (opened : World) (plan : Plan) (seen : Drive D → DriveVi
   client_at a lt is role turns.Worked did ended memory full = absurd ended
   client_at a lt is role turns.LogFull did ended memory full = absurd (full refl)
   client_at a lt is role turns.NoMemory did ended memory full = absurd (memory refl)
-  client_at a lt is (roles.Client j) turns.Idle did ended memory full =
-      let same : j.actor ≡ a = (let e = did.1 in omega (arith, e, is)) in
-      inl (subst (λ k. IsWaiting opened q k) same ended)
-  client_at a lt is (roles.Client j) turns.Finished did ended memory full =
-      let same : j.actor ≡ a = (let e = did.1 in omega (arith, e, is)) in
-      inr (subst (λ k. HasFinished opened q.seen k) same ended)
+  client_at a lt is (roles.Client j) turns.Idle did ended memory full = search rules
+  client_at a lt is (roles.Client j) turns.Finished did ended memory full = search rules
   client_at a lt is (roles.Disk j) answer did ended memory full = absurd (let e = did.1 in omega (arith, e, is, lt))
   client_at a lt is _ answer did ended memory full = absurd (let e = did.0 in omega (arith, e, is, lt))
 
@@ -137,8 +124,7 @@ module _ {D : Type 0} (opened : World) (plan : Plan) (seen : Drive D → DriveVi
   events_at is role turns.NoMemory did ended memory full = absurd (memory refl)
   events_at is (roles.Events j) turns.Idle did ended memory full = ended
   events_at is (roles.Events j) turns.Finished did ended memory full = absurd ended
-  events_at is (roles.Client j) answer did ended memory full =
-      absurd (let e = did.1 in let lt = did.0 in omega (arith, e, is, lt))
+  events_at is (roles.Client j) answer did ended memory full = search rules
   events_at is (roles.Disk j) answer did ended memory full = absurd (let e = did.1 in omega (arith, e, is))
   events_at is _ answer did ended memory full = absurd (let e = did.0 in omega (arith, e, is))
 
@@ -150,12 +136,7 @@ ended_idle : (opened : World) (log : List Entry) (k : ℕ) (q : MeshPass) (at : 
     → entries_of_seat q.number at ≡ q.own → WasIdle opened at q.number s → EndedIdle opened log k s
 ended_idle opened log k q at s good is before own idle =
     let begins = prefix_trans at q.seen log before good.seen in
-    let all : entries_of_seat q.number at ≡ entries_of_seat q.number log = own ∙ sym good.own in (
-      at,
-      (begins.0, sym begins.1),
-      subst (λ m. entries_of_seat m at ≡ entries_of_seat m log) is all,
-      subst (λ m. WasIdle opened at m s) is idle,
-    )
+    search rules
 
 last_idle : (opened : World) (log : List Entry) (k : ℕ) (q : MeshPass) (s : Step)
     → IsGoodIn (λ (e : Entry). e.seat) q log → q.number ≡ k → TriedLast opened q s → EndedIdle opened log k s
@@ -199,8 +180,7 @@ module _ (plan : Plan) (facts : List (ℕ × ℕ)) (log : List Entry)
   -- the commands of an actor, where no entry is a Go of it
   same_next : (w : World) (es : List Entry) (actor : ℕ) → All (λ (e : Entry). e.step ≢ steps.Go actor) es
       → next_command (replay w es) actor ≡ next_command w actor
-  same_next w es actor others =
-      ap (λ (o : Option (List LineCommand)). option_and_then first_command o) (others_leave_commands w es actor others)
+  same_next w es actor others = search (rules, others_leave_commands w es actor others)
 
   -- so it is with those that a client had seen when it had made all its entries
   same_as_seen : (at rest earlier : List Entry) (actor : ℕ) → log ≡ at ++ rest
@@ -230,21 +210,14 @@ module _ (plan : Plan) (facts : List (ℕ × ℕ)) (log : List Entry)
       → All (λ (e : Entry). e.step ≢ steps.Go actor) earlier
       → next_command (replay began (log ++ earlier)) actor ≡ None
   none_there earlier actor past first =
-      let none : All (λ (e : Entry). e.step ≢ steps.Go actor) log =
-      All-from_recursion (λ (e : Entry). e.step ≢ steps.Go actor) log
-      (All-from_contained (λ (e : Entry). e.step ≢ steps.Go actor) log (λ e here go_is.
-      let lt : actor < length plan.actors =
-      subst (λ (s : Step). IsOfActors (length plan.actors) s) go_is (mine_at plan log mine e here).actor in
-      omega (arith, lt, past))) in
-      let long : length (map (commands_of plan) (range_with_len 0 (length plan.actors))) ≡ length plan.actors =
-      length-map-range_with_len (commands_of plan) 0 (length plan.actors) in
-      let at_first : slice_get began.actors actor ≡ None =
-      ap (λ (l : List (List LineCommand)). slice_get l actor) (opening_actors plan facts)
-      ∙ slice_get_past (map (commands_of plan) (range_with_len 0 (length plan.actors))) actor
-      (omega (arith, long, past)) in
-      same_next began (log ++ earlier) actor
-      (All-append (λ (e : Entry). e.step ≢ steps.Go actor) log earlier none first)
-      ∙ ap (λ (o : Option (List LineCommand)). option_and_then first_command o) at_first
+      search (
+        rules,
+        length-map-range_with_len (commands_of plan) 0 (length plan.actors),
+        opening_actors plan facts,
+        slice_get_past (map (commands_of plan) (range_with_len 0 (length plan.actors))) actor,
+        same_next began (log ++ earlier) actor,
+        All-append (λ (e : Entry). e.step ≢ steps.Go actor) log earlier,
+      )
 
 -- All jobs
 
@@ -312,11 +285,7 @@ module _ {D : Type 0} (y : MeshYard) (seen : Drive D → DriveView) (drives : Li
     -- what the event worker tried
     tried : TriedEach (opened_by y.start)
         (worker_at y seen count drives 1 ws count ended (omega (arith, many))).worker.job.pass event_steps
-    tried =
-        let at = worker_at y seen count drives 1 ws count ended (omega (arith, many)) in
-        let calm = All-contains IsQuiet ws at.worker quiet at.here in
-        events_at (opened_by y.start) plan_of_yard seen drives (1 + count) at.worker.job.pass (omega arith)
-        at.worker.job.role at.worker.answer at.ended.did at.ended.ended calm.0 calm.1
+    tried = search rules
 
     -- why they ended
     pub jobs_ended_idle : (rest : List Entry) → Legal (opened_by y.start) (log ++ rest)

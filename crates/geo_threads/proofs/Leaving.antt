@@ -1,7 +1,7 @@
 -- A run in a yard: its workers begin, end, and are all; and what the threads left.
 use Rattle.std.specs.Prelude.{◌≡◌, ◌≢◌, ℕ, zero, suc, ◌+◌, ◌<◌, ◌≤◌, ◌%◌, List, [], ◌∷◌, length, map, All, Contains, Option, Some, None, slice_get, ◌++◌, drop, slice_index_or, take, IfSome}
-use Rattle.std.specs.List.{AllByRecursion, AllZip, cons_option}
-use Rattle.std.proofs.Common.{ap, arith, inl, inr, refl, subst, sym, ◌∙◌}
+use Rattle.std.specs.List.{AllByRecursion, AllZip}
+use Rattle.std.proofs.Common.{ap, arith, refl, subst, sym, ◌∙◌, rules}
 use Rattle.std.proofs.lemmas.List.{length-map, append-nil, take_all}
 use Rattle.std.proofs.lemmas.List.Elements.{All-weaker}
 use Rattle.std.proofs.lemmas.Slice.Zip.{AllZip-long}
@@ -9,11 +9,11 @@ use Rattle.std.proofs.Math.ListN.{drop_of_length-le}
 use Rattle.geo_disk.specs.declared.drive.Drive.{Drive}
 use Rattle.geo_model.specs.declared.step.Entry.{Entry}
 use Rattle.geo_model.specs.World.{Plan}
-use Rattle.geo_model.specs.FixedOrder.{IsOfItsJob, disk_seat, event_seat}
+use Rattle.geo_model.specs.FixedOrder.{IsOfItsJob, disk_seat}
 use Rattle.geo_model.specs.Passes.{entries_of_seat}
 use Rattle.geo_serve.specs.Drives.{DriveView}
-use Rattle.geo_serve.specs.Served.{AreServed, IsServed}
-use Rattle.geo_laws_graph.proofs.Members.{Contains-cases, Contains-here, Contains-there, nothing_in}
+use Rattle.geo_serve.specs.Served.{IsServed}
+use Rattle.geo_laws_graph.proofs.Members.{Contains-here, Contains-there, nothing_in}
 use Rattle.geo_laws_disks.specs.SeatLaws.{AreBySeats}
 use Rattle.geo_laws_disks.proofs.Seats.{seats_serve}
 use Rattle.geo_lock.specs.Pass.{IsGoodIn}
@@ -29,7 +29,7 @@ use Rattle.geo_work.specs.declared.run.Worker.{Worker}
 use Rattle.geo_work.specs.Jobs.{drives_of}
 use Rattle.geo_threads.specs.declared.left.JobsEnd.{JobsEnd}
 use Rattle.geo_threads.specs.Closing.{EndsYard, IsEndOf, lists_of, passes_of}
-use Rattle.geo_threads.specs.Deal.{AreTwo, dealt, gathered_drives, gathered_of}
+use Rattle.geo_threads.specs.Deal.{AreTwo, dealt, gathered_of}
 use Rattle.geo_threads.specs.Ended.{DidAs, EndedAs, HasEnded, HaveEnded, WasFull}
 use Rattle.geo_threads.specs.Left.{DrivesFit, TellsEnd, ThreadsRan, size_of}
 use Rattle.geo_threads.specs.Started.{MeshYard, AreReady, AreStarted, IsFirst}
@@ -91,12 +91,7 @@ module _ {D : Type 0} (y : MeshYard) (seen : Drive D → DriveView) (actors : �
   -- a list that was served, where one more worker stands in front
   served_behind : (worker : ℕ) (w : Worker D) (ws : List (Worker D)) (items : List (ℕ × Drive D))
       → ListServed seen actors drives worker ws items → ListServed seen actors drives worker (w ∷ ws) items
-  served_behind worker w ws items at = record {
-    worker_of = at.worker_of;
-    here = Contains-there w at.worker_of ws at.here;
-    number = at.number;
-    served = at.served;
-  }
+  served_behind worker w ws items at = search (rules, Contains-there w at.worker_of ws at.here)
 
   -- the two disk workers
   two_last : (n : ℕ) (ws : List (Worker D)) → HaveEnded y seen actors drives n ws → n ≡ actors + 4 → length ws ≡ 2
@@ -105,26 +100,7 @@ module _ {D : Type 0} (y : MeshYard) (seen : Drive D → DriveView) (actors : �
   two_last n (w ∷ []) ended is long = absurd (omega (arith, long))
   two_last n (w ∷ v ∷ x ∷ ws) ended is long = absurd (omega (arith, long))
   two_last n (w ∷ v ∷ []) ended is long =
-      let one = has_list seen actors drives n 0 w.job.pass w.job.role (omega (arith, is)) ended.0.did in
-      let two = has_list seen actors drives (n + 1) 1 v.job.pass v.job.role (omega (arith, is)) ended.1.0.did in
-      record {
-        even = one.0;
-        odd = two.0;
-        lists_are = ap (λ o. cons_option o (lists_of (v ∷ []))) one.1
-            ∙ ap (λ o. one.0 ∷ cons_option o []) two.1;
-        evens = record {
-          worker_of = w;
-          here = Contains-here w (v ∷ []);
-          number = (let m = ended.0.number in omega (arith, m, is));
-          served = one.2;
-        };
-        odds = record {
-          worker_of = v;
-          here = Contains-there w v (v ∷ []) (Contains-here v []);
-          number = (let m = ended.1.0.number in omega (arith, m, is));
-          served = two.2;
-        };
-      }
+      search (rules, Contains-here w (v ∷ []), Contains-there w v (v ∷ []) (Contains-here v []))
 
   -- behind so many others
   pub two_served : (k n : ℕ) (ws : List (Worker D)) → HaveEnded y seen actors drives n ws → n + k ≡ actors + 4
@@ -132,27 +108,23 @@ module _ {D : Type 0} (y : MeshYard) (seen : Drive D → DriveView) (actors : �
   two_served zero n ws ended is long = two_last n ws ended (omega (arith, is)) (omega (arith, long))
   two_served (suc k) n [] ended is long = absurd (omega (arith, long))
   two_served (suc k) n (w ∷ ws) ended is long =
-      let rest = two_served k (n + 1) ws ended.1 (omega (arith, is)) (omega (arith, long)) in
-      let none = no_list seen actors drives n w.job.pass w.job.role (omega (arith, is)) ended.0.did in
-      record {
-        even = rest.even;
-        odd = rest.odd;
-        lists_are = ap (λ o. cons_option o (lists_of ws)) none ∙ rest.lists_are;
-        evens = served_behind 0 w ws rest.even.items rest.evens;
-        odds = served_behind 1 w ws rest.odd.items rest.odds;
-      }
+      search (
+        rules,
+        two_served k (n + 1) ws ended.1 (omega (arith, is)) (omega (arith, long)),
+        served_behind 0 w ws,
+        served_behind 1 w ws,
+      )
 
   -- they have room
   pub are_two : (ws : List (Worker D)) (lists : List (DriveListView D)) (count : ℕ)
       → TwoServed seen actors drives ws lists → length drives ≤ count → AreTwo count lists
   are_two ws lists count two room =
-      let long = dealt_long 0 drives refl in
-      let one = AllZip-long _ (dealt 0 drives) two.even.items two.evens.served.served in
-      let other = AllZip-long _ (dealt 1 drives) two.odd.items two.odds.served.served in
-      let fewer = long.0 in
-      let all = long.1 in
-      subst (λ (l : List (DriveListView D)). AreTwo count l) (sym two.lists_are)
-      (omega (arith, one, other, fewer), omega (arith, one, other, all, room))
+      search (
+        rules,
+        dealt_long 0 drives,
+        AllZip-long _ (dealt 0 drives) two.even.items two.evens.served.served,
+        AllZip-long _ (dealt 1 drives) two.odd.items two.odds.served.served,
+      )
 
 -- All passes
 
@@ -161,44 +133,19 @@ module _ {D : Type 0} (y : MeshYard) (seen : Drive D → DriveView) (actors : �
   pass_at : (n : ℕ) (ws : List (Worker D)) (k : ℕ) (p : MeshPass) → HaveEnded y seen actors drives n ws
       → slice_get (passes_of ws) k ≡ Some p → IsPassOf y p × (p.number ≡ n + k)
   pass_at n [] k p ended at = absurd (let bad : ⊥ = cc in bad)
-  pass_at n (w ∷ ws) zero p ended at =
-      let same : w.job.pass ≡ p = cc in
-      let number = ended.0.number in
-      subst (λ (q : MeshPass). IsPassOf y q × (q.number ≡ n + 0)) same (ended.0.of_yard, omega (arith, number))
-  pass_at n (w ∷ ws) (suc k) p ended at =
-      let rest = pass_at (n + 1) ws k p ended.1 at in
-      let number = rest.1 in
-      (rest.0, omega (arith, number))
+  pass_at n (w ∷ ws) zero p ended at = search rules
+  pass_at n (w ∷ ws) (suc k) p ended at = search (rules, pass_at (n + 1) ws k p ended.1)
 
   -- the passes are all that were made
   pub are_whole : (first : MeshPass) (ws : List (Worker D)) → IsPassOf y first → first.number ≡ 0
       → first.made ≡ 1 + length ws → HaveEnded y seen actors drives 1 ws → IsWhole y (first ∷ passes_of ws)
-  are_whole first ws own zeroth made ended = record {
-    some_pass = omega arith;
-    of_yard = of_yard;
-    count = λ p at.
-        let same : first ≡ p = cc in
-        let long = length-map ws (λ (w : Worker D). w.job.pass) in
-        ap (λ (q : MeshPass). q.made) (sym same) ∙ made ∙ omega (arith, long);
-  }
-    where
-      of_yard : (k : ℕ) (p : MeshPass) → slice_get (first ∷ passes_of ws) k ≡ Some p → IsPassOf y p × (p.number ≡ k)
-      of_yard zero p at =
-          let same : first ≡ p = cc in subst (λ (q : MeshPass). IsPassOf y q × (q.number ≡ 0)) same (own, zeroth)
-      of_yard (suc k) p at =
-          let rest = pass_at 1 ws k p ended at in
-          let number = rest.1 in
-          (rest.0, omega (arith, number))
+  are_whole first ws own zeroth made ended = search (rules, length-map ws (λ (w : Worker D). w.job.pass), pass_at 1 ws)
 
   -- each worker has ended
   pub ended_of : (n : ℕ) (ws : List (Worker D)) (w : Worker D) → HaveEnded y seen actors drives n ws → Contains ws w
       → (m : ℕ) × HasEnded y seen actors drives m w
   ended_of n [] w ended here = absurd (nothing_in w here)
-  ended_of n (x ∷ ws) w ended here =
-      elim (Contains-cases x w ws here) [
-        | inl same ↦ (n, subst (λ (v : Worker D). HasEnded y seen actors drives n v) same ended.0)
-        | inr rest ↦ ended_of (n + 1) ws w ended.1 rest
-      ]
+  ended_of n (x ∷ ws) w ended here = search (rules, ended_of (n + 1) ws w ended.1)
 
 -- What was left
 
@@ -213,17 +160,9 @@ serve_log seen plan facts log own worker law seats is [] [] of zip = tt
 serve_log seen plan facts log own worker law seats is [] (y ∷ ys) of zip = absurd zip
 serve_log seen plan facts log own worker law seats is (x ∷ xs) [] of zip = absurd zip
 serve_log seen plan facts log own worker law seats is (x ∷ xs) (y ∷ ys) of zip =
-    let seat : length plan.actors + 4 + worker ≡ disk_seat plan x.0 =
-    (let e : length plan.actors + 4 + worker ≡ event_seat plan + 3 + worker = omega arith in e)
-    ∙ ap (λ k. event_seat plan + 3 + k) (sym of.0) in
-    let mine : IsServed (entries_of_seat (disk_seat plan x.0) log) x.0 (seen x.1) (seen y.1) =
-    subst (λ (l : List Entry). IsServed l x.0 (seen x.1) (seen y.1))
-    (is ∙ ap (λ k. entries_of_seat k log) seat) zip.0.1 in (
-      (
-        zip.0.0,
-        seats_serve plan facts law.plan law.facts log law.lawful.0 (disk_seat plan) x.0 (seen x.1) (seen y.1)
-            seats mine,
-      ),
+    search (
+      rules,
+      seats_serve plan facts law.plan law.facts log law.lawful.0 (disk_seat plan) x.0 (seen x.1) (seen y.1) seats,
       serve_log seen plan facts log own worker law seats is xs ys of.1 zip.1,
     )
 
@@ -270,24 +209,17 @@ module _ {D : Type 0} (y : MeshYard) (seen : Drive D → DriveView) (drives : Li
       → back ≡ gathered_of (lists_of ws) → IsEndOf ws e
       → ThreadsRan (mesh_of y.start []) (mesh_of y.start log) (map seen drives) (map seen back) e
   left_so back e fit is how =
-      let two =
-      two_served y seen count_of_yard drives (count_of_yard + 3) 1 ws ended (omega arith) (omega (arith, many)) in
-      let evens = list_served 0 two.even.items two.evens in
-      let odds = list_served 1 two.odd.items two.odds in
-      let back_is : back ≡ gathered_drives two.even.items two.odd.items =
-      is ∙ ap (λ (l : List (DriveListView D)). gathered_of l) two.lists_are in
-      record {
-        plan = refl;
-        facts = refl;
-        history = law;
-        own_kind = are_of_kind plan_of_yard log mine;
-        none_busy = none_is_busy plan_of_yard log mine y.start.facts law.plan law.facts law.lawful.0;
-        served = subst (λ (l : List (Drive D)). AreServed log (map seen drives) (map seen l)) (sym back_is)
-            (are_served seen log drives two.even.items two.odd.items evens odds);
-        fit = ap (λ (l : List (Drive D)). map size_of (map seen l)) back_is
-            ∙ sizes_kept seen log drives two.even.items two.odd.items evens odds ∙ fit;
-        tells = tells_end e how;
-      }
+      search (
+        rules,
+        two_served y seen count_of_yard drives (count_of_yard + 3) 1 ws ended (omega arith) (omega (arith, many)),
+        list_served 0,
+        list_served 1,
+        are_of_kind plan_of_yard log mine,
+        none_is_busy plan_of_yard log mine y.start.facts law.plan law.facts law.lawful.0,
+        are_served seen log drives,
+        sizes_kept seen log drives,
+        tells_end e how,
+      )
 
 -- what the threads left, by the end of their yard
 pub threads_ran : {D : Type 0} (y : MeshYard) (seen : Drive D → DriveView) (drives back : List (Drive D))
@@ -298,9 +230,7 @@ pub threads_ran : {D : Type 0} (y : MeshYard) (seen : Drive D → DriveView) (dr
     → ThreadsRan (mesh_of y.start []) m (map seen drives) (map seen back) e
 threads_ran y seen drives back first ws m e fit none ended many end back_is how =
     let mine = each_mine y seen drives m.log first ws none ended end.good end.numbers in
-    let same : m ≡ mesh_of y.start m.log = ap (λ (s : MeshStart). mesh_of s m.log) end.begun in
-    subst (λ (x : MeshView). ThreadsRan (mesh_of y.start []) x (map seen drives) (map seen back) e) (sym same)
-    (left_so y seen drives m.log first ws ended many end.good mine end.law back e fit back_is how)
+    search (rules, left_so y seen drives m.log first ws ended many end.good mine end.law back e fit back_is how)
 
 -- A run in a yard: its workers begin, end, and are all.
 
@@ -365,20 +295,14 @@ pub all_ended : {D : Type 0} (y : MeshYard) (lanes : Lanes) (seen : Drive D → 
     → AllZip (WorkerRan y lanes seen) old new → AllEnded y seen drives first new
 all_ended y lanes seen drives actors first old new is its started long ran =
     let count = length y.start.plan.actors in
-    let begun : AreStarted y lanes seen count drives 1 old =
-    subst (λ n. AreStarted y lanes seen n drives 1 old) is started in
-    let ended : HaveEnded y seen count drives 1 new = have_ended y lanes seen drives 1 old new begun ran in
-    let same = AllZip-long (WorkerRan y lanes seen) old new ran in
-    let many : length new ≡ count + 5 = omega (arith, same, long, is) in
-    let made = its.made in
-    record {
-      ended = ended;
-      many = many;
-      whole = are_whole y seen count drives first new its.of_yard its.number (omega (arith, made, many, is)) ended;
-      two = λ room few.
-          are_two y seen count drives new (lists_of new) room
-          (two_served y seen count drives (count + 3) 1 new ended (omega arith) (omega (arith, many))) few;
-    }
+    search (
+      rules,
+      have_ended y lanes seen drives 1 old new,
+      AllZip-long (WorkerRan y lanes seen) old new ran,
+      are_whole y seen count drives first new its.of_yard its.number,
+      are_two y seen count drives new (lists_of new),
+      two_served y seen count drives (count + 3) 1 new,
+    )
 
 -- so it is with those of a crew
 module _ {D : Type 0} {y : MeshYard} {lanes : Lanes} {seen : Drive D → DriveView} {drives : List (Drive D)}

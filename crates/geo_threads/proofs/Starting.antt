@@ -1,11 +1,10 @@
 -- Workers that begin, by their numbers.
-use Rattle.std.specs.Prelude.{◌≡◌, ℕ, ◌+◌, ◌*◌, ◌<◌, ◌≤◌, List, [], ◌∷◌, ◌++◌, length, Option, Some, IfSome}
-use Rattle.std.proofs.Common.{ap, arith, refl, subst, sym, ◌∙◌}
+use Rattle.std.specs.Prelude.{◌≡◌, ℕ, ◌+◌, ◌<◌, List, [], ◌∷◌, ◌++◌, length, Option, Some, IfSome}
+use Rattle.std.proofs.Common.{ap, arith, refl, subst, rules}
 use Rattle.atomic_table.specs.Seated.{TableId}
-use Rattle.std.proofs.lemmas.List.{append-nil, append_assoc, length-append}
+use Rattle.std.proofs.lemmas.List.{append_assoc, length-append}
 use Rattle.geo_disk.specs.declared.drive.Drive.{Drive}
 use Rattle.geo_serve.specs.Drives.{DriveView}
-use Rattle.geo_lane.specs.declared.ticket.Ticket.{Ticket}
 use Rattle.geo_lane.specs.LanePass.{LanePassView, next_pass}
 use Rattle.geo_lock.specs.Yard.{IsPassOf}
 use Rattle.geo_work.specs.Lanes.{Lanes}
@@ -50,22 +49,11 @@ module _ {D : Type 0} (y : MeshYard) (lanes : Lanes) (seen : Drive D → DriveVi
       → IsRoleOf lanes (pass_of_number first number) role → HasItsDrives y.start.facts seen role
       → HasRole actors drives n role
       → IsStarted y lanes seen actors drives n (beginning (pass_of_number first number) role)
-  begun n first number role of_yard is its_lanes its_drives its = record {
-    ready = record {
-      job = record { pass = record { yard = of_yard.yard; start = of_yard.start }; role = its_lanes };
-      drives = its_drives;
-    };
-    number = is;
-    own = refl;
-    role = its;
-  }
+  begun n first number role of_yard is its_lanes its_drives its = search rules
 
 -- a pass that has put nothing is within any budget
 within_none : (lane : TableId) (p : LanePassView) → IsPutter lane p → IsPassTo lane [] p
-within_none lane p putter = record {
-  lane_is = putter.lane_is;
-  within = subst (λ (l : List Ticket). length l ≤ 4294967295 * 0) (sym putter.put) (omega arith);
-}
+within_none lane p putter = search rules
 
 module _ {D : Type 0} (y : MeshYard) (lanes : Lanes) (seen : Drive D → DriveView) (actors : ℕ)
     (drives : List (Drive D)) (first : MeshPass) where
@@ -75,71 +63,14 @@ module _ {D : Type 0} (y : MeshYard) (lanes : Lanes) (seen : Drive D → DriveVi
       → IfSome publisher (λ (v : PublisherView). CanShow v pass) → pass ≡ pass_of_number first first.made
       → role ≡ roles.Client (record { actor = actor; line = 0; down = down; publisher = publisher })
       → IsStarted y lanes seen actors drives (1 + actor) (beginning pass role)
-  client_started actor pass role down publisher is lt putter shows pass_is role_is =
-      let job : Role D = roles.Client (record { actor = actor; line = 0; down = down; publisher = publisher }) in
-      let made = is.made in
-      let here : IsStarted y lanes seen actors drives (1 + actor) (beginning (pass_of_number first first.made) job) =
-      begun y lanes seen actors drives (1 + actor) first first.made job is.of_yard (omega (arith, made))
-      (record {
-        puts = within_none lanes.down down putter;
-        shows = subst (λ (p : MeshPass). IfSome publisher (λ (v : PublisherView). CanShow v p)) pass_is shows;
-      }) tt (lt, omega arith) in
-      subst (λ (r : Role D). IsStarted y lanes seen actors drives (1 + actor) (beginning pass r)) (sym role_is)
-      (subst (λ (p : MeshPass). IsStarted y lanes seen actors drives (1 + actor) (beginning p job)) (sym pass_is) here)
+  client_started actor pass role down publisher is lt putter shows pass_is role_is = search rules
 
   -- the others
   pub others_started : (p : Passes) (even odd : DriveListView D) → IsFirst y (actors + 1) first → ArePasses lanes p
       → even.items ≡ dealt 0 drives → odd.items ≡ dealt 1 drives
       → HasDrives y.start.facts seen even.items → HasDrives y.start.facts seen odd.items
       → AreStarted y lanes seen actors drives (1 + actors) (other_workers first p even odd)
-  others_started p even odd is passes evens odds fit_even fit_odd =
-      let made = is.made in (
-        begun y lanes seen actors drives (1 + actors) first first.made (roles.Events (record { down = p.events_down }))
-            is.of_yard (omega (arith, made)) (within_none lanes.down p.events_down passes.events_down) tt (omega arith),
-        (
-          begun y lanes seen actors drives (1 + actors + 1) first (first.made + 1)
-              (roles.Down (record { down = p.down_takes; up = p.down_up; disk0 = p.down_disk0; disk1 = p.down_disk1 }))
-              is.of_yard (omega (arith, made))
-              (record {
-                takes = passes.down_takes.sender;
-                down = within_none lanes.down p.down_takes passes.down_takes.putter;
-                up = within_none lanes.up p.down_up passes.down_up;
-                disk0 = within_none lanes.disk0 p.down_disk0 passes.down_disk0;
-                disk1 = within_none lanes.disk1 p.down_disk1 passes.down_disk1;
-              }) tt (omega arith),
-          (
-            begun y lanes seen actors drives (1 + actors + 1 + 1) first (first.made + 2)
-                (roles.Up (record { up = p.up_takes })) is.of_yard (omega (arith, made))
-                (record {
-                  takes = passes.up_takes.sender;
-                  up = within_none lanes.up p.up_takes passes.up_takes.putter;
-                }) tt (omega arith),
-            (
-              begun y lanes seen actors drives (1 + actors + 1 + 1 + 1) first (first.made + 3)
-                  (roles.Disk (record { worker = 0; drives = even; own = p.disk0_takes; up = p.disk0_up })) is.of_yard
-                  (omega (arith, made))
-                  (record {
-                    own = passes.disk0_takes.putter.lane_is;
-                    takes = passes.disk0_takes.sender;
-                    up = passes.disk0_up.lane_is;
-                    within = (within_none lanes.up p.disk0_up passes.disk0_up).within;
-                  }) fit_even (omega arith, omega arith, evens),
-              (
-                begun y lanes seen actors drives (1 + actors + 1 + 1 + 1 + 1) first (first.made + 4)
-                    (roles.Disk (record { worker = 1; drives = odd; own = p.disk1_takes; up = p.disk1_up })) is.of_yard
-                    (omega (arith, made))
-                    (record {
-                      own = passes.disk1_takes.putter.lane_is;
-                      takes = passes.disk1_takes.sender;
-                      up = passes.disk1_up.lane_is;
-                      within = (within_none lanes.up p.disk1_up passes.disk1_up).within;
-                    }) fit_odd (omega arith, omega arith, odds),
-                tt,
-              ),
-            ),
-          ),
-        ),
-      )
+  others_started p even odd is passes evens odds fit_even fit_odd = search rules
 
 -- the pass that is made of another has seen the mesh as that has
 pub next_listing : (p : MeshPass) (n : ℕ) → listing_seen (pass_of_number p n) ≡ listing_seen p
@@ -148,10 +79,7 @@ next_listing p n = refl
 
 -- a view that shows what a pass has seen can go on to show what it has seen
 pub can_show : (v : PublisherView) (p : MeshPass) → v.of ≡ Some p → v.stands ≡ p.seen → CanShow v p
-can_show v p of stands = record {
-  of = (p, of, record { yard = refl; start = refl; number = refl });
-  later = ([], append-nil v.stands ∙ stands);
-}
+can_show v p of stands = search rules
 
 -- one more client behind those that have begun
 pub begun_push : {D : Type 0} (y : MeshYard) (lanes : Lanes) (seen : Drive D → DriveView) (actors : ℕ)
@@ -164,40 +92,20 @@ pub begun_push : {D : Type 0} (y : MeshYard) (lanes : Lanes) (seen : Drive D →
     → IfSome publisher (λ (v : PublisherView). CanShow v pass)
     → HasBegun y lanes seen actors after left (ws ++ beginning pass role ∷ [])
 begun_push y lanes seen actors first after down left puts ws actor pass role publisher has many lt p f u l r shows =
-    let is = has.first_is in
-    let made = is.made in
-    let long = length-append ws (beginning pass role ∷ []) in
-    let putter : IsPutter lanes.down puts = record {
-      lane_is = ap (λ (x : LanePassView). x.lane) u ∙ ap (λ (x : LanePassView). x.lane) has.down_is;
-      put = ap (λ (x : LanePassView). x.put) u;
-    } in
-    let here : IsFirst y (actor + 1) first = subst (λ n. IsFirst y (n + 1) first) many is in
-    record {
-      few = omega (arith, long, many, lt);
-      first_is = subst (λ (x : MeshPass). IsFirst y (length (ws ++ beginning pass role ∷ []) + 1) x) (sym f)
-          (record {
-            of_yard = record { yard = is.of_yard.yard; start = is.of_yard.start };
-            number = is.number;
-            own = is.own;
-            made = omega (arith, made, long);
-          });
-      down_is = l ∙ ap (λ (x : LanePassView). record x { split = x.split + 1 }) has.down_is
-          ∙ ap (λ n. taker_of lanes.down n) (let e : length ws + 1 ≡ length (ws ++ beginning pass role ∷ []) =
-          omega (arith, long) in e);
-      started = λ drives.
-          started_push y lanes seen actors drives 1 ws (beginning pass role) (has.started drives)
-          (subst (λ n. IsStarted y lanes seen actors drives (1 + n) (beginning pass role)) (sym many)
-          (client_started y lanes seen actors drives first actor pass role puts publisher here lt putter shows p
-          r));
-    }
+    search (
+      rules,
+      length-append ws (beginning pass role ∷ []),
+      ap (λ (x : LanePassView). x.put) u,
+      ap (λ (x : LanePassView). record x { split = x.split + 1 }) has.down_is,
+      started_push y lanes seen actors,
+      client_started y lanes seen actors,
+    )
 
 -- before the first nobody has begun
 pub none_begun : {D : Type 0} (y : MeshYard) (lanes : Lanes) (seen : Drive D → DriveView) (actors : ℕ)
     (first : MeshPass) (down : LanePassView) (ws : List (Worker D)) → ws ≡ [] → IsFirst y 1 first
     → down ≡ taker_of lanes.down 0 → HasBegun y lanes seen actors first down ws
-none_begun {D} y lanes seen actors first down ws none is down_is =
-    subst (λ (l : List (Worker D)). HasBegun y lanes seen actors first down l) (sym none)
-    (record { few = omega arith; first_is = is; down_is = down_is; started = λ drives. tt })
+none_begun {D} y lanes seen actors first down ws none is down_is = search rules
 
 -- The passes that come next
 
@@ -207,18 +115,13 @@ module _ (first : MeshPass) where
   after k = record first { made = first.made + k }
 
   pub after_more : (k : ℕ) (f g : MeshPass) → f ≡ after k → g ≡ record f { made = f.made + 1 } → g ≡ after (k + 1)
-  after_more k f g is more =
-      more ∙ ap (λ (p : MeshPass). record p { made = p.made + 1 }) is
-      ∙ ap (λ n. record first { made = n }) (let e : first.made + k + 1 ≡ first.made + (k + 1) = omega arith in e)
+  after_more k f g is more = search rules
 
   -- the passes after one, as each is followed by the next
   module _ {f g h k : MeshPass} (one : f ≡ after 1) (second : g ≡ record f { made = f.made + 1 })
       (third : h ≡ record g { made = g.made + 1 }) (fourth : k ≡ record h { made = h.made + 1 }) where
     pub after_four : (g ≡ after 2) × (h ≡ after 3) × (k ≡ after 4)
-    after_four =
-        let two = after_more 1 f g one second in
-        let three = after_more 2 g h two third in
-        (two, three, after_more 3 h k three fourth)
+    after_four = search rules
 
   pub next_after : (k : ℕ) (f : MeshPass) → f ≡ after k → pass_of_number f f.made
       ≡ pass_of_number first (first.made + k)
@@ -227,6 +130,4 @@ module _ (first : MeshPass) where
 -- one more worker behind others, with what its pass and its role are
 pub push_next : {D : Type 0} (ws xs l m : List (Worker D)) {p q : MeshPass} {r s : Role D} → l ≡ ws ++ xs
     → m ≡ l ++ beginning p r ∷ [] → p ≡ q → r ≡ s → m ≡ ws ++ (xs ++ beginning q s ∷ [])
-push_next {D} ws xs l m {p} {q} {r} {s} front more same alike =
-    more ∙ ap (λ (k : List (Worker D)). k ++ beginning p r ∷ []) front ∙ append_assoc ws xs (beginning p r ∷ [])
-    ∙ (λ i. ws ++ (xs ++ beginning (same i) (alike i) ∷ []))
+push_next {D} ws xs l m {p} {q} {r} {s} front more same alike = search (rules, append_assoc ws xs (beginning p r ∷ []))
