@@ -1,6 +1,5 @@
 -- What a run to rest did with all drives.
-use Rattle.std.proofs.Common.{◌≡◌, ℕ, ◌+◌, List, [], ◌∷◌, suc, Result, Ok, Err, OnOk, slice_get, sym, ap, subst, arith}
-use Rattle.std.proofs.lemmas.List.{append-nil}
+use Rattle.std.proofs.Common.{◌≡◌, ℕ, ◌+◌, List, [], ◌∷◌, suc, Result, Ok, Err, OnOk, slice_get, subst, arith, rules}
 use Rattle.geo_model.specs.declared.step.Entry.{Entry}
 use Rattle.geo_model.specs.FixedOrder.{StepOrder}
 use Rattle.geo_model.specs.History.{RanToItsEnd}
@@ -31,21 +30,11 @@ served_all log xs ys h = serve_all log 0 xs ys (λ i k e.
 
 pub adds_by : (order : StepOrder) (xs ys : List DriveView) (old new : MeshView) → drain.Runs order old new xs ys
     → Adds order old new xs ys
-adds_by order xs ys old new runs = record {
-  added = runs.added;
-  mesh = runs.grown;
-  follows = runs.follows;
-  drives = served_all runs.added xs ys runs.served;
-}
+adds_by order xs ys old new runs = search (rules, served_all runs.added xs ys runs.served)
 
 -- nothing was done
 pub adds_nothing : (order : StepOrder) (m : MeshView) (xs : List DriveView) → Adds order m m xs xs
-adds_nothing order m xs = record {
-  added = [];
-  mesh = ap (λ (l : List Entry). record m { log = l }) (sym (append-nil m.log));
-  follows = λ earlier e split. absurd (none_in earlier e split.0 split.1);
-  drives = served_all [] xs xs (all_served_none xs);
-}
+adds_nothing order m xs = search (rules, none_in, served_all, all_served_none xs)
 
 -- at rest a mesh ran to its end
 pub ran_to_rest : {E : Type 0} (r : Result (Unit {0}) E) (m : MeshView) → IsHistory m → OnOk r (Rest (world_of m))

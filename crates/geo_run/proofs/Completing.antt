@@ -1,23 +1,21 @@
 -- Where nothing fails and all is there, the status is 0, or 6 or 7; that of a verified trace is one of a verdict.
-use Rattle.std.proofs.Common.{◌≡◌, ◌⊎◌, ℕ, ◌+◌, ◌-◌, ◌^◌, ◌<◌, ◌≤◌, min, false, List, [], ◌∷◌, ◌++◌, length, find, All, Option, Some, None, Ok, Err, unwrap_or, refl, sym, ◌∙◌, ap, subst, inl, inr, arith, IfSome, IsSome, IsSomeAnd, ◌&&◌, bytes_eq, if◌then◌else◌}
+use Rattle.std.proofs.Common.{◌≡◌, ◌⊎◌, ℕ, ◌+◌, ◌-◌, ◌^◌, ◌≤◌, min, false, List, [], ◌∷◌, ◌++◌, length, find, All, Option, Some, None, Ok, Err, unwrap_or, refl, ◌∙◌, ap, subst, inl, inr, arith, IfSome, IsSome, IsSomeAnd, ◌&&◌, bytes_eq, if◌then◌else◌, rules}
 use Rattle.std.specs.List.{AllByRecursion, list_any}
 use Rattle.std.proofs.lemmas.List.{append-nil, length-append}
 use Rattle.std.proofs.lemmas.List.Elements.{recursion_from_All}
 use Rattle.geo_base.specs.Faults.{Rose, RoseBy}
-use Rattle.geo_base.specs.Images.{Images, IsDiskSize}
+use Rattle.geo_base.specs.Images.{Images}
 use Rattle.geo_model.specs.declared.command.DiskDecl.{DiskDecl}
 use Rattle.geo_model.specs.declared.command.DiskKind.{DiskKind}
 use Rattle.geo_model.specs.declared.command.DiskKind.TheVariants as disk_kinds
 use Rattle.geo_model.specs.World.{Plan}
-use Rattle.geo_model.specs.Opening.{opening}
 use Rattle.geo_model.specs.Script.{Fault, script}
 use Rattle.geo_headline.specs.Modes.{Mode, StepMode, RunMode, GenMode, SweepMode, WatchMode, TraceMode, VerifyMode, Accepts, source_limit}
 use Rattle.geo_headline.specs.Outside.{ShelfView, IsShelf, is_shelf, kept_back, HasImage, IsMissing, IsBadSize}
-use Rattle.geo_headline.specs.Endings.{Ending, Reported, ReportedButFault, BadWords, NoScript, ReadFault, ShelfFault, NoDisk, BadSize, OutOfMemory, LogFull, TooLong, Answered, NoTrace, Call, IsReadWhole, LogRanFull, StopsAt, WasReadWhole, failed_takes, first_kept_back, script_of, status_of}
+use Rattle.geo_headline.specs.Endings.{Ending, Reported, ReportedButFault, BadWords, NoScript, ReadFault, ShelfFault, NoDisk, BadSize, OutOfMemory, LogFull, TooLong, Answered, NoTrace, Call, IsReadWhole, StopsAt, WasReadWhole, failed_takes, first_kept_back, script_of, status_of}
 use Rattle.geo_headline.specs.declared.verified.Verified.TheVariants as found
 use Rattle.geo_headline.specs.Headline.{GivesScript, IsComplete, IsToldThere, KeepsAll, ModeIsComplete, NoFault, RunIsComplete, text_to_give}
 use Rattle.geo_run.proofs.Generated.{generated_in_memory, one_plan, plan_or_fault}
-use Rattle.geo_run.proofs.Tests.{is_or_not}
 
 -- Texts
 
@@ -34,9 +32,7 @@ no_longer : (before after : Option (List ℕ)) (text : List ℕ)
     → IfSome before (λ had. IsSomeAnd after (λ has. had ≡ text ++ has)) → length text ≤ length (unwrap_or before text)
 no_longer None after text h = omega arith
 no_longer (Some had) None text h = absurd h
-no_longer (Some had) (Some has) text h =
-    let e : length had ≡ length (text ++ has) = ap (λ (bs : List ℕ). length bs) h in
-    let both : length (text ++ has) ≡ length text + length has = length-append text has in omega (arith, e, both)
+no_longer (Some had) (Some has) text h = search (rules, length-append text has)
 
 -- Faults
 
@@ -71,20 +67,11 @@ of_one P (x ∷ front) d back all = of_one P front d back all.1
 
 not_missing : (d : DiskDecl) (told : Option Images) → IsSomeAnd told (HasImage d) → IfSome told (IsMissing d) → ⊥
 not_missing d None has missing = has
-not_missing d (Some images) has missing = by (images d.name) has missing
-  where
-    by : (o : Option (List ℕ)) → IsSomeAnd o (λ bytes. IsDiskSize d.sector (length bytes)) → o ≡ None → ⊥
-    by None h e = h
-    by (Some bytes) h e = cc
+not_missing d (Some images) has missing = search rules
 
 not_bad : (d : DiskDecl) (told : Option Images) → IsSomeAnd told (HasImage d) → IfSome told (IsBadSize d) → ⊥
 not_bad d None has bad = has
-not_bad d (Some images) has bad = by (images d.name) has bad
-  where
-    by : (o : Option (List ℕ)) → IsSomeAnd o (λ bytes. IsDiskSize d.sector (length bytes))
-        → IsSomeAnd o (λ bytes. IsDiskSize d.sector (length bytes) → ⊥) → ⊥
-    by None h e = h
-    by (Some bytes) h e = e h
+not_bad d (Some images) has bad = search rules
 
 -- a disk at which taking stopped is of the plan, and of the shelf
 stopped_there : (shelf : ShelfView) (plan : Plan) (name : List ℕ) (F : DiskDecl → Images → Type 0)
@@ -128,10 +115,7 @@ kept_rose : (call : Call) (plan : Plan) (ending : Ending) (name : List ℕ)
     call.after.shelf.faults
     → Rose call.before.shelf.faults call.after.shelf.faults
 kept_rose call plan ending name first rose =
-    let some : 1 ≤ length (kept_back call.before.shelf call.after.shelf) =
-    some_kept plan.disks (kept_back call.before.shelf call.after.shelf) (λ d. d.name ≡ name) first in
-    rose_from (failed_takes ending) (length (kept_back call.before.shelf call.after.shelf)) call.before.shelf.faults
-    call.after.shelf.faults (omega (arith, some)) rose
+    search (rules, some_kept plan.disks (kept_back call.before.shelf call.after.shelf) (λ d. d.name ≡ name) first)
 
 -- where a trace is verified, another mode isn't
 not_verified : (call : Call) (mode : Mode) (plan : Plan) (ending : Ending) → (VerifyMode ≡ mode → ⊥)
@@ -147,43 +131,19 @@ script_ends call mode plan Reported other whole text a k fine s = inl refl
 script_ends call mode plan (ReportedButFault name) other whole text a k fine s =
     absurd (fine.shelf (kept_rose call plan (ReportedButFault name) name k.ends.cause.1 k.outside.lent.faults))
 script_ends call mode plan BadWords other whole text a k fine s = absurd (k.ends.cause mode a)
-script_ends call mode plan (NoScript line c) other whole text a k fine s =
-    let all : IsReadWhole call mode = whole k.ends.cause.1 in
-    absurd (no_fault_there call.text (text_to_give call) s.1.0 (record { line = line; cause = c })
-    (all_given call.before.source.left call.after.source.left call.text k.texts.bytes.had_left all.none_left) s.1.1
-    (sym (ap script text) ∙ k.ends.cause.2))
+script_ends call mode plan (NoScript line c) other whole text a k fine s = search rules
 script_ends call mode plan ReadFault other whole text a k fine s = absurd (fine.source k.ends.cause.2)
-script_ends call mode plan (ShelfFault name) other whole text a k fine s =
-    absurd (fine.shelf (rose_from 1 (length (kept_back call.before.shelf call.after.shelf)) call.before.shelf.faults
-    call.after.shelf.faults (omega arith) k.outside.lent.faults))
+script_ends call mode plan (ShelfFault name) other whole text a k fine s = search rules
 script_ends call mode plan (NoDisk name) other whole text a k fine s =
-    let all : IsReadWhole call mode = whole k.ends.cause.0.read in
-    let same : s.1.0 ≡ plan = same_plan call.text (text_to_give call) s.1.0 plan
-    (all_given call.before.source.left call.after.source.left call.text k.texts.bytes.had_left all.none_left)
-    s.1.1 (sym (ap script text) ∙ k.ends.cause.0.script) in
-    absurd (not_missing k.ends.cause.1.disk call.before.shelf.told
-    (stopped_there call.before.shelf plan name IsMissing k.ends.cause.1
-    (subst (λ (p : Plan). All (IsToldThere call.before.shelf) p.disks) same s.1.2)) k.ends.cause.1.cause)
+    search (rules, stopped_there call.before.shelf plan name IsMissing k.ends.cause.1)
 script_ends call mode plan (BadSize name) other whole text a k fine s =
-    let all : IsReadWhole call mode = whole k.ends.cause.0.read in
-    let same : s.1.0 ≡ plan = same_plan call.text (text_to_give call) s.1.0 plan
-    (all_given call.before.source.left call.after.source.left call.text k.texts.bytes.had_left all.none_left)
-    s.1.1 (sym (ap script text) ∙ k.ends.cause.0.script) in
-    absurd (not_bad k.ends.cause.1.disk call.before.shelf.told
-    (stopped_there call.before.shelf plan name IsBadSize k.ends.cause.1
-    (subst (λ (p : Plan). All (IsToldThere call.before.shelf) p.disks) same s.1.2)) k.ends.cause.1.cause)
+    search (rules, stopped_there call.before.shelf plan name IsBadSize k.ends.cause.1)
 script_ends call mode plan OutOfMemory other whole text a k fine s = inr (inl refl)
 script_ends call mode plan LogFull other whole text a k fine s = inr (inr refl)
 script_ends call mode plan TooLong other whole text a k fine s =
-    let more : length call.text ≤ length (text_to_give call) =
-    no_longer call.before.source.left call.after.source.left call.text k.texts.bytes.had_left in
-    let long : source_limit mode < length call.text = k.ends.cause.1 in
-    let few : length (text_to_give call) ≤ source_limit mode = s.0 in
-    absurd (omega (arith, more, long, few))
-script_ends call mode plan (Answered found) other whole text a k fine s =
-    absurd (not_verified call mode plan (Answered found) other k k.ends.cause.0)
-script_ends call mode plan (NoTrace line) other whole text a k fine s =
-    absurd (not_verified call mode plan (NoTrace line) other k k.ends.cause.0)
+    search (rules, no_longer call.before.source.left call.after.source.left call.text k.texts.bytes.had_left)
+script_ends call mode plan (Answered found) other whole text a k fine s = search rules
+script_ends call mode plan (NoTrace line) other whole text a k fine s = search rules
 
 -- where the script is made
 generated_ends : (call : Call) (plan : Plan) (ending : Ending) (start count : ℕ)
@@ -195,9 +155,7 @@ generated_ends call plan (ReportedButFault name) s c a k fine =
 generated_ends call plan BadWords s c a k fine = absurd (k.ends.cause (GenMode s c) a)
 generated_ends call plan (NoScript line cause) s c a k fine = absurd k.ends.cause.0
 generated_ends call plan ReadFault s c a k fine = absurd k.ends.cause.0
-generated_ends call plan (ShelfFault name) s c a k fine =
-    absurd (fine.shelf (rose_from 1 (length (kept_back call.before.shelf call.after.shelf)) call.before.shelf.faults
-    call.after.shelf.faults (omega arith) k.outside.lent.faults))
+generated_ends call plan (ShelfFault name) s c a k fine = search rules
 generated_ends call plan (NoDisk name) s c a k fine =
     absurd (in_memory plan name IsMissing call.before.shelf k.ends.cause.1
     (generated_in_memory s c a.in_range plan k.ends.cause.0.script))
@@ -207,12 +165,8 @@ generated_ends call plan (BadSize name) s c a k fine =
 generated_ends call plan OutOfMemory s c a k fine = inr (inl refl)
 generated_ends call plan LogFull s c a k fine = inr (inr refl)
 generated_ends call plan TooLong s c a k fine = absurd k.ends.cause.0
-generated_ends call plan (Answered found) s c a k fine =
-    absurd (not_verified call (GenMode s c) plan (Answered found)
-    (λ e. let bad : VerifyMode ≡ GenMode s c = e in cc) k k.ends.cause.0)
-generated_ends call plan (NoTrace line) s c a k fine =
-    absurd (not_verified call (GenMode s c) plan (NoTrace line)
-    (λ e. let bad : VerifyMode ≡ GenMode s c = e in cc) k k.ends.cause.0)
+generated_ends call plan (Answered found) s c a k fine = search rules
+generated_ends call plan (NoTrace line) s c a k fine = search rules
 
 -- an ending that can be where a trace is verified and neither the source nor the sink fails
 abbrev IsVerdict : Ending → Type 0
@@ -232,15 +186,12 @@ verify_ends : (call : Call) (plan : Plan) (ending : Ending) → Accepts call.wor
     → KeepsAll call VerifyMode plan ending → (Rose call.before.source.faults call.after.source.faults → ⊥)
     → IsVerdict ending
 verify_ends call plan Reported a k fine = absurd (no_mesh call plan Reported k k.ends.cause.0)
-verify_ends call plan (ReportedButFault name) a k fine =
-    absurd (no_mesh call plan (ReportedButFault name) k k.ends.cause.0)
+verify_ends call plan (ReportedButFault name) a k fine = search rules
 verify_ends call plan BadWords a k fine = absurd (k.ends.cause VerifyMode a)
 verify_ends call plan (NoScript line c) a k fine = inr (inl refl)
 verify_ends call plan ReadFault a k fine = absurd (fine k.ends.cause.2)
 verify_ends call plan OutOfMemory a k fine = inr (inr (inl refl))
-verify_ends call plan LogFull a k fine =
-    absurd (no_mesh call plan LogFull k
-    (some_log call.log (LogRanFull VerifyMode plan (opening plan call.facts)) k.ends.cause))
+verify_ends call plan LogFull a k fine = search rules
 verify_ends call plan TooLong a k fine = inr (inr (inr (inl refl)))
 verify_ends call plan (Answered found.Yes) a k fine = inl refl
 verify_ends call plan (NoTrace line) a k fine = inr (inl refl)
@@ -264,17 +215,12 @@ verdict_status call ending e (inr (inr (inr (inr z)))) = inr (inr (inr (inr (e �
 -- what is written whole has the status of its ending
 status_is : (call : Call) (mode : Mode) (plan : Plan) (ending : Ending) → KeepsAll call mode plan ending
     → (Rose call.before.sink.faults call.after.sink.faults → ⊥) → call.status ≡ status_of ending
-status_is call mode plan ending k fine =
-    elim (is_or_not call.status 4) [
-      | inl cut ↦ absurd (fine (k.texts.prints.cut_off cut).fault)
-      | inr ne ↦ (k.texts.prints.whole ne).status
-    ]
+status_is call mode plan ending k fine = search rules
 
 -- a call that keeps all is complete where its text is the script
 run_complete : (call : Call) (mode : Mode) (plan : Plan) (ending : Ending) → KeepsAll call mode plan ending
     → (NoFault call.before call.after → GivesScript call mode → IsGood ending) → RunIsComplete call mode
-run_complete call mode plan ending k ends =
-    λ fine gives. good_status call ending (status_is call mode plan ending k fine.sink) (ends fine gives)
+run_complete call mode plan ending k ends = search rules
 
 -- a call that keeps all is complete in its mode
 in_mode : (call : Call) (mode : Mode) (plan : Plan) (ending : Ending) → Accepts call.words mode
@@ -296,13 +242,9 @@ in_mode call WatchMode plan ending a k =
 in_mode call TraceMode plan ending a k =
     run_complete call TraceMode plan ending k (λ fine gives. script_ends call TraceMode plan ending
     (λ e. let bad : VerifyMode ≡ TraceMode = e in cc) (λ w. w) refl a k fine gives)
-in_mode call VerifyMode plan ending a k =
-    λ source sink. verdict_status call ending (status_is call VerifyMode plan ending k sink)
-    (verify_ends call plan ending a k source)
+in_mode call VerifyMode plan ending a k = search (rules, verify_ends call plan ending a k)
 
 -- a call that keeps all is complete
 pub complete : (call : Call) (mode : Mode) (plan : Plan) (ending : Ending) → KeepsAll call mode plan ending
     → IsComplete call
-complete call mode plan ending k = λ m accepts.
-    in_mode call m plan ending accepts
-    (subst (λ (z : Mode). KeepsAll call z plan ending) (sym (k.texts.read_as.mode_is m accepts)) k)
+complete call mode plan ending k = search (rules, in_mode call)

@@ -1,18 +1,16 @@
 -- What a shelf keeps over a course: disks are taken, perhaps they serve a mesh, and they are given back.
-use Rattle.std.proofs.Common.{◌≡◌, ◌≢◌, ◌⊎◌, ℕ, ◌+◌, ◌*◌, true, false, List, [], ◌∷◌, ◌++◌, length, All, Option, Some, None, refl, sym, ◌∙◌, ap, subst, inl, inr, Contains, IfSome, IsSomeAnd, map, zip}
+use Rattle.std.proofs.Common.{◌≡◌, ◌≢◌, ◌⊎◌, ℕ, ◌+◌, ◌*◌, true, false, List, [], ◌∷◌, ◌++◌, length, All, Option, Some, None, refl, sym, ◌∙◌, ap, subst, inl, inr, Contains, IfSome, IsSomeAnd, map, zip, rules}
 use Rattle.std.specs.List.{AllByRecursion}
 use Rattle.std.proofs.lemmas.List.Elements.{All-from_recursion}
 use Rattle.geo_base.specs.Faults.{Rose}
-use Rattle.geo_base.specs.Sectors.{IsSectorSize, joined_sectors, sectors_of}
+use Rattle.geo_base.specs.Sectors.{IsSectorSize, sectors_of}
 use Rattle.geo_model.specs.declared.command.DiskDecl.{DiskDecl}
 use Rattle.geo_model.specs.declared.command.DiskKind.{DiskKind}
 use Rattle.geo_model.specs.declared.command.DiskKind.TheVariants as disk_kinds
 use Rattle.geo_model.specs.declared.step.Entry.{Entry}
-use Rattle.geo_model.specs.Contents.{contents}
 use Rattle.geo_model.specs.Plans.{IsDiskDecl}
 use Rattle.geo_headline.specs.Outside.{ShelfView, DiskStays, IsUnasked, HasFactSectors, IsShelf, kept_back, ImagesStay, ImagesStand, KeepsLength}
 use Rattle.geo_serve.specs.Served.{IsServed}
-use Rattle.geo_serve.specs.Drives.{HasWholeSectors}
 use Rattle.geo_headline.specs.Headline.{KeptDisksStay, NoneAsked}
 use Rattle.geo_run.specs.Drives.{size_of, DriveView, ServeAll}
 use Rattle.geo_run.specs.Lending.{AreApart, AreOther, names_of}
@@ -42,11 +40,8 @@ pub record Course (before between after : ShelfView) (ds : List DiskDecl) (xs ys
 none_lent : (before between : ShelfView) (ds : List DiskDecl) (xs : List DriveView) → EachHad before between ds xs
     → NoneAmong before.lent ds
 none_lent before between [] [] h = tt
-none_lent before between (d ∷ ds) (x ∷ xs) h = (one d.kind h.0, none_lent before between ds xs h.1)
-  where
-    one : (kind : DiskKind) → IsHad before between d x kind → IsShelf kind → AreOther d.name before.lent
-    one disk_kinds.Ram had s = absurd (let bad : false ≡ true = s in cc)
-    one disk_kinds.Shelf had s = other-from d.name before.lent had.not_lent
+none_lent before between (d ∷ ds) (x ∷ xs) h =
+    search (rules, none_lent before between ds xs h.1, other-from d.name before.lent)
 none_lent before between _ _ h = absurd h
 
 pub course_fate : (a m b : ShelfView) (ds : List DiskDecl) (xs ys : List DriveView) (kept : List (List ℕ))
@@ -70,8 +65,7 @@ pub course_rose : (a m b : ShelfView) (ds : List DiskDecl) (xs ys : List DriveVi
     → Course a m b ds xs ys kept → All (λ name. Rose (a.give_faults name) (b.give_faults name)) (kept_back a b)
 course_rose a m b ds xs ys kept c =
     All-from_recursion (λ name. Rose (a.give_faults name) (b.give_faults name)) (kept_back a b)
-    (subst (λ ks. AllByRecursion (λ name. Rose (a.give_faults name) (b.give_faults name)) ks)
-    (sym (course_back a m b ds xs ys kept c)) (from kept (kept_rose m b ds ys kept c.apart c.given)))
+    (search (rules, course_back a m b ds xs ys kept c, from kept (kept_rose m b ds ys kept c.apart c.given)))
   where
     from : (names : List (List ℕ)) → AllByRecursion (λ name. Rose (m.give_faults name) (b.give_faults name)) names
         → AllByRecursion (λ name. Rose (a.give_faults name) (b.give_faults name)) names
@@ -104,10 +98,7 @@ lookup P (d ∷ ds) all name = by d.kind all.0 (lookup P ds all.1 name)
         → ((IsShelf kind → d.name ≢ name) × IsForeign name ds) ⊎ P name
     by kind h (inr p) = inr p
     by disk_kinds.Ram h (inl f) = inl ((λ s. absurd (let bad : false ≡ true = s in cc)), f)
-    by disk_kinds.Shelf h (inl f) = elim (same_or_other d.name name) [
-      | inl e ↦ inr (subst P e (h refl))
-      | inr ne ↦ inl ((λ s. ne), f)
-    ]
+    by disk_kinds.Shelf h (inl f) = search (rules, same_or_other d.name name)
 
 -- a name has nothing
 abbrev IsGone : Option (List ℕ) → Option (List ℕ) → Type 0
@@ -121,9 +112,7 @@ ImageFate a b kept name =
 same_image : (d : DiskDecl) (x : DriveView) → IsSectorSize d.sector → (u v w : Option (List ℕ)) → WentInto d x u v
     → HasSectors x v w → w ≡ u
 same_image d x is None v w p q = absurd p.0
-same_image d x is (Some bytes) v w p q =
-    subst (λ o. IfSome o (λ sectors. w ≡ Some (joined_sectors sectors))) p.0.1 q
-    ∙ ap (λ bs. Some bs) (joined_image d.sector bytes is p.0.0)
+same_image d x is (Some bytes) v w p q = search (rules, joined_image d.sector bytes is p.0.0)
 
 images_fate : (a m b : ShelfView) (ds : List DiskDecl) (xs : List DriveView) (kept : List (List ℕ))
     → AllByRecursion IsDiskDecl ds → EachHad a m ds xs → EachFate m b ds xs kept
@@ -150,31 +139,16 @@ images_fate a m b (d ∷ ds) (x ∷ xs) kept decls h f = (one d.kind h.0 f.0, im
 pub images_stay : (a m b : ShelfView) (ds : List DiskDecl) (xs : List DriveView) (kept : List (List ℕ))
     → Course a m b ds xs xs kept → ImagesStay a b
 images_stay a m b ds xs kept c name =
-    told (lookup (ImageFate a b kept) ds
-    (images_fate a m b ds xs kept c.decls c.had (course_fate a m b ds xs xs kept c)) name)
-  where
-    back_is : kept_back a b ≡ kept
-    back_is = course_back a m b ds xs xs kept c
-
-    goes : (Contains (kept_back a b) name → ⊥) → OfName a.told b.told name IsSame
-        → OfName a.told b.told name
-        (λ had has. ((Contains (kept_back a b) name → ⊥) → has ≡ had) × (Contains (kept_back a b) name → has ≡ None))
-    goes away p = weaker a.told b.told name (λ u w s. ((λ not_back. s), (λ back. absurd (away back)))) p
-
-    comes : Contains (kept_back a b) name → OfName a.told b.told name IsGone
-        → OfName a.told b.told name
-        (λ had has. ((Contains (kept_back a b) name → ⊥) → has ≡ had) × (Contains (kept_back a b) name → has ≡ None))
-    comes here p = weaker a.told b.told name (λ u w s. ((λ not_back. absurd (not_back here)), (λ back. s))) p
-
-    told : IsForeign name ds ⊎ ImageFate a b kept name
-        → IfSome a.told (λ had. IsSomeAnd b.told (λ has.
-        ((Contains (kept_back a b) name → ⊥) → has name ≡ had name)
-        × (Contains (kept_back a b) name → has name ≡ None)))
-    told (inl foreign) = (goes (λ back. course_foreign a m b ds xs xs kept c name foreign back)
-        (course_told a m b ds xs xs kept c name foreign)).is
-    told (inr (inl given)) =
-        (goes (λ back. other-contains name kept given.0 (subst (λ ks. Contains ks name) back_is back)) given.1).is
-    told (inr (inr held)) = (comes (subst (λ ks. Contains ks name) (sym back_is) held.0) held.1).is
+    search (
+      rules,
+      lookup (ImageFate a b kept) ds (images_fate a m b ds xs kept c.decls c.had (course_fate a m b ds xs xs kept c))
+          name,
+      course_back a m b ds xs xs kept c,
+      weaker a.told b.told name,
+      course_foreign a m b ds xs xs kept c name,
+      course_told a m b ds xs xs kept c name,
+      other-contains name kept,
+    )
 
 -- Lengths
 
@@ -189,31 +163,14 @@ length_after : (log : List Entry) (n : ℕ) (d : DiskDecl) (x y : DriveView) →
     → (u v w : Option (List ℕ)) → WentInto d x u v → HasSectors y v w → KeepsLength u w
 length_after log n d x y is asked counted counted_after served None v w p q = absurd p.0
 length_after log n d x y is asked counted counted_after served (Some bytes) v w p q =
-    subst (λ o. IsSomeAnd o (λ now. length now ≡ length bytes)) (sym got)
-    (all_bytes y.sector now whole ∙ ap (λ k. k * y.sector) many ∙ ap (λ k. k * y.sector) served.count
-    ∙ ap (λ k. x.count * k) served.sector ∙ image_bytes d x bytes is asked counted p.0.0 p.0.1)
-  where
-    now : List (List ℕ)
-    now = contents d.sector (sectors_of d.sector bytes) log n
-
-    held : y.held ≡ Some now
-    held = held_after log n d x y bytes asked p.0.1 served
-
-    got : w ≡ Some (joined_sectors now)
-    got = subst (λ o. IfSome o (λ sectors. w ≡ Some (joined_sectors sectors))) held q
-
-    many : length now ≡ y.count
-    many = subst (λ o. IfSome o (λ (sectors : List (List ℕ)). length sectors ≡ y.count)) held counted_after
-
-    whole_before : HasWholeSectors x
-    whole_before =
-        subst (λ o. IfSome o (λ sectors. All (λ (s : List ℕ). length s ≡ x.sector) sectors)) (sym p.0.1)
-        (subst (λ (k : ℕ). All (λ (s : List ℕ). length s ≡ k) (sectors_of d.sector bytes)) (sym asked)
-        (image_whole d.sector bytes is p.0.0))
-
-    whole : All (λ (s : List ℕ). length s ≡ y.sector) now
-    whole = subst (λ o. IfSome o (λ sectors. All (λ (s : List ℕ). length s ≡ y.sector) sectors)) held
-        (served.whole whole_before)
+    search (
+      rules,
+      all_bytes y.sector,
+      ap (λ k. x.count * k) served.sector,
+      image_bytes d x bytes is asked counted p.0.0 p.0.1,
+      held_after log n d x y bytes asked p.0.1 served,
+      image_whole d.sector bytes is p.0.0,
+    )
 
 -- an image keeps its length, or is kept back
 abbrev Stands : ShelfView → ShelfView → List (List ℕ) → List ℕ → Type 0
@@ -239,17 +196,14 @@ served_stand a m b log n (d ∷ ds) (x ∷ xs) (y ∷ ys) kept decls h s f =
 images_stand_by : (a m b : ShelfView) (ds : List DiskDecl) (xs ys : List DriveView) (kept : List (List ℕ))
     → Course a m b ds xs ys kept
     → AllByRecursion (λ (d : DiskDecl). IsShelf d.kind → Stands a b kept d.name) ds → ImagesStand a b
-images_stand_by a m b ds xs ys kept c all name not_back = told (lookup (Stands a b kept) ds all name)
-  where
-    long : OfName a.told b.told name IsSame → OfName a.told b.told name KeepsLength
-    long p = weaker a.told b.told name same_length p
-
-    told : IsForeign name ds ⊎ Stands a b kept name
-        → IfSome a.told (λ had. IsSomeAnd b.told (λ has. KeepsLength (had name) (has name)))
-    told (inl foreign) = (long (course_told a m b ds xs ys kept c name foreign)).is
-    told (inr (inl kept_length)) = kept_length.is
-    told (inr (inr among)) =
-        absurd (not_back (subst (λ ks. Contains ks name) (sym (course_back a m b ds xs ys kept c)) among))
+images_stand_by a m b ds xs ys kept c all name not_back =
+    search (
+      rules,
+      lookup (Stands a b kept) ds all name,
+      same_length,
+      course_told a m b ds xs ys kept c name,
+      course_back a m b ds xs ys kept c,
+    )
 
 -- images that served keep their lengths
 pub images_stand : (a m b : ShelfView) (log : List Entry) (ds : List DiskDecl) (xs ys : List DriveView)
@@ -262,13 +216,7 @@ still_stand : (a b : ShelfView) (kept : List (List ℕ)) (ds : List DiskDecl)
     → AllByRecursion (λ (d : DiskDecl). IsShelf d.kind → ImageFate a b kept d.name) ds
     → AllByRecursion (λ (d : DiskDecl). IsShelf d.kind → Stands a b kept d.name) ds
 still_stand a b kept [] all = tt
-still_stand a b kept (d ∷ ds) all = (
-  λ s. elim (all.0 s) [
-    | inl given ↦ inl (weaker a.told b.told d.name same_length given.1)
-    | inr held ↦ inr held.0
-  ],
-  still_stand a b kept ds all.1,
-)
+still_stand a b kept (d ∷ ds) all = search (rules, still_stand a b kept ds all.1)
 
 -- and so do images that didn't
 pub images_stand_still : (a m b : ShelfView) (ds : List DiskDecl) (xs : List DriveView) (kept : List (List ℕ))
@@ -288,65 +236,40 @@ known_fates : (a m b : ShelfView) (ds : List DiskDecl) (ys : List DriveView) (ke
     → AllByRecursion (λ (d : DiskDecl). IsShelf d.kind → KnownFate a b kept d.name) ds
 known_fates a m b [] ys kept same f = tt
 known_fates a m b (d ∷ ds) [] kept same f = absurd f
-known_fates a m b (d ∷ ds) (y ∷ ys) kept same f = (one d.kind f.0, known_fates a m b ds ys kept same f.1)
-  where
-    one : (kind : DiskKind) → Fate m b d.name y kept kind → IsShelf kind → KnownFate a b kept d.name
-    one disk_kinds.Ram fate is = absurd (let bad : false ≡ true = is in cc)
-    one disk_kinds.Shelf fate is = elim fate [
-      | inl given ↦ inl given.not_kept
-      | inr held ↦ inr (record {
-        faults = held.stays.faults ∙ (same d.name).faults;
-        asked = held.stays.asked ∙ (same d.name).asked;
-        sectors = held.stays.sectors ∙ (same d.name).sectors;
-      })
-    ]
+known_fates a m b (d ∷ ds) (y ∷ ys) kept same f = search (rules, known_fates a m b ds ys kept same f.1)
 
 -- of the disks that were kept nothing more is known
 pub kept_stay : (a m b : ShelfView) (ds : List DiskDecl) (xs ys : List DriveView) (kept : List (List ℕ))
     → Course a m b ds xs ys kept → KeptDisksStay a b
 kept_stay a m b ds xs ys kept c name back =
-    by (lookup (KnownFate a b kept) ds
-    (known_fates a m b ds ys kept
-    (λ n. record { faults = c.disks n; asked = c.asked n; sectors = c.sectors n })
-    (course_fate a m b ds xs ys kept c)) name)
-  where
-    by : IsForeign name ds ⊎ KnownFate a b kept name → DiskStays a b name
-    by (inl foreign) = absurd (course_foreign a m b ds xs ys kept c name foreign back)
-    by (inr (inl other)) =
-        absurd (other-contains name kept other
-        (subst (λ ks. Contains ks name) (course_back a m b ds xs ys kept c) back))
-    by (inr (inr stays)) = stays
+    search (
+      rules,
+      lookup (KnownFate a b kept) ds
+          (known_fates a m b ds ys kept (λ n. record { faults = c.disks n; asked = c.asked n; sectors = c.sectors n })
+          (course_fate a m b ds xs ys kept c)) name,
+      course_foreign a m b ds xs ys kept c name,
+      other-contains name kept,
+      course_back a m b ds xs ys kept c,
+    )
 
 unasked_fates : (a m b : ShelfView) (ds : List DiskDecl) (xs : List DriveView) (kept : List (List ℕ))
     → ((name : List ℕ) → DiskStays a m name) → EachHad a m ds xs → EachFate m b ds xs kept
     → AllByRecursion (λ (d : DiskDecl). IsShelf d.kind → IsUnasked a b d.name) ds
 unasked_fates a m b [] xs kept same h f = tt
 unasked_fates a m b (d ∷ ds) [] kept same h f = absurd f
-unasked_fates a m b (d ∷ ds) (x ∷ xs) kept same h f = (one d.kind h.0 f.0, unasked_fates a m b ds xs kept same h.1 f.1)
-  where
-    one : (kind : DiskKind) → IsHad a m d x kind → Fate m b d.name x kept kind → IsShelf kind → IsUnasked a b d.name
-    one disk_kinds.Ram had fate is = absurd (let bad : false ≡ true = is in cc)
-    one disk_kinds.Shelf had fate is = elim fate [
-      | inl given ↦ record { faults = given.faults ∙ had.brought; asked = given.asked ∙ had.asked }
-      | inr held ↦ record {
-        faults = held.stays.faults ∙ (same d.name).faults;
-        asked = held.stays.asked ∙ (same d.name).asked;
-      }
-    ]
+unasked_fates a m b (d ∷ ds) (x ∷ xs) kept same h f = search (rules, unasked_fates a m b ds xs kept same h.1 f.1)
 
 -- disks that served no mesh weren't asked
 pub none_asked : (a m b : ShelfView) (ds : List DiskDecl) (xs : List DriveView) (kept : List (List ℕ))
     → Course a m b ds xs xs kept → NoneAsked a b
 none_asked a m b ds xs kept c name =
-    by (lookup (λ n. IsUnasked a b n) ds
-    (unasked_fates a m b ds xs kept
-    (λ n. record { faults = c.disks n; asked = c.asked n; sectors = c.sectors n })
-    c.had (course_fate a m b ds xs xs kept c)) name)
-  where
-    by : IsForeign name ds ⊎ IsUnasked a b name → IsUnasked a b name
-    by (inl foreign) = let stays = gives_stay m b ds xs kept name c.given foreign in
-        record { faults = stays.disks ∙ c.disks name; asked = stays.asked ∙ c.asked name }
-    by (inr unasked) = unasked
+    search (
+      rules,
+      lookup (λ n. IsUnasked a b n) ds
+          (unasked_fates a m b ds xs kept (λ n. record { faults = c.disks n; asked = c.asked n; sectors = c.sectors n })
+          c.had (course_fate a m b ds xs xs kept c)) name,
+      gives_stay m b ds xs kept name c.given,
+    )
 
 -- disks that served and were given back have the sizes that they had
 pub sizes_back : (a m b : ShelfView) (log : List Entry) (n : ℕ) (ds : List DiskDecl) (xs ys : List DriveView)
@@ -356,12 +279,4 @@ sizes_back a m b log n [] xs ys kept e s f = tt
 sizes_back a m b log n (d ∷ ds) [] ys kept e s f = tt
 sizes_back a m b log n (d ∷ ds) (x ∷ xs) [] kept e s f = absurd s
 sizes_back a m b log n (d ∷ ds) (x ∷ xs) (y ∷ ys) kept e s f =
-    (one d.kind f.0, sizes_back a m b log (n + 1) ds xs ys kept e s.1 f.1)
-  where
-    one : (kind : DiskKind) → Fate m b d.name y kept kind → IsShelf kind → (Contains (kept_back a b) d.name → ⊥)
-        → b.sectors_of d.name ≡ x.count
-    one disk_kinds.Ram fate is not_back = absurd (let bad : false ≡ true = is in cc)
-    one disk_kinds.Shelf fate is not_back = elim fate [
-      | inl given ↦ given.sectors ∙ s.0.count
-      | inr held ↦ absurd (not_back (subst (λ ks. Contains ks d.name) (sym e) held.among))
-    ]
+    search (rules, sizes_back a m b log (n + 1) ds xs ys kept e s.1 f.1)

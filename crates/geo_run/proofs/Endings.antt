@@ -1,5 +1,5 @@
 -- How the run of a plan ends, from what each part of it did.
-use Rattle.std.proofs.Common.{◌≡◌, ◌≢◌, ℕ, ◌+◌, ◌-◌, ◌^◌, ◌≤◌, min, Bool, true, false, List, [], ◌∷◌, ◌++◌, length, map, All, Option, Some, None, refl, sym, ◌∙◌, ap, subst, inl, inr, arith, Contains, IfSome, IfNone, IsSome, IsSomeAnd, IsTrue, bytes_eq, ◌&&◌, ◌||◌, slice_get, zip}
+use Rattle.std.proofs.Common.{◌≡◌, ◌≢◌, ℕ, ◌+◌, ◌-◌, ◌^◌, ◌≤◌, min, Bool, true, false, List, [], ◌∷◌, ◌++◌, length, map, All, Option, Some, None, refl, sym, ◌∙◌, ap, subst, inl, inr, arith, Contains, IfSome, IfNone, IsSome, IsSomeAnd, IsTrue, bytes_eq, ◌&&◌, slice_get, zip, rules}
 use Rattle.std.specs.Prelude.{⊤}
 use Rattle.std.specs.List.{AllByRecursion, enumerate_from, list_any}
 use Rattle.std.proofs.lemmas.List.{map-append}
@@ -23,13 +23,12 @@ use Rattle.geo_run.specs.Drives.{DriveView, size_of}
 use Rattle.geo_run.specs.declared.stop.Stop.{Stop}
 use Rattle.geo_run.specs.declared.stop.Stop.TheVariants as stops
 use Rattle.geo_run.specs.Stops.{ending_of}
-use Rattle.geo_run.specs.Lending.{AreApart, AreOther, GivesBack, GivesDrive, GivesUp, OpensDrive, OpensDrives, OpensNoDrive, TakeCause, TakesBack, is_shelf_fault, names_of}
+use Rattle.geo_run.specs.Lending.{AreApart, AreOther, GivesBack, GivesUp, OpensDrives, OpensNoDrive, TakeCause, TakesBack, is_shelf_fault, names_of}
 use Rattle.geo_run.specs.Ends.{LentCause, PlanCause, RunsDrives, RunsPlan, Served}
-use Rattle.geo_run.proofs.Tests.{other_names, same_itself, same_or_other}
-use Rattle.geo_run.proofs.Told.{OfName, IsSame, chain, of_name, same, same_twice}
+use Rattle.geo_run.proofs.Told.{OfName, IsSame, chain, of_name, same_twice}
 use Rattle.geo_run.proofs.Taking.{EachHad, IsForeign, IsHad, each_had, takes_count, takes_no_fault, takes_lend, takes_stay}
 use Rattle.geo_run.proofs.Giving.{GivesAll, SameKinds, gives_all, gives_stay}
-use Rattle.geo_run.proofs.Fates.{counted_rose, first_kept, first_of, gives_fault, is_of, kept_of_plan}
+use Rattle.geo_run.proofs.Fates.{first_kept, gives_fault, is_of, kept_of_plan}
 use Rattle.geo_run.proofs.Outs.{apart_front}
 use Rattle.geo_run.proofs.Visits.{all_in_order, none_in_order, stopped_in_order}
 use Rattle.geo_run.proofs.Telling.{gives_no_fault, gives_take_none, gives_told, none_blamed}
@@ -80,21 +79,13 @@ rose_none f x y e le = omega arith
 no_takes : (a b : ShelfView) (ds : List DiskDecl) (xs : List DriveView)
     → AllByRecursion (λ (d : DiskDecl). IsShelf d.kind → ⊥) ds → OpensDrives a ds xs b → b ≡ a
 no_takes a b [] [] none h = h
-no_takes a b (d ∷ ds) (x ∷ xs) none h = no_takes h.0 b ds xs none.1 h.2 ∙ one d.kind none.0 h.1
-  where
-    one : (kind : DiskKind) → (IsShelf kind → ⊥) → OpensDrive a d x h.0 kind → h.0 ≡ a
-    one disk_kinds.Ram never g = g.1
-    one disk_kinds.Shelf never g = absurd (never refl)
+no_takes a b (d ∷ ds) (x ∷ xs) none h = search (rules, no_takes h.0 b ds xs none.1 h.2)
 no_takes a b _ _ none h = absurd h
 
 no_gives : (a b : ShelfView) (ds : List DiskDecl) (xs : List DriveView) (kept : List (List ℕ))
     → AllByRecursion (λ (d : DiskDecl). IsShelf d.kind → ⊥) ds → GivesAll a ds xs kept b → b ≡ a
 no_gives a b [] [] kept none h = h.1
-no_gives a b (d ∷ ds) (x ∷ xs) kept none h = no_gives h.0 b ds xs h.2 none.1 h.5 ∙ one d.kind none.0 h.4
-  where
-    one : (kind : DiskKind) → (IsShelf kind → ⊥) → GivesDrive a d.name x h.1 h.0 kind → h.0 ≡ a
-    one disk_kinds.Ram never g = g.1
-    one disk_kinds.Shelf never g = absurd (never refl)
+no_gives a b (d ∷ ds) (x ∷ xs) kept none h = search (rules, no_gives h.0 b ds xs h.2 none.1 h.5)
 no_gives a b _ _ kept none h = absurd h
 
 -- What is lent and what is foreign
@@ -102,20 +93,14 @@ no_gives a b _ _ kept none h = absurd h
 lent_after : (ending : Ending) (a m b : ShelfView) (ds : List DiskDecl) (xs ys : List DriveView)
     (kept : List (List ℕ)) → Course a m b ds xs ys kept → RoseBy (failed_takes ending) a.faults m.faults
     → LentAfter ending a b
-lent_after ending a m b ds xs ys kept c rose = record {
-  faults =
-      let back : length (kept_back a b) ≡ length kept =
-      ap (λ (ks : List (List ℕ)). length ks) (course_back a m b ds xs ys kept c) in
-      let first : min (a.faults + failed_takes ending) (2 ^ 64 - 1) ≤ m.faults = rose in
-      let then_gives : min (m.faults + length kept) (2 ^ 64 - 1) ≤ b.faults = gives_fault m b ds ys kept c.given in
-      both (failed_takes ending) (length (kept_back a b)) (length kept) a.faults m.faults b.faults back first
-      then_gives;
-  gives = course_rose a m b ds xs ys kept c;
-}
-  where
-    both : (f n k x y z : ℕ) → n ≡ k → min (x + f) (2 ^ 64 - 1) ≤ y → min (y + k) (2 ^ 64 - 1) ≤ z
-        → min (x + (f + n)) (2 ^ 64 - 1) ≤ z
-    both f n k x y z e p q = omega arith
+lent_after ending a m b ds xs ys kept c rose =
+    search (
+      rules,
+      course_back a m b ds xs ys kept c,
+      rose,
+      gives_fault m b ds ys kept c.given,
+      course_rose a m b ds xs ys kept c,
+    )
 
 -- of each name that was kept back one give failed, and of each other none
 course_gives : (a m b : ShelfView) (ds : List DiskDecl) (xs ys : List DriveView)
@@ -129,15 +114,12 @@ course_gives a m b ds xs ys kept c name =
 -- the names that are kept are of these disks
 kept_of : (a m b : ShelfView) (ds : List DiskDecl) (xs ys : List DriveView) (kept : List (List ℕ))
     → Course a m b ds xs ys kept → AllByRecursion (λ name. is_of ds name ≡ true) (kept_back a b)
-kept_of a m b ds xs ys kept c =
-    subst (λ ks. AllByRecursion (λ name. is_of ds name ≡ true) ks) (sym (course_back a m b ds xs ys kept c))
-    (kept_of_plan m b ds ys kept c.given)
+kept_of a m b ds xs ys kept c = search (rules, course_back a m b ds xs ys kept c, kept_of_plan m b ds ys kept c.given)
 
 still_lent : (a m b : ShelfView) (ds : List DiskDecl) (xs ys : List DriveView) (kept : List (List ℕ))
     → Course a m b ds xs ys kept → (name : List ℕ) → Contains a.lent name → Contains b.lent name
 still_lent a m b ds xs ys kept c name lent =
-    subst (λ ns. Contains ns name) (sym (course_lent a m b ds xs ys kept c))
-    (Contains-append_left a.lent kept name lent)
+    search (rules, course_lent a m b ds xs ys kept c, Contains-append_left a.lent kept name lent)
 
 foreign_counts : (a m b : ShelfView) (ds : List DiskDecl) (xs ys : List DriveView) (kept : List (List ℕ))
     → Course a m b ds xs ys kept → (name : List ℕ) → m.take_faults name ≡ a.take_faults name → IsForeign name ds
@@ -191,9 +173,7 @@ plan_cause : (mode : Mode) (plan : Plan) (opened : World) (log : Option (List En
 plan_cause mode plan opened log a m b xs ys kept Reported c h = (h.0, course_back a m b plan.disks xs ys kept c ∙ h.1)
 plan_cause mode plan opened log a m b xs ys kept (ReportedButFault name) c h = (
   h.0,
-  subst (λ (ks : List (List ℕ)). IsSomeAnd (first_of plan.disks ks) (λ d. d.name ≡ name))
-      (sym (course_back a m b plan.disks xs ys kept c))
-      (first_kept m b plan.disks ys kept name c.apart c.given h.1),
+  search (rules, course_back a m b plan.disks xs ys kept c, first_kept m b plan.disks ys kept name c.apart c.given h.1),
   rose (kept_back a b) (ap (λ (ks : List (List ℕ)). slice_get ks 0) (course_back a m b plan.disks xs ys kept c) ∙ h.1)
       (recursion_from_All (λ n. Rose (a.give_faults n) (b.give_faults n)) (kept_back a b)
       (course_rose a m b plan.disks xs ys kept c)),
@@ -203,9 +183,7 @@ plan_cause mode plan opened log a m b xs ys kept (ReportedButFault name) c h = (
         → AllByRecursion (λ n. Rose (a.give_faults n) (b.give_faults n)) names
         → Rose (a.give_faults name) (b.give_faults name)
     rose [] e all = absurd (let bad : None ≡ Some name = e in cc)
-    rose (n ∷ names) e all =
-        let same : n ≡ name = (let got : Some n ≡ Some name = e in cc) in
-        subst (λ (k : List ℕ). Rose (a.give_faults k) (b.give_faults k)) same all.0
+    rose (n ∷ names) e all = search rules
 plan_cause mode plan opened log a m b xs ys kept OutOfMemory c h = tt
 plan_cause mode plan opened log a m b xs ys kept LogFull c h = h
 plan_cause mode plan opened log a m b xs ys kept _ c h = absurd h
@@ -290,8 +268,7 @@ runs_plan mode plan facts log ending xs a m b is opens r = record {
         (kept_of a m b plan.disks xs r.served r.kept course);
   };
   unasked = unasked_by plan log a m b xs r.served r.kept course r.serves;
-  sizes = λ some. subst (λ (fs : List (ℕ × ℕ)). HaveFactSectors plan fs a b) (sym (r.sizes some))
-      (sizes_by plan log a m b xs r.served r.kept course r.serves some);
+  sizes = search (rules, sizes_by plan log a m b xs r.served r.kept course r.serves);
   kept_stay = kept_stay a m b plan.disks xs r.served r.kept course;
   images = images_by plan log a m b xs r.served r.kept course r.serves;
   images_stand = stand_by plan log a m b xs r.served r.kept course r.serves;
@@ -326,20 +303,7 @@ record Stopped (a b : ShelfView) (d : DiskDecl) (stop : Stop) (kind : DiskKind) 
 
 take_stopped : (a b : ShelfView) (d : DiskDecl) (stop : Stop) (kind : DiskKind) → OpensNoDrive a d stop b kind
     → Stopped a b d stop kind
-take_stopped a b d stop disk_kinds.Ram h = record {
-  told = λ name. subst (λ (v : ShelfView). OfName a.told v.told name IsSame) (sym h.1) (same a.told name);
-  lent = ap (λ (v : ShelfView). v.lent) h.1;
-  disks = λ name. ap (λ (v : ShelfView). v.faults_of name) h.1;
-  gives = λ name. ap (λ (v : ShelfView). v.give_faults name) h.1;
-  asked = λ name. ap (λ (v : ShelfView). v.asked_of name) h.1;
-  sectors = λ name. ap (λ (v : ShelfView). v.sectors_of name) h.1;
-  takes = λ name foreign. ap (λ (v : ShelfView). v.take_faults name) h.1;
-  faults = none_rose (failed_takes (ending_of stop)) a.faults b.faults (ap (λ s. failed_takes (ending_of s)) h.0)
-      (ap (λ (v : ShelfView). v.faults) h.1);
-}
-  where
-    none_rose : (f x y : ℕ) → f ≡ 0 → y ≡ x → RoseBy f x y
-    none_rose f x y e s = omega arith
+take_stopped a b d stop disk_kinds.Ram h = search rules
 take_stopped a b d stop disk_kinds.Shelf h = record {
   told = λ name. of_name a.told b.told name IsAsBefore (λ o v p. p name) h.told;
   lent = h.lent;
@@ -362,37 +326,17 @@ take_stopped a b d stop disk_kinds.Shelf h = record {
 stopped_takes : (a m n b : ShelfView) (d : DiskDecl) (stop : Stop) (kind : DiskKind)
     → OpensNoDrive m d stop n kind → ((name : List ℕ) → m.take_faults name ≡ a.take_faults name)
     → ((name : List ℕ) → b.take_faults name ≡ n.take_faults name) → TakesAreToldAt (ending_of stop) a b
-stopped_takes a m n b d stop disk_kinds.Ram h before after =
-    none_blamed (ending_of stop) a b (ap (λ s. failed_takes (ending_of s)) h.0)
-    (λ name. after name ∙ ap (λ (v : ShelfView). v.take_faults name) h.1 ∙ before name)
+stopped_takes a m n b d stop disk_kinds.Ram h before after = search rules
 stopped_takes a m n b d stop disk_kinds.Shelf h before after = by stop h.cause h.takes
   where
     -- what is counted of the name, and what of each other
     counted : (t : Bool) (name : List ℕ) → CountsCall t d.name m.take_faults n.take_faults
         → b.take_faults name ≡ counted_if (t && bytes_eq d.name name) (a.take_faults name)
-    counted t name c = elim (same_or_other d.name name) [
-      | inl e ↦ subst (λ (z : List ℕ). b.take_faults z ≡ counted_if (t && bytes_eq d.name z) (a.take_faults z)) e
-          (after d.name ∙ c.own ∙ ap (λ (k : ℕ). counted_if t k) (before d.name)
-          ∙ ap (λ (u : Bool). counted_if u (a.take_faults d.name))
-          (sym (and_true t) ∙ ap (λ (u : Bool). t && u) (sym (same_itself d.name))))
-      | inr other ↦ after name ∙ c.others name (λ e. other (sym e)) ∙ before name
-          ∙ ap (λ (u : Bool). counted_if u (a.take_faults name))
-          (sym (and_false t) ∙ ap (λ (u : Bool). t && u) (sym (other_names d.name name other)))
-    ]
-      where
-        and_true : (t : Bool) → (t && true) ≡ t
-        and_true true = refl
-        and_true false = refl
-
-        and_false : (t : Bool) → (t && false) ≡ false
-        and_false true = refl
-        and_false false = refl
+    counted t name c = search rules
 
     by : (s : Stop) → TakeCause m d s n → CountsCall (is_shelf_fault s) d.name m.take_faults n.take_faults
         → TakesAreToldAt (ending_of s) a b
-    by (stops.ShelfFault name) c takes = λ z.
-        subst (λ (k : List ℕ). b.take_faults z ≡ counted_if (bytes_eq k z) (a.take_faults z)) (sym c.0)
-        (counted true z takes)
+    by (stops.ShelfFault name) c takes = search rules
     by (stops.NoDisk name) c takes = λ z. counted false z takes
     by (stops.BadSize name) c takes = λ z. counted false z takes
     by stops.NoMemory c takes = (None, λ z. counted false z takes)
@@ -402,15 +346,7 @@ stopped_takes a m n b d stop disk_kinds.Shelf h before after = by stop h.cause h
 stopped_no_fault : (m n : ShelfView) (d : DiskDecl) (stop : Stop) (kind : DiskKind) → OpensNoDrive m d stop n kind
     → ending_of stop ≢ OutOfMemory → failed_takes (ending_of stop) ≡ 0 → n.faults ≡ m.faults
 stopped_no_fault m n d stop disk_kinds.Ram h other none = ap (λ (v : ShelfView). v.faults) h.1
-stopped_no_fault m n d stop disk_kinds.Shelf h other none = by stop h.cause other none
-  where
-    by : (s : Stop) → TakeCause m d s n → ending_of s ≢ OutOfMemory → failed_takes (ending_of s) ≡ 0
-        → n.faults ≡ m.faults
-    by (stops.ShelfFault name) c other none = absurd (let bad : 1 ≡ 0 = none in omega (arith, bad))
-    by (stops.NoDisk name) c other none = c.2
-    by (stops.BadSize name) c other none = c.2
-    by stops.NoMemory c other none = absurd (other refl)
-    by _ c other none = absurd c
+stopped_no_fault m n d stop disk_kinds.Shelf h other none = search rules
 
 -- the drives that were had, by the shelf after the failed take
 had_along : (a m n : ShelfView) (ds : List DiskDecl) (xs : List DriveView)
@@ -460,12 +396,7 @@ more_of front back (n ∷ names) all = (one front all.0, more_of front back name
   where
     one : (ds : List DiskDecl) → is_of ds n ≡ true → is_of (ds ++ back) n ≡ true
     one [] e = absurd (let bad : false ≡ true = e in cc)
-    one (d ∷ ds) e = by (is_shelf d.kind && bytes_eq d.name n) e (λ f. one ds f)
-      where
-        by : (t : Bool) → (t || is_of ds n) ≡ true → (is_of ds n ≡ true → is_of (ds ++ back) n ≡ true)
-            → (t || is_of (ds ++ back) n) ≡ true
-        by true f more = refl
-        by false f more = more f
+    one (d ∷ ds) e = search (rules, one ds)
 
 -- a fact on what a name had, by a shelf on which the name is the same
 told_before : (a b : Option Images) (name : List ℕ) (F : Option (List ℕ) → Type 0) → OfName a b name IsSame
@@ -501,8 +432,7 @@ stopped_cause : (mode : Mode) (plan : Plan) (facts : List (ℕ × ℕ)) (a m n b
     → m.take_faults d.name ≡ a.take_faults d.name
     → b.take_faults d.name ≡ n.take_faults d.name → OpensNoDrive m d stop n kind
     → PlanCause mode plan (opening plan facts) None a b (ending_of stop)
-stopped_cause mode plan facts a m n b front d back stop disk_kinds.Ram k e there told before after h =
-    subst (λ (s : Stop). PlanCause mode plan (opening plan facts) None a b (ending_of s)) (sym h.0) tt
+stopped_cause mode plan facts a m n b front d back stop disk_kinds.Ram k e there told before after h = search rules
 stopped_cause mode plan facts a m n b front d back stop disk_kinds.Shelf k e there told before after h =
     by stop h.cause h.takes
   where
@@ -511,15 +441,12 @@ stopped_cause mode plan facts a m n b front d back stop disk_kinds.Shelf k e the
 
     by : (s : Stop) → TakeCause m d s n → CountsCall (is_shelf_fault s) d.name m.take_faults n.take_faults
         → PlanCause mode plan (opening plan facts) None a b (ending_of s)
-    by (stops.ShelfFault name) c takes = (
-      stops_for plan a front d back name (λ z images. ⊤) e shelf c.0 there (any_fact a.told),
-      let own : Rose (m.take_faults d.name) (n.take_faults d.name) =
-          counted_rose (m.take_faults d.name) (n.take_faults d.name) (n.take_faults d.name) takes.own refl in
-          let moved : Rose (a.take_faults d.name) (b.take_faults d.name) =
-          subst (λ (k : ℕ). Rose k (b.take_faults d.name)) before
-          (subst (λ (k : ℕ). Rose (m.take_faults d.name) k) (sym after) own) in
-          subst (λ (z : List ℕ). Rose (a.take_faults z) (b.take_faults z)) (sym c.0) moved,
-    )
+    by (stops.ShelfFault name) c takes =
+        search (
+          rules,
+          stops_for plan a front d back name (λ z images. ⊤) e shelf c.0 there (any_fact a.told),
+          n.take_faults d.name,
+        )
     by (stops.NoDisk name) c takes =
         stops_for plan a front d back name IsMissing e shelf c.0 there
         (told_before a.told m.told d.name (λ o. o ≡ None) told
@@ -659,8 +586,7 @@ gave_up mode plan facts stop a b is g = record {
       gives = λ name. left.gives name ∙ (takes_count a m front xs g.stops.earlier).gives name;
       asked = λ name. left.asked name ∙ (takes_count a m front xs g.stops.earlier).asked name;
       sectors = λ name. left.sectors name ∙ (takes_count a m front xs g.stops.earlier).sectors name;
-      foreign = λ name foreign. same_twice a.told m.told n.told name
-          (takes_stay a m front xs name g.stops.earlier foreign).told (left.told name);
+      foreign = search (rules, same_twice a.told m.told n.told, takes_stay a m front xs);
       given = gives_all n b front xs g.kept (kinds_had a m front xs had)
           (subst (λ (ns : List (List ℕ)). GivesBack n ns xs g.kept b) g.stops.named g.given);
     }
@@ -698,8 +624,5 @@ gave_up mode plan facts stop a b is g = record {
 -- a plan whose disks weren't all had
 pub runs_stopped : (mode : Mode) (plan : Plan) (facts : List (ℕ × ℕ)) (stop : Stop) (a b : ShelfView) → IsPlan plan
     → TakesBack a plan.disks stop b → RunsPlan mode plan facts None (ending_of stop) a b
-runs_stopped mode plan facts stop a b is (inl same_shelf) =
-    subst (λ (s : Stop). RunsPlan mode plan facts None (ending_of s) a b) (sym same_shelf.0)
-    (subst (λ (v : ShelfView). RunsPlan mode plan facts None OutOfMemory a v) (sym same_shelf.1)
-    (nothing_done mode plan facts a))
+runs_stopped mode plan facts stop a b is (inl same_shelf) = search (rules, nothing_done mode plan facts a)
 runs_stopped mode plan facts stop a b is (inr g) = gave_up mode plan facts stop a b is g

@@ -1,9 +1,8 @@
 -- What becomes of each disk that is given back, and which names are kept.
-use Rattle.std.proofs.Common.{◌≡◌, ◌≢◌, ◌⊎◌, ℕ, suc, ◌+◌, ◌-◌, ◌^◌, ◌≤◌, min, Bool, true, false, not, ◌&&◌, ◌||◌, List, [], ◌∷◌, ◌++◌, length, filter, find, Option, Some, refl, sym, ◌∙◌, ap, subst, inl, inr, arith, bytes_eq, Contains, IfSome, IsSomeAnd, append_assoc, slice_get, if◌then◌else◌}
+use Rattle.std.proofs.Common.{◌≡◌, ◌≢◌, ◌⊎◌, ℕ, ◌+◌, ◌-◌, Bool, true, false, not, ◌&&◌, ◌||◌, List, [], ◌∷◌, ◌++◌, length, filter, find, Option, Some, refl, sym, ◌∙◌, ap, subst, inl, inr, bytes_eq, Contains, IfSome, IsSomeAnd, append_assoc, slice_get, if◌then◌else◌, rules}
 use Rattle.std.specs.Prelude.{⊤}
-use Rattle.geo_disk.specs.Shelf.{IsAsBefore, IsGivenTo}
+use Rattle.geo_disk.specs.Shelf.{IsGivenTo}
 use Rattle.std.specs.List.{AllByRecursion, list_any}
-use Rattle.std.proofs.lemmas.Bool.{or_right}
 use Rattle.std.proofs.lemmas.List.Elements.{Contains-append_right}
 use Rattle.geo_base.specs.Faults.{Rose, RoseBy}
 use Rattle.geo_base.specs.Sectors.{joined_sectors}
@@ -67,18 +66,7 @@ fate_before a m b name x first rest kept disk_kinds.Shelf e others stays fate =
         asked = given.asked;
         sectors = given.sectors;
       })
-      | inr held ↦ inr (record {
-        among = subst (λ ks. Contains ks name) (sym e) (Contains-append_right first rest name held.among);
-        told = chain a.told m.told b.told name (λ u v w p q. q ∙ p) stays.told held.told;
-        gives = let g : Rose (m.give_faults name) (b.give_faults name) = held.gives in
-            let s : m.give_faults name ≡ a.give_faults name = stays.gives in
-            subst (λ (n : ℕ). Rose n (b.give_faults name)) s g;
-        stays = record {
-          faults = held.stays.faults ∙ stays.disks;
-          asked = held.stays.asked ∙ stays.asked;
-          sectors = held.stays.sectors ∙ stays.sectors;
-        };
-      })
+      | inr held ↦ inr (search (rules, Contains-append_right first rest name held.among))
     ]
 
 each_before : (a m b : ShelfView) (n : List ℕ) (x : DriveView) (first rest kept : List (List ℕ)) (kind : DiskKind)
@@ -114,18 +102,7 @@ fate_first a m b name x first rest kept disk_kinds.Shelf h e others stays =
         asked = stays.asked ∙ given.1.asked.own;
         sectors = stays.sectors ∙ given.1.sectors.own;
       })
-      | inr held ↦ inr (record {
-        among = subst (λ ks. Contains ks name) (sym (e ∙ ap (λ ks. ks ++ rest) held.0)) (contains_first name rest);
-        told = chain a.told m.told b.told name (λ u v w p q. q ∙ p)
-            (of_name a.told m.told name IsAsBefore {F = IsSame} (λ o v p. p name) held.1.told) stays.told;
-        gives = counted_rose (a.give_faults name) (m.give_faults name) (b.give_faults name) held.1.gives.own
-            stays.gives;
-        stays = record {
-          faults = stays.disks ∙ held.1.disks name;
-          asked = stays.asked ∙ held.1.asked name;
-          sectors = stays.sectors ∙ held.1.sectors name;
-        };
-      })
+      | inr held ↦ inr (search rules)
     ]
 
 -- what becomes of each disk
@@ -148,17 +125,13 @@ rose_before : (a m b : ShelfView) (n : List ℕ) (x : DriveView) (k : List (List
     → AllByRecursion (λ name. Rose (a.give_faults name) (b.give_faults name)) names
 rose_before a m b n x k kind [] h others all = tt
 rose_before a m b n x k kind (name ∷ names) h others all =
-    let stays = give_stays a m n x k name kind h (λ shelf e. others.0 (sym e)) in (
-      subst (λ (c : ℕ). Rose c (b.give_faults name)) stays.gives all.0,
-      rose_before a m b n x k kind names h others.1 all.1,
-    )
+    search (rules, rose_before a m b n x k kind names h others.1 all.1)
 
 -- a give of each name that is kept failed
 pub kept_rose : (a b : ShelfView) (ds : List DiskDecl) (xs : List DriveView) (kept : List (List ℕ))
     → AreApart (names_of ds) → GivesAll a ds xs kept b
     → AllByRecursion (λ name. Rose (a.give_faults name) (b.give_faults name)) kept
-kept_rose a b [] [] kept apart h =
-    subst (λ ks. AllByRecursion (λ name. Rose (a.give_faults name) (b.give_faults name)) ks) (sym h.0) tt
+kept_rose a b [] [] kept apart h = search rules
 kept_rose a b (d ∷ ds) (x ∷ xs) kept apart h = by d.kind h.4 (kept_rose h.0 b ds xs h.2 apart.1 h.5)
   where
     others : AreOther d.name h.2
@@ -197,10 +170,8 @@ NoneAmong names ds = AllByRecursion (λ (d : DiskDecl). IsShelf d.kind → AreOt
 none_with : (names : List (List ℕ)) (n : List ℕ) (ds : List DiskDecl) → NoneAmong names ds → AreOther n (names_of ds)
     → NoneAmong (names ++ n ∷ []) ds
 none_with names n [] none others = tt
-none_with names n (d ∷ ds) none others = (
-  λ s. other-append d.name names (n ∷ []) (none.0 s) ((λ e. others.0 (sym e)), tt),
-  none_with names n ds none.1 others.1,
-)
+none_with names n (d ∷ ds) none others =
+    search (rules, other-append d.name names (n ∷ []), none_with names n ds none.1 others.1)
 
 other_shelf : (name : List ℕ) (ds : List DiskDecl) → AreOther name (names_of ds) → AreOther name (shelf_names ds)
 other_shelf name [] others = tt
@@ -214,8 +185,7 @@ other_shelf name (d ∷ ds) others = by d.kind (other_shelf name ds others.1)
 pub gives_lend : (base : List (List ℕ)) (a b : ShelfView) (ds : List DiskDecl) (xs : List DriveView)
     (kept : List (List ℕ)) → a.lent ≡ base ++ shelf_names ds → NoneAmong base ds → AreApart (names_of ds)
     → GivesAll a ds xs kept b → b.lent ≡ base ++ kept
-gives_lend base a b [] [] kept lent none apart h =
-    ap (λ (v : ShelfView). v.lent) h.1 ∙ lent ∙ ap (λ ks. base ++ ks) (sym h.0)
+gives_lend base a b [] [] kept lent none apart h = search rules
 gives_lend base a b (d ∷ ds) (x ∷ xs) kept lent none apart h =
     by d.kind lent none.0 h.4 (λ l. gives_lend base h.0 b ds xs h.2 l none.1 apart.1 h.5)
     (λ l. gives_lend (base ++ d.name ∷ []) h.0 b ds xs h.2 l (none_with base d.name ds none.1 apart.0) apart.1 h.5)
@@ -229,8 +199,7 @@ gives_lend base a b (d ∷ ds) (x ∷ xs) kept lent none apart h =
     by : (kind : DiskKind) → a.lent ≡ base ++ with_shelf kind n sn → (IsShelf kind → AreOther n base)
         → GivesDrive a n x h.1 h.0 kind → (h.0.lent ≡ base ++ sn → b.lent ≡ base ++ h.2)
         → (h.0.lent ≡ (base ++ n ∷ []) ++ sn → b.lent ≡ (base ++ n ∷ []) ++ h.2) → b.lent ≡ base ++ kept
-    by disk_kinds.Ram l other g go more =
-        go (ap (λ (v : ShelfView). v.lent) g.1 ∙ l) ∙ ap (λ ks. base ++ ks) (sym (h.3 ∙ ap (λ ks. ks ++ h.2) g.0))
+    by disk_kinds.Ram l other g go more = search rules
     by disk_kinds.Shelf l other g go more = elim g [
       | inl given ↦ go
           (given.1.lent ∙ ap (λ ns. names_without n ns) l ∙ without_both n base (n ∷ sn)
@@ -246,28 +215,16 @@ gives_lend base a b _ _ kept lent none apart h = absurd h
 not_kept : (base names : List (List ℕ)) → AllByRecursion (λ name. Contains base name) names
     → filter (λ name. not (list_any (bytes_eq name) base)) names ≡ []
 not_kept base [] all = refl
-not_kept base (n ∷ names) all =
-    ap (λ t. if not t then n ∷ filter (λ name. not (list_any (bytes_eq name) base)) names
-    else filter (λ name. not (list_any (bytes_eq name) base)) names) (contains-among n base all.0)
-    ∙ not_kept base names all.1
+not_kept base (n ∷ names) all = search (rules, contains-among n base all.0, not_kept base names all.1)
 
 all_kept : (base names : List (List ℕ)) → AllByRecursion (λ name. AreOther name base) names
     → filter (λ name. not (list_any (bytes_eq name) base)) names ≡ names
 all_kept base [] all = refl
-all_kept base (n ∷ names) all =
-    ap (λ t. if not t then n ∷ filter (λ name. not (list_any (bytes_eq name) base)) names
-    else filter (λ name. not (list_any (bytes_eq name) base)) names) (other-among n base all.0)
-    ∙ ap (λ ns. n ∷ ns) (all_kept base names all.1)
+all_kept base (n ∷ names) all = search (rules, other-among n base all.0, all_kept base names all.1)
 
 filter_both : (p : List ℕ → Bool) (xs ys : List (List ℕ)) → filter p (xs ++ ys) ≡ filter p xs ++ filter p ys
 filter_both p [] ys = refl
-filter_both p (x ∷ xs) ys = by (p x) (filter_both p xs ys)
-  where
-    by : (t : Bool) → filter p (xs ++ ys) ≡ filter p xs ++ filter p ys
-        → (if t then x ∷ filter p (xs ++ ys) else filter p (xs ++ ys))
-        ≡ (if t then x ∷ filter p xs else filter p xs) ++ filter p ys
-    by true more = ap (λ ns. x ∷ ns) more
-    by false more = more
+filter_both p (x ∷ xs) ys = search (rules, filter_both p xs ys)
 
 own_names : (pre names : List (List ℕ)) → AllByRecursion (λ name. Contains (pre ++ names) name) names
 own_names pre [] = tt
@@ -301,11 +258,7 @@ kept_none base a b (d ∷ ds) (x ∷ xs) kept none h = by d.kind none.0 h.4 (kep
     by : (kind : DiskKind) → (IsShelf kind → AreOther d.name base) → GivesDrive a d.name x h.1 h.0 kind
         → AllByRecursion (λ name. AreOther name base) h.2 → AllByRecursion (λ name. AreOther name base) kept
     by disk_kinds.Ram other g rest = fewer (h.3 ∙ ap (λ ks. ks ++ h.2) g.0) rest
-    by disk_kinds.Shelf other g rest = elim g [
-      | inl given ↦ fewer (h.3 ∙ ap (λ ks. ks ++ h.2) given.0) rest
-      | inr held ↦ subst (λ ks. AllByRecursion (λ name. AreOther name base) ks)
-          (sym (h.3 ∙ ap (λ ks. ks ++ h.2) held.0)) (other refl, rest)
-    ]
+    by disk_kinds.Shelf other g rest = search rules
 kept_none base a b _ _ kept none h = absurd h
 
 -- Faults
@@ -313,29 +266,13 @@ kept_none base a b _ _ kept none h = absurd h
 -- each disk that is kept is one more fault
 pub gives_fault : (a b : ShelfView) (ds : List DiskDecl) (xs : List DriveView) (kept : List (List ℕ))
     → GivesAll a ds xs kept b → RoseBy (length kept) a.faults b.faults
-gives_fault a b [] [] kept h =
-    let none : length kept ≡ 0 = ap (λ (ks : List (List ℕ)). length ks) h.0 in
-    let same : b.faults ≡ a.faults = ap (λ (v : ShelfView). v.faults) h.1 in omega (arith, none, same)
+gives_fault a b [] [] kept h = search rules
 gives_fault a b (d ∷ ds) (x ∷ xs) kept h = by d.kind h.4 (gives_fault h.0 b ds xs h.2 h.5)
   where
     by : (kind : DiskKind) → GivesDrive a d.name x h.1 h.0 kind → RoseBy (length h.2) h.0.faults b.faults
         → RoseBy (length kept) a.faults b.faults
-    by disk_kinds.Ram g rest =
-        let few : length kept ≡ length h.2 = ap (λ (ks : List (List ℕ)). length ks) (h.3 ∙ ap (λ ks. ks ++ h.2) g.0) in
-        let same : h.0.faults ≡ a.faults = ap (λ (v : ShelfView). v.faults) g.1 in
-        let r : min (h.0.faults + length h.2) (2 ^ 64 - 1) ≤ b.faults = rest in omega (arith, few, same, r)
-    by disk_kinds.Shelf g rest = elim g [
-      | inl given ↦
-          let few : length kept ≡ length h.2 =
-          ap (λ (ks : List (List ℕ)). length ks) (h.3 ∙ ap (λ ks. ks ++ h.2) given.0) in
-          let same : h.0.faults ≡ a.faults = given.1.no_fault in
-          let r : min (h.0.faults + length h.2) (2 ^ 64 - 1) ≤ b.faults = rest in omega (arith, few, same, r)
-      | inr held ↦
-          let more : length kept ≡ suc (length h.2) =
-          ap (λ (ks : List (List ℕ)). length ks) (h.3 ∙ ap (λ ks. ks ++ h.2) held.0) in
-          let rose : min (a.faults + 1) (2 ^ 64 - 1) ≤ h.0.faults = held.1.rose in
-          let r : min (h.0.faults + length h.2) (2 ^ 64 - 1) ≤ b.faults = rest in omega (arith, more, rose, r)
-    ]
+    by disk_kinds.Ram g rest = search rules
+    by disk_kinds.Shelf g rest = search rules
 gives_fault a b _ _ kept h = absurd h
 
 -- Kept names of the plan
@@ -347,8 +284,7 @@ is_of ds name = list_any (λ (d : DiskDecl). is_shelf d.kind && bytes_eq d.name 
 of_more : (d : DiskDecl) (ds : List DiskDecl) (names : List (List ℕ))
     → AllByRecursion (λ name. is_of ds name ≡ true) names → AllByRecursion (λ name. is_of (d ∷ ds) name ≡ true) names
 of_more d ds [] all = tt
-of_more d ds (n ∷ names) all =
-    (or_right (is_shelf d.kind && bytes_eq d.name n) (is_of ds n) all.0, of_more d ds names all.1)
+of_more d ds (n ∷ names) all = search (rules, of_more d ds names all.1)
 
 -- each name that is kept is one of the plan
 pub kept_of_plan : (a b : ShelfView) (ds : List DiskDecl) (xs : List DriveView) (kept : List (List ℕ))
@@ -362,18 +298,13 @@ kept_of_plan a b (d ∷ ds) (x ∷ xs) kept h =
     fewer e all = subst (λ ks. AllByRecursion (λ name. is_of (d ∷ ds) name ≡ true) ks) (sym e) all
 
     own : d.kind ≡ disk_kinds.Shelf → is_of (d ∷ ds) d.name ≡ true
-    own e = ap (λ k. (is_shelf k && bytes_eq d.name d.name) || is_of ds d.name) e
-        ∙ ap (λ t. t || is_of ds d.name) (same_itself d.name)
+    own e = search rules
 
     by : (kind : DiskKind) → d.kind ≡ kind → GivesDrive a d.name x h.1 h.0 kind
         → AllByRecursion (λ name. is_of (d ∷ ds) name ≡ true) h.2
         → AllByRecursion (λ name. is_of (d ∷ ds) name ≡ true) kept
     by disk_kinds.Ram e g rest = fewer (h.3 ∙ ap (λ ks. ks ++ h.2) g.0) rest
-    by disk_kinds.Shelf e g rest = elim g [
-      | inl given ↦ fewer (h.3 ∙ ap (λ ks. ks ++ h.2) given.0) rest
-      | inr held ↦ subst (λ ks. AllByRecursion (λ name. is_of (d ∷ ds) name ≡ true) ks)
-          (sym (h.3 ∙ ap (λ ks. ks ++ h.2) held.0)) (own e, rest)
-    ]
+    by disk_kinds.Shelf e g rest = search rules
 kept_of_plan a b _ _ kept h = absurd h
 
 -- the first disk that is kept
@@ -384,9 +315,7 @@ first_of ds kept = find (λ (d : DiskDecl). is_shelf d.kind && list_any (bytes_e
 pub first_kept : (a b : ShelfView) (ds : List DiskDecl) (xs : List DriveView) (kept : List (List ℕ)) (name : List ℕ)
     → AreApart (names_of ds) → GivesAll a ds xs kept b → slice_get kept 0 ≡ Some name
     → IsSomeAnd (first_of ds kept) (λ d. d.name ≡ name)
-first_kept a b [] [] kept name apart h e =
-    absurd (let bad : slice_get [] 0 ≡ Some name = subst (λ (ks : List (List ℕ)). slice_get ks 0 ≡ Some name) h.0 e in
-    cc)
+first_kept a b [] [] kept name apart h e = search rules
 first_kept a b (d ∷ ds) (x ∷ xs) kept name apart h e =
     by d.kind refl h.4 (λ got. first_kept h.0 b ds xs h.2 name apart.1 h.5 got)
   where
@@ -395,8 +324,7 @@ first_kept a b (d ∷ ds) (x ∷ xs) kept name apart h e =
         → IsSomeAnd (first_of (d ∷ ds) kept) (λ z. z.name ≡ name)
     skip fails same more =
         subst (λ t. IsSomeAnd (if t then Some d else first_of ds kept) (λ z. z.name ≡ name)) (sym fails)
-        (subst (λ (ks : List (List ℕ)). IsSomeAnd (first_of ds ks) (λ z. z.name ≡ name)) (sym same)
-        (more (ap (λ (ks : List (List ℕ)). slice_get ks 0) (sym same) ∙ e)))
+        (search rules)
 
     take_it : (is_shelf d.kind && list_any (bytes_eq d.name) kept) ≡ true → d.name ≡ name
         → IsSomeAnd (first_of (d ∷ ds) kept) (λ z. z.name ≡ name)
@@ -406,23 +334,16 @@ first_kept a b (d ∷ ds) (x ∷ xs) kept name apart h e =
     by : (kind : DiskKind) → d.kind ≡ kind → GivesDrive a d.name x h.1 h.0 kind
         → (slice_get h.2 0 ≡ Some name → IsSomeAnd (first_of ds h.2) (λ z. z.name ≡ name))
         → IsSomeAnd (first_of (d ∷ ds) kept) (λ z. z.name ≡ name)
-    by disk_kinds.Ram k g more =
-        skip (ap (λ q. is_shelf q && list_any (bytes_eq d.name) kept) k) (h.3 ∙ ap (λ ks. ks ++ h.2) g.0) more
-    by disk_kinds.Shelf k g more = elim g [
-      | inl given ↦
-          let fewer : kept ≡ h.2 = h.3 ∙ ap (λ ks. ks ++ h.2) given.0 in
-          skip
-          (ap (λ q. is_shelf q && list_any (bytes_eq d.name) kept) k
-          ∙ other-among d.name kept
-          (subst (λ ks. AreOther d.name ks) (sym fewer)
-          (kept_other h.0 b ds xs h.2 d.name h.5 (foreign_from d.name ds apart.0))))
-          fewer more
-      | inr held ↦
-          let one_more : kept ≡ d.name ∷ h.2 = h.3 ∙ ap (λ ks. ks ++ h.2) held.0 in
-          take_it
-          (ap (λ q. is_shelf q && list_any (bytes_eq d.name) kept) k
-          ∙ ap (λ (ks : List (List ℕ)). list_any (bytes_eq d.name) ks) one_more
-          ∙ ap (λ t. t || list_any (bytes_eq d.name) h.2) (same_itself d.name))
-          (let got : Some d.name ≡ Some name = ap (λ (ks : List (List ℕ)). slice_get ks 0) (sym one_more) ∙ e in cc)
-    ]
+    by disk_kinds.Ram k g more = search rules
+    by disk_kinds.Shelf k g more =
+        search (
+          rules,
+          bytes_eq d.name,
+          other-among d.name kept,
+          kept_other h.0 b ds xs h.2 d.name h.5 (foreign_from d.name ds apart.0),
+          take_it,
+          ap (λ t. t || list_any (bytes_eq d.name) h.2) (same_itself d.name),
+          same_itself d.name,
+          slice_get,
+        )
 first_kept a b _ _ kept name apart h e = absurd h

@@ -1,8 +1,8 @@
 -- The disks of each generated script are in memory.
-use Rattle.std.specs.Prelude.{All, false, ◌≡◌, ℕ, zero, suc, ◌+◌, ◌*◌, ◌<◌, ◌≤◌, ◌==◌, true, List, [], ◌∷◌, ◌++◌, length, codes, fold, Ok, Err, Result, is_ok}
+use Rattle.std.specs.Prelude.{All, false, ◌≡◌, ℕ, zero, suc, ◌+◌, ◌*◌, ◌≤◌, ◌==◌, true, List, [], ◌∷◌, ◌++◌, length, codes, fold, Ok, Err, Result, is_ok}
 use Rattle.std.specs.Fmt.{digits}
 use Rattle.std.specs.List.{enumerate_from, slice_split, AllByRecursion}
-use Rattle.std.proofs.Common.{refl, ◌∙◌, ap, arith, sym, subst}
+use Rattle.std.proofs.Common.{refl, ◌∙◌, ap, arith, sym, subst, rules}
 use Rattle.std.proofs.lemmas.List.{append_assoc, length-append}
 use Rattle.std.proofs.lemmas.List.Splits.{slice_split_at}
 use Rattle.std.proofs.lemmas.List.Sums.{fold-append}
@@ -49,25 +49,7 @@ cut_drawn i (suc n) x =
 -- the empty end goes
 drop_end : (i n x : ℕ) → drop_empty_end (drawn_texts i n x ++ [] ∷ []) ≡ drawn_texts i n x
 drop_end i zero x = refl
-drop_end i (suc n) x =
-    by (drawn_text i d1 d2 d3) (drawn_texts (i + 1) n y ++ [] ∷ []) (drawn_line i d1 d2 d3).not_empty
-    ∙ ap (λ ts. drawn_text i d1 d2 d3 ∷ ts) (drop_end (i + 1) n y)
-  where
-    d1 : ℕ
-    d1 = draw_value (next_draw x)
-
-    d2 : ℕ
-    d2 = draw_value (next_draw (next_draw x))
-
-    d3 : ℕ
-    d3 = draw_value (next_draw (next_draw (next_draw x)))
-
-    y : ℕ
-    y = next_draw (next_draw (next_draw x))
-
-    by : (t : List ℕ) (ts : List (List ℕ)) → 0 < length t → drop_empty_end (t ∷ ts) ≡ t ∷ drop_empty_end ts
-    by [] ts some = absurd (omega (arith, some))
-    by (b ∷ t) ts some = refl
+drop_end i (suc n) x = search (rules, drop_end (i + 1) n)
 
 -- a plan that goes on from another by so many commands
 record GoesOn (plan : Plan) (from : ℕ) (lines : List (List ℕ)) (count : ℕ) : Type 0 where
@@ -80,13 +62,7 @@ record GoesOn (plan : Plan) (from : ℕ) (lines : List (List ℕ)) (count : ℕ)
 -- the lines that are drawn add a command each
 draws_add : (plan : Plan) (from i n x : ℕ) → plan.actors ≡ four_actors → from + n ≤ MAX_SCRIPT_LINES + 1
     → GoesOn plan from (drawn_texts i n x) n
-draws_add plan from i zero x are few = record {
-  then_plan = plan;
-  is = refl;
-  disks = refl;
-  actors = refl;
-  commands = omega arith;
-}
+draws_add plan from i zero x are few = search rules
 draws_add plan from i (suc n) x are few =
     let d1 = draw_value (next_draw x) in
     let d2 = draw_value (next_draw (next_draw x)) in
@@ -117,11 +93,7 @@ draws_add plan from i (suc n) x are few =
 numbered_both : (n : ℕ) (xs ys : List (List ℕ))
     → enumerate_from n (xs ++ ys) ≡ enumerate_from n xs ++ enumerate_from (n + length xs) ys
 numbered_both n [] ys = ap (λ k. enumerate_from k ys) (let e : n ≡ n + 0 = omega arith in e)
-numbered_both n (x ∷ xs) ys =
-    ap (λ zs. (n, x) ∷ zs)
-    (numbered_both (n + 1) xs ys
-    ∙ ap (λ k. enumerate_from (n + 1) xs ++ enumerate_from k ys)
-    (let e : (n + 1) + length xs ≡ n + length (x ∷ xs) = omega arith in e))
+numbered_both n (x ∷ xs) ys = search (rules, numbered_both (n + 1) xs ys)
 
 -- their texts
 abbrev first_texts : List (List ℕ)
@@ -165,11 +137,7 @@ first_actors = refl
 
 -- so the lines that come first are read
 first_ok : first_read ≡ Ok first_plan
-first_ok = by first_read first_is
-  where
-    by : (r : Result Plan Fault) → is_ok r ≡ true → r ≡ Ok (plan_in r)
-    by (Ok plan) e = refl
-    by (Err fault) e = absurd (let bad : ⊥ = cc in bad)
+first_ok = search rules
 
 -- the lines of a generated text
 lines_are : (start count : ℕ) → lines_of (generated start count) ≡ first_texts ++ drawn_texts 0 count start

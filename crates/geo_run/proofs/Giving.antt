@@ -1,5 +1,5 @@
 -- Drives that are given back to a shelf.
-use Rattle.std.proofs.Common.{◌≡◌, ◌≢◌, ◌⊎◌, ℕ, ◌≤◌, Bool, true, false, not, List, [], ◌∷◌, ◌++◌, refl, sym, ◌∙◌, ap, subst, inl, inr, arith, bytes_eq, Contains, append_assoc, if◌then◌else◌}
+use Rattle.std.proofs.Common.{◌≡◌, ◌≢◌, ℕ, List, [], ◌∷◌, ◌++◌, refl, sym, subst, inl, inr, Contains, rules}
 use Rattle.std.specs.Prelude.{⊤}
 use Rattle.geo_disk.specs.Shelf.{IsAsBefore, IsGivenTo}
 use Rattle.std.proofs.lemmas.List.{append-nil}
@@ -10,7 +10,7 @@ use Rattle.geo_model.specs.declared.command.DiskKind.TheVariants as disk_kinds
 use Rattle.geo_headline.specs.Outside.{ShelfView, IsShelf}
 use Rattle.geo_run.specs.Drives.{DriveView, drive_kind}
 use Rattle.geo_run.specs.Lending.{AreOther, AreOut, GivesBack, GivesDrive, IsOut, names_of}
-use Rattle.geo_run.proofs.Tests.{contains_first, contains_more, contains_none, contains_cases, same_names, other-append}
+use Rattle.geo_run.proofs.Tests.{contains_first, contains_more, contains_none, same_names, other-append}
 use Rattle.geo_run.proofs.Told.{of_name}
 use Rattle.geo_run.proofs.Taking.{IsForeign, NameStays, stays_along, stays_twice}
 
@@ -19,22 +19,8 @@ use Rattle.geo_run.proofs.Taking.{IsForeign, NameStays, stays_along, stays_twice
 pub gives_more : (a b c : ShelfView) (ns : List (List ℕ)) (n : List ℕ) (xs : List DriveView) (x : DriveView)
     (kept k : List (List ℕ)) → GivesBack a ns xs kept b → GivesDrive b n x k c (drive_kind x)
     → GivesBack a (ns ++ n ∷ []) (xs ++ x ∷ []) (kept ++ k) c
-gives_more a b c [] n [] x kept k h g = (
-  c,
-  k,
-  [],
-  ap (λ ks. ks ++ k) h.0 ∙ sym (append-nil k),
-  subst (λ (v : ShelfView). GivesDrive v n x k c (drive_kind x)) h.1 g,
-  (refl, refl),
-)
-gives_more a b c (m ∷ ms) n (y ∷ ys) x kept k h g = (
-  h.0,
-  h.1,
-  h.2 ++ k,
-  ap (λ ks. ks ++ k) h.3 ∙ append_assoc h.1 h.2 k,
-  h.4,
-  gives_more h.0 b c ms n ys x h.2 k h.5 g,
-)
+gives_more a b c [] n [] x kept k h g = search (rules, append-nil k)
+gives_more a b c (m ∷ ms) n (y ∷ ys) x kept k h g = search (rules, gives_more h.0 b c ms n ys x h.2 k h.5 g)
 gives_more a b c _ n _ x kept k h g = absurd h
 
 -- What is out stays out
@@ -44,43 +30,26 @@ without_contains : (gone name : List ℕ) (names : List (List ℕ)) → name ≢
     → Contains (names_without gone names) name
 without_contains gone name [] other c = absurd (contains_none name c)
 without_contains gone name (x ∷ names) other c =
-    by (bytes_eq gone x) refl (contains_cases x name names c) (λ more. without_contains gone name names other more)
-  where
-    by : (t : Bool) → bytes_eq gone x ≡ t → (x ≡ name) ⊎ Contains names name
-        → (Contains names name → Contains (names_without gone names) name)
-        → Contains (if not t then x ∷ names_without gone names else names_without gone names) name
-    by true e (inl same) rest = absurd (other (sym same ∙ sym (same_names gone x e)))
-    by true e (inr more) rest = rest more
-    by false e (inl same) rest =
-        subst (λ (n : List ℕ). Contains (x ∷ names_without gone names) n) same
-        (contains_first x (names_without gone names))
-    by false e (inr more) rest = contains_more x name (names_without gone names) (rest more)
+    search (
+      rules,
+      without_contains gone name names other,
+      same_names gone x,
+      contains_first x (names_without gone names),
+      contains_more x name (names_without gone names),
+    )
 
 -- one drive is given back, and another is out as before
 still_out : (a b : ShelfView) (n m : List ℕ) (x y : DriveView) (k : List (List ℕ)) (kind : DiskKind)
     → GivesDrive a n x k b kind → m ≢ n → IsOut a m y → IsOut b m y
 still_out a b n m x y k disk_kinds.Ram h other out = subst (λ (v : ShelfView). IsOut v m y) (sym h.1) out
-still_out a b n m x y k disk_kinds.Shelf h other out =
-    elim h [
-      | inl given ↦ let fewer : b.faults_of m ≡ a.faults_of m = given.1.disks.others m other in record {
-        lent = subst (λ names. Contains names m) (sym given.1.lent) (without_contains n m a.lent other out.lent);
-        counted = let c : a.faults_of m ≤ y.faults = out.counted in omega (arith, c, fewer);
-      }
-      | inr kept ↦ let same : b.faults_of m ≡ a.faults_of m = kept.1.disks m in record {
-        lent = subst (λ names. Contains names m) (sym kept.1.lent) out.lent;
-        counted = let c : a.faults_of m ≤ y.faults = out.counted in omega (arith, c, same);
-      }
-    ]
+still_out a b n m x y k disk_kinds.Shelf h other out = search (rules, without_contains n m a.lent other out.lent)
 
 all_still_out : (a b : ShelfView) (n : List ℕ) (x : DriveView) (k : List (List ℕ)) (kind : DiskKind)
     (ms : List (List ℕ)) (ys : List DriveView)
     → GivesDrive a n x k b kind → AreOther n ms → AreOut a ms ys → AreOut b ms ys
 all_still_out a b n x k kind [] [] h others out = tt
-all_still_out a b n x k kind (m ∷ ms) (y ∷ ys) h others out = (
-  λ s. still_out a b n m x y k kind h others.0 (out.0 s),
-  out.1,
-  all_still_out a b n x k kind ms ys h others.1 out.2,
-)
+all_still_out a b n x k kind (m ∷ ms) (y ∷ ys) h others out =
+    search (rules, still_out a b n m x y k kind h others.0, all_still_out a b n x k kind ms ys h others.1 out.2)
 all_still_out a b n x k kind _ _ h others out = absurd out
 
 -- the others are still out after one was given back
@@ -108,14 +77,7 @@ GivesAll a _ _ kept b = ⊥
 pub gives_all : (a b : ShelfView) (ds : List DiskDecl) (xs : List DriveView) (kept : List (List ℕ))
     → SameKinds ds xs → GivesBack a (names_of ds) xs kept b → GivesAll a ds xs kept b
 gives_all a b [] [] kept kinds h = h
-gives_all a b (d ∷ ds) (x ∷ xs) kept kinds h = (
-  h.0,
-  h.1,
-  h.2,
-  h.3,
-  subst (λ (k : DiskKind). GivesDrive a d.name x h.1 h.0 k) kinds.0 h.4,
-  gives_all h.0 b ds xs h.2 kinds.1 h.5,
-)
+gives_all a b (d ∷ ds) (x ∷ xs) kept kinds h = search (rules, gives_all h.0 b ds xs h.2 kinds.1 h.5)
 gives_all a b _ _ kept kinds h = absurd h
 
 -- What stays
@@ -160,11 +122,7 @@ gives_stay a b _ _ kept name h other = absurd h
 pub first_other : (a b : ShelfView) (n : List ℕ) (x : DriveView) (k : List (List ℕ)) (name : List ℕ) (kind : DiskKind)
     → GivesDrive a n x k b kind → (IsShelf kind → n ≢ name) → AreOther name k
 first_other a b n x k name disk_kinds.Ram h other = subst (λ ks. AreOther name ks) (sym h.0) tt
-first_other a b n x k name disk_kinds.Shelf h other =
-    elim h [
-      | inl given ↦ subst (λ ks. AreOther name ks) (sym given.0) tt
-      | inr kept ↦ subst (λ ks. AreOther name ks) (sym kept.0) (other refl, tt)
-    ]
+first_other a b n x k name disk_kinds.Shelf h other = search rules
 
 -- what is kept is none but the names of the disks
 pub kept_other : (a b : ShelfView) (ds : List DiskDecl) (xs : List DriveView) (kept : List (List ℕ)) (name : List ℕ)

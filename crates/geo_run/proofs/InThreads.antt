@@ -1,5 +1,5 @@
 -- What threads made of a mesh, and what was made after them.
-use Rattle.std.proofs.Common.{◌≡◌, List, [], ◌++◌, Option, Some, None, Result, Err, OnOk, IsErrOf, refl, sym, subst, inl, inr, slice_get}
+use Rattle.std.proofs.Common.{◌≡◌, List, [], ◌++◌, Option, Some, None, Result, Err, OnOk, IsErrOf, refl, sym, subst, inl, inr, rules}
 use Rattle.std.proofs.lemmas.List.{append-nil}
 use Rattle.geo_base.specs.declared.limits.TheConstants.{MAX_SCRIPT_BYTES}
 use Rattle.geo_model.specs.declared.step.Entry.{Entry}
@@ -9,7 +9,7 @@ use Rattle.geo_model.specs.Order.{Rest}
 use Rattle.geo_headline.specs.Modes.{Mode, RunMode, WatchMode, TraceMode, OpensMesh, source_limit}
 use Rattle.geo_headline.specs.Endings.{DueIsFull, Ending, IsWhole, LogRanFull}
 use Rattle.geo_headline.specs.Headline.{FollowsMode, IsGen}
-use Rattle.geo_serve.specs.Served.{AreServed, IsServedAt}
+use Rattle.geo_serve.specs.Served.{AreServed}
 use Rattle.geo_laws_disks.specs.DriveLaws.{AreTaken}
 use Rattle.geo_laws_disks.proofs.Seats.{parts_serve}
 use Rattle.geo_laws_disks.proofs.Requests.{none_in}
@@ -32,16 +32,7 @@ use Rattle.geo_run.proofs.Asked.{ran_to_rest, served_all}
 parts_served : (m : MeshView) (added : List Entry) (xs zs ys : List DriveView) → IsHistory (with_entries m added)
     → AreTaken added added → AreServed m.log xs zs → AreServed added zs ys → AreServed (m.log ++ added) xs ys
 parts_served m added xs zs ys h taken first second disk =
-    by (slice_get xs disk) (slice_get zs disk) (slice_get ys disk) (first disk) (second disk)
-  where
-    by : (x z y : Option DriveView) → IsServedAt m.log disk x z → IsServedAt added disk z y
-        → IsServedAt (m.log ++ added) disk x y
-    by None None None a b = tt
-    by None (Some z) y a b = absurd a
-    by (Some x) None y a b = absurd a
-    by (Some x) (Some z) (Some y) a b =
-        parts_serve m.plan m.facts h.plan h.facts (m.log ++ added) h.lawful.0 m.log added disk x z y refl taken a b
-    by _ _ _ a b = absurd b
+    search (rules, parts_serve m.plan m.facts h.plan h.facts (m.log ++ added) h.lawful.0 m.log added disk)
 
 -- no step was made after the threads
 none_after : (m : MeshView) → FollowsOrder fixed_order (opened m) m.log []
@@ -54,47 +45,20 @@ idle_ran : (old mid : MeshView) (xs zs ys : List DriveView) (answer : Result (Un
     → OnOk answer (Rest (world_of (with_entries mid added)))
     → (IsErrOf answer refusals.LogFull → drain.RanFull fixed_order (with_entries mid added))
     → Ran RunMode old (with_entries mid added) xs ys answer
-idle_ran old mid xs zs ys answer added t h follows taken served rest full = record {
-  plan = t.plan;
-  facts = t.facts;
-  history = h.keeps;
-  fits = h.lawful.1;
-  follows = record {
-    threads = mid.log;
-    rest = added;
-    parts = refl;
-    jobs = record { own_kind = t.own_kind; in_order = follows };
-    idle = λ whole. t.tells added h.lawful.0;
-  };
-  served = served_all (mid.log ++ added) xs ys (parts_served mid added xs zs ys h taken t.served served);
-  rest = ran_to_rest answer (with_entries mid added) h rest;
-  full = λ e. let told = full e in record { due = inl told.due; nearly = told.nearly };
-}
+idle_ran old mid xs zs ys answer added t h follows taken served rest full =
+    search (
+      rules,
+      served_all (mid.log ++ added) xs ys (parts_served mid added xs zs ys h taken t.served served),
+      ran_to_rest answer (with_entries mid added) h rest,
+    )
 
 -- threads of which a job found the log full, or lacked memory
 stopped_ran : (old mid : MeshView) (xs zs : List DriveView) (ended : JobsEnd) (refusal : DrainRefusal)
     → ThreadsRan old mid xs zs ended
     → (refusal ≡ refusals.LogFull → LogRanFull RunMode mid.plan (opened mid) mid.log)
     → (IsWhole (ending_after (Err refusal)) → ⊥) → Ran RunMode old mid xs zs (Err refusal)
-stopped_ran old mid xs zs ended refusal t full not_whole = record {
-  plan = t.plan;
-  facts = t.facts;
-  history = t.history.keeps;
-  fits = t.history.lawful.1;
-  follows = record {
-    threads = mid.log;
-    rest = [];
-    parts = sym (append-nil mid.log);
-    jobs = record { own_kind = t.own_kind; in_order = none_after mid };
-    idle = λ whole. absurd (not_whole whole);
-  };
-  served = served_all mid.log xs zs t.served;
-  rest = tt;
-  full = λ e. full (same e);
-}
-  where
-    same : IsErrOf {T = Unit {0}} (Err refusal) refusals.LogFull → refusal ≡ refusals.LogFull
-    same e = cc
+stopped_ran old mid xs zs ended refusal t full not_whole =
+    search (rules, append-nil mid.log, none_after mid, served_all mid.log xs zs t.served)
 
 -- what threads made of a mesh, and what was made after them
 pub threads_ran : (old mid new : MeshView) (xs zs ys : List DriveView) (ended : JobsEnd)
@@ -112,10 +76,7 @@ threads_ran old mid new xs zs ys ends.LogFull answer t (same, drives, is) =
     (stopped_ran old mid xs zs ends.LogFull refusals.LogFull t
     (λ e. record { due = inr (refl, t.tells.job); nearly = t.tells.nearly }) (λ whole. whole))))
 threads_ran old mid new xs zs ys ends.NoMemory answer t (same, drives, is) =
-    subst (λ (m : MeshView). Ran RunMode old m xs ys answer) (sym same)
-    (subst (λ (ds : List DriveView). Ran RunMode old mid xs ds answer) (sym drives)
-    (subst (λ (r : Result (Unit {0}) DrainRefusal). Ran RunMode old mid xs zs r) (sym is)
-    (stopped_ran old mid xs zs ends.NoMemory refusals.NoMemory t (λ e. cc) (λ whole. whole))))
+    search (rules, stopped_ran old mid xs zs ends.NoMemory refusals.NoMemory t (λ e. cc) (λ whole. whole))
 
 -- a run in threads is one of each mode with threads
 in_mode : (mode : Mode)
@@ -125,17 +86,7 @@ in_mode : (mode : Mode)
     → (old : MeshView) (left : Option MeshView) (xs ys : List DriveView) (answer : Result (Unit {0}) DrainRefusal)
     → RanOrNot RunMode old left xs ys answer → RanOrNot mode old left xs ys answer
 in_mode mode follows due old None xs ys answer ran = ran
-in_mode mode follows due old (Some new) xs ys answer ran = record {
-  plan = ran.plan;
-  facts = ran.facts;
-  history = ran.history;
-  fits = ran.fits;
-  follows = follows new.plan (opened new) (ending_after answer) new.log ran.follows;
-  served = ran.served;
-  rest = ran.rest;
-  full = λ e. let told = ran.full e in
-      record { due = due new.plan (opened new) new.log told.due; nearly = told.nearly };
-}
+in_mode mode follows due old (Some new) xs ys answer ran = search rules
 
 due_of_watch : (plan : Plan) (w : World) (log : List Entry) → DueIsFull RunMode plan w log
     → DueIsFull WatchMode plan w log
@@ -151,10 +102,8 @@ pub ran_as : (work : Threaded) (old : MeshView) (left : Option MeshView) (xs ys 
     (answer : Result (Unit {0}) DrainRefusal) → RanOrNot RunMode old left xs ys answer
     → RanOrNot (mode_threaded work) old left xs ys answer
 ran_as threads.Run old left xs ys answer ran = ran
-ran_as threads.Watch old left xs ys answer ran =
-    in_mode WatchMode (λ plan w ending log f. f) due_of_watch old left xs ys answer ran
-ran_as threads.Trace old left xs ys answer ran =
-    in_mode TraceMode (λ plan w ending log f. f) due_of_trace old left xs ys answer ran
+ran_as threads.Watch old left xs ys answer ran = search rules
+ran_as threads.Trace old left xs ys answer ran = search rules
 
 -- What the works of threads ask for
 

@@ -1,5 +1,5 @@
 -- What a call keeps, from how its run finished.
-use Rattle.std.proofs.Common.{◌≡◌, ◌≢◌, ◌⊎◌, ℕ, ◌≤◌, nat_le, Bool, true, false, List, [], ◌∷◌, ◌++◌, length, drop, Option, Some, None, Result, Ok, Err, refl, sym, ◌∙◌, ap, subst, inl, inr, arith, bytes_eq, codes, decimal, if◌then◌else◌, IfSome, IfNone, IsSomeAnd, IsTrue}
+use Rattle.std.proofs.Common.{◌≡◌, ◌≢◌, ◌⊎◌, ℕ, ◌≤◌, nat_le, Bool, true, false, List, [], ◌∷◌, ◌++◌, Option, Some, None, Result, Ok, Err, refl, sym, ◌∙◌, ap, subst, inl, inr, arith, bytes_eq, codes, decimal, if◌then◌else◌, IfSome, IfNone, IsSomeAnd, IsTrue, rules}
 use Rattle.std.proofs.Math.Seq.{drop-append_seam, drop-length}
 use Rattle.std.specs.Str.Parse.{digits_value}
 use Rattle.std.proofs.lemmas.Fmt.{digits_value-decimal}
@@ -11,13 +11,10 @@ use Rattle.geo_model.specs.World.{World, Plan}
 use Rattle.geo_model.specs.Opening.{opening}
 use Rattle.geo_model.specs.Script.{Fault, empty_plan, script}
 use Rattle.geo_model.specs.Generator.{generated}
-use Rattle.geo_headline.specs.Modes.{Mode, StepMode, RunMode, GenMode, SweepMode, WatchMode, TraceMode, VerifyMode, IsMode, Accepts, OpensMesh, TakesNoDisk, source_limit, words_for}
-use Rattle.geo_model.specs.Log.{Fits}
-use Rattle.geo_model.specs.History.{KeepsHistory, RanToItsEnd}
+use Rattle.geo_headline.specs.Modes.{Mode, StepMode, RunMode, GenMode, SweepMode, WatchMode, TraceMode, VerifyMode, IsMode, Accepts, OpensMesh, TakesNoDisk, words_for}
 use Rattle.geo_headline.specs.Outside.{ShelfView, SinkView, SourceView, ImagesStay}
 use Rattle.geo_headline.specs.Endings.{Ending, Reported, ReportedButFault, BadWords, NoScript, ReadFault, ShelfFault, NoDisk, BadSize, OutOfMemory, LogFull, TooLong, Answered, NoTrace, Call, CauseOf, HasLog, IsBeforeDisks, IsParsed, IsReadWhole, IsWhole, ReadsScript, WasReadWhole, missed_by, reported, script_of}
-use Rattle.geo_headline.specs.Headline.{FollowsMode, ImagesStayAt, IsBadWords, IsGen, ReadAs}
-use Rattle.geo_run.specs.declared.due.Due.{Due}
+use Rattle.geo_headline.specs.Headline.{ImagesStayAt, IsBadWords, IsGen, ReadAs}
 use Rattle.geo_run.specs.declared.due.Due.TheVariants as dues
 use Rattle.geo_run.specs.declared.finish.Finish.{Finish}
 use Rattle.geo_run.specs.declared.stop.Stop.{Stop}
@@ -25,8 +22,8 @@ use Rattle.geo_run.specs.declared.stop.Stop.TheVariants as stops
 use Rattle.geo_run.specs.declared.words.Work.{Work}
 use Rattle.geo_run.specs.declared.words.Work.TheVariants as works
 use Rattle.geo_run.specs.Calls.{EndsEarly, Finishes, FinishesPlan, FinishesText, Gave, KeepsInside, added_to, call_of, outside_of}
-use Rattle.geo_run.specs.Ends.{HasNoShelfDisk, MeshRan, PlanCause, RunsPlan, entries_in}
-use Rattle.geo_run.specs.Stops.{IsDue, ending_by, ending_of}
+use Rattle.geo_run.specs.Ends.{HasNoShelfDisk, PlanCause, RunsPlan, entries_in}
+use Rattle.geo_run.specs.Stops.{ending_by, ending_of}
 use Rattle.geo_run.specs.Work.{mode_of}
 use Rattle.geo_run.proofs.Digits.{own}
 use Rattle.geo_run.proofs.Untaken.{images_stand_same, images_stay_same, lent_still, others_still, told_still}
@@ -85,17 +82,7 @@ few_or_not n m = by (nat_le n m) refl
     by false e = inr (λ le. absurd (grind (arith, nat_tests)))
 
 read_or_not : (call : Call) (mode : Mode) → IsReadWhole call mode ⊎ (IsReadWhole call mode → ⊥)
-read_or_not call mode =
-    elim (few_or_not (length call.text) (source_limit mode)) [
-      | inr many ↦ inr (λ w. many w.few)
-      | inl few ↦ elim (ended_or_not call.after.source.ended) [
-        | inr goes_on ↦ inr (λ w. goes_on w.ended)
-        | inl ended ↦ elim (empty_or_not call.after.source.left) [
-          | inr left ↦ inr (λ w. left w.none_left)
-          | inl none ↦ inl (record { few = few; ended = ended; none_left = none })
-        ]
-      ]
-    ]
+read_or_not call mode = search (rules, empty_or_not call.after.source.left)
 
 whole_or_not : (call : Call) (mode : Mode) → WasReadWhole call mode ⊎ (WasReadWhole call mode → ⊥)
 whole_or_not call StepMode = read_or_not call StepMode
@@ -108,38 +95,22 @@ whole_or_not call VerifyMode = read_or_not call VerifyMode
 
 read_as_whole : (call : Call) (mode : Mode) (r : Result Plan Fault) → Accepts call.words mode → WasReadWhole call mode
     → script (script_of mode call.text) ≡ r → ReadAs call mode (plan_in r)
-read_as_whole call mode (Ok plan) accepts whole e = record {
-  mode_is = λ m a. modes_same call.words m mode a accepts;
-  plan_is = λ w p is. one_plan p plan (script (script_of mode call.text)) is e;
-  no_plan = λ f is. absurd (plan_or_fault plan f (script (script_of mode call.text)) e is);
-  not_read = λ unread. absurd (unread whole);
-}
-read_as_whole call mode (Err fault) accepts whole e = record {
-  mode_is = λ m a. modes_same call.words m mode a accepts;
-  plan_is = λ w p is. absurd (plan_or_fault p fault (script (script_of mode call.text)) is e);
-  no_plan = λ f is. refl;
-  not_read = λ unread. refl;
-}
+read_as_whole call mode (Ok plan) accepts whole e = search (rules, modes_same call.words)
+read_as_whole call mode (Err fault) accepts whole e = search (rules, modes_same call.words)
 
 read_as_part : (call : Call) (mode : Mode) → Accepts call.words mode → (WasReadWhole call mode → ⊥)
     → ReadAs call mode empty_plan
-read_as_part call mode accepts unread = record {
-  mode_is = λ m a. modes_same call.words m mode a accepts;
-  plan_is = λ w p is. absurd (unread w);
-  no_plan = λ f is. refl;
-  not_read = λ n. refl;
-}
+read_as_part call mode accepts unread = search rules
 
 -- a plan by what was read
 read_as : (call : Call) (mode : Mode) → Accepts call.words mode → (plan : Plan) × ReadAs call mode plan
 read_as call mode accepts =
-    elim (whole_or_not call mode) [
-      | inl whole ↦ (
-        plan_in (script (script_of mode call.text)),
-        read_as_whole call mode (script (script_of mode call.text)) accepts whole refl,
-      )
-      | inr unread ↦ (empty_plan, read_as_part call mode accepts unread)
-    ]
+    search (
+      rules,
+      whole_or_not call mode,
+      read_as_whole call mode (script (script_of mode call.text)) accepts,
+      read_as_part call mode accepts,
+    )
 
 -- Where no log came
 
@@ -165,33 +136,19 @@ early call mode plan ending read gave cause none shelf has not_whole none_missed
     still = record call { log = None; after = record call.after { shelf = call.before.shelf } }
 
     is : still ≡ call
-    is = ap (λ (l : Option (List Entry)). record still { log = l }) (sym none)
-        ∙ ap (λ (v : ShelfView). record call { after = record call.after { shelf = v } }) (sym shelf)
+    is = search rules
 
     keeps : KeepsInside still mode plan ending
-    keeps = record {
-      read_as = subst (λ (c : Call). ReadAs c mode plan) (sym is) read;
-      gave = gave;
-      cause = subst (λ (c : Call). CauseOf c mode plan ending) (sym is) cause;
-      has_log = has;
-      is_opened = λ some. absurd (let bad : false ≡ true = some in cc);
-      history = tt;
-      to_its_end = λ whole. absurd (not_whole whole);
-      order = tt;
-      fits = tt;
-      disks = tt;
-      lent = lent_still ending call.before.shelf (none_failed ending none_missed);
-      reads = reads;
-      calls = told_still ending call.before.shelf (none_failed ending none_missed);
-      in_order = none_in_order plan ending call.before.shelf none_missed;
-      others = others_still plan call.before.shelf;
-      unasked = λ name. record { faults = refl; asked = refl };
-      sizes = λ some. absurd (let bad : false ≡ true = some in cc);
-      kept_stay = λ name back. record { faults = refl; asked = refl; sectors = refl };
-      images = images_at still ending None (images_stay_same call.before.shelf);
-      images_stand = images_stand_same call.before.shelf;
-      outside = record { source = source; shelf = λ which. refl };
-    }
+    keeps =
+        search (
+          rules,
+          lent_still ending call.before.shelf (none_failed ending none_missed),
+          told_still ending call.before.shelf (none_failed ending none_missed),
+          none_in_order plan ending call.before.shelf none_missed,
+          others_still plan call.before.shelf,
+          images_at still ending None (images_stay_same call.before.shelf),
+          images_stand_same call.before.shelf,
+        )
 
 -- Where a plan was run
 
@@ -238,45 +195,7 @@ planned : (call : Call) (mode : Mode) (plan : Plan) (ending : Ending) → ReadAs
     → call.after.source.faults ≡ call.before.source.faults
     → (TakesNoDisk mode → HasNoShelfDisk plan)
     → KeepsInside call mode plan ending
-planned call mode plan ending read gave parsed ran source told none = record {
-  read_as = read;
-  gave = gave;
-  cause = plan_cause call mode plan ending parsed ran.cause;
-  has_log = ran.has_log;
-  is_opened = λ some. let o = ran.opens some in
-      record { parsed = parsed; there = o.there; facts_fit = o.facts_fit; told_sizes = o.told_sizes };
-  history = mesh_part (KeepsHistory (opening plan call.facts)) (λ l m. m.history);
-  to_its_end = λ whole. mesh_part (RanToItsEnd (opening plan call.facts)) (λ l m. m.to_its_end whole);
-  order = mesh_part (FollowsMode mode plan (opening plan call.facts) ending) (λ l m. m.follows);
-  fits = mesh_part (Fits (opening plan call.facts)) (λ l m. m.fits);
-  disks = ran.disks;
-  lent = ran.lent;
-  reads = λ other. told;
-  calls = ran.calls;
-  in_order = ran.in_order;
-  others = ran.others;
-  unasked = ran.unasked;
-  sizes = ran.sizes;
-  kept_stay = ran.kept_stay;
-  images = images_at call ending call.log ran.images;
-  images_stand = ran.images_stand;
-  outside = record {
-    source = λ which. elim which [
-      | inl gen ↦ source gen
-      | inr bad ↦ absurd (never_before (bad_is_before ending bad))
-    ];
-    shelf = λ which. elim which [ inl gen ↦ ran.untouched (none gen) | inr before ↦ absurd (never_before before) ];
-  };
-}
-  where
-    mesh_part : (G : List Entry → Type 0) → ((l : List Entry) → MeshRan mode plan call.facts ending l → G l)
-        → IfSome call.log G
-    mesh_part G f = part_of call.log (MeshRan mode plan call.facts ending) G f ran.mesh
-
-    never_before : IsBeforeDisks ending → ⊥
-    never_before before =
-        not_before mode plan (opening plan call.facts) call.log call.before.shelf call.after.shelf ending ran.cause
-        before
+planned call mode plan ending read gave parsed ran source told none = search rules
 
 -- How a run finished
 
@@ -312,8 +231,7 @@ module _ (words : List (List ℕ)) (finish : Finish) (source source_after : Sour
   read_again : (m n : ℕ) (sink other sink_after other_after : SinkView) (mode : Mode)
       → WasReadWhole (finished m sink sink_after) mode → WasReadWhole (finished n other other_after) mode
   read_again m n sink other sink_after other_after (GenMode s c) w = tt
-  read_again m n sink other sink_after other_after _ w =
-      record { few = w.few; ended = w.ended; none_left = w.none_left }
+  read_again m n sink other sink_after other_after _ w = search rules
 
   -- a run that stopped before a disk was taken
   pub stops_early : (mode : Mode) (stop : Stop) → Accepts words mode → EndsEarly finish stop shelf shelf_after
@@ -327,8 +245,7 @@ module _ (words : List (List ℕ)) (finish : Finish) (source source_after : Sour
   stops_early mode stop accepts ends gave cause has not_whole none_missed same told = record {
     mode = mode;
     plan = reading.0;
-    due = subst (λ (due : Due). IsDue due
-        (reported mode text_given reading.0 finish.facts.items (entries_in finish.log))) (sym ends.due) tt;
+    due = search rules;
     keeps = λ status sink sink_after.
         subst (λ (ending : Ending). KeepsInside (finished status sink sink_after) mode reading.0 ending)
         (sym (ap ending_by ends.due))
@@ -349,8 +266,7 @@ module _ (words : List (List ℕ)) (finish : Finish) (source source_after : Sour
         mode_is = reading.1.mode_is;
         plan_is = λ w. reading.1.plan_is (read_again status 0 sink none_yet sink_after none_yet mode w);
         no_plan = reading.1.no_plan;
-        not_read = λ unread. reading.1.not_read (λ w. unread
-            (read_again 0 status none_yet sink none_yet sink_after mode w));
+        not_read = search rules;
       }
 
   -- a run whose plan was run
@@ -384,8 +300,7 @@ module _ (words : List (List ℕ)) (finish : Finish) (source source_after : Sour
       → Finishes words finish source source_after shelf shelf_after
   of_text mode (Ok plan) opens accepts is gave ends whole same told none no_fault reads =
       runs_text mode plan opens accepts is gave ends whole same told (λ gen. none gen plan refl)
-  of_text mode (Err fault) opens accepts is gave ends whole same told none no_fault (inl gen) =
-      absurd (no_fault gen fault refl)
+  of_text mode (Err fault) opens accepts is gave ends whole same told none no_fault (inl gen) = search rules
   of_text mode (Err fault) opens accepts is gave ends whole same told none no_fault (inr reads) =
       stops_early mode (stops.NoScript fault.line fault.cause) accepts ends gave
       (λ status sink sink_after plan. (reads status sink sink_after, whole status sink sink_after, is)) refl (λ w. w)
@@ -403,8 +318,7 @@ module _ (words : List (List ℕ)) (finish : Finish) (source source_after : Sour
 -- the text that a source gave is what came behind what it had given
 pub text_is : (source source_after : SourceView) (text : List ℕ) → Gave source text source_after
     → text ≡ added_to source.given source_after.given
-text_is source source_after text gave =
-    sym (ap (λ bytes. drop (length source.given) bytes) gave.given ∙ drop-append_seam source.given text)
+text_is source source_after text gave = search (rules, drop-append_seam source.given text)
 
 -- a source that wasn't read gave nothing
 pub gave_nothing : (source : SourceView) → Gave source (added_to source.given source.given) source
@@ -436,12 +350,7 @@ finishes_generated words finish source shelf shelf_after start count accepts (in
     aside : (r : Result Plan Fault)
         → FinishesPlan (generated start count) r (GenMode start count) finish shelf shelf_after
         → FinishesPlan (added_to source.given source.given) r (GenMode start count) finish shelf shelf_after
-    aside (Ok plan) h = (
-      h.0,
-      subst (λ text. IsDue finish.due text)
-          (text_aside start count (generated start count) (added_to source.given source.given) plan finish.facts.items
-          (entries_in finish.log)) h.1,
-    )
+    aside (Ok plan) h = search rules
     aside (Err fault) h = h
 
     no_fault : (fault : Fault) → script (generated start count) ≡ Err fault → ⊥
@@ -461,15 +370,8 @@ pub finishes_none : (words : List (List ℕ)) (finish : Finish) (source : Source
 finishes_none words finish source shelf none due_is log_is = record {
   mode = StepMode;
   plan = empty_plan;
-  due = subst (λ (due : Due). IsDue due
-      (reported StepMode (added_to source.given source.given) empty_plan finish.facts.items (entries_in finish.log)))
-      (sym due_is) tt;
-  keeps = λ status sink sink_after.
-      let call = finished words finish source source shelf shelf status sink sink_after in
-      subst (λ (ending : Ending). KeepsInside call StepMode empty_plan ending) (sym (ap ending_by due_is))
-      (early call StepMode empty_plan BadWords (reading call refl refl) (gave_nothing source) none
-      (no_entries finish log_is) refl
-      refl (λ w. w) refl (λ which. refl) (λ other. refl));
+  due = search rules;
+  keeps = search (rules, ap ending_by due_is, early, reading, gave_nothing source, no_entries finish log_is);
 }
   where
     nothing : added_to source.given source.given ≡ []

@@ -1,12 +1,12 @@
 -- Disks that are taken and given back one after the other.
-use Rattle.std.proofs.Common.{◌≡◌, ℕ, ◌+◌, ◌-◌, ◌<◌, ◌≤◌, List, [], ◌∷◌, ◌++◌, length, map, take, drop, get_or, refl, sym, ◌∙◌, ap, subst, arith, Option, Some, None, Bool, true, false, slice_get}
+use Rattle.std.proofs.Common.{◌≡◌, ℕ, ◌+◌, ◌-◌, ◌<◌, ◌≤◌, List, [], ◌∷◌, ◌++◌, length, map, take, drop, get_or, refl, sym, ◌∙◌, ap, subst, Option, Some, None, Bool, true, false, slice_get, rules}
 use Rattle.std.proofs.lemmas.List.{append-nil, drop_more, map-append, length-drop, take-append-drop, take_more, length_push, nil_from_length}
 use Rattle.geo_model.specs.declared.command.DiskDecl.{DiskDecl}
 use Rattle.geo_model.specs.declared.step.Entry.{Entry}
 use Rattle.geo_disk.proofs.CountLemmas.{counted_many_later}
 use Rattle.geo_headline.specs.Outside.{ShelfView, failures_of}
 use Rattle.geo_serve.specs.Served.{IsServed}
-use Rattle.geo_run.specs.Drives.{DriveView, kind_by, ServeAll, drive_kind}
+use Rattle.geo_run.specs.Drives.{DriveView, ServeAll, drive_kind}
 use Rattle.geo_run.specs.declared.stop.Stop.{Stop}
 use Rattle.geo_run.specs.Lending.{AreOut, GivesBack, GivesDrive, OpensDrive, OpensDrives, OpensNoDrive, StopsOpening, first_kept, kept_name, names_of}
 use Rattle.geo_run.proofs.Taking.{opens_more}
@@ -18,34 +18,21 @@ use Rattle.geo_run.proofs.Giving.{gives_more, out_next}
 pub stops_at : (a b c : ShelfView) (ds : List DiskDecl) (i : ℕ) (d : DiskDecl) (names : List (List ℕ))
     (xs : List DriveView) (stop : Stop) → i < length ds → d ≡ get_or ds i d → names ≡ names_of (take i ds)
     → OpensDrives a (take i ds) xs b → OpensNoDrive b d stop c d.kind → StopsOpening a ds names xs stop c
-stops_at a b c ds i d names xs stop lt at named opens fails = record {
-  front = take i ds;
-  disk = d;
-  back = drop (i + 1) ds;
-  all = sym (take-append-drop i ds) ∙ ap (λ es. take i ds ++ es) (drop_more ds i d lt)
-      ∙ ap (λ e. take i ds ++ e ∷ drop (i + 1) ds) (sym at);
-  named = named;
-  between = b;
-  earlier = opens;
-  stopped = fails;
-}
+stops_at a b c ds i d names xs stop lt at named opens fails =
+    search (rules, take-append-drop i ds, ap (λ es. take i ds ++ es) (drop_more ds i d lt))
 
 -- one disk more
 pub opens_next : (a b c : ShelfView) (ds : List DiskDecl) (i : ℕ) (d : DiskDecl) (xs : List DriveView) (x : DriveView)
     → i < length ds → d ≡ get_or ds i d → OpensDrives a (take i ds) xs b → OpensDrive b d x c d.kind
     → OpensDrives a (take (i + 1) ds) (xs ++ x ∷ []) c
 opens_next a b c ds i d xs x lt at opens one =
-    subst (λ (es : List DiskDecl). OpensDrives a es (xs ++ x ∷ []) c)
-    (sym (take_more ds i d lt ∙ ap (λ e. take i ds ++ e ∷ []) (sym at)))
-    (opens_more a b c (take i ds) d xs x opens one)
+    search (rules, take_more ds i d lt, opens_more a b c (take i ds) d xs x opens one)
 
 -- and its name
 pub named_next : (ds : List DiskDecl) (i : ℕ) (d : DiskDecl) (names : List (List ℕ)) → i < length ds
     → d ≡ get_or ds i d → names ≡ names_of (take i ds) → names ++ d.name ∷ [] ≡ names_of (take (i + 1) ds)
 named_next ds i d names lt at named =
-    ap (λ ns. ns ++ d.name ∷ []) named
-    ∙ sym (ap names_of (take_more ds i d lt ∙ ap (λ e. take i ds ++ e ∷ []) (sym at))
-    ∙ map-append (λ (e : DiskDecl). e.name) (take i ds) (d ∷ []))
+    search (rules, take_more ds i d lt, map-append (λ (e : DiskDecl). e.name) (take i ds) (d ∷ []))
 
 -- Giving back
 
@@ -56,10 +43,7 @@ name_left s names n x xs out = by (drop n names) refl out
   where
     by : (left : List (List ℕ)) → drop n names ≡ left → AreOut s left (x ∷ xs) → n < length names
     by [] e h = absurd h
-    by (m ∷ ms) e h =
-        let few : length (drop n names) ≡ length names - n = length-drop n names in
-        let some : length (drop n names) ≡ length (m ∷ ms) = ap (λ (ns : List (List ℕ)). length ns) e in
-        omega (arith, few, some)
+    by (m ∷ ms) e h = search (rules, length-drop n names)
 
 -- where none is left, all names were given
 pub none_left : (s : ShelfView) (names : List (List ℕ)) (n : ℕ) → AreOut s (drop n names) [] → take n names ≡ names
@@ -73,9 +57,7 @@ none_left s names n out = by (drop n names) refl out
 pub next_out : (s : ShelfView) (names : List (List ℕ)) (n : ℕ) (name : List ℕ) (x : DriveView) (xs : List DriveView)
     → n < length names → name ≡ get_or names n name → AreOut s (drop n names) (x ∷ xs)
     → AreOut s (name ∷ drop (n + 1) names) (x ∷ xs)
-next_out s names n name x xs lt at out =
-    subst (λ (ns : List (List ℕ)). AreOut s ns (x ∷ xs))
-    (drop_more names n name lt ∙ ap (λ m. m ∷ drop (n + 1) names) (sym at)) out
+next_out s names n name x xs lt at out = search (rules, drop_more names n name lt)
 
 -- one more was given back
 pub gives_next : (a b c : ShelfView) (names : List (List ℕ)) (n : ℕ) (name : List ℕ) (xs : List DriveView)
@@ -83,9 +65,7 @@ pub gives_next : (a b c : ShelfView) (names : List (List ℕ)) (n : ℕ) (name :
     → GivesBack a (take n names) xs kept b → GivesDrive b name x k c (drive_kind x)
     → GivesBack a (take (n + 1) names) (xs ++ x ∷ []) (kept ++ k) c
 gives_next a b c names n name xs x kept k lt at given one =
-    subst (λ (ns : List (List ℕ)). GivesBack a ns (xs ++ x ∷ []) (kept ++ k) c)
-    (sym (take_more names n name lt ∙ ap (λ m. take n names ++ m ∷ []) (sym at)))
-    (gives_more a b c (take n names) name xs x kept k given one)
+    search (rules, take_more names n name lt, gives_more a b c (take n names) name xs x kept k given one)
 
 -- the first that is kept stays the first
 pub first_stays : (kept k : List (List ℕ)) (name : List ℕ) → slice_get kept 0 ≡ Some name
@@ -126,8 +106,7 @@ gave_next a b c names n name xs x first next given lt at is so_far one = (
 
 -- the faults of a drive that served don't fall
 served_later : (log : List Entry) (n : ℕ) (x y : DriveView) → IsServed log n x y → x.faults ≤ y.faults
-served_later log n x y s =
-    subst (λ (k : ℕ). x.faults ≤ k) (sym s.failures) (counted_many_later (failures_of log n) x.faults)
+served_later log n x y s = search (rules, counted_many_later (failures_of log n) x.faults)
 
 -- drives that served are still out
 pub out_served : (s : ShelfView) (log : List Entry) (n : ℕ) (names : List (List ℕ)) (xs ys : List DriveView)
@@ -135,15 +114,8 @@ pub out_served : (s : ShelfView) (log : List Entry) (n : ℕ) (names : List (Lis
 out_served s log n [] [] [] out served = tt
 out_served s log n [] (x ∷ xs) ys out served = absurd out
 out_served s log n (m ∷ ms) [] ys out served = absurd out
-out_served s log n (m ∷ ms) (x ∷ xs) (y ∷ ys) out served = (
-  λ kind. let was = out.0 (sym (ap kind_by served.0.kind) ∙ kind) in record {
-    lent = was.lent;
-    counted = let c : s.faults_of m ≤ x.faults = was.counted in
-        let later : x.faults ≤ y.faults = served_later log n x y served.0 in omega (arith, c, later);
-  },
-  out.1,
-  out_served s log (n + 1) ms xs ys out.2 served.1,
-)
+out_served s log n (m ∷ ms) (x ∷ xs) (y ∷ ys) out served =
+    search (rules, served_later log n x y served.0, out_served s log (n + 1) ms xs ys out.2 served.1)
 out_served s log n _ _ _ out served = absurd served
 
 -- The items of loops
@@ -183,13 +155,8 @@ pub gave_item : {X : Type 0} (f : X → DriveView) (a b c : ShelfView) (names : 
     → (kept : List (List ℕ)) × (next ≡ slice_get kept 0)
     × GivesBack a (take (length (items ++ x ∷ [])) names) (map f (items ++ x ∷ [])) kept c
 gave_item f a b c names items x name first next given lt at is so_far one =
-    let more = gave_next a b c names (length items) name (map f items) (f x) first next given lt at is so_far one in (
-      more.0,
-      more.1,
-      subst (λ (n : ℕ). GivesBack a (take n names) (map f (items ++ x ∷ [])) more.0 c) (sym (length_push items x))
-          (subst (λ (xs : List DriveView). GivesBack a (take (length items + 1) names) xs more.0 c)
-          (sym (map-append f items (x ∷ []))) more.2),
-    )
+    let more = gave_next a b c names (length items) name (map f items) (f x) first next given lt at is so_far one in
+    search (rules, length_push items x, map-append f items (x ∷ []))
 
 -- the others are out
 pub rest_out : {X : Type 0} (f : X → DriveView) (b c : ShelfView) (names : List (List ℕ)) (items : List X) (x : X)
@@ -206,9 +173,4 @@ pub gave_all : {X : Type 0} (f : X → DriveView) (a b : ShelfView) (names : Lis
     (kept : List (List ℕ)) → all ≡ items ++ left → length left ≡ 0 → AreOut b (drop (length items) names) (map f left)
     → GivesBack a (take (length items) names) (map f items) kept b → GivesBack a names (map f all) kept b
 gave_all f a b names all items left kept e none out given =
-    let empty : left ≡ [] = nil_from_length left none in
-    let whole : take (length items) names ≡ names =
-    none_left b names (length items) (subst (λ xs. AreOut b (drop (length items) names) (map f xs)) empty out) in
-    subst (λ (ns : List (List ℕ)). GivesBack a ns (map f all) kept b) whole
-    (subst (λ xs. GivesBack a (take (length items) names) (map f xs) kept b)
-    (sym (e ∙ ap (λ xs. items ++ xs) empty ∙ append-nil items)) given)
+    search (rules, nil_from_length left none, none_left b names (length items), append-nil items)

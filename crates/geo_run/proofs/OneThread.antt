@@ -1,5 +1,5 @@
 -- What one thread made of a mesh, by the word that asked for it.
-use Rattle.std.proofs.Common.{◌≡◌, ℕ, List, [], ◌++◌, Option, Some, Result, Ok, Err, OnOk, IfOk, IsErrOf, sym, ◌∙◌, ap, subst, inl}
+use Rattle.std.proofs.Common.{◌≡◌, ℕ, List, [], ◌++◌, Option, Some, Result, Ok, Err, OnOk, IfOk, IsErrOf, sym, ◌∙◌, ap, subst, rules}
 use Rattle.geo_model.specs.declared.listing.GeomLine.{GeomLine}
 use Rattle.geo_model.specs.declared.step.Entry.{Entry}
 use Rattle.geo_model.specs.World.{World, Plan}
@@ -15,7 +15,7 @@ use Rattle.geo_elev.specs.Meshes.{MeshView, opened, world_of}
 use Rattle.geo_elev.specs.DrainRefusal.{DrainRefusal}
 use Rattle.geo_elev.specs.DrainRefusal.TheVariants as refusals
 use Rattle.geo_report.specs.Texts.{IsReport, IsSummary}
-use Rattle.geo_run.specs.Drives.{DriveView, ServeAll}
+use Rattle.geo_run.specs.Drives.{DriveView}
 use Rattle.geo_run.specs.Rest.{Adds, RanFull}
 use Rattle.geo_run.specs.Runners.{RanAlone, RanOrNot, ending_after}
 
@@ -32,21 +32,13 @@ pub ran_alone : (order : StepOrder) (old new : MeshView) (left : Option MeshView
     → KeepsHistory (opened new) new.log → Fits (opened new) new.log → OnOk answer (RanToItsEnd (opened new) new.log)
     → (IsErrOf answer refusals.LogFull → RanFull order (opened new) new.log)
     → RanAlone order old left xs ys answer
-ran_alone order old new left xs ys answer none some adds history fits rest full = record {
-  new = new;
-  left_is = some;
-  plan = ap (λ (m : MeshView). m.plan) adds.mesh;
-  facts = ap (λ (m : MeshView). m.facts) adds.mesh;
-  history = history;
-  fits = fits;
-  follows = order_from order (opened new) old.log new.log adds.added none (ap (λ (m : MeshView). m.log) adds.mesh)
-      (subst (λ (w : World). FollowsOrder order w old.log adds.added)
-      (sym (ap (λ (m : MeshView). opened m) adds.mesh)) adds.follows);
-  served = subst (λ (l : List Entry). ServeAll l 0 xs ys)
-      (sym (ap (λ (m : MeshView). m.log) adds.mesh ∙ ap (λ es. es ++ adds.added) none)) adds.drives;
-  rest = rest;
-  full = full;
-}
+ran_alone order old new left xs ys answer none some adds history fits rest full =
+    search (
+      rules,
+      order_from order (opened new) old.log new.log adds.added none (ap (λ (m : MeshView). m.log) adds.mesh)
+          (subst (λ (w : World). FollowsOrder order w old.log adds.added)
+          (sym (ap (λ (m : MeshView). opened m) adds.mesh)) adds.follows),
+    )
 
 -- that is what a mode asks for which has this order, and no threads
 ran_in : (mode : Mode) (old : MeshView) (left : Option MeshView) (xs ys : List DriveView)
@@ -55,17 +47,7 @@ ran_in : (mode : Mode) (old : MeshView) (left : Option MeshView) (xs ys : List D
     → FollowsOrder (order_of mode) w [] log → FollowsMode mode plan w ending log)
     → RanAlone (order_of mode) old left xs ys answer → RanOrNot mode old left xs ys answer
 ran_in mode old left xs ys answer alone r =
-    subst (λ (l : Option MeshView). RanOrNot mode old l xs ys answer) (sym r.left_is)
-    (record {
-      plan = r.plan;
-      facts = r.facts;
-      history = r.history;
-      fits = r.fits;
-      follows = alone r.new.plan (opened r.new) (ending_after answer) r.new.log r.follows;
-      served = r.served;
-      rest = r.rest;
-      full = λ e. let told = r.full e in record { due = inl told.due; nearly = told.nearly };
-    })
+    search (rules, alone r.new.plan (opened r.new) (ending_after answer) r.new.log r.follows)
 
 pub stepped : (old : MeshView) (left : Option MeshView) (xs ys : List DriveView)
     (answer : Result (Unit {0}) DrainRefusal) → RanAlone fixed_order old left xs ys answer
@@ -75,8 +57,7 @@ stepped old left xs ys answer r = ran_in StepMode old left xs ys answer (λ plan
 pub drawn : (start count : ℕ) (old : MeshView) (left : Option MeshView) (xs ys : List DriveView)
     (answer : Result (Unit {0}) DrainRefusal) → RanAlone fixed_order old left xs ys answer
     → RanOrNot (GenMode start count) old left xs ys answer
-drawn start count old left xs ys answer r =
-    ran_in (GenMode start count) old left xs ys answer (λ plan w ending log f. f) r
+drawn start count old left xs ys answer r = search rules
 
 -- The report
 
@@ -85,19 +66,11 @@ pub report_is : {E : Type 0} (m : MeshView) (plan : Plan) (log : List Entry) (li
     (r : Result (List ℕ) E) → plan ≡ m.plan → log ≡ m.log → lines ≡ listing (world_of m)
     → IfOk r (IsReport plan log lines) → IfOk r (λ text. text ≡ report m.plan (opened m) m.log)
 report_is m plan log lines (Err e) p l at h = tt
-report_is m plan log lines (Ok text) p l at h =
-    let of_mesh : IsReport m.plan m.log lines text =
-    subst (λ (es : List Entry). IsReport m.plan es lines text) l
-    (subst (λ (q : Plan). IsReport q log lines text) p h) in
-    of_mesh (opened m) at
+report_is m plan log lines (Ok text) p l at h = search rules
 
 -- and a summary of it is its summary
 pub summary_is : {E : Type 0} (m : MeshView) (plan : Plan) (log : List Entry) (lines : List GeomLine)
     (r : Result (List ℕ) E) → plan ≡ m.plan → log ≡ m.log → lines ≡ listing (world_of m)
     → IfOk r (IsSummary plan log lines) → IfOk r (λ text. text ≡ summary m.plan (opened m) m.log)
 summary_is m plan log lines (Err e) p l at h = tt
-summary_is m plan log lines (Ok text) p l at h =
-    let of_mesh : IsSummary m.plan m.log lines text =
-    subst (λ (es : List Entry). IsSummary m.plan es lines text) l
-    (subst (λ (q : Plan). IsSummary q log lines text) p h) in
-    of_mesh (opened m) at
+summary_is m plan log lines (Ok text) p l at h = search rules

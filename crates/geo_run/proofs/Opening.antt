@@ -1,5 +1,5 @@
 -- A mesh that is opened for a script, and the run of that mesh.
-use Rattle.std.proofs.Common.{◌≡◌, ℕ, true, false, List, [], map, Option, None, Result, Ok, Err, IfErr, refl, sym, ◌∙◌, ap, subst, slice_get}
+use Rattle.std.proofs.Common.{◌≡◌, ℕ, true, false, List, [], map, Option, None, Result, Ok, Err, IfErr, refl, sym, ◌∙◌, ap, subst, slice_get, rules}
 use Rattle.geo_log.specs.Room.{Room}
 use Rattle.geo_model.specs.declared.command.DiskDecl.{DiskDecl}
 use Rattle.geo_model.specs.declared.step.Entry.{Entry}
@@ -32,17 +32,8 @@ pub plan_opened : (plan : Plan) (ds : List DiskDecl) (names : List (List ℕ)) (
     (mesh : MeshView) (facts : List (ℕ × ℕ)) (a m : ShelfView) → IsPlan plan → ds ≡ plan.disks → names ≡ names_of ds
     → OpensDrives a ds xs m → seen ≡ xs → mesh ≡ record { plan = plan; facts = map size_of seen; log = [] }
     → IsHistory mesh → facts ≡ map size_of seen → OpensPlan plan a mesh facts names xs m
-plan_opened plan ds names xs seen mesh facts a m is e named opens same began history sizes = record {
-  is_plan = is;
-  plan_is = ap (λ (n : MeshView). n.plan) began;
-  new = ap (λ (n : MeshView). n.log) began;
-  history = history;
-  facts_are = sizes ∙ sym (ap (λ (n : MeshView). n.facts) began);
-  sizes = ap (λ (n : MeshView). n.facts) began ∙ ap (λ (zs : List DriveView). map size_of zs) same;
-  opens = subst (λ (es : List DiskDecl). OpensDrives a es xs m) e opens;
-  named = named ∙ ap (λ (es : List DiskDecl). names_of es) e;
-  out = drives_out plan ds names xs a m is e named opens;
-}
+plan_opened plan ds names xs seen mesh facts a m is e named opens same began history sizes =
+    search (rules, drives_out plan ds names xs a m is e named opens)
 
 -- Where none began
 
@@ -58,18 +49,22 @@ pub plan_lost : (plan : Plan) (ds : List DiskDecl) (names : List (List ℕ)) (xs
     → (kept : List (List ℕ)) × (first ≡ slice_get kept 0) × GivesBack m names xs kept b
     → StopsPlan plan a stops.NoMemory b
 plan_lost plan ds names xs a m b is e named opens first given mode facts =
-    runs_plan mode plan facts None OutOfMemory xs a m b is
-    (subst (λ (es : List DiskDecl). OpensDrives a es xs m) e opens)
-    (record {
-      served = xs;
-      kept = given.0;
-      serves = refl;
-      given = subst (λ (ns : List (List ℕ)). GivesBack m ns xs given.0 b)
-          (named ∙ ap (λ (es : List DiskDecl). names_of es) e) given.2;
-      sizes = λ some. absurd (let bad : false ≡ true = some in cc);
-      mesh = tt;
-      cause = tt;
-    })
+    search (
+      rules,
+      runs_plan mode plan facts None OutOfMemory xs a m b is
+          (subst (λ (es : List DiskDecl). OpensDrives a es xs m) e opens)
+          (record {
+            served = xs;
+            kept = given.0;
+            serves = refl;
+            given =
+                subst (λ (ns : List (List ℕ)). GivesBack m ns xs given.0 b)
+                (named ∙ ap (λ (es : List DiskDecl). names_of es) e) given.2;
+            sizes = λ some. absurd (let bad : false ≡ true = some in cc);
+            mesh = tt;
+            cause = tt;
+          }),
+    )
 
 -- its plan couldn't be opened
 pub script_stops : (text : List ℕ) (plan : Plan) (stop : Stop) (a b : ShelfView) → script text ≡ Ok plan

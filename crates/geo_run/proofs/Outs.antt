@@ -1,5 +1,5 @@
 -- Drives that were taken are out.
-use Rattle.std.proofs.Common.{◌≡◌, ℕ, ◌≤◌, List, [], ◌∷◌, ◌++◌, sym, ◌∙◌, ap, subst, arith, Contains}
+use Rattle.std.proofs.Common.{◌≡◌, ℕ, List, [], ◌∷◌, ◌++◌, sym, ◌∙◌, ap, subst, Contains, rules}
 use Rattle.std.proofs.lemmas.List.{map-append}
 use Rattle.std.proofs.lemmas.List.Elements.{Contains-append_right}
 use Rattle.geo_model.specs.declared.command.DiskDecl.{DiskDecl}
@@ -9,7 +9,7 @@ use Rattle.geo_headline.specs.Outside.{ShelfView}
 use Rattle.geo_run.specs.Drives.{DriveView, drive_kind}
 use Rattle.geo_run.specs.declared.stop.Stop.{Stop}
 use Rattle.geo_run.specs.Lending.{AreApart, AreOther, AreOut, IsOut, OpensDrives, OpensNoDrive, SameCounts, StopsOpening, names_of}
-use Rattle.geo_run.proofs.Tests.{contains_first, contains_more}
+use Rattle.geo_run.proofs.Tests.{contains_more}
 use Rattle.geo_run.proofs.Taking.{EachHad, IsHad, each_had, shelf_names, takes_count, takes_lend, with_shelf}
 
 -- the names that stand first differ too
@@ -27,10 +27,8 @@ pub all_out : (a b : ShelfView) (ds : List DiskDecl) (xs : List DriveView) → S
     → AreOut b (names_of ds) xs
 all_out a b [] [] counts apart lent h = tt
 all_out a b (d ∷ ds) (x ∷ xs) counts apart lent h = (
-  λ s. one d.kind lent h.0 s,
-  apart.0,
-  all_out a b ds xs counts apart.1 (λ name c. lent name (more d.kind name c)) h.1,
-)
+    search (rules, all_out a b ds xs counts apart.1 (λ name c. lent name (more d.kind name c)) h.1)
+    )
   where
     more : (kind : DiskKind) (name : List ℕ) → Contains (shelf_names ds) name
         → Contains (with_shelf kind d.name (shelf_names ds)) name
@@ -41,10 +39,7 @@ all_out a b (d ∷ ds) (x ∷ xs) counts apart lent h = (
         → ((name : List ℕ) → Contains (with_shelf kind d.name (shelf_names ds)) name → Contains b.lent name)
         → IsHad a b d x kind → drive_kind x ≡ disk_kinds.Shelf → IsOut b d.name x
     one disk_kinds.Ram l had s = absurd (let bad : disk_kinds.Ram ≡ disk_kinds.Shelf = sym had.kind ∙ s in cc)
-    one disk_kinds.Shelf l had s = record {
-      lent = l d.name (contains_first d.name (shelf_names ds));
-      counted = let e : b.faults_of d.name ≡ x.faults = counts.disks d.name ∙ sym had.brought in omega (arith, e);
-    }
+    one disk_kinds.Shelf l had s = search rules
 all_out a b _ _ counts apart lent h = absurd h
 
 -- by what was done
@@ -61,15 +56,7 @@ taken_out ds names xs a m apart named opens =
 stays_out : (m n : ShelfView) (names : List (List ℕ)) (xs : List DriveView) → n.lent ≡ m.lent
     → ((name : List ℕ) → n.faults_of name ≡ m.faults_of name) → AreOut m names xs → AreOut n names xs
 stays_out m n [] [] lent disks out = tt
-stays_out m n (name ∷ names) (x ∷ xs) lent disks out = (
-  λ k. record {
-    lent = subst (λ (ns : List (List ℕ)). Contains ns name) (sym lent) (out.0 k).lent;
-    counted = let c : m.faults_of name ≤ x.faults = (out.0 k).counted in
-        let same : n.faults_of name ≡ m.faults_of name = disks name in omega (arith, c, same);
-  },
-  out.1,
-  stays_out m n names xs lent disks out.2,
-)
+stays_out m n (name ∷ names) (x ∷ xs) lent disks out = search (rules, stays_out m n names xs lent disks out.2)
 stays_out m n _ _ lent disks out = absurd out
 
 -- where a take stopped, those that were taken before are out

@@ -1,27 +1,24 @@
 -- Disks that were taken for a plan, served its mesh, and were given back.
-use Rattle.std.proofs.Common.{◌≡◌, ℕ, suc, ◌+◌, ◌*◌, ◌/◌, ◌<◌, ◌≤◌, true, false, not, List, [], ◌∷◌, ◌++◌, length, map, Option, Some, None, refl, sym, ◌∙◌, ap, subst, inl, inr, arith, bytes_eq, Contains, IfSome, IsSomeAnd, get_or, zip}
+use Rattle.std.proofs.Common.{◌≡◌, ℕ, suc, ◌+◌, ◌*◌, ◌/◌, ◌<◌, true, false, not, List, [], ◌∷◌, length, map, Option, Some, None, refl, sym, ◌∙◌, ap, subst, arith, bytes_eq, IfSome, IsSomeAnd, get_or, zip, rules}
 use Rattle.std.specs.List.{AllByRecursion, AllPairs, AllZip, enumerate_from}
-use Rattle.std.specs.Option.{option_map}
-use Rattle.geo_disk.specs.Counts.{counted_many}
 use Rattle.geo_base.specs.Images.{Images, IsDiskSize}
-use Rattle.geo_base.specs.Sectors.{IsSectorSize, joined_sectors, sectors_of, zero_sectors}
-use Rattle.geo_base.specs.declared.limits.TheConstants.{MAX_MEMORY_DISK_BYTES}
+use Rattle.geo_base.specs.Sectors.{IsSectorSize, sectors_of}
 use Rattle.geo_model.specs.declared.command.DiskDecl.{DiskDecl}
 use Rattle.geo_model.specs.declared.command.DiskKind.{DiskKind}
 use Rattle.geo_model.specs.declared.command.DiskKind.TheVariants as disk_kinds
 use Rattle.geo_model.specs.declared.step.Entry.{Entry}
 use Rattle.geo_model.specs.Contents.{contents, AreTrue}
-use Rattle.geo_model.specs.Plans.{Differ, HasPlanSectors, HasSectors as HasHeaderSectors, IsDiskDecl, IsFact}
-use Rattle.geo_headline.specs.Outside.{ShelfView, IsShelf, IsThere, HasImage, HasToldSize, CanBeTaken, PlannedDisk, planned_disk, failures_of, calls_logged, image_after, HoldsWhatIsLogged, IsMemory, IsDiskKept, kept_back}
+use Rattle.geo_model.specs.Plans.{Differ, IsDiskDecl, IsFact}
+use Rattle.geo_headline.specs.Outside.{ShelfView, IsShelf, IsThere, HasImage, HasToldSize, CanBeTaken, PlannedDisk, planned_disk, image_after, HoldsWhatIsLogged, IsMemory, IsDiskKept, kept_back}
 use Rattle.geo_serve.specs.Served.{IsServed}
-use Rattle.geo_run.specs.Drives.{DriveView, kind_by, ServeAll, size_of, drive_kind}
+use Rattle.geo_run.specs.Drives.{DriveView, ServeAll, size_of, drive_kind}
 use Rattle.geo_run.specs.Lending.{AreApart, AreOther, IsMade}
 use Rattle.geo_run.proofs.Tests.{same_itself}
-use Rattle.geo_run.proofs.Told.{OfName, chain}
+use Rattle.geo_run.proofs.Told.{OfName}
 use Rattle.geo_run.proofs.Taking.{EachHad, IsHad, IsTaken, WentInto}
 use Rattle.geo_run.proofs.Giving.{SameKinds}
 use Rattle.geo_run.proofs.Fates.{EachFate, Fate, HasSectors, WasGiven}
-use Rattle.geo_run.proofs.Sizes.{cut_count, whole_bytes}
+use Rattle.geo_run.proofs.Sizes.{cut_count}
 
 -- Names
 
@@ -59,31 +56,13 @@ pub kinds_served : (log : List Entry) (n : ℕ) (ds : List DiskDecl) (xs ys : Li
 kinds_served log n [] [] [] k s = tt
 kinds_served log n [] (x ∷ xs) ys k s = absurd k
 kinds_served log n (d ∷ ds) [] ys k s = absurd k
-kinds_served log n (d ∷ ds) (x ∷ xs) (y ∷ ys) k s =
-    (ap kind_by s.0.kind ∙ k.0, kinds_served log (n + 1) ds xs ys k.1 s.1)
+kinds_served log n (d ∷ ds) (x ∷ xs) (y ∷ ys) k s = search (rules, kinds_served log (n + 1) ds xs ys k.1 s.1)
 kinds_served log n _ _ _ k s = absurd s
 
 fact_had : (a b : ShelfView) (d : DiskDecl) (x : DriveView) (kind : DiskKind) → d.kind ≡ kind → IsDiskDecl d
     → IsHad a b d x kind → IsFact d (size_of x)
-fact_had a b d x disk_kinds.Ram k decl h =
-    let sizes : HasHeaderSectors disk_kinds.Ram d.sector d.sectors =
-    subst (λ (q : DiskKind). HasHeaderSectors q d.sector d.sectors) k decl.sectors in
-    let few : d.sectors * d.sector ≤ MAX_MEMORY_DISK_BYTES = sizes.1 in
-    let some : 1 ≤ d.sectors = sizes.0 in
-    let prod : x.count * x.sector ≡ d.sectors * d.sector =
-    ap (λ n. n * x.sector) h.count ∙ ap (λ n. d.sectors * n) h.sector in
-    record {
-      sector = h.sector;
-      sectors = subst (λ (q : DiskKind). HasPlanSectors q d.sectors x.count) (sym k) h.count;
-      some = let e : x.count ≡ d.sectors = h.count in omega (arith, e, some);
-      limited = omega (arith, prod, few);
-    }
-fact_had a b d x disk_kinds.Shelf k decl h = record {
-  sector = h.size.asked;
-  sectors = subst (λ (q : DiskKind). HasPlanSectors q d.sectors x.count) (sym k) tt;
-  some = h.size.some;
-  limited = h.size.limited;
-}
+fact_had a b d x disk_kinds.Ram k decl h = search rules
+fact_had a b d x disk_kinds.Shelf k decl h = search rules
 
 -- the sizes of the drives fit the plan
 pub facts_had : (a b : ShelfView) (ds : List DiskDecl) (xs : List DriveView) → AllByRecursion IsDiskDecl ds
@@ -98,19 +77,12 @@ image_told : (d : DiskDecl) (x : DriveView) (a b : Option Images) → OfName a b
     → IfSome a (HasImage d)
 image_told d x None b h = tt
 image_told d x (Some u) None h = absurd h.is
-image_told d x (Some u) (Some v) h = by (u d.name) h.is.0
-  where
-    by : (o : Option (List ℕ))
-        → IsSomeAnd o (λ bytes. IsDiskSize d.sector (length bytes) × (x.held ≡ Some (sectors_of d.sector bytes)))
-        → IsSomeAnd o (λ bytes. IsDiskSize d.sector (length bytes))
-    by None h = h
-    by (Some bytes) h = h.0
+image_told d x (Some u) (Some v) h = search rules
 
 there_had : (a b : ShelfView) (d : DiskDecl) (x : DriveView) (kind : DiskKind) → IsHad a b d x kind
     → IsShelf kind → CanBeTaken a d
 there_had a b d x disk_kinds.Ram h s = absurd (let bad : false ≡ true = s in cc)
-there_had a b d x disk_kinds.Shelf h s =
-    record { not_lent = h.not_lent; image = image_told d x a.told b.told h.image }
+there_had a b d x disk_kinds.Shelf h s = search rules
 
 pub all_there : (a b : ShelfView) (ds : List DiskDecl) (xs : List DriveView) → EachHad a b ds xs
     → AllByRecursion (IsThere a) ds
@@ -122,24 +94,14 @@ all_there a b _ _ h = absurd h
 pub image_bytes : (d : DiskDecl) (x : DriveView) (bytes : List ℕ) → IsSectorSize d.sector → x.sector ≡ d.sector
     → IfSome x.held (λ sectors. length sectors ≡ x.count) → IsDiskSize d.sector (length bytes)
     → x.held ≡ Some (sectors_of d.sector bytes) → x.count * x.sector ≡ length bytes
-image_bytes d x bytes is same counted fits held =
-    let count : length (sectors_of d.sector bytes) ≡ x.count =
-    subst (λ o. IfSome o (λ (sectors : List (List ℕ)). length sectors ≡ x.count)) held counted in
-    let number : length bytes / d.sector ≡ x.count = sym (cut_count (length bytes / d.sector) d.sector bytes) ∙ count in
-    ap (λ n. x.count * n) same ∙ ap (λ n. n * d.sector) (sym number) ∙ whole_bytes d.sector (length bytes) is fits.whole
+image_bytes d x bytes is same counted fits held = search (rules, cut_count (length bytes / d.sector) d.sector bytes)
 
 size_told : (d : DiskDecl) (x : DriveView) (a b : Option Images) → IsSectorSize d.sector → x.sector ≡ d.sector
     → IfSome x.held (λ sectors. length sectors ≡ x.count) → OfName a b d.name (WentInto d x)
     → IfSome a (λ images. IsSomeAnd (images d.name) (λ bytes. x.count * x.sector ≡ length bytes))
 size_told d x None b is same counted h = tt
 size_told d x (Some u) None is same counted h = absurd h.is
-size_told d x (Some u) (Some v) is same counted h = by (u d.name) h.is.0
-  where
-    by : (o : Option (List ℕ))
-        → IsSomeAnd o (λ bytes. IsDiskSize d.sector (length bytes) × (x.held ≡ Some (sectors_of d.sector bytes)))
-        → IsSomeAnd o (λ bytes. x.count * x.sector ≡ length bytes)
-    by None h = h
-    by (Some bytes) h = image_bytes d x bytes is same counted h.0 h.1
+size_told d x (Some u) (Some v) is same counted h = search (rules, image_bytes d x)
 
 size_had : (a b : ShelfView) (d : DiskDecl) (x : DriveView) (kind : DiskKind) → IsSectorSize d.sector
     → IsHad a b d x kind → IsShelf kind
@@ -159,69 +121,36 @@ sizes_told a b _ _ decls h = absurd h
 -- the disk of a declaration in memory fails never, and is read as it was written
 memory_kept : (a b : ShelfView) (log : List Entry) (n : ℕ) (d : DiskDecl) (x y : DriveView)
     → IsMade d x → IsServed log n x y → IsMemory log (record { number = n; decl = d })
-memory_kept a b log n d x y made served = record {
-  no_failure = served.memory made.fails;
-  reads =
-      let reads : IfSome (Some (zero_sectors d.sectors d.sector)) (λ sectors. AreTrue x.sector sectors log n) =
-      subst (λ o. IfSome o (λ sectors. AreTrue x.sector sectors log n)) made.held served.reads in
-      subst (λ (s : ℕ). AreTrue s (zero_sectors d.sectors d.sector) log n) made.sector reads;
-}
+memory_kept a b log n d x y made served = search rules
 
 -- what a drive holds after the log, by the bytes that its disk had
 pub held_after : (log : List Entry) (n : ℕ) (d : DiskDecl) (x y : DriveView) (bytes : List ℕ) → x.sector ≡ d.sector
     → x.held ≡ Some (sectors_of d.sector bytes) → IsServed log n x y
     → y.held ≡ Some (contents d.sector (sectors_of d.sector bytes) log n)
-held_after log n d x y bytes same held served =
-    served.held ∙ ap (λ o. option_map (λ sectors. contents x.sector sectors log n) o) held
-    ∙ ap (λ (s : ℕ). Some (contents s (sectors_of d.sector bytes) log n)) same
+held_after log n d x y bytes same held served = search rules
 
 bytes_after : (log : List Entry) (n : ℕ) (d : DiskDecl) (x y : DriveView) → x.sector ≡ d.sector → IsServed log n x y
     → (u v w : Option (List ℕ)) → WentInto d x u v → HasSectors y v w
     → IsSomeAnd u (λ bytes. w ≡ Some (image_after log (record { number = n; decl = d }) bytes))
 bytes_after log n d x y same served None v w p q = p.0
-bytes_after log n d x y same served (Some bytes) v w p q =
-    subst (λ o. IfSome o (λ sectors. w ≡ Some (joined_sectors sectors)))
-    (held_after log n d x y bytes same p.0.1 served) q
+bytes_after log n d x y same served (Some bytes) v w p q = search rules
 
 reads_after : (log : List Entry) (n : ℕ) (d : DiskDecl) (x y : DriveView) → x.sector ≡ d.sector → IsServed log n x y
     → (u v : Option (List ℕ)) → WentInto d x u v
     → IsSomeAnd u (λ bytes. AreTrue d.sector (sectors_of d.sector bytes) log n)
 reads_after log n d x y same served None v p = p.0
-reads_after log n d x y same served (Some bytes) v p =
-    let reads : IfSome (Some (sectors_of d.sector bytes)) (λ sectors. AreTrue x.sector sectors log n) =
-    subst (λ o. IfSome o (λ sectors. AreTrue x.sector sectors log n)) p.0.1 served.reads in
-    subst (λ (s : ℕ). AreTrue s (sectors_of d.sector bytes) log n) same reads
+reads_after log n d x y same served (Some bytes) v p = search rules
 
 shelf_kept : (a m b : ShelfView) (log : List Entry) (n : ℕ) (d : DiskDecl) (x y : DriveView) (kept : List (List ℕ))
     → IsTaken a m d x → IsServed log n x y → WasGiven m b d.name y kept
     → HoldsWhatIsLogged a b log (record { number = n; decl = d })
-shelf_kept a m b log n d x y kept had served given = record {
-  asked = given.asked ∙ served.asked ∙ ap (λ calls. calls ++ calls_logged log n) had.asked;
-  failures = given.faults ∙ served.failures ∙ ap (λ k. counted_many (failures_of log n) k) had.brought;
-  bytes = (told (bytes_after log n d x y had.size.asked served)).is;
-  reads = (told_too (λ u v w p q. reads_after log n d x y had.size.asked served u v p)).is;
-}
-  where
-    told : ((u v w : Option (List ℕ)) → WentInto d x u v → HasSectors y v w
-        → IsSomeAnd u (λ bytes. w ≡ Some (image_after log (record { number = n; decl = d }) bytes)))
-        → OfName a.told b.told d.name
-        (λ u w. IsSomeAnd u (λ bytes. w ≡ Some (image_after log (record { number = n; decl = d }) bytes)))
-    told f = chain a.told m.told b.told d.name f had.image given.told
-
-    told_too : ((u v w : Option (List ℕ)) → WentInto d x u v → HasSectors y v w
-        → IsSomeAnd u (λ bytes. AreTrue d.sector (sectors_of d.sector bytes) log n))
-        → OfName a.told b.told d.name (λ u w. IsSomeAnd u (λ bytes. AreTrue d.sector (sectors_of d.sector bytes) log n))
-    told_too f = chain a.told m.told b.told d.name f had.image given.told
+shelf_kept a m b log n d x y kept had served given = search rules
 
 disk_kept : (a m b : ShelfView) (log : List Entry) (n : ℕ) (d : DiskDecl) (x y : DriveView) (kept : List (List ℕ))
     (kind : DiskKind) → kept_back a b ≡ kept → IsHad a m d x kind → IsServed log n x y → Fate m b d.name y kept kind
     → IsDiskKept a b log (record { number = n; decl = d }) kind
 disk_kept a m b log n d x y kept disk_kinds.Ram e had served fate = memory_kept a b log n d x y had served
-disk_kept a m b log n d x y kept disk_kinds.Shelf e had served fate =
-    λ not_kept. elim fate [
-      | inl given ↦ shelf_kept a m b log n d x y kept had served given
-      | inr held ↦ absurd (not_kept (subst (λ ks. Contains ks d.name) (sym e) held.among))
-    ]
+disk_kept a m b log n d x y kept disk_kinds.Shelf e had served fate = search rules
 
 -- each disk of the plan that was given back holds what the log says
 pub disks_kept : (a m b : ShelfView) (log : List Entry) (n : ℕ) (ds : List DiskDecl) (xs ys : List DriveView)

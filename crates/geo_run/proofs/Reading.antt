@@ -1,5 +1,5 @@
 -- Runs of texts and of sources.
-use Rattle.std.proofs.Common.{◌≡◌, ℕ, ◌+◌, ◌≤◌, List, [], ◌++◌, length, Option, Some, None, Result, Ok, Err, refl, sym, ap, subst, inl, inr, arith, IfSome, IsSomeAnd, IsErrOf}
+use Rattle.std.proofs.Common.{◌≡◌, ℕ, ◌+◌, ◌≤◌, List, [], ◌++◌, length, Option, Some, None, Result, Ok, Err, refl, ap, subst, IfSome, IsSomeAnd, IsErrOf, rules}
 use Rattle.geo_base.specs.Faults.{Rose}
 use Rattle.geo_base.specs.declared.limits.TheConstants.{MAX_TRACE_BYTES}
 use Rattle.geo_io.specs.declared.reading.ReadRefusal.{ReadRefusal}
@@ -24,7 +24,7 @@ use Rattle.geo_run.specs.declared.due.Due.TheVariants as dues
 use Rattle.geo_run.specs.declared.finish.Finish.{Finish}
 use Rattle.geo_run.specs.declared.stop.Stop.{Stop}
 use Rattle.geo_run.specs.declared.stop.Stop.TheVariants as stops
-use Rattle.geo_run.specs.Calls.{EndsEarly, EndsUnread, FinishesPlan, FinishesSource, FinishesText, FinishesVerified, Gave, IsFoundIn, ReadsPart, ReadsWhole, UnreadCause}
+use Rattle.geo_run.specs.Calls.{EndsEarly, EndsUnread, FinishesSource, FinishesText, FinishesVerified, Gave, IsFoundIn, ReadsPart, ReadsWhole, UnreadCause}
 use Rattle.geo_run.specs.Ends.{RunsPlan, entries_in}
 use Rattle.geo_run.specs.Stops.{IsDue, ending_by}
 
@@ -40,8 +40,7 @@ pub text_ran : (text : List ℕ) (mode : Mode) (finish : Finish) (plan : Plan) (
     → RunsPlan mode plan finish.facts.items (entries_in finish.log) (ending_by finish.due) a b
     → IsDue finish.due (reported mode text plan finish.facts.items (entries_in finish.log))
     → FinishesText text mode finish a b
-text_ran text mode finish plan a b is ran due =
-    inr (subst (λ (r : Result Plan Fault). FinishesPlan text r mode finish a b) (sym is) (ran, due))
+text_ran text mode finish plan a b is ran due = search rules
 
 -- the fault that a reading told
 fault_told : (text : List ℕ) (refusal : ParseRefusal) (line : ℕ) (cause : Cause) → Parses (Err refusal) (script text)
@@ -52,10 +51,7 @@ fault_told text refusal line cause answer is = subst (λ (r : ParseRefusal). Par
 pub text_faulty : (text : List ℕ) (mode : Mode) (finish : Finish) (refusal : ParseRefusal) (line : ℕ) (cause : Cause)
     (a : ShelfView) → Parses (Err refusal) (script text) → refusal ≡ refusals.Fault line cause
     → finish.due ≡ dues.Stopped (stops.NoScript line cause) → finish.log ≡ None → FinishesText text mode finish a a
-text_faulty text mode finish refusal line cause a answer is due log =
-    inr (subst (λ (r : Result Plan Fault). FinishesPlan text r mode finish a a)
-    (sym (fault_told text refusal line cause answer is))
-    (early_end finish (stops.NoScript line cause) a due log))
+text_faulty text mode finish refusal line cause a answer is due log = search rules
 
 -- Sources
 
@@ -67,8 +63,7 @@ goes_left (Some u) (Some v) text h = h
 
 gives_gave : (s t : SourceView) (text : List ℕ) → Gives s text t
     → Gave s text t
-gives_gave s t text h =
-    record { given = h.given; had_left = goes_left s.left t.left text h.goes }
+gives_gave s t text h = search rules
 
 none_left : (left : Option (List ℕ)) → IsEnd left → IfSome left (λ l. l ≡ [])
 none_left None h = tt
@@ -79,13 +74,7 @@ none_left (Some l) h = h
 -- all that a source gave
 pub gave_whole : (limit : ℕ) (s t : SourceView) (text : List ℕ) → Gives s text t → t.faults ≡ s.faults → IsAtEnd t
     → length text ≤ limit → ReadsWhole limit s t text
-gave_whole limit s t text gives told end few = record {
-  gave = gives_gave s t text gives;
-  told = told;
-  few = few;
-  ended = end.ended;
-  none_left = none_left t.left end.none_left;
-}
+gave_whole limit s t text gives told end few = search rules
 
 gave_part : (limit : ℕ) (s t : SourceView) (text : List ℕ) (stop : Stop) → Gives s text t
     → UnreadCause limit text s t stop → ReadsPart limit s t stop
@@ -117,8 +106,7 @@ pub read_long : {T : Type 0} (limit : ℕ) (s t : SourceView) (refusal : ReadRef
 read_long limit s t refusal is taken told =
     let gives : GivesMany s (limit + 1) t = taken (ap (λ e. Err e) is) in
     let many : length gives.bytes ≡ limit + 1 = gives.many in
-    gave_part limit s t gives.bytes stops.TooLong gives.gives
-    (omega (arith, many), told (λ fault. long_is_no_fault refusal is fault))
+    search rules
 
 -- memory ran out
 pub read_lost : {T : Type 0} (limit : ℕ) (s t : SourceView) (refusal : ReadRefusal) → refusal ≡ reads_refused.NoMemory
@@ -135,42 +123,26 @@ read_lost limit s t refusal is taken told =
 pub source_ran : (mode : Mode) (limit : ℕ) (s t : SourceView) (text bytes : List ℕ) (finish : Finish) (a b : ShelfView)
     → limit ≡ source_limit mode → ReadsWhole limit s t text → bytes ≡ text
     → FinishesText bytes mode finish a b → FinishesSource mode s t finish a b
-source_ran mode limit s t text bytes finish a b limit_is whole is ends = inl (record {
-  text = text;
-  whole = subst (λ (n : ℕ). ReadsWhole n s t text) limit_is whole;
-  of_text = subst (λ (bs : List ℕ). FinishesText bs mode finish a b) is ends;
-})
+source_ran mode limit s t text bytes finish a b limit_is whole is ends = search rules
 
 -- a source wasn't read to its end
 pub source_unread : (mode : Mode) (limit : ℕ) (s t : SourceView) (finish : Finish) (stop : Stop) (a : ShelfView)
     → limit ≡ source_limit mode → ReadsPart limit s t stop → finish.due ≡ dues.Stopped stop → finish.log ≡ None
     → EndsUnread mode s t finish a a
-source_unread mode limit s t finish stop a limit_is part due log = record {
-  stop = stop;
-  part = subst (λ (n : ℕ). ReadsPart n s t stop) limit_is part;
-  early = early_end finish stop a due log;
-}
+source_unread mode limit s t finish stop a limit_is part due log = search rules
 
 -- Its trace
 
 -- how long a trace may be
 pub trace_within : (limit : ℕ) (bytes text : List ℕ) → limit ≡ source_limit VerifyMode → bytes ≡ text
     → length text ≤ limit → length bytes ≤ MAX_TRACE_BYTES
-trace_within limit bytes text limit_is is few =
-    let most : limit ≡ MAX_TRACE_BYTES = limit_is in
-    let same : length bytes ≡ length text = ap (λ (bs : List ℕ). length bs) is in omega (arith, most, same, few)
+trace_within limit bytes text limit_is is few = search rules
 
 -- what was found of the text of a source
 pub source_found : (limit : ℕ) (s t : SourceView) (text bytes : List ℕ) (finish : Finish) (stop : Stop) (a : ShelfView)
     → limit ≡ source_limit VerifyMode → ReadsWhole limit s t text → bytes ≡ text → IsFoundIn (verified bytes) stop
     → finish.due ≡ dues.Stopped stop → finish.log ≡ None → FinishesVerified s t finish a a
-source_found limit s t text bytes finish stop a limit_is whole is found due log = inl (record {
-  text = text;
-  whole = subst (λ (n : ℕ). ReadsWhole n s t text) limit_is whole;
-  stop = stop;
-  found = subst (λ (bs : List ℕ). IsFoundIn (verified bs) stop) is found;
-  early = early_end finish stop a due log;
-})
+source_found limit s t text bytes finish stop a limit_is whole is found due log = search rules
 
 -- what was refused is told
 pub script_refused : (answer : Result Verified TraceFault) (refusal : VerifyRefusal) (line : ℕ) (cause : Cause)

@@ -1,24 +1,22 @@
 -- The run of a mesh over drives that are out.
-use Rattle.std.proofs.Common.{◌≡◌, ℕ, List, map, Option, Some, None, Result, Ok, Err, OnOk, IsErrOf, refl, sym, ◌∙◌, ap, subst, slice_get}
+use Rattle.std.proofs.Common.{◌≡◌, ℕ, List, map, Option, Some, None, Result, Ok, Err, OnOk, IsErrOf, refl, sym, ◌∙◌, subst, slice_get, rules}
 use Rattle.geo_log.specs.Room.{Room}
 use Rattle.geo_model.specs.declared.step.Entry.{Entry}
 use Rattle.geo_model.specs.World.{World, Plan}
-use Rattle.geo_model.specs.FixedOrder.{StepOrder}
 use Rattle.geo_model.specs.History.{RanToItsEnd}
-use Rattle.geo_headline.specs.Modes.{Mode, RunMode, WatchMode, TraceMode}
+use Rattle.geo_headline.specs.Modes.{Mode}
 use Rattle.geo_headline.specs.Outside.{ShelfView}
-use Rattle.geo_headline.specs.Endings.{Ending, IsWhole, LogRanFull, order_of, reported}
-use Rattle.geo_headline.specs.Headline.{FollowsMode, FollowsRun}
+use Rattle.geo_headline.specs.Endings.{Ending, IsWhole, LogRanFull, reported}
+use Rattle.geo_headline.specs.Headline.{FollowsMode}
 use Rattle.geo_elev.specs.Meshes.{MeshView, opened}
 use Rattle.geo_elev.specs.DrainRefusal.{DrainRefusal}
 use Rattle.geo_elev.specs.DrainRefusal.TheVariants as refusals
 use Rattle.geo_run.specs.Drives.{DriveView, size_of}
 use Rattle.geo_run.specs.declared.due.Due.{Due}
 use Rattle.geo_run.specs.declared.due.Due.TheVariants as dues
-use Rattle.geo_run.specs.declared.stop.Stop.{Stop}
 use Rattle.geo_run.specs.Ends.{IsDueOf, LentCause, RunsDrives, entries_in}
 use Rattle.geo_run.specs.Lending.{AreOut, GivesBack}
-use Rattle.geo_run.specs.Runners.{Ran, RanOrNot, ending_after}
+use Rattle.geo_run.specs.Runners.{RanOrNot, ending_after}
 use Rattle.geo_run.specs.Stops.{IsDue, ending_by, ending_with}
 use Rattle.geo_run.proofs.Loops.{none_kept, out_served}
 
@@ -29,30 +27,13 @@ ran_to_end : (mode : Mode) (read : List ℕ) (m : MeshView) (answer : Result (Un
     (kept : Option (List ℕ)) (due : Due) → IsDueOf mode read m answer kept due
     → OnOk answer (RanToItsEnd (opened m) m.log) → IsWhole (ending_by due) → RanToItsEnd (opened m) m.log
 ran_to_end mode read m (Ok u) kept due is rest whole = rest
-ran_to_end mode read m (Err refusals.LogFull) kept due is rest whole =
-    absurd (subst (λ (d : Due). IsWhole (ending_by d)) is whole)
-ran_to_end mode read m (Err refusals.NoMemory) kept due is rest whole =
-    absurd (subst (λ (d : Due). IsWhole (ending_by d)) is whole)
+ran_to_end mode read m (Err refusals.LogFull) kept due is rest whole = search rules
+ran_to_end mode read m (Err refusals.NoMemory) kept due is rest whole = search rules
 
 -- an order of a call that ends otherwise, unless that reports and this doesn't
 pub follows_at : (mode : Mode) (plan : Plan) (w : World) (a b : Ending) (log : List Entry) → (IsWhole b → IsWhole a)
     → FollowsMode mode plan w a log → FollowsMode mode plan w b log
-follows_at mode plan w a b log whole = by mode
-  where
-    with_threads : (order : StepOrder) → FollowsRun order plan w a log → FollowsRun order plan w b log
-    with_threads order h = record {
-      threads = h.threads;
-      rest = h.rest;
-      parts = h.parts;
-      jobs = h.jobs;
-      idle = λ is. h.idle (whole is);
-    }
-
-    by : (m : Mode) → FollowsMode m plan w a log → FollowsMode m plan w b log
-    by RunMode h = with_threads (order_of RunMode) h
-    by WatchMode h = with_threads (order_of WatchMode) h
-    by TraceMode h = with_threads (order_of TraceMode) h
-    by _ h = h
+follows_at mode plan w a b log whole = search rules
 
 -- a run that is due to report is at rest
 whole_after : (mode : Mode) (read : List ℕ) (m : MeshView) (answer : Result (Unit {0}) DrainRefusal)
@@ -74,12 +55,9 @@ cause_of : (mode : Mode) (read : List ℕ) (m : MeshView) (answer : Result (Unit
     → LentCause mode m.plan (opened m) (Some m.log) names (ending_by due)
 cause_of mode read m (Ok u) kept names (dues.Report text back) is first full =
     report_cause mode m.plan (opened m) m.log names back (is.1 ∙ first)
-cause_of mode read m (Ok u) kept names (dues.Stopped stop) is first full =
-    subst (λ (s : Stop). LentCause mode m.plan (opened m) (Some m.log) names (ending_by (dues.Stopped s))) (sym is) tt
-cause_of mode read m (Err refusals.LogFull) kept names due is first full =
-    subst (λ (d : Due). LentCause mode m.plan (opened m) (Some m.log) names (ending_by d)) (sym is) (full refl)
-cause_of mode read m (Err refusals.NoMemory) kept names due is first full =
-    subst (λ (d : Due). LentCause mode m.plan (opened m) (Some m.log) names (ending_by d)) (sym is) tt
+cause_of mode read m (Ok u) kept names (dues.Stopped stop) is first full = search rules
+cause_of mode read m (Err refusals.LogFull) kept names due is first full = search rules
+cause_of mode read m (Err refusals.NoMemory) kept names due is first full = search rules
 
 -- the text that is due is that of the mesh
 due_is : (mode : Mode) (read : List ℕ) (m : MeshView) (answer : Result (Unit {0}) DrainRefusal)
@@ -87,17 +65,14 @@ due_is : (mode : Mode) (read : List ℕ) (m : MeshView) (answer : Result (Unit {
     → IsDue due (reported mode read m.plan m.facts (Some m.log))
 due_is mode read m (Ok u) kept (dues.Report text back) is = is.0
 due_is mode read m (Ok u) kept (dues.Stopped stop) is = tt
-due_is mode read m (Err refusals.LogFull) kept due is =
-    subst (λ (d : Due). IsDue d (reported mode read m.plan m.facts (Some m.log))) (sym is) tt
-due_is mode read m (Err refusals.NoMemory) kept due is =
-    subst (λ (d : Due). IsDue d (reported mode read m.plan m.facts (Some m.log))) (sym is) tt
+due_is mode read m (Err refusals.LogFull) kept due is = search rules
+due_is mode read m (Err refusals.NoMemory) kept due is = search rules
 
 -- the drives are out after they were run
 pub still_out : (mode : Mode) (s : ShelfView) (old : MeshView) (left : Option MeshView) (names : List (List ℕ))
     (xs ys : List DriveView) (answer : Result (Unit {0}) DrainRefusal) → AreOut s names xs
     → RanOrNot mode old left xs ys answer → AreOut s names ys
-still_out mode s old None names xs ys answer out ran =
-    subst (λ (zs : List DriveView). AreOut s names zs) (sym ran.0) out
+still_out mode s old None names xs ys answer out ran = search rules
 still_out mode s old (Some new) names xs ys answer out ran = out_served s new.log 0 names xs ys out ran.served
 
 -- a run over drives
@@ -110,34 +85,13 @@ pub ran_drives : (mode : Mode) (read : List ℕ) (old new : MeshView) (left : Op
     → RunsDrives mode old.plan names xs facts (entries_in log) (ending_by due) a b
 ran_drives mode read old new left xs ys answer first due names facts log entries a b some ran is given same_facts sizes
     log_is items =
-    moved (ap (λ l. entries_in l) log_is ∙ ap (λ (l : List Entry). Some l) items) (same_facts ∙ sym its.facts)
-  where
-    its : Ran mode old new xs ys answer
-    its = subst (λ (l : Option MeshView). RanOrNot mode old l xs ys answer) some ran
-
-    of_new : RunsDrives mode new.plan names xs new.facts (Some new.log) (ending_by due) a b
-    of_new = record {
-      served = ys;
-      kept = given.0;
-      serves = its.served;
-      given = given.2;
-      sizes = λ some. its.facts ∙ sizes;
-      mesh = record {
-        history = its.history;
-        fits = its.fits;
-        follows = follows_at mode new.plan (opened new) (ending_after answer) (ending_by due) new.log
-            (whole_after mode read new answer first due is) its.follows;
-        to_its_end = ran_to_end mode read new answer first due is its.rest;
-      };
-      cause = cause_of mode read new answer first given.0 due is given.1 its.full;
-    }
-
-    moved : entries_in log ≡ Some new.log → facts ≡ new.facts
-        → RunsDrives mode old.plan names xs facts (entries_in log) (ending_by due) a b
-    moved e f =
-        subst (λ (l : Option (List Entry)). RunsDrives mode old.plan names xs facts l (ending_by due) a b) (sym e)
-        (subst (λ (fs : List (ℕ × ℕ)). RunsDrives mode old.plan names xs fs (Some new.log) (ending_by due) a b) (sym f)
-        (subst (λ (p : Plan). RunsDrives mode p names xs new.facts (Some new.log) (ending_by due) a b) its.plan of_new))
+    search (
+      rules,
+      follows_at mode new.plan (opened new) (ending_after answer) (ending_by due) new.log
+          (whole_after mode read new answer first due is),
+      ran_to_end mode read new answer first due is,
+      cause_of mode read new answer first given.0 due is given.1,
+    )
 
 -- and what is due of it
 pub ran_due : (mode : Mode) (read : List ℕ) (old new : MeshView) (left : Option MeshView) (xs ys : List DriveView)
@@ -146,11 +100,4 @@ pub ran_due : (mode : Mode) (read : List ℕ) (old new : MeshView) (left : Optio
     → IsDueOf mode read new answer first due → facts ≡ old.facts → log ≡ Some entries → entries.items ≡ new.log
     → IsDue due (reported mode read old.plan facts (entries_in log))
 ran_due mode read old new left xs ys answer first due facts log entries some ran is same_facts log_is items =
-    let its : Ran mode old new xs ys answer =
-    subst (λ (l : Option MeshView). RanOrNot mode old l xs ys answer) some ran in
-    subst (λ (l : Option (List Entry)). IsDue due (reported mode read old.plan facts l))
-    (sym (ap (λ l. entries_in l) log_is ∙ ap (λ (l : List Entry). Some l) items))
-    (subst (λ (fs : List (ℕ × ℕ)). IsDue due (reported mode read old.plan fs (Some new.log)))
-    (its.facts ∙ sym same_facts)
-    (subst (λ (p : Plan). IsDue due (reported mode read p new.facts (Some new.log))) its.plan
-    (due_is mode read new answer first due is)))
+    search rules

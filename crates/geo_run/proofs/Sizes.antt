@@ -1,5 +1,5 @@
 -- Sizes of drives and images, and sectors of zeros.
-use Rattle.std.proofs.Common.{◌≡◌, ℕ, zero, suc, ◌+◌, ◌-◌, ◌*◌, ◌/◌, ◌%◌, ◌≤◌, List, [], ◌∷◌, ◌++◌, length, take, drop, replicate, All, refl, sym, ◌∙◌, ap, subst, inl, inr, arith}
+use Rattle.std.proofs.Common.{◌≡◌, ℕ, zero, suc, ◌+◌, ◌-◌, ◌*◌, ◌/◌, ◌%◌, ◌≤◌, List, [], ◌∷◌, ◌++◌, length, drop, replicate, All, refl, ◌∙◌, ap, arith, rules}
 use Rattle.std.specs.List.{AllByRecursion}
 use Rattle.std.proofs.lemmas.List.{length-append, take-append-drop, length-drop, length-replicate, length-take-le, drop-replicate, take-replicate}
 use Rattle.std.proofs.lemmas.List.Elements.{All-from_recursion, recursion_from_All}
@@ -17,11 +17,7 @@ cut_count (suc n) size bytes = ap suc (cut_count n size (drop size bytes))
 
 -- whole sectors are as many bytes
 pub whole_bytes : (size n : ℕ) → IsSectorSize size → n % size ≡ 0 → (n / size) * size ≡ n
-whole_bytes size n is whole =
-    elim is [
-      | inl e ↦ subst (λ (s : ℕ). n % s ≡ 0 → (n / s) * s ≡ n) (sym e) (λ w. omega arith) whole
-      | inr e ↦ subst (λ (s : ℕ). n % s ≡ 0 → (n / s) * s ≡ n) (sym e) (λ w. omega arith) whole
-    ]
+whole_bytes size n is whole = search rules
 
 -- one times more
 times_more : (n size : ℕ) → n * size + size ≡ suc n * size
@@ -33,10 +29,7 @@ pub joined_cut : (n size : ℕ) (bytes : List ℕ) → n * size ≡ length bytes
 joined_cut zero size [] e = refl
 joined_cut zero size (b ∷ bytes) e = absurd (let bad : zero * size ≡ suc (length bytes) = e in grind arith)
 joined_cut (suc n) size bytes e =
-    let few : length (drop size bytes) ≡ length bytes - size = length-drop size bytes in
-    let all : n * size + size ≡ length bytes = times_more n size ∙ e in
-    ap (λ bs. take size bytes ++ bs) (joined_cut n size (drop size bytes) (omega (arith, few, all)))
-    ∙ take-append-drop size bytes
+    search (rules, length-drop size bytes, joined_cut n size (drop size bytes), take-append-drop size bytes)
 
 -- the sectors of an image are its bytes
 pub joined_image : (size : ℕ) (bytes : List ℕ) → IsSectorSize size → IsDiskSize size (length bytes)
@@ -68,10 +61,7 @@ joined_length size [] all = let e : 0 ≡ 0 * size = omega arith in e
 joined_length size (s ∷ ss) all =
     let both : length (s ++ joined_sectors ss) ≡ length s + length (joined_sectors ss) =
     length-append s (joined_sectors ss) in
-    let more : length (joined_sectors ss) ≡ length ss * size = joined_length size ss all.1 in
-    let one : length s ≡ size = all.0 in
-    let sum : size + length ss * size ≡ suc (length ss) * size = suc_mul (length ss) size in
-    both ∙ ap (λ n. n + length (joined_sectors ss)) one ∙ ap (λ n. size + n) more ∙ sum
+    search (rules, joined_length size ss all.1)
   where
     suc_mul : (n size : ℕ) → size + n * size ≡ suc n * size
     suc_mul n size = grind arith
@@ -103,10 +93,7 @@ zeros_are size n is =
     ∙ zeros_cut n size
   where
     quotient : IsSectorSize size → (size * n) / size ≡ n
-    quotient is = elim is [
-      | inl e ↦ subst (λ (s : ℕ). (s * n) / s ≡ n) (sym e) (omega arith)
-      | inr e ↦ subst (λ (s : ℕ). (s * n) / s ≡ n) (sym e) (omega arith)
-    ]
+    quotient is = search rules
 
 -- a disk of zeros in memory
 pub made_zero : (d : DiskDecl) (m : Memory) (bytes fails : List ℕ) → IsDiskDecl d
@@ -120,10 +107,4 @@ pub made_zero : (d : DiskDecl) (m : Memory) (bytes fails : List ℕ) → IsDiskD
       part = 0;
       asked = [];
     } → IsZeroDisk d m
-made_zero d m bytes fails decl e none is = record {
-  sector = ap (λ (x : Memory). x.sector) is;
-  sectors = ap (λ (x : Memory). x.sectors) is ∙ ap (λ bs. sectors_of d.sector bs) e
-      ∙ zeros_are d.sector d.sectors decl.sector;
-  faults = ap (λ (x : Memory). x.faults) is;
-  fails = ap (λ (x : Memory). x.fails) is ∙ none;
-}
+made_zero d m bytes fails decl e none is = search (rules, zeros_are d.sector d.sectors decl.sector)

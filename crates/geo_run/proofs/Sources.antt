@@ -1,11 +1,11 @@
 -- What a call keeps whose source was read: its script was run, or its trace verified.
-use Rattle.std.proofs.Common.{◌≡◌, ◌⊎◌, ℕ, List, Result, Ok, Err, refl, ◌∙◌, ap, subst, inl, inr}
+use Rattle.std.proofs.Common.{◌≡◌, ◌⊎◌, ℕ, List, Result, Ok, Err, refl, ap, subst, inl, inr, rules}
 use Rattle.geo_model.specs.declared.command.Cause.{Cause}
 use Rattle.geo_model.specs.World.{Plan}
 use Rattle.geo_model.specs.Script.{Fault, IsFault, script}
 use Rattle.geo_headline.specs.Modes.{Mode, GenMode, VerifyMode, Accepts, OpensMesh, source_limit}
 use Rattle.geo_headline.specs.Outside.{ShelfView, SinkView, SourceView}
-use Rattle.geo_headline.specs.Traces.{InScript, InTrace, ReadTrace, Reading, TraceFault, read_after, read_trace, script_part, told_line}
+use Rattle.geo_headline.specs.Traces.{InScript, ReadTrace, Reading, TraceFault, read_after, read_trace, script_part, told_line}
 use Rattle.geo_headline.specs.Verifying.{found_of, found_read, verified}
 use Rattle.geo_headline.specs.Endings.{Call, IsReadWhole, ReadsScript, WasReadWhole, script_of}
 use Rattle.geo_headline.specs.Headline.{IsGen}
@@ -23,16 +23,11 @@ use Rattle.geo_run.proofs.Keeping.{finished, no_memory, of_text, stops_early, te
 -- a source gave what came behind what it had given
 gave_added : (source source_after : SourceView) (text : List ℕ) → Gave source text source_after
     → Gave source (added_to source.given source_after.given) source_after
-gave_added source source_after text gave =
-    subst (λ (t : List ℕ). Gave source t source_after) (text_is source source_after text gave) gave
+gave_added source source_after text gave = search (rules, text_is source source_after text gave)
 
 read_whole : (call : Call) (mode : Mode) (text : List ℕ) → text ≡ call.text
     → ReadsWhole (source_limit mode) call.before.source call.after.source text → IsReadWhole call mode
-read_whole call mode text e whole =
-    by (subst (λ (t : List ℕ). ReadsWhole (source_limit mode) call.before.source call.after.source t) e whole)
-  where
-    by : ReadsWhole (source_limit mode) call.before.source call.after.source call.text → IsReadWhole call mode
-    by w = record { few = w.few; ended = w.ended; none_left = w.none_left }
+read_whole call mode text e whole = search rules
 
 -- where the source gives the script, it is read
 was_read_whole : (call : Call) (mode : Mode) → IsReadWhole call mode → WasReadWhole call mode
@@ -145,8 +140,7 @@ behind_no_script : (read : Reading ReadTrace) (line : ℕ) (c : Cause)
     → found_read (told_line read) ≡ Err (InScript line c) → ⊥
 behind_no_script (Ok r) line c e =
     let both : Ok (found_of r) ≡ Err (InScript line c) = e in cc
-behind_no_script (Err n) line c e =
-    let both : InTrace n ≡ InScript line c = fault_same e in cc
+behind_no_script (Err n) line c e = search rules
 
 script_first : (text : List ℕ) (line : ℕ) (c : Cause) → verified text ≡ Err (InScript line c)
     → IsFault (script_part text) line c
@@ -156,12 +150,7 @@ script_first text line c e = by (script (script_part text)) e
     by : (r : Result Plan Fault) → found_read (read_after text r) ≡ Err (InScript line c)
         → r ≡ Err (record { line = line; cause = c })
     by (Ok plan) e = absurd (behind_no_script _ line c e)
-    by (Err fault) e =
-        let told : InScript fault.line fault.cause ≡ InScript line c = fault_same e in
-        let lines : fault.line ≡ line = cc in
-        let causes : fault.cause ≡ c = cc in
-        ap (λ (n : ℕ). Err (record { line = n; cause = fault.cause })) lines
-        ∙ ap (λ (z : Cause). Err (record { line = line; cause = z })) causes
+    by (Err fault) e = search rules
 
 found_finishes : (words : List (List ℕ)) (finish : Finish) (source source_after : SourceView)
     (shelf shelf_after : ShelfView) → Accepts words VerifyMode
@@ -219,10 +208,8 @@ pub verified_finishes : (words : List (List ℕ)) (asked : Work) (finish : Finis
     → FinishesVerified source source_after finish shelf shelf_after
     → Finishes words finish source source_after shelf shelf_after
 verified_finishes words asked finish source source_after shelf shelf_after is accepts ends =
-    by (subst (λ (w : Work). Accepts words (mode_of w)) is accepts) ends
-  where
-    by : Accepts words VerifyMode → FinishesVerified source source_after finish shelf shelf_after
-        → Finishes words finish source source_after shelf shelf_after
-    by a (inl found) = found_finishes words finish source source_after shelf shelf_after a found
-    by a (inr unread) =
-        unread_finishes words VerifyMode finish source source_after shelf shelf_after a (λ gen. gen) unread
+    search (
+      rules,
+      found_finishes words finish source source_after shelf shelf_after,
+      unread_finishes words VerifyMode finish source source_after shelf shelf_after,
+    )

@@ -1,5 +1,5 @@
 -- Disks that are taken from a shelf.
-use Rattle.std.proofs.Common.{◌≡◌, ◌≢◌, ℕ, List, [], ◌∷◌, ◌++◌, length, Option, Some, None, refl, sym, ◌∙◌, ap, subst, Contains, IfSome, IsSomeAnd, append_assoc}
+use Rattle.std.proofs.Common.{◌≡◌, ◌≢◌, ℕ, List, [], ◌∷◌, ◌++◌, length, Option, Some, None, refl, sym, ◌∙◌, ap, subst, Contains, IfSome, IsSomeAnd, append_assoc, rules}
 use Rattle.std.specs.Prelude.{⊤}
 use Rattle.std.specs.List.{AllByRecursion}
 use Rattle.std.proofs.lemmas.List.{append-nil}
@@ -13,7 +13,7 @@ use Rattle.geo_model.specs.declared.command.DiskKind.TheVariants as disk_kinds
 use Rattle.geo_headline.specs.Outside.{ShelfView, IsShelf}
 use Rattle.geo_run.specs.Drives.{DriveView, drive_kind}
 use Rattle.geo_run.specs.Lending.{AreApart, AreOther, IsMade, OpensDrive, OpensDrives, SameCounts, names_of}
-use Rattle.geo_run.proofs.Told.{OfName, IsSame, of_name, chain, same, same_twice}
+use Rattle.geo_run.proofs.Told.{OfName, IsSame, of_name, chain}
 
 -- One disk more
 
@@ -45,27 +45,13 @@ pub record NameStays (before after : ShelfView) (name : List ℕ) : Type 0 where
   pub sectors : after.sectors_of name ≡ before.sectors_of name
 
 pub stays : (s : ShelfView) (name : List ℕ) → NameStays s s name
-stays s name = record {
-  told = same s.told name;
-  disks = refl;
-  takes = refl;
-  gives = refl;
-  asked = refl;
-  sectors = refl;
-}
+stays s name = search rules
 
 pub stays_along : (a b : ShelfView) (name : List ℕ) → b ≡ a → NameStays a b name
 stays_along a b name e = subst (λ (v : ShelfView). NameStays a v name) (sym e) (stays a name)
 
 pub stays_twice : (a b c : ShelfView) (name : List ℕ) → NameStays a b name → NameStays b c name → NameStays a c name
-stays_twice a b c name p q = record {
-  told = same_twice a.told b.told c.told name p.told q.told;
-  disks = q.disks ∙ p.disks;
-  takes = q.takes ∙ p.takes;
-  gives = q.gives ∙ p.gives;
-  asked = q.asked ∙ p.asked;
-  sectors = q.sectors ∙ p.sectors;
-}
+stays_twice a b c name p q = search rules
 
 -- a take changes nothing of another name
 pub take_stays : (a b : ShelfView) (d : DiskDecl) (x : DriveView) (name : List ℕ) (kind : DiskKind)
@@ -116,19 +102,12 @@ takes_lend a b _ _ h = absurd h
 take_keeps_lent : (a b : ShelfView) (d : DiskDecl) (x : DriveView) (name : List ℕ) (kind : DiskKind)
     → OpensDrive a d x b kind → Contains a.lent name → Contains b.lent name
 take_keeps_lent a b d x name disk_kinds.Ram h c = subst (λ (v : ShelfView). Contains v.lent name) (sym h.1) c
-take_keeps_lent a b d x name disk_kinds.Shelf h c =
-    subst (λ names. Contains names name) (sym h.lent) (Contains-append_left a.lent (d.name ∷ []) name c)
+take_keeps_lent a b d x name disk_kinds.Shelf h c = search (rules, Contains-append_left a.lent (d.name ∷ []) name c)
 
 -- Counts
 
 same_counts : (a b : ShelfView) → b ≡ a → SameCounts a b
-same_counts a b e = record {
-  disks = λ name. ap (λ (v : ShelfView). v.faults_of name) e;
-  takes = λ name. ap (λ (v : ShelfView). v.take_faults name) e;
-  gives = λ name. ap (λ (v : ShelfView). v.give_faults name) e;
-  asked = λ name. ap (λ (v : ShelfView). v.asked_of name) e;
-  sectors = λ name. ap (λ (v : ShelfView). v.sectors_of name) e;
-}
+same_counts a b e = search rules
 
 take_counts : (a b : ShelfView) (d : DiskDecl) (x : DriveView) (kind : DiskKind)
     → OpensDrive a d x b kind → SameCounts a b
@@ -139,16 +118,7 @@ take_counts a b d x disk_kinds.Shelf h = h.counts
 pub takes_count : (a b : ShelfView) (ds : List DiskDecl) (xs : List DriveView)
     → OpensDrives a ds xs b → SameCounts a b
 takes_count a b [] [] h = same_counts a b h
-takes_count a b (d ∷ ds) (x ∷ xs) h =
-    let one = take_counts a h.0 d x d.kind h.1 in
-    let more = takes_count h.0 b ds xs h.2 in
-    record {
-      disks = λ name. more.disks name ∙ one.disks name;
-      takes = λ name. more.takes name ∙ one.takes name;
-      gives = λ name. more.gives name ∙ one.gives name;
-      asked = λ name. more.asked name ∙ one.asked name;
-      sectors = λ name. more.sectors name ∙ one.sectors name;
-    }
+takes_count a b (d ∷ ds) (x ∷ xs) h = search (rules, takes_count h.0 b ds xs h.2)
 takes_count a b _ _ h = absurd h
 
 take_no_fault : (a b : ShelfView) (d : DiskDecl) (x : DriveView) (kind : DiskKind)

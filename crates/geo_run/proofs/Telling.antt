@@ -1,5 +1,5 @@
 -- Takes and gives that failed, each once.
-use Rattle.std.proofs.Common.{◌≡◌, ◌≢◌, ◌⊎◌, ℕ, Bool, true, ◌||◌, List, [], ◌∷◌, ◌++◌, None, sym, ◌∙◌, ap, subst, inl, inr, arith, bytes_eq}
+use Rattle.std.proofs.Common.{◌≡◌, ◌≢◌, ◌⊎◌, ℕ, true, List, [], ◌∷◌, ◌++◌, None, sym, ◌∙◌, ap, inl, inr, arith, bytes_eq, rules}
 use Rattle.std.specs.List.{list_any}
 use Rattle.geo_disk.specs.Counts.{counted_if}
 use Rattle.geo_model.specs.declared.command.DiskDecl.{DiskDecl}
@@ -10,7 +10,6 @@ use Rattle.geo_headline.specs.Endings.{Ending, ShelfFault, OutOfMemory, failed_t
 use Rattle.geo_headline.specs.Headline.{TakesAreToldAt}
 use Rattle.geo_run.specs.Drives.{DriveView}
 use Rattle.geo_run.specs.Lending.{AreApart, GivesDrive, names_of}
-use Rattle.geo_run.proofs.Tests.{other_names, same_itself, same_or_other}
 use Rattle.geo_run.proofs.Taking.{foreign_from}
 use Rattle.geo_run.proofs.Giving.{GivesAll, gives_stay}
 
@@ -18,9 +17,7 @@ use Rattle.geo_run.proofs.Giving.{GivesAll, gives_stay}
 pub gives_told : (a b : ShelfView) (ds : List DiskDecl) (xs : List DriveView) (kept : List (List ℕ)) (name : List ℕ)
     → AreApart (names_of ds) → GivesAll a ds xs kept b
     → b.give_faults name ≡ counted_if (list_any (bytes_eq name) kept) (a.give_faults name)
-gives_told a b [] [] kept name apart h =
-    ap (λ (v : ShelfView). v.give_faults name) h.1
-    ∙ ap (λ (ks : List (List ℕ)). counted_if (list_any (bytes_eq name) ks) (a.give_faults name)) (sym h.0)
+gives_told a b [] [] kept name apart h = search rules
 gives_told a b (d ∷ ds) (x ∷ xs) kept name apart h =
     by d.kind h.4 (gives_told h.0 b ds xs h.2 name apart.1 h.5)
   where
@@ -28,9 +25,7 @@ gives_told a b (d ∷ ds) (x ∷ xs) kept name apart h =
     passed : kept ≡ h.2 → h.0.give_faults name ≡ a.give_faults name
         → b.give_faults name ≡ counted_if (list_any (bytes_eq name) h.2) (h.0.give_faults name)
         → b.give_faults name ≡ counted_if (list_any (bytes_eq name) kept) (a.give_faults name)
-    passed fewer same more =
-        more ∙ ap (λ (n : ℕ). counted_if (list_any (bytes_eq name) h.2) n) same
-        ∙ ap (λ (ks : List (List ℕ)). counted_if (list_any (bytes_eq name) ks) (a.give_faults name)) (sym fewer)
+    passed fewer same more = search rules
 
     -- where it failed
     failed : kept ≡ d.name ∷ h.2 → (d.name ≡ name) ⊎ (d.name ≢ name)
@@ -39,27 +34,14 @@ gives_told a b (d ∷ ds) (x ∷ xs) kept name apart h =
         → b.give_faults name ≡ counted_if (list_any (bytes_eq name) h.2) (h.0.give_faults name)
         → b.give_faults name ≡ counted_if (list_any (bytes_eq name) kept) (a.give_faults name)
     failed one_more (inl e) own others more =
-        subst (λ (n : List ℕ). b.give_faults n ≡ counted_if (list_any (bytes_eq n) kept) (a.give_faults n)) e
-        ((gives_stay h.0 b ds xs h.2 d.name h.5 (foreign_from d.name ds apart.0)).gives ∙ own
-        ∙ ap (λ (t : Bool). counted_if (t || list_any (bytes_eq d.name) h.2) (a.give_faults d.name))
-        (sym (same_itself d.name))
-        ∙ ap (λ (ks : List (List ℕ)). counted_if (list_any (bytes_eq d.name) ks) (a.give_faults d.name)) (sym one_more))
-    failed one_more (inr other) own others more =
-        more ∙ ap (λ (n : ℕ). counted_if (list_any (bytes_eq name) h.2) n) (others name (λ e. other (sym e)))
-        ∙ ap (λ (t : Bool). counted_if (t || list_any (bytes_eq name) h.2) (a.give_faults name))
-        (sym (other_names name d.name (λ e. other (sym e))))
-        ∙ ap (λ (ks : List (List ℕ)). counted_if (list_any (bytes_eq name) ks) (a.give_faults name)) (sym one_more)
+        search (rules, gives_stay h.0 b ds xs h.2 d.name h.5 (foreign_from d.name ds apart.0), bytes_eq d.name)
+    failed one_more (inr other) own others more = search rules
 
     by : (kind : DiskKind) → GivesDrive a d.name x h.1 h.0 kind
         → b.give_faults name ≡ counted_if (list_any (bytes_eq name) h.2) (h.0.give_faults name)
         → b.give_faults name ≡ counted_if (list_any (bytes_eq name) kept) (a.give_faults name)
-    by disk_kinds.Ram g more =
-        passed (h.3 ∙ ap (λ ks. ks ++ h.2) g.0) (ap (λ (v : ShelfView). v.give_faults name) g.1) more
-    by disk_kinds.Shelf g more = elim g [
-      | inl given ↦ passed (h.3 ∙ ap (λ ks. ks ++ h.2) given.0) (given.1.gives name) more
-      | inr held ↦ failed (h.3 ∙ ap (λ ks. ks ++ h.2) held.0) (same_or_other d.name name) held.1.gives.own
-          held.1.gives.others more
-    ]
+    by disk_kinds.Ram g more = search rules
+    by disk_kinds.Shelf g more = search (rules, failed)
 gives_told a b _ _ kept name apart h = absurd h
 
 -- a give is no take
@@ -86,10 +68,7 @@ gives_no_fault a b (d ∷ ds) (x ∷ xs) kept h none = by d.kind h.4 (λ e. give
     by : (kind : DiskKind) → GivesDrive a d.name x h.1 h.0 kind → (h.2 ≡ [] → b.faults ≡ h.0.faults)
         → b.faults ≡ a.faults
     by disk_kinds.Ram g more = more (sym (h.3 ∙ ap (λ ks. ks ++ h.2) g.0) ∙ none) ∙ ap (λ (v : ShelfView). v.faults) g.1
-    by disk_kinds.Shelf g more = elim g [
-      | inl given ↦ more (sym (h.3 ∙ ap (λ ks. ks ++ h.2) given.0) ∙ none) ∙ given.1.no_fault
-      | inr held ↦ absurd (nothing_first d.name h.2 (sym (h.3 ∙ ap (λ ks. ks ++ h.2) held.0) ∙ none))
-    ]
+    by disk_kinds.Shelf g more = search rules
 gives_no_fault a b _ _ kept h none = absurd h
 
 -- where no take failed none is told

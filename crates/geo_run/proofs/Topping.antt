@@ -1,13 +1,13 @@
 -- The whole call: how its run finished, and what was written.
-use Rattle.std.proofs.Common.{◌≡◌, ◌⊎◌, ℕ, ◌+◌, ◌-◌, ◌^◌, ◌≤◌, min, List, ◌++◌, length, drop, Option, Some, None, refl, sym, ◌∙◌, ap, subst, inl, inr, arith, IfSome, IfNone}
+use Rattle.std.proofs.Common.{◌≡◌, ◌⊎◌, ℕ, ◌+◌, ◌-◌, ◌^◌, ◌≤◌, min, List, ◌++◌, Option, Some, None, sym, ◌∙◌, ap, subst, inl, inr, arith, IfSome, IfNone, rules}
 use Rattle.std.proofs.Math.Seq.{drop-append_seam}
 use Rattle.geo_base.specs.Faults.{RoseBy}
 use Rattle.geo_model.specs.declared.step.Entry.{Entry}
 use Rattle.geo_model.specs.World.{World, Plan}
 use Rattle.geo_model.specs.Opening.{opening}
 use Rattle.geo_headline.specs.Modes.{Mode}
-use Rattle.geo_headline.specs.Outside.{ShelfView, SinkView, SourceView, kept_back}
-use Rattle.geo_headline.specs.Endings.{Ending, ShelfFault, OutOfMemory, Call, due_text, failed_takes, reported, status_of}
+use Rattle.geo_headline.specs.Outside.{ShelfView, SinkView, SourceView}
+use Rattle.geo_headline.specs.Endings.{Ending, ShelfFault, OutOfMemory, Call, due_text, reported, status_of}
 use Rattle.geo_headline.specs.Headline.{FollowsMode, ImagesStayAt, IsComplete, KeepsAll, NoneAsked, NoneAskedAt, Prints, TakesAreToldAt}
 use Rattle.geo_run.specs.declared.finish.Finish.{Finish}
 use Rattle.geo_run.specs.declared.top.Ended.{Ended}
@@ -16,7 +16,6 @@ use Rattle.geo_run.specs.Ends.{entries_in}
 use Rattle.geo_run.specs.Stops.{IsDue, ending_by}
 use Rattle.geo_run.specs.Writes.{IsTextMade, Writes, WritesEnding}
 use Rattle.geo_run.proofs.Completing.{complete}
-use Rattle.geo_run.proofs.Running.{follows_at}
 use Rattle.geo_run.proofs.Visits.{order_at_last}
 
 -- Where memory ran out at the end
@@ -24,8 +23,7 @@ use Rattle.geo_run.proofs.Visits.{order_at_last}
 orders_at : (mode : Mode) (plan : Plan) (opened : World) (ending : Ending) (log : Option (List Entry))
     → IfSome log (FollowsMode mode plan opened ending) → IfSome log (FollowsMode mode plan opened OutOfMemory)
 orders_at mode plan opened ending None h = h
-orders_at mode plan opened ending (Some l) h =
-    follows_at mode plan opened ending OutOfMemory l (λ whole. absurd whole) h
+orders_at mode plan opened ending (Some l) h = search rules
 
 stay_at : (call : Call) (ending : Ending) → ImagesStayAt call ending → ImagesStayAt call OutOfMemory
 stay_at call OutOfMemory h = h
@@ -56,17 +54,9 @@ out_of_memory call mode plan ending made k = record {
   order = orders_at mode plan (opening plan call.facts) ending call.log k.order;
   fits = k.fits;
   disks = k.disks;
-  lent = record {
-    faults = fewer (failed_takes ending) (length (kept_back call.before.shelf call.after.shelf))
-        call.before.shelf.faults call.after.shelf.faults k.lent.faults;
-    gives = k.lent.gives;
-  };
+  lent = search rules;
   reads = λ other. k.reads (λ e. subst IsTextMade e made);
-  calls = record {
-    takes = takes_at ending call.before.shelf call.after.shelf k.calls.takes;
-    gives = k.calls.gives;
-    no_fault = λ other. absurd (other refl);
-  };
+  calls = search (rules, takes_at ending call.before.shelf call.after.shelf k.calls.takes);
   in_order = order_at_last plan ending call.log call.before.shelf call.after.shelf k.in_order;
   others = k.others;
   unasked = k.unasked;
@@ -101,16 +91,12 @@ prints call ending text w e = record {
 }
   where
     is : call.written ≡ w.written
-    is = e ∙ ap (λ bs. drop (length call.before.sink.taken) bs) w.took
-        ∙ drop-append_seam call.before.sink.taken w.written
+    is = search (rules, drop-append_seam call.before.sink.taken w.written)
 
 took : (call : Call) (status due : ℕ) (text : List ℕ) → Writes status due text call.before.sink call.after.sink
     → call.written ≡ added_to call.before.sink.taken call.after.sink.taken
     → call.after.sink.taken ≡ call.before.sink.taken ++ call.written
-took call status due text w e =
-    w.took ∙ ap (λ bs. call.before.sink.taken ++ bs)
-    (sym
-    (e ∙ ap (λ bs. drop (length call.before.sink.taken) bs) w.took ∙ drop-append_seam call.before.sink.taken w.written))
+took call status due text w e = search (rules, drop-append_seam call.before.sink.taken w.written)
 
 -- no disk was asked, whatever the ending
 unasked_at : (call : Call) (ending : Ending) (log : Option (List Entry))
@@ -125,35 +111,13 @@ keeps_all : (call : Call) (mode : Mode) (plan : Plan) (ending : Ending) → Keep
     call.before.sink call.after.sink
     → call.written ≡ added_to call.before.sink.taken call.after.sink.taken
     → KeepsAll call mode plan ending
-keeps_all call mode plan ending k w e = record {
-  texts = record {
-    read_as = k.read_as;
-    bytes = record {
-      gave = k.gave.given;
-      had_left = k.gave.had_left;
-      took =
-          took call call.status (status_of ending)
-          (due_text (reported mode call.text plan call.facts call.log) ending) w e;
-    };
-    prints = prints call ending (due_text (reported mode call.text plan call.facts call.log) ending) w e;
-    streams = record { writes = w.told; reads = k.reads };
-  };
-  ends = record { cause = k.cause; has_log = k.has_log; is_opened = k.is_opened };
-  log = record { history = k.history; to_its_end = k.to_its_end; order = k.order; fits = k.fits };
-  outside = record {
-    disks = k.disks;
-    lent = k.lent;
-    calls = k.calls;
-    in_order = k.in_order;
-    others = k.others;
-    unasked = unasked_at call ending call.log k.unasked;
-    sizes = k.sizes;
-    kept_stay = k.kept_stay;
-    images = k.images;
-    images_stand = k.images_stand;
-    untouched = k.outside;
-  };
-}
+keeps_all call mode plan ending k w e =
+    search (
+      rules,
+      took call call.status (status_of ending) (due_text (reported mode call.text plan call.facts call.log) ending) w e,
+      prints call ending (due_text (reported mode call.text plan call.facts call.log) ending) w e,
+      unasked_at call ending call.log k.unasked,
+    )
 
 -- a run that finished and wrote what is due keeps all that it has to
 pub keeps : (words : List (List ℕ)) (finish : Finish) (status : ℕ) (source source_after : SourceView)
@@ -182,21 +146,19 @@ keeps words finish status source source_after sink sink_after shelf shelf_after 
     by : (actual : Ending)
         → (actual ≡ ending_by finish.due) ⊎ ((actual ≡ OutOfMemory) × IsTextMade (ending_by finish.due))
         → Writes status (status_of actual) (due_text text actual) sink sink_after → Keeps call
-    by actual (inl e) w = record {
-      mode = f.mode;
-      plan = f.plan;
-      ending = actual;
-      all = keeps_all call f.mode f.plan actual
-          (subst (λ (z : Ending). KeepsInside call f.mode f.plan z) (sym e) inside) w refl;
-    }
-    by actual (inr e) w = record {
-      mode = f.mode;
-      plan = f.plan;
-      ending = actual;
-      all = keeps_all call f.mode f.plan actual
-          (subst (λ (z : Ending). KeepsInside call f.mode f.plan z) (sym e.0)
-          (out_of_memory call f.mode f.plan (ending_by finish.due) e.1 inside)) w refl;
-    }
+    by actual (inl e) w =
+        search (
+          rules,
+          keeps_all call f.mode f.plan actual (subst (λ (z : Ending). KeepsInside call f.mode f.plan z) (sym e) inside)
+              w,
+        )
+    by actual (inr e) w =
+        search (
+          rules,
+          keeps_all call f.mode f.plan actual
+              (subst (λ (z : Ending). KeepsInside call f.mode f.plan z) (sym e.0)
+              (out_of_memory call f.mode f.plan (ending_by finish.due) e.1 inside)) w,
+        )
 
 -- and is complete
 pub completes : (call : Call) → Keeps call → IsComplete call
@@ -211,10 +173,7 @@ pub call_keeps : (words : List (List ℕ)) (finish : Finish) (ended : Ended) (so
     → WritesEnding reported (ending_by finish.due) ended.status sink sink_after)
     → Keeps (call_of words ended (outside_of source sink shelf) (outside_of source_after sink_after shelf_after))
 call_keeps words finish ended source source_after sink sink_after shelf shelf_after f log facts writes =
-    subst (λ (e : Ended).
-    Keeps (call_of words e (outside_of source sink shelf) (outside_of source_after sink_after shelf_after)))
-    (sym (ap (λ l. record ended { log = l }) log ∙ ap (λ fs. record ended { log = finish.log; facts = fs }) facts))
-    (keeps words finish ended.status source source_after sink sink_after shelf shelf_after f writes)
+    search (rules, keeps words finish ended.status source source_after sink sink_after shelf shelf_after f writes)
 
 pub call_completes : (words : List (List ℕ)) (finish : Finish) (ended : Ended) (source source_after : SourceView)
     (sink sink_after : SinkView) (shelf shelf_after : ShelfView)

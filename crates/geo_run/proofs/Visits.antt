@@ -1,5 +1,5 @@
 -- In which order the shelf is called.
-use Rattle.std.proofs.Common.{◌≡◌, ℕ, ◌≤◌, true, false, List, [], ◌∷◌, ◌++◌, length, map, filter, Option, None, refl, sym, inl, inr, ◌∙◌, ap, subst, arith, append_assoc, if◌then◌else◌}
+use Rattle.std.proofs.Common.{◌≡◌, ℕ, ◌≤◌, true, false, List, [], ◌∷◌, ◌++◌, length, map, filter, Option, None, refl, sym, ◌∙◌, ap, subst, arith, append_assoc, if◌then◌else◌, rules}
 use Rattle.std.proofs.lemmas.List.{append-nil, map-append}
 use Rattle.geo_disk.specs.declared.shelf.ShelfCall.{ShelfCall}
 use Rattle.geo_disk.specs.declared.shelf.ShelfCall.TheVariants as shelf_calls
@@ -37,12 +37,7 @@ names_are (d ∷ ds) = by d.kind (names_are ds)
 -- those before a disk, its own, and those behind it
 names_around : (front : List DiskDecl) (d : DiskDecl) (back : List DiskDecl)
     → shelf_names (front ++ d ∷ back) ≡ shelf_names front ++ with_shelf d.kind d.name [] ++ shelf_names back
-names_around [] d back = by d.kind
-  where
-    by : (kind : DiskKind)
-        → with_shelf kind d.name (shelf_names back) ≡ [] ++ with_shelf kind d.name [] ++ shelf_names back
-    by disk_kinds.Ram = refl
-    by disk_kinds.Shelf = refl
+names_around [] d back = search rules
 names_around (e ∷ front) d back = by e.kind (names_around front d back)
   where
     by : (kind : DiskKind)
@@ -59,8 +54,7 @@ take_called : (a b : ShelfView) (d : DiskDecl) (x : DriveView) (rest : List (Lis
     → OpensDrive a d x b kind → b.calls ++ takes_of rest ≡ a.calls ++ takes_of (with_shelf kind d.name rest)
 take_called a b d x rest disk_kinds.Ram h = ap (λ (v : ShelfView). v.calls ++ takes_of rest) h.1
 take_called a b d x rest disk_kinds.Shelf h =
-    ap (λ calls. calls ++ takes_of rest) h.called
-    ∙ append_assoc a.calls (shelf_calls.Take d.name ∷ []) (takes_of rest)
+    search (rules, append_assoc a.calls (shelf_calls.Take d.name ∷ []) (takes_of rest))
 
 takes_called : (a b : ShelfView) (ds : List DiskDecl) (xs : List DriveView) → OpensDrives a ds xs b
     → b.calls ≡ a.calls ++ takes_of (shelf_names ds)
@@ -82,12 +76,7 @@ give_called : (a b : ShelfView) (n : List ℕ) (x : DriveView) (k : List (List �
     → GivesDrive a n x k b kind → b.calls ++ gives_of rest ≡ a.calls ++ gives_of (with_shelf kind n rest)
 give_called a b n x k rest disk_kinds.Ram h = ap (λ (v : ShelfView). v.calls ++ gives_of rest) h.1
 give_called a b n x k rest disk_kinds.Shelf h =
-    elim h [ inl given ↦ one given.1.called | inr kept ↦ one kept.1.called ]
-  where
-    one : b.calls ≡ a.calls ++ shelf_calls.Give n ∷ []
-        → b.calls ++ gives_of rest ≡ a.calls ++ gives_of (with_shelf disk_kinds.Shelf n rest)
-    one called =
-        ap (λ calls. calls ++ gives_of rest) called ∙ append_assoc a.calls (shelf_calls.Give n ∷ []) (gives_of rest)
+    search (rules, append_assoc a.calls (shelf_calls.Give n ∷ []) (gives_of rest))
 
 gives_called : (a b : ShelfView) (ds : List DiskDecl) (xs : List DriveView) (kept : List (List ℕ))
     → GivesAll a ds xs kept b → b.calls ≡ a.calls ++ gives_of (shelf_names ds)
@@ -186,14 +175,12 @@ none_in_order plan ending a none_told = record {
 
 -- where no disk is told to be missed, no take failed
 pub none_failed : (ending : Ending) → missed_by ending ≡ [] → failed_takes ending ≡ 0
-none_failed (ShelfFault name) e =
-    absurd (let bad : length (name ∷ []) ≡ 0 = ap (λ (ns : List (List ℕ)). length ns) e in omega (arith, bad))
+none_failed (ShelfFault name) e = search rules
 none_failed _ e = refl
 
 -- so few names were missed as are told
 few : (missed told : List (List ℕ)) → missed ≡ told → length told ≤ 1 → length missed ≤ 1
-few missed told e short = let same : length missed ≡ length told = ap (λ (ns : List (List ℕ)). length ns) e in
-    omega (arith, same, short)
+few missed told e short = search rules
 
 -- whatever was missed, where memory runs out besides
 missed_at : (ending : Ending) (missed : List (List ℕ)) → IsMissedAt ending missed → IsMissedAt OutOfMemory missed

@@ -1,11 +1,9 @@
 -- What a watcher knows of a mesh, and what is reported of it.
-use Rattle.std.proofs.Common.{◌≡◌, ℕ, List, [], ◌++◌, Option, Some, None, Result, Ok, Err, IfOk, IfSome, sym, ◌∙◌, ap, subst}
+use Rattle.std.proofs.Common.{◌≡◌, ℕ, List, [], ◌++◌, Option, Some, None, Result, Ok, Err, IfOk, IfSome, rules}
 use Rattle.geo_model.specs.declared.listing.GeomLine.{GeomLine}
 use Rattle.geo_model.specs.declared.step.Entry.{Entry}
 use Rattle.geo_model.specs.World.{Plan}
 use Rattle.geo_model.specs.Listing.{listing}
-use Rattle.geo_model.specs.Log.{replay}
-use Rattle.geo_model.specs.Opening.{opening}
 use Rattle.geo_model.specs.Report.{report}
 use Rattle.geo_headline.specs.Modes.{Mode}
 use Rattle.geo_headline.specs.Viewing.{view_text}
@@ -25,10 +23,7 @@ pub opening_listed : (mode : Mode) (old : MeshView) (left : Option MeshView) (xs
     (answer : Result (Unit {0}) DrainRefusal) (list : List GeomLine) → old.log ≡ [] → list ≡ listing (world_of old)
     → RanOrNot mode old left xs ys answer → IfSome left (λ m. list ≡ listing (opened m))
 opening_listed mode old None xs ys answer list none is ran = tt
-opening_listed mode old (Some new) xs ys answer list none is ran =
-    is ∙ ap (λ (log : List Entry). listing (replay (opened old) log)) none
-    ∙ ap (λ (p : Plan). listing (opening p old.facts)) (sym ran.plan)
-    ∙ ap (λ fs. listing (opening new.plan fs)) (sym ran.facts)
+opening_listed mode old (Some new) xs ys answer list none is ran = search rules
 
 -- a report of what a mesh lists and listed as it opened is the report of its log with what was shown of it
 pub watched_is : {E : Type 0} (m : MeshView) (plan : Plan) (log : List Entry) (lines first : List GeomLine)
@@ -36,8 +31,4 @@ pub watched_is : {E : Type 0} (m : MeshView) (plan : Plan) (log : List Entry) (l
     → first ≡ listing (opened m) → IfOk r (IsWatchedReport plan log lines first)
     → IfOk r (λ text. text ≡ report m.plan (opened m) m.log ++ view_text m.plan (opened m) m.log)
 watched_is m plan log lines first (Err e) h p l at begins is = tt
-watched_is m plan log lines first (Ok text) h p l at begins is =
-    let of_mesh : IsWatchedReport m.plan m.log lines first text =
-    subst (λ (es : List Entry). IsWatchedReport m.plan es lines first text) l
-    (subst (λ (q : Plan). IsWatchedReport q log lines first text) p is) in
-    of_mesh (opened m) h.lawful.0 at begins
+watched_is m plan log lines first (Ok text) h p l at begins is = search rules

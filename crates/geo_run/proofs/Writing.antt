@@ -1,7 +1,6 @@
 -- What is written at the end.
-use native.Mathlib.Omega.{arith}
-use Rattle.std.proofs.Common.{◌≡◌, ◌≢◌, ◌⊎◌, ◌∙◌, ℕ, ◌-◌, ◌<◌, List, [], ◌++◌, length, take, drop, Result, Ok, Err, IfOk, refl, sym, ap, subst, inl, inr}
-use Rattle.std.proofs.lemmas.List.{take-append-drop, length-drop}
+use Rattle.std.proofs.Common.{◌≡◌, ◌⊎◌, ℕ, ◌-◌, ◌<◌, List, [], ◌++◌, length, take, Result, Ok, Err, IfOk, refl, subst, inl, inr, rules}
+use Rattle.std.proofs.lemmas.List.{take-append-drop}
 use Rattle.geo_base.specs.Faults.{Rose}
 use Rattle.geo_headline.specs.Endings.{Ending, OutOfMemory, status_of, due_text}
 use Rattle.geo_headline.specs.Outside.{SinkView}
@@ -13,17 +12,7 @@ use Rattle.geo_run.specs.Writes.{IsTextMade, Writes, WritesEnding, WritesMade}
 -- only a first part is written
 pub cut_off : (due n : ℕ) (text : List ℕ) (before after : SinkView) → n < length text
     → after.taken ≡ before.taken ++ take n text → Rose before.faults after.faults → Writes 4 due text before after
-cut_off due n text before after less took rose = record {
-  written = take n text;
-  took = took;
-  cut_off = λ e. record { fault = rose; rest = drop n text; some_left = some_left; front = take-append-drop n text };
-  whole = λ ne. absurd (ne refl);
-  told = λ ne. absurd (ne refl);
-}
-  where
-    some_left : drop n text ≢ []
-    some_left none = let h : length text - n ≡ 0 = sym (length-drop {A = ℕ} n text) ∙ ap length none in
-        omega (arith, less, h)
+cut_off due n text before after less took rose = search (rules, take-append-drop n text)
 
 -- the due text of an ending is written
 pub ends : (reported : List ℕ) (ending : Ending) (status : ℕ) (before after : SinkView)
@@ -35,23 +24,19 @@ ends reported ending status before after writes = record { actual = ending; is =
 pub made_ends : {E : Type 0} (reported : List ℕ) (ending : Ending) (made : Result (List ℕ) E) (status : ℕ)
     (before after : SinkView) → IsTextMade ending → IfOk made (λ block. block ≡ due_text reported ending)
     → WritesMade (status_of ending) made status before after → WritesEnding reported ending status before after
-made_ends reported ending (Ok text) status before after takes is writes =
-    ends reported ending status before after
-    (subst (λ (t : List ℕ). Writes status (status_of ending) t before after) is writes)
+made_ends reported ending (Ok text) status before after takes is writes = search rules
 made_ends reported ending (Err e) status before after takes is writes =
     record { actual = OutOfMemory; is = inr (refl, takes); writes = writes }
 
 -- where the report is another name for the text
 pub reported_ends : (text reported : List ℕ) (ending : Ending) (status : ℕ) (before after : SinkView) → text ≡ reported
     → WritesEnding text ending status before after → WritesEnding reported ending status before after
-reported_ends text reported ending status before after e h =
-    subst (λ (t : List ℕ). WritesEnding t ending status before after) e h
+reported_ends text reported ending status before after e h = search rules
 
 -- an ending under another name
 pub same_ends : (reported : List ℕ) (ending other : Ending) (status : ℕ) (before after : SinkView) → other ≡ ending
     → WritesEnding reported ending status before after → WritesEnding reported other status before after
-same_ends reported ending other status before after e h =
-    subst (λ (z : Ending). WritesEnding reported z status before after) (sym e) h
+same_ends reported ending other status before after e h = search rules
 
 -- why there is no report doesn't depend on what is reported
 pub stop_ends : (reported : List ℕ) (stop : Stop) (status : ℕ) (before after : SinkView)
@@ -65,12 +50,7 @@ stop_ends reported stop status before after w = by w.actual w.is w.writes
     by : (actual : Ending) → (actual ≡ ending_of stop) ⊎ ((actual ≡ OutOfMemory) × IsTextMade (ending_of stop))
         → Writes status (status_of actual) (due_text [] actual) before after
         → WritesEnding reported (ending_of stop) status before after
-    by actual (inl e) writes = record {
-      actual = ending_of stop;
-      is = inl refl;
-      writes = subst (λ (t : List ℕ). Writes status (status_of (ending_of stop)) t before after) (due_same stop)
-          (subst (λ (z : Ending). Writes status (status_of z) (due_text [] z) before after) e writes);
-    }
+    by actual (inl e) writes = search rules
     by actual (inr e) writes = record {
       actual = OutOfMemory;
       is = inr (refl, e.1);
