@@ -25,7 +25,7 @@
 //! - [`listing`]: exactly the model's lines of the mesh as it is printed, in one pass over the geoms, with the counts
 //!   that are stored.
 //!
-//! There are no tests of its own: geo_tests_program and `rows/` run it. geo_core calls it. Read `src/dispatch.rt`
+//! There are no tests of its own: geo_tests_program and `tests/` run it. geo_core calls it. Read `src/dispatch.rt`
 //! first, one arm a command.
 #![tactic(auto)]
 

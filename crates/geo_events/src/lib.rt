@@ -12,7 +12,7 @@
 //!   (`bound`), and where memory is wanting the world stays the same.
 //! - [`wash`]: the first part that can go of the withering geoms; it takes no memory.
 //!
-//! There are no tests of its own: geo_tests_program and `rows/` run it. geo_core calls it. Read `src/events.rt` and
+//! There are no tests of its own: geo_tests_program and `tests/` run it. geo_core calls it. Read `src/events.rt` and
 //! `src/judges.rt` first.
 #![tactic(auto)]
 

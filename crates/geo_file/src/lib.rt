@@ -7,7 +7,7 @@
 //! They meet the contracts of geo_disk's `Disk` and `Shelf`: counts of faults, the lists of calls, which names are
 //! lent, and that a disk comes in whole sectors, at most 2^40 bytes. That the bytes are in the file is tested, not
 //! proved, and so is that a file which is locked can't be taken. geo_tests_low has a test of each call over real
-//! files; `rows/edge` and `rows/locked` run the program so.
+//! files; `tests/edge` and `tests/locked` run the program so.
 //!
 //! geomrun gives a shelf of the current folder to the top call. Read `src/file_shelf.rt` first.
 #![tactic(auto)]

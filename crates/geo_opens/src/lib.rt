@@ -12,7 +12,7 @@
 //!
 //! All of these but [`reap_found`] tick at most one step for each consumer below the provider (`bound`). [`done`] and
 //! [`refused`] are the replies ok and no, of other commands too. There are no tests of its own: geo_tests_program and
-//! `rows/` run it. geo_commands calls it and hands it on. Read `src/opens.rt` first.
+//! `tests/` run it. geo_commands calls it and hands it on. Read `src/opens.rt` first.
 #![tactic(auto)]
 
 mod closes;

@@ -14,7 +14,7 @@
 //!   order, and else becomes one bio. A record is a WRITE at the last sector of the handle's provider.
 //! - [`disk_at`], [`sector_at`]: the disk of a provider, if it is one of a DISK geom, and the size of its sectors.
 //!
-//! There are no tests of its own: geo_tests_program and `rows/` run it. geo_commands calls it and hands its steps on
+//! There are no tests of its own: geo_tests_program and `tests/` run it. geo_commands calls it and hands its steps on
 //! to geo_core. Read `src/starts.rt`, `src/serve.rt` and `src/ups.rt` in this order.
 #![tactic(auto)]
 

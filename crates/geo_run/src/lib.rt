@@ -14,7 +14,7 @@
 //! and `src/script_run.rt` gives the disks back and says what is due. What each layer keeps of the headline stands in
 //! `specs/Calls.antt`, `Ends.antt`, `Runners.antt` and `Lending.antt`.
 //!
-//! geo_tests_program and `rows/` test it; docs/PROVED.md says what only they show. geomrun calls it. Read
+//! geo_tests_program and `tests/` test it; docs/PROVED.md says what only they show. geomrun calls it. Read
 //! `src/top.rt` first.
 #![tactic(auto)]
 

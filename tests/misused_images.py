@@ -1,4 +1,4 @@
-"""The groups of `rows/misuse` that are about images: each gives what is tried, what came of it, and what is due."""
+"""The groups of `tests/misuse` that are about images: each gives what is tried, what came of it, and what is due."""
 import os, pathlib, shutil, subprocess, time
 
 import row

@@ -1,4 +1,4 @@
-"""What `rows/misuse` tries, each with what is due: texts that aren't scripts, scripts that look wrong and aren't, and
+"""What `tests/misuse` tries, each with what is due: texts that aren't scripts, scripts that look wrong and aren't, and
 images that can't be used."""
 import os, socket
 
