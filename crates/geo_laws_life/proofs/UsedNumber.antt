@@ -1,4 +1,4 @@
--- One consumer number is used up: a firm world stays firm.
+-- One consumer number is used up, by an open or an append that is refused: a firm world stays firm.
 use Rattle.std.specs.Prelude.{◌≢◌, ℕ, ◌+◌, ◌<◌, ◌≤◌, map}
 use Rattle.std.proofs.Common.{refl, arith}
 use Rattle.std.proofs.lemmas.List.Elements.{All-weaker}
