@@ -1,5 +1,14 @@
 """Runs of the program, beside images in a folder of their own."""
-import pathlib, subprocess, tempfile
+import os, pathlib, subprocess, sys, tempfile
+
+
+def path_of(word):
+    """The full path of the program that a word of the call names. Where that can't be run the call ends."""
+    path = pathlib.Path(word).resolve()
+    if not path.is_file() or not os.access(path, os.X_OK):
+        print(f'{word} is no program that can be run', file=sys.stderr)
+        sys.exit(2)
+    return str(path)
 
 
 class Program:
