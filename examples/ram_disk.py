@@ -7,7 +7,9 @@ that ends at rest and has this report. So it prints `yes`.
 """
 import itertools, pathlib, subprocess, sys
 
+# The one of the repository, or else one that is installed.
 GEOMRUN = pathlib.Path(__file__).resolve().parent.parent / 'geomrun'
+GEOMRUN = GEOMRUN if GEOMRUN.exists() else 'geomrun'
 
 SCRIPT = """\
 ram md0 512 8

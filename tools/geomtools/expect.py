@@ -3,14 +3,13 @@ import contextlib, hashlib, os, pathlib, re, subprocess, tempfile
 
 from geomtools import expectations, files, reports, runs, scripts
 
-TOP = pathlib.Path(__file__).resolve().parent.parent.parent
 PIECE = 1 << 20
 WORDS = ('step', 'sweep', 'run', 'watch', 'trace')
 
 
 def add_words(parser):
     parser.add_argument('script', nargs='+', help='the scripts, or - for standard input')
-    parser.add_argument('--program', default=str(TOP / 'geomrun'), metavar='PATH',
+    parser.add_argument('--program', default=files.program(), metavar='PATH',
                         help='the program to run (geomrun of this repository)')
     parser.add_argument('--word', default='step', choices=WORDS, help='the word it is given (step)')
     parser.add_argument('--here', action='store_true', help='run it on the images of this folder, and not on copies')

@@ -10,6 +10,12 @@ class Stop(Exception):
         self.status = status
 
 
+def program():
+    """The start script: that of the repository in which the tools stand, or the one that is installed with them."""
+    above = pathlib.Path(__file__).resolve().parents
+    return str(next((it for it in (above[2] / 'geomrun', above[3] / 'bin' / 'geomrun') if it.is_file()), 'geomrun'))
+
+
 def read_bytes(path):
     """What a file holds, or standard input for `-`."""
     try:

@@ -1,0 +1,80 @@
+# make install [DESTDIR=] [PREFIX=/usr/local]   installs program, manual page, tools, completion, examples
+# make uninstall [DESTDIR=] [PREFIX=/usr/local] removes what that installed
+# make deb [OUT=out]                            makes a Debian package of each part
+# make clean [OUT=out]                          removes what these made there
+#
+# The program is the release. PROGRAM=FILE installs another one, as crates/geomrun/out/geomrun, which ./prove builds.
+# Each part, a line of PARTS, has a rule install-PART; with a folder packaging/PART it is a Debian package too.
+PARTS = tazbrev
+
+PREFIX = /usr/local
+DESTDIR =
+PROGRAM = release/geomrun
+OUT = out
+VERSION := $(shell cat VERSION)
+ARCHITECTURE = amd64
+
+bindir = $(DESTDIR)$(PREFIX)/bin
+libexecdir = $(DESTDIR)$(PREFIX)/libexec/tazbrev
+sharedir = $(DESTDIR)$(PREFIX)/share
+datadir = $(sharedir)/tazbrev
+docdir = $(sharedir)/doc/tazbrev
+zshdir = $(sharedir)/zsh/site-functions
+
+# What is installed of a folder, as find is asked for it.
+FILES = -type f ! -name '.*' ! -name '*.pyc' ! -name '*.img'
+DOCUMENTS = README.md CHANGELOG.md LICENSE NOTICE SECURITY.md docs/PROFILE.md docs/TOOLS.md
+
+.PHONY: all install uninstall deb clean fits $(PARTS:%=install-%) $(PARTS:%=deb-%)
+
+all:
+	@sed -n 's/^# \(make\)/\1/p' Makefile
+
+# That the program may be installed: the release as ./geomrun judges it, or one that is named.
+fits:
+ifeq ($(PROGRAM),release/geomrun)
+	@grep -qx "    sources  *$$(release/sum)" release/MADE.md || \
+	    { { echo "make: the release was made from other sources"; release/sum --differs | head -n 3; } >&2; exit 1; }
+	@grep -qx "    program  *$$(sha256sum <release/geomrun | cut -d ' ' -f 1)" release/MADE.md || \
+	    { echo "make: release/geomrun isn't the recorded file" >&2; exit 1; }
+endif
+
+install: $(PARTS:%=install-%)
+
+install-tazbrev: fits
+	install -d $(bindir) $(libexecdir) $(datadir) $(docdir) $(sharedir)/man/man8 $(zshdir)
+	install -m 755 geomrun $(bindir)/geomrun
+	install -m 755 $(PROGRAM) $(libexecdir)/geomrun
+	install -m 755 tools/geom $(datadir)/geom
+	cd tools && find geomtools $(FILES) -exec install -D -m 644 {} $(abspath $(datadir))/{} ';'
+	ln -sf ../share/tazbrev/geom $(bindir)/geom
+	install -m 644 VERSION $(datadir)/VERSION
+	install -m 644 docs/geomrun.8 $(sharedir)/man/man8/geomrun.8
+	install -m 644 $(DOCUMENTS) $(docdir)
+	find examples $(FILES) ! -perm -u+x -exec install -D -m 644 {} $(docdir)/{} ';'
+	find examples $(FILES) -perm -u+x -exec install -D -m 755 {} $(docdir)/{} ';'
+	cd share && find bash-completion vim $(FILES) -exec install -D -m 644 {} $(abspath $(sharedir))/{} ';'
+	install -m 644 share/zsh/site-functions/* $(zshdir)
+
+# What stands there was installed by the same rules, so these are run once more, aside, to know the names.
+uninstall:
+	rm -rf $(OUT)/uninstall
+	$(MAKE) -s install DESTDIR=$(abspath $(OUT))/uninstall PREFIX=$(PREFIX) PROGRAM=VERSION
+	cd $(OUT)/uninstall && find . ! -type d | while read -r file; do rm -f "$(abspath $(DESTDIR))/$$file"; done
+	cd $(OUT)/uninstall && find . -depth -type d -path '*/tazbrev*' | while read -r folder; do \
+	    it="$(abspath $(DESTDIR))/$$folder"; [ ! -d "$$it" ] || rmdir --ignore-fail-on-non-empty "$$it"; done
+	rm -rf $(OUT)/uninstall
+
+deb: $(PARTS:%=deb-%)
+
+# A package: its files as they are installed, and the fields of packaging/PART/control.
+$(PARTS:%=deb-%): deb-%:
+	rm -rf $(OUT)/deb/$*
+	$(MAKE) -s install-$* DESTDIR=$(abspath $(OUT))/deb/$* PREFIX=/usr PROGRAM=$(PROGRAM) \
+	    zshdir=$(abspath $(OUT))/deb/$*/usr/share/zsh/vendor-completions
+	packaging/debian $* $(OUT)/deb/$* $(VERSION) $(ARCHITECTURE)
+	dpkg-deb --root-owner-group -Zxz --build $(OUT)/deb/$* $(OUT)/$*_$(VERSION)_$(ARCHITECTURE).deb
+	rm -rf $(OUT)/deb/$*
+
+clean:
+	rm -rf $(OUT)/deb $(OUT)/uninstall $(OUT)/*.deb
