@@ -17,8 +17,8 @@ syntax match geomrunCommand contains=geomrunActor
 syntax match geomrunActor '^[A-Za-z0-9_-]\{1,16}\ze ' contained
 syntax match geomrunExpected ' \+= .*$'
 syntax match geomrunComment '^#.*$'
-syntax match geomrunStep
-      \ '^% \(disk\>\|report$\|\d\+ \(go\|start\|take\|deliver\|up\|event\|judge\|reap\|wash\)\>\)' contains=geomrunNumber
+syntax match geomrunStep contains=geomrunNumber
+      \ '^% \(disk\>\|report$\|\d\+ \(go\|start\|take\|deliver\|up\|event\|judge\|reap\|wash\)\>\)'
 syntax match geomrunErrno '\<E[A-Z]\{3,\}\>'
 
 highlight default link geomrunActor Identifier
