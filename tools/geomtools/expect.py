@@ -1,5 +1,5 @@
 """expect SCRIPT..: runs scripts that say what they expect, and compares."""
-import contextlib, hashlib, os, pathlib, re, subprocess, tempfile
+import contextlib, hashlib, os, re, subprocess, tempfile
 
 from geomtools import expectations, files, reports, runs, scripts
 
