@@ -100,7 +100,7 @@ def orphan(world: World, provider: Provider) -> str:
 
 
 def resize(world: World, provider: Provider) -> str:
-    """Each automatic geom on a provider that has grown withers, if it isn't in use, and the provider is offered again."""
+    """Each automatic geom on a provider that has grown withers, if it isn't in use. The provider is offered again."""
     demand, attached = world.demand(), world.graph.attached(provider)
     outgrown = [it for it in attached if demand.want(it) == NOTHING and it.geom.is_automatic]
     for consumer in outgrown:

@@ -3,7 +3,7 @@ heads of its disks, which gives the next step, or None at rest."""
 from __future__ import annotations
 
 import itertools, random
-from typing import Callable, Optional, Sequence
+from typing import Callable, List, Optional, Sequence, Tuple
 
 from geomtools.model.disks import Disks
 from geomtools.model.mesh import Mesh
@@ -12,7 +12,7 @@ from geomtools.model.world import DOWN, SENT, UP, Bio
 from geomtools.scripts import Plan
 
 Order = Callable[[Mesh, Sequence[int]], Optional[Step]]
-Made = 'list[tuple[int, Step]]'
+Made = List[Tuple[int, Step]]
 # How often a disk fails in a history that is drawn.
 FAILS = 0.05
 

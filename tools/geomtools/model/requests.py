@@ -5,7 +5,7 @@ from typing import Iterator, NamedTuple, Union
 
 from geomtools import runs
 from geomtools.model.graph import Consumer
-from geomtools.model.world import DONE, DOWN, READ_BACK, SENT, UP, WAITING, Bio, Line, Taste, World
+from geomtools.model.world import DONE, READ_BACK, SENT, UP, WAITING, Bio, Line, Taste, World
 
 
 class Piece(NamedTuple):
