@@ -1,16 +1,14 @@
-"""Scripts that are drawn: of requests that are out together, of many actors, and of every command and class. Each has
-its text, and its images as bytes, by their names."""
-import io
-
-from drawn_images import image_of
-from shared import drawing, images, scripts
+"""Scripts that are drawn, of requests that are out together and of many actors. Each has its text, and its images as
+bytes, by their names."""
+from shared import drawing, scripts
 
 COUNTS = ('r1w1e0',) * 8 + ('r1w0e0', 'r1w0e0', 'r0w1e0', 'r1w0e1', 'r2w1e1')
 
 
 def plan_of(script):
     """The plan of a script that was drawn."""
-    return scripts.Plan(script.text(), {name: len(data) // script.sector for name, data in script.images.items()})
+    sectors = {disk.name: disk.sector for disk in scripts.Plan(script.text()).disks}
+    return scripts.Plan(script.text(), {name: len(data) // sectors[name] for name, data in script.images.items()})
 
 
 class Script:
@@ -156,32 +154,3 @@ class Flood(Crowd):
                 lines.append('a0 %s hf %d %s' % (word, at, drawing.runs(draw, 32768) if word == 'write' else 32768))
             lines += ['a0 sync', 'a0 close hf']
         return lines
-
-
-class Whole:
-    """A script of every command and class. Some of its disks are images with tables, chains and records, some of them
-    odd, on whose providers it asks for this and that too."""
-
-    def __init__(self, draw):
-        self.drawer = drawing.Drawer(draw, draw.randint(1, 6), draw.randint(1, 5))
-        self.sector = next(iter(self.drawer.disks.values())).sector
-        self.images = {name: image_of(draw, self.sector) for name in self.drawer.disks if draw.random() < 0.3}
-        for name, data in self.images.items():
-            self.note_image(name, data)
-        self.lines = [*map(self.header_line, self.drawer.header()), *self.drawer.commands(draw.choice((15, 50, 120)))]
-
-    def note_image(self, name, data):
-        """The drawer hears how large the image is, and what stands on it."""
-        drawer, later = self.drawer, name in self.drawer.later
-        drawer.disks[name] = drawer.disks[name]._replace(size=len(data))
-        for it in images.Image(io.BytesIO(data), name, len(data), self.sector).providers if not later else ():
-            geom = {'MBR': it.name[:-2], 'EBR': it.name.rpartition('l')[0]}.get(it.kind, name)
-            parts = (name,) if it.name != name else ()
-            drawer.providers[it.name] = drawing.Stands(it.size, it.sector, it.kind.lower(), geom, parts)
-
-    def header_line(self, line):
-        word, name, *more = line.split()
-        return ' '.join(['disk', name, more[0], *more[2:]]) if word == 'ram' and name in self.images else line
-
-    def text(self):
-        return '\n'.join(self.lines) + '\n'

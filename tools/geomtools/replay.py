@@ -114,6 +114,8 @@ class Replay:
         bio = self.world.bios.get(step[1 + (step[0] == 'take')]) if len(step) > 1 and step[0] != 'go' else None
         if bio:
             yield f'{self.request_text(bio)}: {self.phase_text(bio)}'
+        elif len(step) > 1 and step[0] != 'go':
+            yield from self.numbers()
         if step[0] == 'take':
             busy = self.world.busy(step[1])
             if busy and busy is not bio:
@@ -122,6 +124,11 @@ class Replay:
             yield from self.waited_for(step[1])
         yield from self.of_tastes()
         yield from self.possible()
+
+    def numbers(self) -> Iterator[str]:
+        """Which requests there are, where one is named that isn't."""
+        made, out = self.world.graph.given['bio'], [f'{it.number} ({it.phase})' for it in self.world.bios.values()]
+        yield f'requests made so far: {made}; those that are not done with: {cut(", ".join(out)) or "none"}'
 
     def waited_for(self, actor: int) -> Iterator[str]:
         """What the next command of an actor waits for."""

@@ -74,7 +74,7 @@ class Mesh:
             return self.against_take(named[0], bio)
         if word == 'deliver' and bio.seat != seat:
             return f'seat {bio.seat} took request {bio.number}'
-        return "the answer doesn't fit the request" if word == 'deliver' and not requests.fits(bio, named[1]) else None
+        return requests.misfit(bio, named[1]) if word == 'deliver' else None
 
     def against_take(self, disk: int, bio: Bio) -> Optional[str]:
         own = self.world.disk_of(bio)

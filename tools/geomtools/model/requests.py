@@ -1,7 +1,7 @@
 """What becomes of a request: how it is made, started, cut into pieces, answered, and given up to its owner."""
 from __future__ import annotations
 
-from typing import Iterator, NamedTuple, Union
+from typing import Iterator, NamedTuple, Optional, Union
 
 from geomtools import runs
 from geomtools.model.graph import Consumer
@@ -86,13 +86,16 @@ def spot_in_a_row(geom, at):
 
 # Answers of disks
 
-def fits(bio: Bio, got: tuple) -> bool:
-    """Whether an answer of a disk is one to such a request."""
-    if got[0] == 'bytes':
-        return bio.cmd == 'read' and len(got[1]) == bio.size
-    if got[0] == 'done':
-        return bio.cmd != 'read'
-    return got[1] <= (0 if bio.cmd in ('read', 'flush') else bio.size // bio.target.sector)
+def misfit(bio: Bio, got: tuple) -> Optional[str]:
+    """Why an answer of a disk isn't one to such a request, or None where it fits."""
+    if got[0] == 'failed':
+        most = 0 if bio.cmd in ('read', 'flush') else bio.size // bio.target.sector
+        return None if got[1] <= most else f'of a {bio.cmd} like this at most {most} sectors can be done'
+    if (got[0] == 'bytes') != (bio.cmd == 'read'):
+        return f'a {bio.cmd} is not answered with {got[0]}'
+    if got[0] == 'bytes' and len(got[1]) != bio.size:
+        return f'{len(got[1])} bytes were delivered, and {bio.size} were asked for'
+    return None
 
 
 def deliver(bio: Bio, got: tuple) -> None:
