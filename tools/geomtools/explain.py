@@ -80,7 +80,7 @@ class Explanation:
             shown = those[:most or None]
             yield from shown
             if len(those) > len(shown):
-                yield f'and {len(those) - len(shown)} more {what}; --most 0 tells all'
+                yield f'{what} not told: {len(those) - len(shown)}; --most 0 tells all'
         unknown = self.reads.unknown()
         if unknown:
             yield f"not given, so what is read first is believed: {', '.join(unknown)}"

@@ -40,6 +40,10 @@ class Version:
     write: Optional[Write]
     read_at: list[int] = field(default_factory=list)
 
+    def is_before(self, fault: Fault, data: bytes) -> bool:
+        """Whether a sector held these bytes so before a read."""
+        return self.data == data and (self.write is None or self.write.line < fault.line)
+
 
 @dataclass
 class Fault:
@@ -129,34 +133,36 @@ class Reads:
         yield f'    held       {cut(runs.runs_text(version.data))}'
         yield f'    delivered  {cut(runs.runs_text(found))}'
         yield from self.missed(fault)
-        yield f'what was delivered is {self.source(fault, sector, found)}'
+        yield f'what was delivered is {self.source(fault, *fault.differ[0])}'
 
     def missed(self, fault: Fault) -> Iterator[str]:
         """The writes that a read misses, once each, and whether any read has met them."""
         versions = {id(it.write): it for _, it, _ in reversed(fault.differ) if it.write}
         for version in reversed(list(versions.values())):
             yield f'it misses the write delivered at line {version.write.line}: {version.write.text}'
-            right = [it for it in version.read_at if it > fault.line]
-            if right:
-                yield f'    which the read delivered at line {right[0]} holds: so this read was wrong, not the write'
-            elif not version.read_at:
-                yield '    which no read holds: the write was lost or went elsewhere, or each read of it was wrong'
+            if version.read_at:
+                right = version.read_at[-1]
+                yield f'    which the read delivered at line {right} holds: so this read is wrong, not the write'
+            else:
+                yield '    which no read holds: the write was lost or went elsewhere, or each read of it is wrong'
 
-    def source(self, fault: Fault, sector: int, found: bytes) -> str:
+    def source(self, fault: Fault, sector: int, held: Version, found: bytes) -> str:
         """Where the bytes come from that were delivered for a sector: from what stood there before, from a write that
-        failed there, or from another sector."""
-        for version in reversed(self.held(fault.disk, sector)[:-1]):
+        failed there or came later, or from another sector."""
+        versions = self.held(fault.disk, sector)
+        for version in reversed(versions[:versions.index(held)]):
             if version.data == found:
                 write = version.write
                 return f'what the write delivered at line {write.line} put there before' if write else START
         for write in reversed(self.writes.get(found, [])):
-            if write.line < fault.line and write.puts(fault.disk, sector) == found:
-                return f'what the write delivered at line {write.line} was to put there, which failed'
-        return self.elsewhere(fault, sector, found) or 'nothing that was written or stood anywhere'
+            if write.puts(fault.disk, sector) == found:
+                how = 'which failed there' if write.line < fault.line else 'which is later'
+                return f'what the write delivered at line {write.line}, {how}, was to put there'
+        return self.elsewhere(fault, sector, found) or 'nothing that was written or stood anywhere before'
 
     def elsewhere(self, fault: Fault, sector: int, found: bytes) -> str:
         """The nearest other sector that held these bytes."""
-        places = [key for key, versions in self.versions.items() if any(it.data == found for it in versions)]
+        places = [key for key, versions in self.versions.items() if any(it.is_before(fault, found) for it in versions)]
         near = min(places, key=lambda key: (key[0] != fault.disk, abs(key[1] - sector)), default=None)
         if near is None:
             return ''
