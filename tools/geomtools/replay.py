@@ -41,8 +41,8 @@ class Replay:
             self.writer_came = f'a writer came to it at line {self.line}{by}'
         if taste and not self.world.taste:
             why = f'{self.writer_came}, and then one judge ends it' if taste.consumer.is_marked else end
-            name = taste.provider.name
-            self.last_taste = [f'the last taste was of {name}, from line {self.begun} to line {self.line}', f'    {why}']
+            span = f'from line {self.begun} to line {self.line}'
+            self.last_taste = [f'the last taste was of {taste.provider.name}, {span}', f'    {why}']
         self.line += 1
 
     # Words

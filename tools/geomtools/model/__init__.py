@@ -3,8 +3,9 @@ the rules of docs/PROFILE.md, has all of the profile, and shares nothing with th
 a walk over plain lists.
 
 `Mesh` is the mesh of a plan, one step at a time: `possible` tells which steps could be made, `against` what is against
-one, and `make` makes it. A plan may have no commands, which `give` brings then. `Disks` is what the disks hold, and
-`orders` has runs of whole plans.
+one, and `make` makes it, also the answer of a disk. So something that runs can be followed while it runs: a plan may
+have disks and actors alone, `give` brings each command when it comes, and `replies` has the answers. `Disks` is what
+the disks hold, and `orders` has runs of whole plans.
 """
 from geomtools.model.counts import NOTHING, total
 from geomtools.model.disks import Disks

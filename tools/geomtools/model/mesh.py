@@ -28,6 +28,11 @@ class Mesh:
         self.commands.append(command)
         self.world.left[actor].append(command)
 
+    @property
+    def replies(self) -> dict[int, str]:
+        """The answers so far, by the lines of their commands."""
+        return self.world.replies
+
     # What is possible
 
     def against(self, seat: int, step: Step) -> Optional[str]:
