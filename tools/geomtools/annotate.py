@@ -1,5 +1,5 @@
 """annotate SCRIPT REPORT: each answer beside its command, and for an EPERM who holds what."""
-from geomtools import files, grammar, reports, scripts
+from geomtools import expectations, files, grammar, reports, scripts
 from geomtools.holders import Handle, Holders, meet, stand_against
 
 COMMAND_ROOM, ANSWER_ROOM = 56, 56
@@ -14,7 +14,7 @@ def add_words(parser):
 
 def read(script, report):
     """The text of a script, its plan, its replies, and the lines of the report behind them."""
-    text = files.read_text(script)
+    text = expectations.plain(files.read_text(script))
     fault = grammar.answer(text.encode(errors='surrogateescape'))
     if fault:
         raise files.Stop(f"{script} isn't a script: {fault[1]}")

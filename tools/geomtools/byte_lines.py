@@ -2,7 +2,7 @@
 import itertools
 
 from geomtools import files, grammar, runs
-from geomtools.limits import MAX_REQUEST_BYTES, MAX_WRITE_LINE_BYTES
+from geomtools.limits import MAX_REQUEST_BYTES, MAX_SCRIPT_BYTES, MAX_SCRIPT_LINES, MAX_WRITE_LINE_BYTES
 
 
 def add_words(parser):
@@ -29,6 +29,17 @@ def lines_of(data, actor, handle, offset, sector):
         at += fitting[-1]
 
 
+def bytes_that_fit(lines, sector):
+    """How many bytes the first of these lines write that a script has room for, behind five lines of a header."""
+    size, written = 255 * 5, 0
+    for count, line in enumerate(lines, 6):
+        size += len(line) + 1
+        if size > MAX_SCRIPT_BYTES or count > MAX_SCRIPT_LINES:
+            break
+        written += sum(int(word.split('*')[1]) for word in line.split(' ')[4:])
+    return written // sector * sector
+
+
 def main(given):
     if given.offset < 0 or given.offset % given.sector:
         raise files.Stop(f'--offset is in whole sectors of {given.sector} bytes', 2)
@@ -38,6 +49,10 @@ def main(given):
     data = files.read_bytes(given.file)
     more = -len(data) % given.sector
     lines = list(lines_of(data + bytes(more), given.actor, given.handle, given.offset, given.sector))
+    fitting = bytes_that_fit(lines, given.sector)
+    if fitting < len(data):
+        raise files.Stop(f'a script has at most {MAX_SCRIPT_LINES} lines and {MAX_SCRIPT_BYTES} bytes; of these {len(data)} '
+                         f'bytes the first {fitting} fit, so put the others into an image')
     if more:
         lines.insert(0, f'# {len(data)} bytes, and {more} zeros to the end of the last sector')
     for line in lines:

@@ -1,5 +1,5 @@
-"""Files that the tools read, and how a tool ends that can't go on."""
-import pathlib, sys
+"""Files that the tools read and write, and how a tool ends that can't go on."""
+import os, pathlib, sys
 
 
 class Stop(Exception):
@@ -23,3 +23,39 @@ def read_bytes(path):
 def read_text(path):
     """The same as a text, in which a byte that isn't of one stands for itself."""
     return read_bytes(path).decode(errors='surrogateescape')
+
+
+def write_text(path, text):
+    """Writes a file."""
+    try:
+        pathlib.Path(path).write_text(text)
+    except OSError as error:
+        raise Stop(f'{path}: {error.strerror}', 2) from error
+
+
+def drop_output():
+    """What is printed from here on goes nowhere, so that nothing fails once more where the tool ends."""
+    sys.stdout = open(os.devnull, 'w')
+
+
+def ended(name, tool):
+    """The status with which a tool of this name ends: 2 where its output can't be written."""
+    if sys.stdout is None:
+        print(f'{name}: standard output is closed', file=sys.stderr)
+        return 2
+    sys.stdout.reconfigure(errors='surrogateescape')
+    try:
+        status = tool()
+        sys.stdout.flush()
+        return status
+    except Stop as stop:
+        sys.stdout.flush()
+        print(f'{name}: {stop}', file=sys.stderr)
+        return stop.status
+    except BrokenPipeError:
+        drop_output()
+        return 1
+    except OSError as error:
+        drop_output()
+        print(f'{name}: {error.strerror or error}', file=sys.stderr)
+        return 2

@@ -1,5 +1,5 @@
-"""images FOLDER: the partition tables and records of the image files (*.img) of a folder, with their offsets."""
-import collections, os, pathlib
+"""images [PATH]: the partition tables and records of an image, or of the images (*.img) of a folder, with their offsets."""
+import collections, os, pathlib, sys
 
 from geomtools import files, tables
 from geomtools.limits import MAX_LINKS, UNTASTED_RANK
@@ -12,7 +12,7 @@ NAME_MOST = 63
 
 
 def add_words(parser):
-    parser.add_argument('folder', nargs='?', default='.', help='the folder of the images (this one)')
+    parser.add_argument('path', nargs='*', default=['.'], help='an image, or a folder of images (this folder)')
     parser.add_argument('--sector', type=int, choices=(512, 4096), help='look for sectors of this size alone')
 
 
@@ -171,12 +171,26 @@ def told(path, sizes=(512, 4096)):
         yield '  not one or more whole sectors'
 
 
+def images_of(path):
+    """The images at a path: it alone, or those of a folder. What is named as one and isn't a file is told."""
+    if not os.path.isdir(path):
+        if not os.path.exists(path):
+            raise files.Stop(f'{path}: there is no such file', 2)
+        yield pathlib.Path(path)
+        return
+    for it in sorted(pathlib.Path(path).glob('*.img')):
+        if it.is_file():
+            yield it
+        else:
+            print(f'geom images: {it} is passed over: it is no file', file=sys.stderr)
+
+
 def main(given):
-    if not os.path.isdir(given.folder):
-        raise files.Stop(f'{given.folder} is no folder', 2)
     sizes = (given.sector,) if given.sector else (512, 4096)
-    for path in sorted(pathlib.Path(given.folder).glob('*.img')):
-        if path.is_file():
-            for line in told(path, sizes):
+    for path in given.path:
+        for image in images_of(path):
+            if not image.is_file():
+                raise files.Stop(f'{image} is no file', 2)
+            for line in told(image, sizes):
                 print(line)
     return 0

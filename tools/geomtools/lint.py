@@ -1,5 +1,5 @@
 """lint SCRIPT: every fault of a script, with its line and column, what stands there and what was wanted."""
-from geomtools import files, grammar
+from geomtools import expectations, files, grammar
 from geomtools.limits import MAX_SCRIPT_BYTES
 
 WHOLE_LINE = ('lines', 'long', 'byte', 'space')
@@ -27,6 +27,7 @@ def messages(name, text):
 
 
 def main(given):
-    found = list(messages(given.script, files.read_bytes(given.script)))
+    text = expectations.plain(files.read_text(given.script)).encode(errors='surrogateescape')
+    found = list(messages(given.script, text))
     print(*found, f'{len(found)} fault' + 's' * (len(found) != 1), sep='\n')
     return 1 if found else 0

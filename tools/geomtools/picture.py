@@ -1,28 +1,15 @@
 """picture REPORT: the mesh of a report as a picture (SVG), which graphviz's dot draws."""
 import shutil, subprocess
 
-from geomtools import files, reports
+from geomtools import files, reports, trees
 
 HEAD = ('digraph mesh {', '    rankdir=BT', '    node [fontname="sans-serif", fontsize=11]',
         '    edge [fontname="sans-serif", fontsize=10]')
 
 
 def add_words(parser):
-    parser.add_argument('report', help='what the program printed, a report or a trace, or - for standard input')
-    parser.add_argument('--line', type=int, metavar='N',
-                        help='the mesh that the command of line N printed, and not the last one')
+    trees.add_words(parser)
     parser.add_argument('--dot', action='store_true', help='print the text for dot, and draw nothing')
-
-
-def mesh_of(name, text, line):
-    """The geoms of the last mesh of a report that is in a file of this name, or of the mesh of a line."""
-    meshes = reports.meshes_of(text.splitlines())
-    if meshes is None:
-        raise files.Stop(f"{name} isn't a report")
-    if line is not None and line not in meshes:
-        raise files.Stop(f'{name} has no answer to line {line}')
-    lines = meshes[max(meshes) if line is None else line]
-    return reports.geoms_of(reports.last_mesh(lines) if line is None else lines)
 
 
 def attributes(**given):
@@ -71,6 +58,6 @@ def drawn(text):
 
 
 def main(given):
-    text = dot_text(mesh_of(given.report, reports.report_of(files.read_text(given.report)), given.line))
+    text = dot_text(trees.mesh_of(given.report, files.read_text(given.report), given.line))
     print(text if given.dot else drawn(text), end='')
     return 0

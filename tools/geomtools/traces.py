@@ -128,15 +128,24 @@ def read(text: str) -> Trace:
     return Trace(reader.script, plan, steps, text[reader.at:])
 
 
-def read_file(path: str) -> Trace:
-    """The trace in a file; where there is none the tool ends."""
-    text = files.read_text(path)
+def is_trace(text: str) -> bool:
+    """Whether a text is meant as a trace: it has the mark of a report."""
+    return f'\n{REPORT}\n' in '\n' + text
+
+
+def read_named(name: str, text: str) -> Trace:
+    """The trace that the text of a file of this name is; where it is none the tool ends."""
     if len(text) > MAX_TRACE_BYTES:
-        print(f'{path}: more than {MAX_TRACE_BYTES} bytes, so that verify answers: script too long', file=sys.stderr)
+        print(f'{name}: more than {MAX_TRACE_BYTES} bytes, so that verify answers: script too long', file=sys.stderr)
     try:
         return read(text)
     except NoTrace as fault:
-        raise files.Stop(f"{path} isn't a trace: {fault}", 2) from fault
+        raise files.Stop(f"{name} isn't a trace: {fault}", 2) from fault
+
+
+def read_file(path: str) -> Trace:
+    """The trace in a file."""
+    return read_named(path, files.read_text(path))
 
 
 def read_printed(text: str, script: str, plan: Plan) -> Optional[Trace]:

@@ -3,8 +3,8 @@ use Rattle.std.specs.Prelude.{◌≡◌, ℕ, true, List, Option, length, is_non
 use Rattle.std.specs.List.{list_any}
 use Rattle.geo_model.specs.Acceptance.{smallest}
 use Rattle.geo_model.specs.World.{Config, Nothing, Disk, Mbr, Ebr, Label, Concat, Stripe, Nop}
-use Rattle.geo_concat.specs.ConcatMap.{ConcatView}
-use Rattle.geo_stripe.specs.StripeMap.{StripeView}
+use Rattle.geo_class.specs.concat.ConcatMap.{ConcatView}
+use Rattle.geo_class.specs.stripe.StripeMap.{StripeView}
 use Rattle.geo_class.specs.Places.{PlacesView}
 use Rattle.geo_class.specs.declared.config.Layout.{Layout}
 use Rattle.geo_class.specs.declared.config.Layout.TheVariants as layouts

@@ -6,3 +6,11 @@ pub mod Taste
 pub mod Cover
 pub mod Following
 pub mod Targets
+pub mod PieceList
+pub mod Window
+pub mod WindowLaws
+pub mod Head
+pub mod label
+pub mod ebr
+pub mod concat
+pub mod stripe

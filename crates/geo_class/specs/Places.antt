@@ -2,7 +2,7 @@
 use Rattle.std.specs.Prelude.{◌≡◌, ℕ, ◌<◌, ◌≤◌, List, Option, length}
 use Rattle.geo_model.specs.TheConstants.{MAX_COMPONENTS, MAX_MEDIA_BYTES}
 use Rattle.geo_model.specs.Acceptance.{smallest}
-use Rattle.geo_stripe.specs.StripeMap.{striped_size}
+use Rattle.geo_class.specs.stripe.StripeMap.{striped_size}
 
 -- the consumer that fills each place, and the size of its component, 0 before
 pub record PlacesView : Type 0 where

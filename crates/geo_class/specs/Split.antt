@@ -7,7 +7,7 @@ use Rattle.geo_model.specs.Place.{slice_at, part_at}
 use Rattle.geo_model.specs.Topology.{Provider}
 use Rattle.geo_class.specs.declared.split.Media.{Media}
 use Rattle.geo_model.specs.World.{Config, Mbr, Ebr, Label, Concat, Stripe, Nop}
-use Rattle.geo_stripe.specs.StripeMap.{striped_size}
+use Rattle.geo_class.specs.stripe.StripeMap.{striped_size}
 
 -- the map of the provider of a name covers so many bytes: a window ends by MAX_MEDIA_BYTES, an assembly is complete
 -- and as long

@@ -9,9 +9,7 @@ ghost use Rattle.geo_class.specs.Assembly.{CanGrow, allowed_size, standing};
 use crate::config::{Config, Layout};
 use crate::places::Places;
 use crate::sizes::{concat_size, stripe_size};
-use geo_concat::ConcatRecord;
-use geo_model::{ConsId, MAX_COMPONENTS, NoMemory};
-use geo_stripe::StripeRecord;
+use geo_model::{ConcatRecord, ConsId, MAX_COMPONENTS, NoMemory, StripeRecord};
 use std::alloc::Global;
 
 /// Whether a concat of these places can stand: one is free, or a provider may have its size.

@@ -8,13 +8,11 @@ ghost use Rattle.geo_class.specs.Assembly.{fail_of};
 ghost use Rattle.geo_class.specs.Layout.{HasItsMap, IsConcatMap, IsStripeMap, config_of};
 ghost use Rattle.geo_class.specs.Places.{ArePlaces, IsStriped};
 
+use crate::concat::ConcatMap;
 use crate::places::Places;
 use crate::sizes::smallest;
-use geo_concat::ConcatMap;
-use geo_ebr::EbrPart;
-use geo_mbr::Slice;
-use geo_model::{ConsId, MAX_LINKS, MAX_MEDIA_BYTES, NoMemory};
-use geo_stripe::StripeMap;
+use crate::stripe::StripeMap;
+use geo_model::{ConsId, EbrPart, MAX_LINKS, MAX_MEDIA_BYTES, NoMemory, Slice};
 use std::alloc::Global;
 use std::marker::Model;
 

@@ -1,5 +1,15 @@
-//! All classes behind one enum (geom(4)): what each asks for and says when a provider is tasted, and where its
-//! providers lie.
+//! The classes (geom(4)): where a provider of each lies below it, what it keeps in sectors, and what it asks for and
+//! says when a provider is tasted; and all of them behind one enum.
+//!
+//! One folder a class has its map, its record or table, and their laws: [`nop`], [`label`], [`mbr`], [`ebr`],
+//! [`concat`] and [`stripe`]. They share what stands beside the folders. [`AddressMap`] is the trait of all maps;
+//! contracts see a map by its ghost members: its size (`media`), its sector size, where an offset lies (`spot`), and
+//! the stretches of a range, each of which lies in one component (`stretches`). [`AddressMap::split`] is the model's
+//! `cut` at the ends of these stretches. The laws of the trait say that pieces follow each other over the request
+//! (`pieces_follow`), and that each of their bytes lies where the map says (`pieces_are_placed`). [`Window`] is the map
+//! of a provider that lies in component 0 as a whole. A [`PieceList`] is seen as its pieces and its room. The heads and
+//! fields of records ([`decode_head`], [`encode_head`]) and the entries of partition tables are exact; all their
+//! numbers are little-endian.
 //!
 //! Contracts see a [`Config`] as the model's configuration, and a [`Taste`] as the model's taste. A [`Config`] keeps
 //! the map of a concat or a stripe as soon as no place is free; that shows in no contract.
@@ -16,22 +26,40 @@
 //! [`Taste::judge_back`] tells the verdict on the sector that is back, EBR's with the links that were read, and
 //! leaves the taste that the model's step leaves ([`laws::tastes_follow`]). After `NoMemory` nothing is changed.
 //!
-//! geo_taste and geo_commands make geoms by it, geo_requests splits requests, and geo_state keeps the taste under
-//! way. Tests stand in geo_tests_core. Read `src/config.rt` and `src/verdict.rt` first.
+//! geo_bio keeps lists of pieces, geo_taste and geo_commands make geoms by it, geo_requests splits requests and writes
+//! records, and geo_state keeps the taste under way. Tests stand in geo_tests_low, class by class, and in
+//! geo_tests_core. Read `src/address_map.rt`, `src/config.rt` and `src/verdict.rt` first.
 #![tactic(auto)]
 
+mod address_map;
 mod assembly;
+mod component;
+pub mod concat;
 mod config;
+pub mod ebr;
+mod entry;
+mod field;
+mod head;
+pub mod label;
 pub mod laws;
+pub mod mbr;
+pub mod nop;
+mod piece_list;
 mod places;
 mod sizes;
 mod split;
+pub mod stripe;
 mod taste;
 mod verdict;
+mod window;
 
+pub use address_map::AddressMap;
 pub use config::Config;
-pub use geo_model::{Facts, Shape, Verdict};
+pub use geo_model::{Facts, Piece, Shape, Span, Stretch, Verdict};
+pub use head::{decode_head, encode_head};
+pub use piece_list::PieceList;
 pub use sizes::{concat_size, stripe_size};
 pub use split::Media;
 pub use taste::{Asked, Taste};
 pub use verdict::{judge, taste_where};
+pub use window::Window;

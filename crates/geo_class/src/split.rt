@@ -6,20 +6,20 @@ ghost use Rattle.geo_model.specs.Bios.{empty_piece};
 ghost use Rattle.geo_model.specs.Place.{components, concat_stretches, cut, end_number, part_at, pieces, slice_at, slice_place, strips, window};
 ghost use Rattle.geo_model.specs.ScriptWords.{is_digit};
 ghost use Rattle.geo_model.specs.Topology.{Provider};
-ghost use Rattle.geo_stripe.specs.StripeMap.{striped_size};
+ghost use Rattle.geo_class.specs.stripe.StripeMap.{striped_size};
 ghost use Rattle.geo_class.specs.Layout.{HasItsMap, config_of};
 ghost use Rattle.geo_class.specs.Targets.{consumers_for};
 ghost use Rattle.geo_class.specs.Split.{Covers, provider_of};
 
+use crate::address_map::AddressMap;
+use crate::concat::ConcatMap;
 use crate::config::{Config, Layout};
-use geo_concat::ConcatMap;
-use geo_ebr::EbrPart;
-use geo_label::LabelMap;
-use geo_mbr::Slice;
-use geo_model::{ConsId, MAX_LINKS, MAX_MEDIA_BYTES, Name, NoMemory};
-use geo_nop::NopMap;
-use geo_range::{AddressMap, Piece, PieceList, Span, Window};
-use geo_stripe::StripeMap;
+use crate::label::LabelMap;
+use crate::nop::NopMap;
+use crate::piece_list::PieceList;
+use crate::stripe::StripeMap;
+use crate::window::Window;
+use geo_model::{ConsId, EbrPart, MAX_LINKS, MAX_MEDIA_BYTES, Name, NoMemory, Piece, Slice, Span};
 use std::alloc::Global;
 
 /// The size of a sector of a partition table.

@@ -8,11 +8,11 @@ ghost use Rattle.geo_model.specs.Events.{tasting_classes};
 ghost use Rattle.geo_model.specs.Tasting.{verdict_on};
 ghost use Rattle.geo_model.specs.World.{NoClass, ReadBack, ReadOut, NextSector, is_read_out};
 ghost use Rattle.geo_model.specs.declared.step.BioResult.TheVariants.{Bytes as BytesValue};
-ghost use Rattle.geo_ebr.specs.ChainView.{chain_after, link_verdict};
+ghost use Rattle.geo_class.specs.ebr.ChainView.{chain_after, link_verdict};
 ghost use Rattle.geo_class.specs.Taste.{after_back, after_verdict, asked_of, chain_with, ended, sector_back, settled, verdict_back, verdict_with, weighed, with_link_of, with_next};
 
+use crate::ebr::{Chain, Link};
 use crate::verdict::judge;
-use geo_ebr::{Chain, Link};
 use geo_model::{BioResult, ConsId, Facts, Kind, ProvId, Shape, SharedBytes, Verdict};
 use std::marker::Model;
 

@@ -3,8 +3,9 @@ ghost use Rattle.std.specs.Prelude.{◌≡◌, ◌≤◌, ◌*◌, length};
 ghost use Rattle.geo_model.specs.Kind.TheVariants as kinds;
 ghost use Rattle.geo_model.specs.Acceptance.{is_other_size, judge, label_verdict, taste_where, verdict_of};
 ghost use Rattle.geo_model.specs.declared.class.Shape.TheVariants.{Slices, Joined, Striped};
-ghost use Rattle.geo_record.specs.Head.{decoder_answer};
+ghost use Rattle.geo_class.specs.Head.{decoder_answer};
 
+use crate::{concat, label, mbr, stripe};
 use geo_model::{
     ConcatRecord, DeclineCause, Declined, Facts, Kind, LabelRecord, MbrTable, Shape, StripeRecord,
     Verdict,
@@ -103,10 +104,10 @@ pub fn judge(kind: Kind, sector: &[u8], facts: &Facts) -> Verdict
     ensures { result ≡ judge kind sector.now facts.now }
 {
     match kind {
-        Kind::Mbr => verdict_on_table(geo_mbr::decode(sector, facts.sectors)),
-        Kind::Label => verdict_on_label(geo_label::decode(sector), facts),
-        Kind::Concat => verdict_on_concat(geo_concat::decode(sector)),
-        Kind::Stripe => verdict_on_stripe(geo_stripe::decode(sector)),
+        Kind::Mbr => verdict_on_table(mbr::decode(sector, facts.sectors)),
+        Kind::Label => verdict_on_label(label::decode(sector), facts),
+        Kind::Concat => verdict_on_concat(concat::decode(sector)),
+        Kind::Stripe => verdict_on_stripe(stripe::decode(sector)),
         _ => Verdict::Decline(DeclineCause::Magic),
     }
 }

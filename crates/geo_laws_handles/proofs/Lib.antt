@@ -2,7 +2,6 @@ pub mod Handles
 pub mod Released
 pub mod Closed
 pub mod Reaped
-pub mod Used
 pub mod Opened
 pub mod Opening
 pub mod Left

@@ -20,7 +20,7 @@ use Rattle.geo_laws_life.specs.EffectLaws.{Lives}
 use Rattle.geo_laws_life.proofs.Announced.{announces_keep}
 use Rattle.geo_laws_life.proofs.Found.{found-with, some-there}
 use Rattle.geo_laws_handles.specs.OpenLaws.{OpensStayFirm}
-use Rattle.geo_laws_handles.proofs.Used.{number_firm}
+use Rattle.geo_laws_life.proofs.UsedNumber.{number_firm}
 use Rattle.geo_laws_handles.proofs.Opened.{agree, granted, opened-firm}
 
 -- a new handle

@@ -16,3 +16,4 @@ pub mod Announced
 pub mod Begun
 pub mod Removals
 pub mod Washed
+pub mod UsedNumber

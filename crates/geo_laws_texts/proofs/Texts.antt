@@ -30,7 +30,7 @@ three_draws : (n x : ℕ) → draws (3 * suc n) x
 three_draws n x = ap (λ k. draws k x) (let e : 3 * suc n ≡ suc (suc (suc (3 * n))) = omega arith in e)
 
 -- where a text is cut at its line feeds, those of the lines come out
-cut_drawn : (i n x : ℕ) → slice_split (λ b. b == 10) (drawn_lines i (draws (3 * n) x))
+pub cut_drawn : (i n x : ℕ) → slice_split (λ b. b == 10) (drawn_lines i (draws (3 * n) x))
     ≡ drawn_texts i n x ++ [] ∷ []
 cut_drawn i zero x = refl
 cut_drawn i (suc n) x =
@@ -46,7 +46,7 @@ cut_drawn i (suc n) x =
     ∙ ap (λ ts. drawn_text i d1 d2 d3 ∷ ts) (cut_drawn (i + 1) n y)
 
 -- the empty end goes
-drop_end : (i n x : ℕ) → drop_empty_end (drawn_texts i n x ++ [] ∷ []) ≡ drawn_texts i n x
+pub drop_end : (i n x : ℕ) → drop_empty_end (drawn_texts i n x ++ [] ∷ []) ≡ drawn_texts i n x
 drop_end i zero x = refl
 drop_end i (suc n) x =
     by (drawn_text i d1 d2 d3) (drawn_texts (i + 1) n y ++ [] ∷ []) (drawn_line i d1 d2 d3).not_empty
@@ -77,7 +77,7 @@ pub record GoesOn (plan : Plan) (from : ℕ) (lines : List (List ℕ)) (count : 
   pub commands : length then_plan.commands ≡ length plan.commands + count
 
 -- the lines that are drawn add a command each
-draws_add : (plan : Plan) (from i n x : ℕ) → plan.actors ≡ four_actors → from + n ≤ MAX_SCRIPT_LINES + 1
+pub draws_add : (plan : Plan) (from i n x : ℕ) → plan.actors ≡ four_actors → from + n ≤ MAX_SCRIPT_LINES + 1
     → GoesOn plan from (drawn_texts i n x) n
 draws_add plan from i zero x are few = record {
   then_plan = plan;

@@ -9,9 +9,8 @@ ghost use Rattle.geo_requests.specs.Ways.{CanBeCut, IsCut, through};
 
 use geo_base::{BioCmd, ConsId, NoMemory, ProvId};
 use geo_bio::{Bio, Targets};
-use geo_class::{Config, Media};
+use geo_class::{Config, Media, PieceList};
 use geo_mesh::{ProvRec, Topo};
-use geo_range::PieceList;
 use std::alloc::Global;
 
 /// The pieces of a request, and for each the consumer through which it goes down and the provider to which it goes.

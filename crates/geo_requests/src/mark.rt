@@ -8,7 +8,7 @@ ghost use Rattle.geo_handles.specs.Handles.{named_handle};
 ghost use Rattle.geo_requests.specs.Asked.{IsShortMark, mark_bytes, media_sizes, provider_attached};
 
 use geo_base::{Block, ConsId, Name, NoMemory, ProvId};
-use geo_class::Config;
+use geo_class::{Config, concat, label, stripe};
 use geo_handles::Handles;
 use geo_mesh::Topo;
 use geo_model::{ConcatRecord, LabelRecord, StripeRecord};
@@ -90,7 +90,7 @@ fn encode_label(name: Name, size: Option<u64>, block: &mut Block)
     ensures block { block.new ≡ label_sector (length block.old) (record { name = name; size = size }) }
     ensures len { length block.new ≡ length block.old }
 {
-    geo_label::encode(&LabelRecord { name, size }, block.bytes_mut());
+    label::encode(&LabelRecord { name, size }, block.bytes_mut());
 }
 
 // Fills a block with a place of a concat.
@@ -100,7 +100,7 @@ fn encode_concat(part: &ConcatRecord, block: &mut Block)
     ensures block { block.new ≡ concat_sector (length block.old) part.now }
     ensures len { length block.new ≡ length block.old }
 {
-    geo_concat::encode(part, block.bytes_mut());
+    concat::encode(part, block.bytes_mut());
 }
 
 // Fills a block with a place of a stripe.
@@ -110,5 +110,5 @@ fn encode_stripe(part: &StripeRecord, block: &mut Block)
     ensures block { block.new ≡ stripe_sector (length block.old) part.now }
     ensures len { length block.new ≡ length block.old }
 {
-    geo_stripe::encode(part, block.bytes_mut());
+    stripe::encode(part, block.bytes_mut());
 }

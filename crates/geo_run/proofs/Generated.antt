@@ -1,99 +1,21 @@
 -- The disks of each generated script are in memory.
-use Rattle.std.specs.Prelude.{All, false, ◌≡◌, ℕ, zero, suc, ◌+◌, ◌*◌, ◌≤◌, ◌==◌, true, List, [], ◌∷◌, ◌++◌, length, codes, fold, Ok, Err, Result, is_ok}
+use Rattle.std.specs.Prelude.{All, false, ◌≡◌, ℕ, ◌+◌, ◌*◌, ◌==◌, true, List, [], ◌∷◌, ◌++◌, codes, fold, Ok, Err, Result, is_ok}
 use Rattle.std.specs.Fmt.{digits}
 use Rattle.std.specs.List.{enumerate_from, slice_split, AllByRecursion}
 use Rattle.std.proofs.Common.{refl, ◌∙◌, ap, arith, sym, subst, rules}
-use Rattle.std.proofs.lemmas.List.{append_assoc, length-append}
-use Rattle.std.proofs.lemmas.List.Splits.{slice_split_at}
 use Rattle.std.proofs.lemmas.List.Sums.{fold-append}
 use Rattle.geo_model.specs.declared.command.DiskDecl.{DiskDecl}
 use Rattle.geo_model.specs.World.{Plan}
 use Rattle.geo_headline.specs.Outside.{IsShelf}
 use Rattle.std.proofs.lemmas.List.Elements.{All-from_recursion}
-use Rattle.geo_base.specs.declared.limits.TheConstants.{MAX_SCRIPT_LINES}
-use Rattle.geo_model.specs.Generator.{actor_lines, disk_lines, drawn_lines, draws, draw_value, first_lines, generated, next_draw}
+use Rattle.geo_model.specs.Generator.{actor_lines, disk_lines, drawn_lines, draws, first_lines, generated}
 use Rattle.geo_headline.specs.Modes.{GenMode, IsMode}
 use Rattle.geo_model.specs.Script.{Fault, drop_empty_end, empty_plan, lines_of, next_line, script}
-use Rattle.geo_laws_texts.proofs.Lines.{AddsCommand, drawn_line, drawn_text, four_actors}
-
--- the lines that are drawn from a number, as texts
-abbrev drawn_texts : ℕ → ℕ → ℕ → List (List ℕ)
-drawn_texts i zero x = []
-drawn_texts i (suc n) x =
-    drawn_text i (draw_value (next_draw x)) (draw_value (next_draw (next_draw x)))
-    (draw_value (next_draw (next_draw (next_draw x))))
-    ∷ drawn_texts (i + 1) n (next_draw (next_draw (next_draw x)))
-
--- three draws more
-three_draws : (n x : ℕ) → draws (3 * suc n) x
-    ≡ draw_value (next_draw x) ∷ draw_value (next_draw (next_draw x))
-    ∷ draw_value (next_draw (next_draw (next_draw x))) ∷ draws (3 * n) (next_draw (next_draw (next_draw x)))
-three_draws n x = ap (λ k. draws k x) (let e : 3 * suc n ≡ suc (suc (suc (3 * n))) = omega arith in e)
-
--- where a text is cut at its line feeds, those of the lines come out
-cut_drawn : (i n x : ℕ) → slice_split (λ b. b == 10) (drawn_lines i (draws (3 * n) x))
-    ≡ drawn_texts i n x ++ [] ∷ []
-cut_drawn i zero x = refl
-cut_drawn i (suc n) x =
-    let d1 = draw_value (next_draw x) in
-    let d2 = draw_value (next_draw (next_draw x)) in
-    let d3 = draw_value (next_draw (next_draw (next_draw x))) in
-    let y = next_draw (next_draw (next_draw x)) in
-    ap (λ ds. slice_split (λ b. b == 10) (drawn_lines i ds)) (three_draws n x)
-    ∙ ap (λ t. slice_split (λ b. b == 10) t)
-    (append_assoc (drawn_text i d1 d2 d3) (10 ∷ []) (drawn_lines (i + 1) (draws (3 * n) y)))
-    ∙ slice_split_at (λ b. b == 10) (drawn_text i d1 d2 d3) 10 (drawn_lines (i + 1) (draws (3 * n) y))
-    (drawn_line i d1 d2 d3).no_feed refl
-    ∙ ap (λ ts. drawn_text i d1 d2 d3 ∷ ts) (cut_drawn (i + 1) n y)
-
--- the empty end goes
-drop_end : (i n x : ℕ) → drop_empty_end (drawn_texts i n x ++ [] ∷ []) ≡ drawn_texts i n x
-drop_end i zero x = refl
-drop_end i (suc n) x = search (rules, drop_end (i + 1) n)
-
--- a plan that goes on from another by so many commands
-record GoesOn (plan : Plan) (from : ℕ) (lines : List (List ℕ)) (count : ℕ) : Type 0 where
-  then_plan : Plan
-  is : fold next_line (Ok plan) (enumerate_from from lines) ≡ Ok then_plan
-  disks : then_plan.disks ≡ plan.disks
-  actors : then_plan.actors ≡ plan.actors
-  commands : length then_plan.commands ≡ length plan.commands + count
-
--- the lines that are drawn add a command each
-draws_add : (plan : Plan) (from i n x : ℕ) → plan.actors ≡ four_actors → from + n ≤ MAX_SCRIPT_LINES + 1
-    → GoesOn plan from (drawn_texts i n x) n
-draws_add plan from i zero x are few = search rules
-draws_add plan from i (suc n) x are few =
-    let d1 = draw_value (next_draw x) in
-    let d2 = draw_value (next_draw (next_draw x)) in
-    let d3 = draw_value (next_draw (next_draw (next_draw x))) in
-    let line : AddsCommand (drawn_text i d1 d2 d3) = drawn_line i d1 d2 d3 in
-    let next : Plan = record plan {
-      commands = plan.commands ++ record { line = from; actor = line.actor; command = line.command } ∷ [];
-    } in
-    let rest : GoesOn next (from + 1) (drawn_texts (i + 1) n (next_draw (next_draw (next_draw x)))) n =
-    draws_add next (from + 1) (i + 1) n (next_draw (next_draw (next_draw x))) are (omega (arith, few)) in
-    let one : next_line (Ok plan) (from, drawn_text i d1 d2 d3) ≡ Ok next =
-    rw (line.shown, line.adds plan from (omega (arith, few)) are) refl in
-    record {
-      then_plan = rest.then_plan;
-      is = ap (λ r. fold next_line r
-          (enumerate_from (from + 1) (drawn_texts (i + 1) n (next_draw (next_draw (next_draw x)))))) one ∙ rest.is;
-      disks = rest.disks;
-      actors = rest.actors;
-      commands =
-          let longer = length-append plan.commands
-          (record { line = from; actor = line.actor; command = line.command } ∷ []) in
-          omega (arith, rest.commands, longer);
-    }
+use Rattle.geo_base.proofs.PlaceLists.{numbered_both}
+use Rattle.geo_laws_texts.proofs.Texts.{GoesOn, cut_drawn, draws_add, drawn_texts, drop_end}
+use Rattle.geo_laws_texts.proofs.Lines.{four_actors}
 
 -- The lines that come first
-
--- numbered texts in a row
-numbered_both : (n : ℕ) (xs ys : List (List ℕ))
-    → enumerate_from n (xs ++ ys) ≡ enumerate_from n xs ++ enumerate_from (n + length xs) ys
-numbered_both n [] ys = ap (λ k. enumerate_from k ys) (let e : n ≡ n + 0 = omega arith in e)
-numbered_both n (x ∷ xs) ys = search (rules, numbered_both (n + 1) xs ys)
 
 -- their texts
 abbrev first_texts : List (List ℕ)

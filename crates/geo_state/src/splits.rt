@@ -14,9 +14,8 @@ use crate::Targets;
 use crate::bios::{MOST_OUT, has_count};
 use crate::state::State;
 use geo_base::{BioId, ConsId, NoMemory, ProvId};
-use geo_class::Config;
+use geo_class::{Config, PieceList};
 use geo_mesh::Topo;
-use geo_range::PieceList;
 use std::alloc::Global;
 
 /// A bio is split into children, one for each piece, in piece order, and waits for them. The first child's number is

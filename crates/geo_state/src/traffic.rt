@@ -17,7 +17,7 @@ use geo_base::{BioCmd, BioId, ConsId, Errno, NoMemory, ProvId, SharedBytes};
 use geo_bio::{
     Bio, BioResult, BioTable, Held, LogBytes, Owner, Phase, Risen, Span, Targets, copied_at,
 };
-use geo_range::PieceList;
+use geo_class::PieceList;
 use std::alloc::Global;
 use std::marker::Model;
 

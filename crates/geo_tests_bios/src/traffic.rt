@@ -5,9 +5,9 @@ ghost use Rattle.geo_bio.specs.BioTable.{has_phase};
 
 use crate::same::assert_same;
 use geo_base::{BioCmd, BioId, Block, ConsId, Errno, HandleId, NoMemory, ProvId, SharedBytes};
+use geo_class::PieceList;
 use geo_log::{DeviceResult, Entry, Log, Outcome, Step};
 use geo_model::Piece;
-use geo_range::PieceList;
 use geo_state::{BioResult, Owner, Phase, Risen, Span, Targets, Traffic};
 use std::alloc::Global;
 use std::test::Fail;

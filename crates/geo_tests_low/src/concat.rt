@@ -1,7 +1,8 @@
 use crate::same::assert_same;
 use geo_base::{DeclineCause, Name};
-use geo_concat::{ConcatMap, ConcatRecord, decode, encode};
-use geo_range::{AddressMap, Span};
+use geo_class::AddressMap;
+use geo_class::concat::{ConcatMap, decode, encode};
+use geo_model::{ConcatRecord, Span};
 use std::process::Abort;
 
 /// The sector of a record with this place and count.

@@ -2,8 +2,9 @@ ghost use Rattle.std.specs.Prelude.{◌<◌, ◌≤◌, length};
 
 use crate::same::assert_same;
 use geo_base::DeclineCause;
-use geo_ebr::{Chain, EbrMap, EbrTable, Link, Media, read_chain};
-use geo_range::{AddressMap, Span};
+use geo_class::AddressMap;
+use geo_class::ebr::{Chain, EbrMap, Link, Media, read_chain};
+use geo_model::{EbrTable, Span};
 use std::process::Abort;
 
 /// Writes an entry of this type, first sector and number of sectors.

@@ -2,8 +2,9 @@ ghost use Rattle.std.specs.Prelude.{◌≤◌, length};
 
 use crate::same::assert_same;
 use geo_base::{DeclineCause, Name};
-use geo_label::{LabelMap, LabelRecord, decode, encode};
-use geo_range::{AddressMap, Span};
+use geo_class::AddressMap;
+use geo_class::label::{LabelMap, decode, encode};
+use geo_model::{LabelRecord, Span};
 use std::process::Abort;
 
 /// The cause by which a sector is declined.

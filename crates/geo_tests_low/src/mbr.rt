@@ -2,8 +2,9 @@ ghost use Rattle.std.specs.Prelude.{◌<◌, ◌≤◌, length};
 
 use crate::same::assert_same;
 use geo_base::DeclineCause;
-use geo_mbr::{MbrMap, Slice, decode};
-use geo_range::{AddressMap, Span};
+use geo_class::AddressMap;
+use geo_class::mbr::{MbrMap, decode};
+use geo_model::{Slice, Span};
 use std::process::Abort;
 
 /// A sector with a signature, and one entry of this type, first sector and number of sectors.

@@ -1,6 +1,7 @@
 use crate::same::assert_same;
-use geo_nop::{NopMap, hits};
-use geo_range::{AddressMap, Piece, Span};
+use geo_class::AddressMap;
+use geo_class::nop::{NopMap, hits};
+use geo_model::{Piece, Span};
 
 #[test]
 fn a_window_of_two_sectors(rt: HostRuntime) {

@@ -2,7 +2,8 @@ ghost use Rattle.std.specs.Prelude.{◌<◌};
 
 use crate::same::assert_same;
 use geo_base::NoMemory;
-use geo_range::{AddressMap, Piece, PieceList, Span, Stretch, Window};
+use geo_class::{AddressMap, PieceList, Window};
+use geo_model::{Piece, Span, Stretch};
 use std::alloc::Global;
 
 /// The pieces of all of a provider.

@@ -1,6 +1,6 @@
 use crate::same::assert_same;
 use geo_base::{DeclineCause, Name};
-use geo_record::{decode_head, encode_head};
+use geo_class::{decode_head, encode_head};
 
 const MAGIC: [u8; 16] = *b"RGEOM::LABEL\0\0\0\0";
 

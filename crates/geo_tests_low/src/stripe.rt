@@ -1,7 +1,8 @@
 use crate::same::assert_same;
 use geo_base::{DeclineCause, Name};
-use geo_range::{AddressMap, Span};
-use geo_stripe::{StripeMap, StripeRecord, decode, encode};
+use geo_class::AddressMap;
+use geo_class::stripe::{StripeMap, decode, encode};
+use geo_model::{Span, StripeRecord};
 use std::process::Abort;
 
 /// The sector of a record with this place, count and stripe size.

@@ -1,2 +1,0 @@
-pub mod ConcatLemmas
-pub mod GrowthLemmas

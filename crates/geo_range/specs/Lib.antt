@@ -1,3 +1,0 @@
-pub mod PieceList
-pub mod Window
-pub mod WindowLaws

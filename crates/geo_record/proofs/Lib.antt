@@ -1,4 +1,0 @@
-pub mod FieldLemmas
-pub mod NameLemmas
-pub mod RecordLemmas
-pub mod AnswerLemmas
