@@ -1,4 +1,4 @@
-"""view TRACE: a page (HTML) that shows a trace step by step: the mesh, who holds what, requests, replies, and faults."""
+"""view TRACE: a page (HTML) that shows a trace step by step: the mesh, who holds what, requests and replies."""
 from __future__ import annotations
 
 import argparse, html, json, pathlib
