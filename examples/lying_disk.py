@@ -5,7 +5,7 @@ The same as ram_disk.py with two faults, each of which `geomrun verify` finds. I
 `no: line` with the line of the trace that can't be.
 
 What it can't find: that a disk answers other bytes than were written to it. A trace says what the disk answered, and
-that is believed; who tests a disk has to compare what it reads with what it wrote.
+that is believed; who tests a disk has to compare what it reads with what it wrote, as `tools/geom explain` does.
 """
 import sys
 

@@ -1,7 +1,14 @@
-"""Scripts that are drawn: those of `orders`, and those of many actors for `threads`."""
-from shared import drawing
+"""Scripts that are drawn, of requests that are out together and of many actors. Each has its text, and its images as
+bytes, by their names."""
+from shared import drawing, scripts
 
 COUNTS = ('r1w1e0',) * 8 + ('r1w0e0', 'r1w0e0', 'r0w1e0', 'r1w0e1', 'r2w1e1')
+
+
+def plan_of(script):
+    """The plan of a script that was drawn."""
+    sectors = {disk.name: disk.sector for disk in scripts.Plan(script.text()).disks}
+    return scripts.Plan(script.text(), {name: len(data) // sectors[name] for name, data in script.images.items()})
 
 
 class Script:
@@ -26,13 +33,17 @@ class Script:
         self.actors = ['a%d' % k for k in range(draw.randrange(*actors))]
         self.disks = ['md%d' % k for k in range(count)]
         sectors = {name: draw.randrange(8, 40) for name in self.disks}
-        self.images = {name: sectors[name] for name in self.disks if draw.random() < 0.2}
+        self.images = {name: self.image(name, sectors[name]) for name in self.disks if draw.random() < 0.2}
         for name in self.disks:
             self.lines.append('disk %s %d' % (name, self.sector) if name in self.images
                               else 'ram %s %d %d' % (name, self.sector, sectors[name]))
         self.lines[-1] += draw.choice(('', '', '', ' later'))
         self.lines += ['actor ' + name for name in self.actors]
         self.tops = list(self.disks)
+
+    def image(self, name, sectors):
+        """An image whose sectors have a byte each."""
+        return b''.join(bytes([(31 * k + ord(name[-1])) % 251]) * self.sector for k in range(sectors))
 
     def text(self):
         return '\n'.join(self.lines) + '\n'

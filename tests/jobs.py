@@ -4,7 +4,7 @@ With n actors the client of actor a has seat a + 1, the event worker n + 1, the 
 and the disk workers n + 4 and n + 5, to which the disks belong in turn. Once the jobs have ended seat 0 makes what is
 left, in the fixed order.
 """
-import model
+from shared import model
 
 EVENT_STEPS = (('judge',), ('event',), ('reap',), ('wash',))
 WAITS = ('sync', 'settle')
@@ -109,7 +109,7 @@ class Log:
             self.fault(place, "isn't due in the fixed order")
         if step[0] == 'go' and step[1] not in self.begun:
             self.begun.add(step[1])
-            command = self.mesh.left[step[1]][0]
+            command = self.mesh.world.left[step[1]][0]
             if command.words[0] not in WAITS:
                 self.fault(place, f'client {step[1]} left line {command.line}, which waits for nothing')
             if (step[1] + 1, step) not in self.idle.found:
@@ -117,14 +117,14 @@ class Log:
 
     def judge_answer(self, place, step):
         """A disk answers what it holds, and doesn't fail."""
-        bio = self.mesh.bios[step[1]]
-        if self.disks.serve(self.mesh.disk_of(bio), bio) != step[2]:
+        bio = self.mesh.world.bios[step[1]]
+        if self.disks.serve(self.mesh.world.disk_of(bio), bio) != step[2]:
             self.fault(place, "isn't what the disk holds")
 
 
 def possible(mesh, awake, taken):
     """What these seats can do."""
-    own = [(seat_of(mesh.plan, step), step) for step in model.enabled(mesh)] + taken
+    own = [(seat_of(mesh.plan, step), step) for step in mesh.possible()] + taken
     return [item for item in own if item[0] in awake]
 
 
@@ -155,7 +155,7 @@ def run(plan, draw, disks, absent=()):
         mesh.make(seat, step)
         steps.append(item)
         if step[0] == 'take':
-            bio = mesh.bios[step[2]]
+            bio = mesh.world.bios[step[2]]
             taken.append((seat, ('deliver', bio.number, disks.serve(step[1], bio))))
     model.finish(mesh, model.fixed, disks, steps)
     return mesh, steps

@@ -2,8 +2,7 @@
 of an actor, by what its own replies before them did; and a mesh in which counts are what is open."""
 import re
 
-import model
-from shared import reports as printed
+from shared import model, reports as printed, runs
 
 COMMON = 'EBADF ENXIO EPERM EINVAL EIO'
 # The errors of each command.
@@ -67,7 +66,7 @@ class Actor:
         may = self.handles[more[0]][1][0 if word == 'read' else 1]
         if reply == 'EPERM' if may else reply not in ('EPERM', 'ENXIO'):
             return 'the handle has the right' if may else "the handle hasn't the right"
-        length = 0 if word == 'flush' else len(model.bytes_of_runs(more[2:])) if word == 'write' else int(more[2])
+        length = 0 if word == 'flush' else len(runs.bytes_of_runs(more[2:])) if word == 'write' else int(more[2])
         is_odd = word != 'flush' and (int(more[1]) % sector or length % sector or not 0 < length <= 32768)
         if reply == 'EINVAL' and not is_odd:
             return 'the range is in whole sectors'
@@ -76,8 +75,8 @@ class Actor:
         told = reply[3:]
         if is_odd or word != 'read' and reply != 'ok':
             return 'too much behind ok' if not is_odd else "the range isn't in whole sectors"
-        if word == 'read' and (not RUNS.fullmatch(told) or len(model.bytes_of_runs(told.split())) != length
-                               or model.runs_text(model.bytes_of_runs(told.split())) != told):
+        if word == 'read' and (not RUNS.fullmatch(told) or len(runs.bytes_of_runs(told.split())) != length
+                               or runs.runs_text(runs.bytes_of_runs(told.split())) != told):
             return "not the bytes that were asked for"
         return None
 

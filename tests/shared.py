@@ -3,4 +3,4 @@ import pathlib, sys
 
 sys.path.append(str(pathlib.Path(__file__).resolve().parent.parent / 'tools'))
 
-from geomtools import drawing, reports, runs, scripts
+from geomtools import drawing, explain, images, model, reports, runs, scripts, tables, traces

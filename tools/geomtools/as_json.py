@@ -3,6 +3,10 @@ import json, re
 
 from geomtools import files, reports, runs, traces
 
+# What each step names, by its place.
+NAMED = {'go': ('actor',), 'start': ('request',), 'take': ('disk', 'request'), 'deliver': ('request',),
+         'up': ('request',)}
+
 
 def add_words(parser):
     parser.add_argument('report', help='what the program printed: a report, a trace or a summary, or - for standard input')
@@ -37,11 +41,16 @@ def reply_of(line):
     return dict(type='reply', line=int(number), answer=word, **(dict(bytes=bytes_of(text)) if text else {}))
 
 
-def step_of(step):
-    numbers = dict(step.numbers)
-    text = numbers.pop('runs', None)
-    return dict(type='step', line=step.line, seat=step.seat, step=step.word, **numbers,
-                **(dict(bytes=bytes_of(text)) if text else {}))
+def step_of(line, seat, step):
+    word, *named = step
+    told = dict(type='step', line=line, seat=seat, step=word, **dict(zip(NAMED.get(word, ()), named)))
+    if word == 'deliver':
+        told['answer'], *more = named[1]
+    if told.get('answer') == 'failed':
+        told['sectors'] = more[0]
+    elif told.get('answer') == 'bytes':
+        told['bytes'] = bytes_of(runs.runs_text(more[0]))
+    return told
 
 
 def parts_of(lines):
@@ -86,10 +95,10 @@ def answered(line, lines):
 def objects(name, text):
     """The objects of what is in a file of this name."""
     if traces.is_trace(text):
-        trace = traces.trace_of(name, text)
+        trace = traces.read_named(name, text)
         yield dict(type='script', text=trace.script)
-        yield from (dict(type='image', sectors=it) for it in trace.sectors)
-        yield from map(step_of, trace.steps)
+        yield from (dict(type='image', sectors=it.sectors) for it in trace.plan.disks if it.is_image)
+        yield from (step_of(line, *it) for line, it in enumerate(trace.steps, trace.line))
         text = trace.report
     if re.match(r'commands \d+\n', text):
         for line in text.splitlines():

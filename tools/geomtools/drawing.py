@@ -37,7 +37,7 @@ class Drawer:
     answers. Each deed gives some commands of an actor."""
 
     def __init__(self, draw, disks, actors):
-        self.draw, self.made = draw, 0
+        self.draw, self.made, self.deeds = draw, 0, DEEDS
         sector = draw.choice((512, 512, 512, 4096))
         self.disks = {f'md{k}': Stands(draw.randrange(8, 65) * sector, sector, 'disk', '', ()) for k in range(disks)}
         self.later = {name for name in list(self.disks)[1:] if draw.random() < 0.15}
@@ -55,7 +55,7 @@ class Drawer:
         lines = []
         while len(lines) < count:
             actors = self.draw.sample(self.actors, self.draw.randint(1, min(3, len(self.actors))))
-            deeds = [[f'{actor} {it}' for it in self.draw.choice(DEEDS)(self, actor)] for actor in actors]
+            deeds = [[f'{actor} {it}' for it in self.draw.choice(self.deeds)(self, actor)] for actor in actors]
             lines += mixed(self.draw, deeds)
         return lines[:count]
 

@@ -18,6 +18,8 @@ def program():
 
 def read_bytes(path):
     """What a file holds, or standard input for `-`."""
+    if path == '-' and sys.stdin is None:
+        raise Stop('standard input is closed', 2)
     try:
         return sys.stdin.buffer.read() if path == '-' else pathlib.Path(path).read_bytes()
     except OSError as error:

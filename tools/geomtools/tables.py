@@ -74,3 +74,20 @@ def record(sector):
         if sector[:16] == f'RGEOM::{kind}'.encode().ljust(16, b'\0'):
             return Record(kind, sector)
     return None
+
+
+def head(kind, version, name):
+    """What each record begins with."""
+    return struct.pack('<16sI16s', f'RGEOM::{kind.upper()}'.encode(), version, name.encode())
+
+
+def label(size, name, media=None):
+    """A sector of this size with a label, which has version 2 where it says the media size."""
+    data = head('LABEL', 1, name) if media is None else head('LABEL', 2, name) + struct.pack('<Q', media)
+    return data.ljust(size, bytes(1))
+
+
+def member(size, kind, name, number, place, count, stripe=None):
+    """A sector of this size with the record of a concat, or of a stripe if there is a size of strips."""
+    data = head(kind, 1, name) + struct.pack('<IHH', number, place, count)
+    return (data if stripe is None else data + struct.pack('<I', stripe)).ljust(size, bytes(1))
