@@ -19,61 +19,14 @@ use Rattle.geo_model.specs.Tasting.{verdict_on, end_class, facts_of, follow, tak
 use Rattle.geo_model.specs.Chain.{Chain}
 use Rattle.geo_model.specs.declared.step.BioResult.TheVariants.{Bytes}
 use Rattle.geo_model.specs.World.{Asked, NoClass, NextSector, ReadBack, Taste, Config}
-use Rattle.geo_class.specs.Taste.{after_back, after_verdict, chain_with, ended, sector_back, settled, verdict_back, verdict_with, weighed}
+use Rattle.geo_class.specs.Taste.{after_back, after_verdict, chain_with, ended, sector_back, settled, shape_of, verdict_back, verdict_with, weighed}
 use Rattle.geo_model.specs.declared.class.Judged.TheVariants.{Next, Made}
 use Rattle.geo_model.specs.declared.step.BioResult.{BioResult}
 use Rattle.geo_model.specs.Events.{QueuedTopology}
 use Rattle.geo_model.specs.Topology.{Provider}
 use Rattle.geo_class.specs.Following.{TastesFollow}
 
-module _ (granted : ℕ → Counts) (s : Taste) (kind : Kind) (bytes : List ℕ) (f : Facts) where
-  after-found : {A : Type 0} (shape : A → Shape) (found : Result A DeclineCause)
-      → after_verdict granted s kind bytes f (verdict_of shape found) ≡ ended s
-  after-found shape (Ok found) = refl
-  after-found shape (Err cause) = refl
-
-  after-sized : (other : Bool) (found : LabelRecord)
-      → after_verdict granted s kind bytes f (if other then Decline causes.Media else Accept (Named found))
-      ≡ ended s
-  after-sized true found = refl
-  after-sized false found = refl
-
-  after-label : (found : Result LabelRecord DeclineCause)
-      → after_verdict granted s kind bytes f (label_verdict f found) ≡ ended s
-  after-label (Ok found) = after-sized (is_other_size found.size (f.sectors * f.sector)) found
-  after-label (Err cause) = refl
-
--- a class that judges one sector is done with after its verdict
-pub one_sector : (granted : ℕ → Counts) (s : Taste) (kind : Kind) (bytes : List ℕ) (f : Facts)
-    → after_verdict granted s kind bytes f (judge kind bytes f) ≡ ended s
-one_sector granted s kinds.Mbr bytes f = after-found granted s kinds.Mbr bytes f Slices (mbr_table bytes f.sectors)
-one_sector granted s kinds.Label bytes f = after-label granted s kinds.Label bytes f (label_record bytes)
-one_sector granted s kinds.Concat bytes f = after-found granted s kinds.Concat bytes f Joined (concat_record bytes)
-one_sector granted s kinds.Stripe bytes f = after-found granted s kinds.Stripe bytes f Striped (stripe_record bytes)
-one_sector granted s _ bytes f = refl
-
--- each class but EBR judges one sector
-pub all_but_chains : (granted : ℕ → Counts) (s : Taste) (kind : Kind) (bytes : List ℕ) (f : Facts)
-    → (kind ≡ kinds.Ebr → ⊥) → verdict_on granted s kind bytes f ≡ judge kind bytes f
-all_but_chains granted s kinds.Ebr bytes f other = absurd (other refl)
-all_but_chains granted s _ bytes f other = refl
-
--- how far a class has been asked plays no part in its verdict
-pub verdict-moved : (granted : ℕ → Counts) (s : Taste) (asked : Asked) (kind : Kind) (bytes : List ℕ) (f : Facts)
-    → verdict_on granted (record s { asked = asked }) kind bytes f ≡ verdict_on granted s kind bytes f
-verdict-moved granted s asked kinds.Ebr bytes f = refl
-verdict-moved granted s asked _ bytes f = refl
-
--- so a verdict on a sector that was taken is one of the taste as it was
-pub taken-verdict : (granted : ℕ → Counts) (s : Taste) (kind : Kind) (block : List ℕ) (f : Facts) {t : Taste}
-    {bytes : List ℕ} {said : Verdict} → said ≡ verdict_on granted t kind bytes f → bytes ≡ block
-    → t ≡ record s { asked = NoClass } → said ≡ verdict_on granted s kind block f
-taken-verdict granted s kind block f {t = t} said_is same taken =
-    said_is ∙ ap (λ b. verdict_on granted t kind b f) same
-    ∙ ap (λ z. verdict_on granted z kind block f) taken
-    ∙ verdict-moved granted s NoClass kind block f
-
--- and so is one by the chain alone
+-- a verdict on a sector that was taken is one of the taste as it was
 pub taken-weighed : (s : Taste) (kind : Kind) (block : List ℕ) (f : Facts) {t : Taste} {bytes : List ℕ} {said : Verdict}
     → said ≡ verdict_with t.chain kind bytes f → bytes ≡ block → t ≡ record s { asked = NoClass }
     → said ≡ verdict_with s.chain kind block f
@@ -81,19 +34,15 @@ taken-weighed s kind block f {t = t} said_is same taken =
     said_is ∙ ap (λ b. verdict_with t.chain kind b f) same
     ∙ ap (λ (z : Taste). verdict_with z.chain kind block f) taken
 
--- nor in what the taste is after it
-wanting-moved : (granted : ℕ → Counts) (s : Taste) (asked : Asked) (kind : Kind) (bytes : List ℕ) (f : Facts)
-    (sector : ℕ)
-    → after_verdict granted (record s { asked = asked }) kind bytes f (More sector)
-    ≡ after_verdict granted s kind bytes f (More sector)
-wanting-moved granted s asked kinds.Ebr bytes f sector = refl
-wanting-moved granted s asked _ bytes f sector = refl
-
-pub after-moved : (granted : ℕ → Counts) (s : Taste) (asked : Asked) (kind : Kind) (bytes : List ℕ) (f : Facts)
-    (v : Verdict)
-    → after_verdict granted (record s { asked = asked }) kind bytes f v ≡ after_verdict granted s kind bytes f v
-after-moved granted s asked kind bytes f (More sector) = wanting-moved granted s asked kind bytes f sector
-after-moved granted s asked kind bytes f _ = refl
+-- the taste once the sector that was taken is weighed
+pub weighed_after : (s : Taste) (kind : Kind) (block : List ℕ) (f : Facts) (said : Verdict) {t z : Taste}
+    {bytes : List ℕ} → z ≡ record t { chain = chain_with t.chain kind bytes f said } → bytes ≡ block
+    → t ≡ record s { asked = NoClass }
+    → z ≡ record s { asked = NoClass; chain = chain_with s.chain kind block f said }
+weighed_after s kind block f said {t = t} after same taken =
+    after
+    ∙ ap (λ b. record t { chain = chain_with t.chain kind b f said }) same
+    ∙ ap (λ (x : Taste). record x { chain = chain_with x.chain kind block f said }) taken
 
 -- a verdict needs of the taste the chain alone
 verdict-chain : (granted : ℕ → Counts) (s : Taste) (kind : Kind) (bytes : List ℕ) (f : Facts)
@@ -135,7 +84,7 @@ back-is _ kind bytes never = absurd (cc)
 module _ (granted : ℕ → Counts) (s : Taste) (kind : Kind) (bytes : List ℕ) (f : Facts)
     (is : sector_back s.asked ≡ Some (kind, bytes)) where
   -- what the class says
-  pub weighed-verdict : Some (verdict_with s.chain kind bytes f) ≡ verdict_back granted s f
+  weighed-verdict : Some (verdict_with s.chain kind bytes f) ≡ verdict_back granted s f
   weighed-verdict =
       ap (λ v. Some v) (verdict-chain granted s kind bytes f)
       ∙ sym (ap (option_map (λ (x : Kind × List ℕ). verdict_on granted s x.0 x.1 f)) is)
@@ -149,7 +98,7 @@ module _ (granted : ℕ → Counts) (s : Taste) (kind : Kind) (bytes : List ℕ)
       (λ (x : Kind × List ℕ). after_verdict granted s x.0 x.1 f (verdict_on granted s x.0 x.1 f)) o (ended s)) is)
 
   -- and what the taste is
-  pub weighed-taste : (v : Verdict) → v ≡ verdict_with s.chain kind bytes f
+  weighed-taste : (v : Verdict) → v ≡ verdict_with s.chain kind bytes f
       → settled (record s { asked = NoClass; chain = chain_with s.chain kind bytes f v }) kind bytes v
       ≡ weighed granted s f (Some v)
   weighed-taste (More sector) same = more-chain granted s kind bytes f sector ∙ back-after (More sector) same
@@ -158,6 +107,17 @@ module _ (granted : ℕ → Counts) (s : Taste) (kind : Kind) (bytes : List ℕ)
       ap (λ c. record s { asked = ReadBack kind (Bytes bytes); chain = c })
       (chain-accepted s.chain kind bytes f shape)
       ∙ ap (λ a. record s { asked = a }) (sym (back-is s.asked kind bytes is))
+
+  -- what it found, and what the taste is, by the verdict that is known
+  pub weighed-shape : (v : Verdict) → v ≡ verdict_with s.chain kind bytes f
+      → shape_of (Some v) ≡ shape_of (verdict_back granted s f)
+  weighed-shape v same = ap (λ x. shape_of (Some x)) same ∙ ap shape_of weighed-verdict
+
+  pub weighed-back : (v : Verdict) → v ≡ verdict_with s.chain kind bytes f
+      → settled (record s { asked = NoClass; chain = chain_with s.chain kind bytes f v }) kind bytes v
+      ≡ weighed granted s f (verdict_back granted s f)
+  weighed-back v same =
+      weighed-taste v same ∙ ap (weighed granted s f) (ap (λ x. Some x) same ∙ weighed-verdict)
 
 -- The model's step
 

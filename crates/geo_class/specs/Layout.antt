@@ -14,7 +14,7 @@ abbrev pub config_of : Layout → Config
 config_of layouts.Nothing = Nothing
 config_of (layouts.Disk disk) = Disk disk
 config_of (layouts.Mbr below slices) = Mbr below slices
-config_of (layouts.Ebr below parts) = Ebr below parts
+config_of (layouts.Ebr below parts) = Ebr below parts.value
 config_of (layouts.Label below) = Label below
 config_of (layouts.Concat id places map) = Concat id places.consumers places.sizes
 config_of (layouts.Stripe id stripe places map) = Stripe id stripe places.consumers places.sizes

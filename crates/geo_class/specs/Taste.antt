@@ -7,6 +7,7 @@ use Rattle.geo_model.specs.Kind.TheVariants as kinds
 use Rattle.geo_model.specs.Acceptance.{judge}
 use Rattle.geo_model.specs.Chain.{Chain, no_links, with_link, feed}
 use Rattle.geo_model.specs.declared.class.Facts.{Facts}
+use Rattle.geo_model.specs.declared.class.Shape.{Shape}
 use Rattle.geo_model.specs.declared.class.Verdict.{Verdict}
 use Rattle.geo_model.specs.declared.class.Verdict.TheVariants.{Decline, More, Accept}
 use Rattle.geo_model.specs.declared.step.BioResult.TheVariants.{Bytes}
@@ -36,12 +37,6 @@ abbrev pub sector_back : Asked → Option (Kind × List ℕ)
 sector_back (ReadBack kind (Bytes bytes)) = Some (kind, bytes)
 sector_back _ = None
 
--- the taste after a verdict of EBR on a link: with that link where another one is wanted
-abbrev pub with_link_of : Taste → Facts → List ℕ → Verdict → Taste
-with_link_of s f bytes (More sector) = record s { chain = with_link f.sectors s.chain bytes }
-with_link_of s f bytes (Decline cause) = s
-with_link_of s f bytes (Accept shape) = s
-
 -- what a class says to the bytes of a sector, where EBR has read this chain
 abbrev pub verdict_with : Chain → Kind → List ℕ → Facts → Verdict
 verdict_with c kinds.Ebr bytes f = feed f.sectors c bytes
@@ -51,6 +46,11 @@ verdict_with c kind bytes f = judge kind bytes f
 abbrev pub chain_with : Chain → Kind → List ℕ → Facts → Verdict → Chain
 chain_with c kinds.Ebr bytes f (More sector) = with_link f.sectors c bytes
 chain_with c kind bytes f verdict = c
+
+-- what was found, where a verdict accepts
+abbrev pub shape_of : Option Verdict → Option Shape
+shape_of (Some (Accept shape)) = Some shape
+shape_of _ = None
 
 -- the taste once a verdict on the bytes of a sector is known: a sector that is accepted is kept
 abbrev pub settled : Taste → Kind → List ℕ → Verdict → Taste

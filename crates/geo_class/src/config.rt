@@ -29,7 +29,8 @@ pub enum Layout {
     },
     Ebr {
         below: Option<ConsId>,
-        parts: [Option<EbrPart>; MAX_LINKS],
+        // In a box, since these are most of what any configuration would take.
+        parts: Box<[Option<EbrPart>; MAX_LINKS]>,
     },
     Label {
         below: Option<ConsId>,
@@ -140,12 +141,17 @@ impl Config {
     }
 
     /// The partitions of a chain, in the order of its links, over the provider to which `below` is attached.
-    pub fn ebr(below: Option<ConsId>, parts: [Option<EbrPart>; MAX_LINKS]) -> Config
-        ensures { result ≡ Ebr below parts }
+    pub fn ebr(
+        alloc: Global,
+        below: Option<ConsId>,
+        parts: &[Option<EbrPart>; MAX_LINKS],
+    ) -> Result<Config, NoMemory>
+        ensures { IfOk result (λ config. config ≡ Ebr below parts.now) }
     {
-        Config {
+        let parts = Box::new(alloc, *parts)?;
+        Ok(Config {
             layout: Layout::Ebr { below, parts },
-        }
+        })
     }
 
     /// Another name for the provider to which `below` is attached.

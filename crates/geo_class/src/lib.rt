@@ -12,7 +12,8 @@
 //! numbers are little-endian.
 //!
 //! Contracts see a [`Config`] as the model's configuration, and a [`Taste`] as the model's taste. A [`Config`] keeps
-//! the map of a concat or a stripe as soon as no place is free; that shows in no contract.
+//! the map of a concat or a stripe as soon as no place is free, and EBR's partitions in a box; that shows in no
+//! contract.
 //!
 //! [`taste_where`] and [`judge`] answer exactly what the model says; a label of version 2 with another media size is
 //! declined as `Media`. [`Config::split`] gives exactly the model's pieces of a range that its geom's map covers
@@ -23,8 +24,9 @@
 //!
 //! [`Config::component`], [`Config::components`], [`Config::filled`], [`Config::with_place`],
 //! [`Config::joined_size`], [`Config::empty_concat`] and [`Config::empty_stripe`] are the model's.
-//! [`Taste::judge_back`] tells the verdict on the sector that is back, EBR's with the links that were read, and
-//! leaves the taste that the model's step leaves ([`laws::tastes_follow`]). After `NoMemory` nothing is changed.
+//! [`Taste::weigh_back`] tells what is found in the sector that is back, for EBR with the links that were read. Where
+//! nothing is found it leaves the taste that the model's step leaves ([`laws::tastes_follow`]). After `NoMemory`
+//! nothing is changed.
 //!
 //! geo_bio keeps lists of pieces, geo_taste and geo_commands make geoms by it, geo_requests splits requests and writes
 //! records, and geo_state keeps the taste under way. Tests stand in geo_tests_low, class by class, and in

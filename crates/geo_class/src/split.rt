@@ -14,16 +14,14 @@ ghost use Rattle.geo_class.specs.Split.{Covers, provider_of};
 use crate::address_map::AddressMap;
 use crate::concat::ConcatMap;
 use crate::config::{Config, Layout};
+use crate::ebr::EbrMap;
 use crate::label::LabelMap;
+use crate::mbr::MbrMap;
 use crate::nop::NopMap;
 use crate::piece_list::PieceList;
 use crate::stripe::StripeMap;
-use crate::window::Window;
 use geo_model::{ConsId, EbrPart, MAX_LINKS, MAX_MEDIA_BYTES, Name, NoMemory, Piece, Slice, Span};
 use std::alloc::Global;
-
-/// The size of a sector of a partition table.
-const SECTOR: u64 = 512;
 
 /// As many as no table has places.
 const MANY: usize = 1000;
@@ -111,16 +109,6 @@ fn part_at(parts: &[Option<EbrPart>; MAX_LINKS], name: &Name) -> Option<EbrPart>
         .flatten()
 }
 
-/// The pieces of a range of a window that begins at `start` of the provider below.
-fn split_window(alloc: Global, start: u64, media: &Media, span: Span) -> Result<PieceList, NoMemory>
-    requires some_byte { 0 < span.len }
-    requires inside { span.offset + span.len ≤ media.now.size }
-    requires covered { start + media.now.size ≤ MAX_MEDIA_BYTES }
-    ensures { IfOk result (λ list. list.items ≡ cut span.offset span.len (window start media.now.size ∷ [])) }
-{
-    Window::new(start, media.size, media.sector).split(alloc, span)
-}
-
 /// The pieces of a range of a slice.
 fn split_slice(
     alloc: Global,
@@ -136,7 +124,7 @@ fn split_slice(
         (option_map_or (λ s. window (s.first * 512) media.now.size ∷ []) (slice_at slices.now media.now.name) [])) }
 {
     match slice_at(slices, &media.name) {
-        Some(slice) => split_window(alloc, u64::from(slice.first) * SECTOR, media, span),
+        Some(slice) => MbrMap::sized(&slice, media.size).split(alloc, span),
         None => Ok(PieceList::new(alloc)),
     }
 }
@@ -156,7 +144,7 @@ fn split_part(
         (option_map_or (λ s. window (s.first * 512) media.now.size ∷ []) (part_at parts.now media.now.name) [])) }
 {
     match part_at(parts, &media.name) {
-        Some(part) => split_window(alloc, part.first * SECTOR, media, span),
+        Some(part) => EbrMap::sized(part.first, media.size).split(alloc, span),
         None => Ok(PieceList::new(alloc)),
     }
 }

@@ -1,15 +1,13 @@
 //! A taste under way (geom(4)).
 ghost use Rattle.std.specs.Prelude.{◌≡◌, ◌+◌, ◌^◌, ◌<◌, ◌≤◌, ℕ, length, slice_get, IfSome};
-ghost use Rattle.geo_model.specs.Kind.TheVariants as kinds;
 ghost use Rattle.geo_model.specs.Counts.{Counts as CountsValue};
 ghost use Rattle.geo_model.specs.Bios.{read_back};
 ghost use Rattle.geo_model.specs.Chain.{feed, no_links};
 ghost use Rattle.geo_model.specs.Events.{tasting_classes};
-ghost use Rattle.geo_model.specs.Tasting.{verdict_on};
 ghost use Rattle.geo_model.specs.World.{NoClass, ReadBack, ReadOut, NextSector, is_read_out};
 ghost use Rattle.geo_model.specs.declared.step.BioResult.TheVariants.{Bytes as BytesValue};
 ghost use Rattle.geo_class.specs.ebr.ChainView.{chain_after, link_verdict};
-ghost use Rattle.geo_class.specs.Taste.{after_back, after_verdict, asked_of, chain_with, ended, sector_back, settled, verdict_back, verdict_with, weighed, with_link_of, with_next};
+ghost use Rattle.geo_class.specs.Taste.{asked_of, chain_with, ended, sector_back, settled, shape_of, verdict_back, verdict_with, weighed, with_next};
 
 use crate::ebr::{Chain, Link};
 use crate::verdict::judge;
@@ -176,7 +174,7 @@ impl Taste {
     {
         self.asked = Asked::NoClass;
         self.reads = 0;
-        self.chain = Chain::new(0);
+        self.chain.clear();
     }
 
     /// The read of a sector for a class is out.
@@ -198,53 +196,11 @@ impl Taste {
         }
     }
 
-    /// What a class says to the bytes of a sector. The class is done with, unless it wants another sector.
-    fn judge_sector(&mut self, kind: Kind, sector: &[u8], facts: &Facts) -> Verdict
-        requires { 512 ≤ length sector.now }
-        ensures verdict { (granted : ℕ → CountsValue)
-            → result ≡ verdict_on granted self.old kind sector.now facts.now }
-        ensures taste { (granted : ℕ → CountsValue)
-            → self.new ≡ after_verdict granted self.old kind sector.now facts.now result }
-    {
-        match kind {
-            Kind::Ebr => self.judge_link(sector, facts),
-            _ => {
-                self.end_class();
-                judge(kind, sector, facts)
-            }
-        }
-    }
-
-    /// What EBR says to the bytes of the next link. The link is kept where another one is wanted.
-    fn read_link(&mut self, sector: &[u8], facts: &Facts) -> Verdict
-        requires { 512 ≤ length sector.now }
-        ensures verdict { result ≡ feed facts.now.sectors self.old.chain sector.now }
-        ensures taste { self.new ≡ with_link_of self.old facts.now sector.now result }
-    {
-        judge_chain(&mut self.chain, sector, facts)
-    }
-
     /// A class wants a sector next.
     fn want_next(&mut self, kind: Kind, sector: u64)
         ensures { self.new ≡ record self.old { asked = NextSector kind sector } }
     {
         self.asked = Asked::NextSector { kind, sector };
-    }
-
-    /// What EBR says to the bytes of the next link. The class is done with, unless it wants another link.
-    fn judge_link(&mut self, sector: &[u8], facts: &Facts) -> Verdict
-        requires { 512 ≤ length sector.now }
-        ensures verdict { result ≡ feed facts.now.sectors self.old.chain sector.now }
-        ensures taste { (granted : ℕ → CountsValue)
-            → self.new ≡ after_verdict granted self.old kinds.Ebr sector.now facts.now result }
-    {
-        let verdict = self.read_link(sector, facts);
-        match &verdict {
-            Verdict::More(next) => self.want_next(Kind::Ebr, *next),
-            Verdict::Decline(_) => self.end_class(),
-            Verdict::Accept(_) => self.end_class(),
-        }
-        verdict
     }
 
     /// Takes the sector that is back, with the class that asked for it. None where none is back, and all stays.
@@ -258,24 +214,6 @@ impl Taste {
                 got: BioResult::Bytes(block),
             } => Some((kind, block)),
             _ => None,
-        }
-    }
-
-    /// What the class that is asked says to the sector that is back, where the tasted provider has these facts.
-    /// None where the read failed, or none is back. The class is done with, unless it wants another sector.
-    pub fn judge_back(&mut self, facts: &Facts) -> Option<Verdict>
-        requires { IfSome (sector_back self.old.asked) (λ x. 512 ≤ length x.1) }
-        ensures verdict { (granted : ℕ → CountsValue)
-            → result ≡ verdict_back granted self.old facts.now }
-        ensures taste { (granted : ℕ → CountsValue)
-            → self.new ≡ after_back granted self.old facts.now }
-    {
-        match self.take_sector() {
-            Some((kind, block)) => Some(self.judge_sector(kind, block.bytes(), facts)),
-            None => {
-                self.end_class();
-                None
-            }
         }
     }
 
@@ -310,14 +248,16 @@ impl Taste {
         }
     }
 
-    /// As `judge_back`, but where the class accepts the sector the taste stays as it is, and the class is done with
-    /// only at `end_class`: so what it found can be made, and nothing is forgotten where that fails.
-    pub fn weigh_back(&mut self, facts: &Facts) -> Option<Verdict>
+    /// What the class that is asked found in the sector that is back, where it accepts it and the tasted provider has
+    /// these facts. None where it declines or wants another sector, the read failed, or none is back. Where it accepts,
+    /// the taste stays as it is, and the class is done with only at `end_class`: so what it found can be made, and
+    /// nothing is forgotten where that fails. Else the class is done with, unless it wants another sector.
+    pub fn weigh_back(&mut self, facts: &Facts) -> Option<Shape>
         requires { IfSome (sector_back self.old.asked) (λ x. 512 ≤ length x.1) }
-        ensures verdict { (granted : ℕ → CountsValue)
-            → result ≡ verdict_back granted self.old facts.now }
+        ensures shape { (granted : ℕ → CountsValue)
+            → result ≡ shape_of (verdict_back granted self.old facts.now) }
         ensures taste { (granted : ℕ → CountsValue)
-            → self.new ≡ weighed granted self.old facts.now result }
+            → self.new ≡ weighed granted self.old facts.now (verdict_back granted self.old facts.now) }
     {
         let Some((kind, block)) = self.take_sector() else {
             self.end_class();
@@ -325,6 +265,10 @@ impl Taste {
         };
         let verdict = self.weigh(kind, block.bytes(), facts);
         self.settle(kind, block, &verdict);
-        Some(verdict)
+        match verdict {
+            Verdict::Accept(shape) => Some(shape),
+            Verdict::More(_) => None,
+            Verdict::Decline(_) => None,
+        }
     }
 }

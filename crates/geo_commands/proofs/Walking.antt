@@ -15,10 +15,7 @@ use Rattle.geo_laws_graph.specs.LookupLaws.{left_from, IsStep, WalksMeetAll}
 use Rattle.geo_laws_graph.proofs.Walks.{walks-meet, walk-begin}
 use Rattle.geo_laws_graph.proofs.Members.{Contains-here, filter-Contains, find-Contains, at_contained}
 use Rattle.geo_laws_graph.proofs.Lists.{found_itself}
-use Rattle.geo_laws_graph.proofs.Finding.{found_lives}
-use Rattle.geo_laws_graph.proofs.Numbered.{number_found}
 use Rattle.geo_commands.specs.Names.{IsNextNamed, can_grow, named_from, named_geoms, stands}
-use Rattle.geo_base.proofs.Options.{some_and_of}
 use Rattle.std.proofs.lemmas.Grind.{common_steps}
 use Rattle.std.proofs.lemmas.List.Elements.{recursion_from_All}
 use Rattle.geo_model.specs.declared.command.LineCommand.{LineCommand}
@@ -44,23 +41,6 @@ use Rattle.std.specs.List.{list_any}
 use Rattle.geo_model.specs.GeomCommands.{is_in_use}
 
 -- What the walks over the geoms of a name meet
-
--- Providers
-
--- what is found by a name has its number
-pub found_number : (t : Topology Config) (name : List ℕ) → IsSoundGraph t
-    → find_provider t name
-    ≡ option_map (λ (p : Provider). p.number) (option_and_then (provider_at t) (find_provider t name))
-found_number t name sound = by (find_provider t name) refl
-  where
-    by : (o : Option ℕ) → find_provider t name ≡ o
-        → o ≡ option_map (λ (p : Provider). p.number) (option_and_then (provider_at t) o)
-    by None e = refl
-    by (Some p) e =
-        let x = some_and_of (λ (z : Provider). same_name z.name name ≡ true) (provider_at t p)
-        (found_lives.named t name p sound.orderly.order e) in
-        ap (λ n. Some n) (sym (number_found (λ (y : Provider). y.number) t.providers p x.0 x.1))
-        ∙ sym (ap (option_map (λ (y : Provider). y.number)) x.1)
 
 -- Geoms of a name
 

@@ -68,7 +68,7 @@ pub use geoms::listing;
 pub use growths::{append_refusal, grow_provider, join_new};
 pub use inserts::insert;
 pub use joins::{concat, stripe};
-pub use names::{Growing, found_provider, growing_concat, named_geom};
+pub use names::{Growing, growing_concat, named_geom};
 pub use nops::nop;
 pub use refusals::{is_bad_stripe, joined_refusal, nop_refusal};
 pub use stands::stand;

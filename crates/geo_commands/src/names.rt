@@ -1,9 +1,9 @@
 //! What the words of commands name.
-ghost use Rattle.std.specs.Prelude.{◌≡◌, ◌&&◌, false, not, [], None, MatchOption, find, option_map, option_and_then, if◌then◌else◌};
+ghost use Rattle.std.specs.Prelude.{◌≡◌, ◌&&◌, false, not, [], None, MatchOption, find, option_map, if◌then◌else◌};
 ghost use Rattle.std.specs.Option.{option_map_or};
 ghost use Rattle.geo_base.specs.declared.kind.Kind.TheVariants as kinds;
 ghost use Rattle.geo_model.specs.Words.{is_kind, same_name};
-ghost use Rattle.geo_model.specs.Topology.{find_provider, geom_at, provider_at, providers_of};
+ghost use Rattle.geo_model.specs.Topology.{geom_at, providers_of};
 ghost use Rattle.geo_model.specs.Append.{growing_concat};
 ghost use Rattle.geo_mesh.specs.Topo.{first_provider};
 ghost use Rattle.geo_commands.specs.Names.{IsNextNamed, growing_seen, named_from, stands};
@@ -17,14 +17,6 @@ use geo_mesh::Topo;
 pub struct Growing {
     pub geom: GeomId,
     pub prov: ProvId,
-}
-
-/// The provider of a name: the one without an error, else the one with the greatest number.
-pub fn found_provider(topo: &Topo<Config>, name: &Name) -> Option<ProvId>
-    ensures { result ≡ option_map (λ p. p.number)
-        (option_and_then (provider_at topo.now.topology) (find_provider topo.now.topology name.now)) }
-{
-    topo.find(name)
 }
 
 // The next geom of the class and of the name, from a number on.

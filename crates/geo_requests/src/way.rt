@@ -1,6 +1,6 @@
 //! Which way a request goes down.
 ghost use Rattle.std.specs.Prelude.{◌≡◌, None, Some, IfOk};
-ghost use Rattle.geo_model.specs.Bios.{way_of, way_at, is_hit};
+ghost use Rattle.geo_model.specs.Bios.{way_of, way_at};
 ghost use Rattle.geo_model.specs.Place.{disk_of};
 ghost use Rattle.geo_model.specs.Topology.{geom_at};
 ghost use Rattle.geo_bio.specs.Rows.{as_bio};
@@ -11,6 +11,7 @@ use crate::cut::{Cut, cut_bio};
 use geo_base::{Errno, GeomId, NoMemory};
 use geo_bio::Bio;
 use geo_class::Config;
+use geo_class::nop::hits;
 use geo_mesh::{GeomRec, ProvRec, Topo};
 use std::alloc::Global;
 
@@ -85,16 +86,9 @@ fn way_at_nop(
     if geom.started >= MOST_STARTED {
         return Err(NoMemory);
     }
-    if is_hit(geom.started + 1, fail) {
+    if hits(geom.started + 1, fail) {
         return Ok(Way::Fails(prov.geom));
     }
     let cut = cut_bio(alloc, topo, &geom.config, prov, bio)?;
     Ok(Way::Passes(prov.geom, cut))
-}
-
-// Whether a NOP geom fails its request of this number.
-fn is_hit(started: u64, fail: u64) -> bool
-    ensures { result ≡ is_hit started fail }
-{
-    fail != 0 && started % fail == 0
 }

@@ -20,7 +20,7 @@ use Rattle.geo_model.specs.Acceptance.{verdict_of, label_verdict, accept}
 use Rattle.geo_model.specs.Chain.{Chain, with_link, link_tests, chain_verdict}
 use Rattle.geo_model.specs.Records.{u16_at, u32_at, head_tests, place_test, size_test, concat_magic, stripe_magic, concat_tests, stripe_tests, mbr_table, label_record}
 use Rattle.geo_model.specs.Tasting.{verdict_on, Judging, facts_of, with_read}
-use Rattle.geo_class.specs.Taste.{sector_back, verdict_back, after_verdict, ended, weighed}
+use Rattle.geo_class.specs.Taste.{sector_back, shape_of, verdict_back, after_verdict, ended, weighed}
 use Rattle.geo_laws_texts.specs.RecordLaws.{IsPlace}
 use Rattle.geo_taste.specs.Accepts.{NamesAPlace}
 use Rattle.std.specs.Option.{option_map, option_map_or}
@@ -33,7 +33,7 @@ use Rattle.geo_model.specs.Topology.{Provider}
 use Rattle.geo_mesh.specs.Topo.{TopoView}
 use Rattle.geo_access.specs.Access.{granted_by}
 use Rattle.geo_taste.specs.Going.{going}
-use Rattle.geo_taste.specs.Saying.{said_of, with_said, IsReadTaken, IsSaidOn, IsSaid}
+use Rattle.geo_taste.specs.Saying.{said_of, IsReadTaken, IsSaidOn, IsSaid}
 use Rattle.geo_taste.specs.declared.judge.Said.{Said}
 use Rattle.geo_taste.specs.declared.judge.Said.TheVariants.{Came, Accepts}
 use Rattle.geo_taste.specs.Taster.{queued, IsTasteOf}
@@ -134,7 +134,7 @@ module _ (granted : ℕ → Counts) (q : QueuedTopology Config) (s : Taste) (p :
   module _ (bytes : List ℕ) (asked : s.asked ≡ ReadBack kind (Bytes bytes)) where
     -- each verdict
     taken_by : (w : Verdict) → verdict_on granted s kind bytes f ≡ w → (z : Taste) → z ≡ weighed granted s f (Some w)
-        → IsReadTaken granted q s p kind (Bytes bytes) z (said_of (Some w))
+        → IsReadTaken granted q s p kind (Bytes bytes) z (said_of (shape_of (Some w)))
     taken_by (Decline cause) e z same = search (rules, read-ended granted s kind bytes f)
     taken_by (More sector) e z same = search rules
     taken_by (Accept shape) e z same =
@@ -147,26 +147,23 @@ module _ (granted : ℕ → Counts) (q : QueuedTopology Config) (s : Taste) (p :
 
   -- so what becomes of a read that is back
   pub taken : (got : BioResult) → s.asked ≡ ReadBack kind got → (v : Option Verdict) → v ≡ verdict_back granted s f
-      → (z : Taste) → z ≡ weighed granted s f v → IsReadTaken granted q s p kind got z (said_of v)
+      → (z : Taste) → z ≡ weighed granted s f v → IsReadTaken granted q s p kind got z (said_of (shape_of v))
   taken (Bytes bytes) asked v is z same =
       let told : v ≡ Some (verdict_on granted s kind bytes f) =
       is ∙ ap (λ a. option_map (λ (x : Kind × List ℕ). verdict_on granted s x.0 x.1 f) (sector_back a)) asked in
-      subst (λ o. IsReadTaken granted q s p kind (Bytes bytes) z (said_of o)) (sym told)
+      subst (λ o. IsReadTaken granted q s p kind (Bytes bytes) z (said_of (shape_of o))) (sym told)
       (taken_by bytes asked (verdict_on granted s kind bytes f) refl z (same ∙ ap (weighed granted s f) told))
   taken other asked v is z same = search rules
 
   -- also where it was weighed by facts that are those of the provider
   pub taken_told : (facts : Facts) → facts ≡ f → (got : BioResult) → s.asked ≡ ReadBack kind got
-      → (r v : Option Verdict) → r ≡ v → r ≡ verdict_back granted s facts → (z : Taste)
-      → z ≡ weighed granted s facts r → IsReadTaken granted q s p kind got z (said_of v)
+      → (r v : Option Shape) → r ≡ v → r ≡ shape_of (verdict_back granted s facts) → (z : Taste)
+      → z ≡ weighed granted s facts (verdict_back granted s facts) → IsReadTaken granted q s p kind got z (said_of v)
   taken_told facts known got asked r v is told z same =
-      taken got asked v (sym is ∙ told ∙ ap (verdict_back granted s) known) z
-      (same ∙ ap (λ x. weighed granted s x r) known ∙ ap (weighed granted s f) is)
-
--- a verdict leaves the mesh
-pub said_plain : (v : Option Verdict) (t : TopoView Config) (c : ℕ) → t ≡ with_said t c (said_of v)
-said_plain (Some (Accept shape)) t c = refl
-said_plain _ t c = refl
+      subst (λ o. IsReadTaken granted q s p kind got z (said_of o))
+      (ap (λ x. shape_of (verdict_back granted s x)) (sym known) ∙ sym told ∙ is)
+      (taken got asked (verdict_back granted s f) refl z
+      (same ∙ ap (λ x. weighed granted s x (verdict_back granted s x)) known))
 
 -- what became of a read that is back, for the step
 pub said_back : (t : TopoView Config) (s : Taste) (p : Provider) (z : Taste) (kind : Kind) (got : BioResult)

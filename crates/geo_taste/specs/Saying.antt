@@ -1,11 +1,10 @@
 -- What a step of a taste comes to before anything is made of the provider.
-use Rattle.std.specs.Prelude.{◌≡◌, ℕ, Bool, true, not, List, Option, Some}
+use Rattle.std.specs.Prelude.{◌≡◌, ℕ, Bool, true, not, List, Option, Some, None}
 use Rattle.std.specs.Option.{option_map_or}
 use Rattle.geo_base.specs.declared.kind.Kind.{Kind}
 use Rattle.geo_base.specs.declared.request.Counts.{Counts}
 use Rattle.geo_model.specs.declared.class.Judged.TheVariants.{Next, Made}
 use Rattle.geo_model.specs.declared.class.Shape.{Shape}
-use Rattle.geo_model.specs.declared.class.Verdict.{Verdict}
 use Rattle.geo_model.specs.declared.class.Verdict.TheVariants.{Accept}
 use Rattle.geo_model.specs.declared.step.BioResult.{BioResult}
 use Rattle.geo_model.specs.declared.step.Event.{Event}
@@ -27,10 +26,10 @@ abbrev pub accepting : (ℕ → Counts) → QueuedTopology Config → Taste → 
 accepting granted q s p shape =
     option_map_or (λ made. end_class granted made s Made) (accept q p shape) (end_class granted q s Next)
 
--- what a verdict, if there is one, says
-abbrev pub said_of : Option Verdict → Said
-said_of (Some (Accept shape)) = Accepts shape
-said_of verdict = Came Next
+-- what is said where a shape was found or none
+abbrev pub said_of : Option Shape → Said
+said_of (Some shape) = Accepts shape
+said_of None = Came Next
 
 -- whether nothing was made yet
 abbrev pub is_plain : Said → Bool

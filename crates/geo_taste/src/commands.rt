@@ -1,13 +1,13 @@
-//! Geoms that commands make, and those of disks.
+//! Geoms that commands make.
 ghost use Rattle.std.specs.Prelude.{◌≡◌, ◌+◌, ◌≤◌, true, false, All, OnErr, OnOk, IfOk};
 ghost use Rattle.geo_model.specs.Topology.{is_name_taken};
 ghost use Rattle.geo_mesh.specs.Topo.{is_provider_size};
-ghost use Rattle.geo_taste.specs.Making.{both, with_built, with_disk, AreBoth};
+ghost use Rattle.geo_taste.specs.Making.{both, with_built, AreBoth};
 ghost use Rattle.geo_taste.specs.Standing.{CanStandOn};
 
 use crate::offer::{Offer, make_offer};
 use crate::raise::{NewGeom, raise};
-use geo_base::{GeomId, Kind, NoMemory, ProvId};
+use geo_base::{GeomId, NoMemory, ProvId};
 use geo_class::Config;
 use geo_event::EventQueue;
 use geo_mesh::Topo;
@@ -36,28 +36,4 @@ pub fn build(
     let id = raise(topo, geom, false, below);
     make_offer(topo, queue, id, offer);
     Ok(id)
-}
-
-/// Makes the DISK geom of a disk of the header, `disk` in header order, and its provider of the disk's name and
-/// sizes, which is offered for taste. After `NoMemory` nothing changed.
-pub fn stand_disk(
-    topo: &mut Topo<Config>,
-    queue: &mut EventQueue,
-    disk: u32,
-    offer: &Offer,
-) -> Result<GeomId, NoMemory>
-    requires size { is_provider_size offer.now.size offer.now.sector ≡ true }
-    requires free { is_name_taken topo.old.topology offer.now.name ≡ false }
-    ensures number { IfOk result (λ id. id ≡ topo.old.topology.next_geom) }
-    ensures stands { OnOk result (AreBoth topo.new queue.new
-        (with_disk (both topo.old queue.old) disk offer.now.name offer.now.size offer.now.sector)) }
-    ensures same { OnErr result (AreBoth topo.new queue.new (both topo.old queue.old)) }
-    ensures spare { queue.old.spare ≤ queue.new.spare + 1 }
-{
-    let geom = NewGeom {
-        kind: Kind::Disk,
-        name: offer.name,
-        config: Config::disk(disk),
-    };
-    build(topo, queue, geom, &[], offer)
 }

@@ -1,5 +1,5 @@
 //! One step of a taste, up to what is made of the provider.
-ghost use Rattle.std.specs.Prelude.{◌≡◌, ◌+◌, ◌≤◌, ◌<◌, ◌^◌, ℕ, true, Some, length, IfSome};
+ghost use Rattle.std.specs.Prelude.{◌≡◌, ◌+◌, ◌≤◌, ◌<◌, ◌^◌, ℕ, true, length, IfSome};
 ghost use Rattle.geo_base.specs.declared.kind.Kind.{Kind as KindValue};
 ghost use Rattle.geo_base.specs.declared.request.Counts.{Counts as CountsValue};
 ghost use Rattle.geo_model.specs.declared.step.BioResult.{BioResult as BioResultValue};
@@ -10,13 +10,13 @@ ghost use Rattle.geo_model.specs.World.{Config as ConfigValue, ReadBack};
 ghost use Rattle.geo_mesh.specs.Topo.{TopoView};
 ghost use Rattle.geo_access.specs.Access.{consumers_below};
 ghost use Rattle.geo_class.specs.Taste.{sector_back};
-ghost use Rattle.geo_taste.specs.Saying.{IsReadTaken, IsSaid, IsSaidOn, is_plain, said_of, with_said};
+ghost use Rattle.geo_taste.specs.Saying.{IsReadTaken, IsSaid, IsSaidOn, is_plain, with_said};
 ghost use Rattle.geo_taste.specs.Taster.{IsSettled, IsTasteOf};
 
 use crate::ask::{facts, next_class};
 use crate::taster::read_sector;
 use geo_access::Steps;
-use geo_class::{Asked, Config, Taste, Verdict};
+use geo_class::{Asked, Config, Taste};
 use geo_mesh::Topo;
 use geo_model::{Facts, Judged, Shape};
 use std::sync::ledger::Ledger;
@@ -92,19 +92,7 @@ fn take_result(taste: &mut Taste, facts: &Facts) -> Said
     ensures plain { is_plain result ≡ true }
 {
     match taste.weigh_back(facts) {
-        Some(verdict) => said_of(verdict),
+        Some(shape) => Said::Accepts(shape),
         None => Said::Came(Judged::Next),
-    }
-}
-
-// What a verdict says.
-fn said_of(verdict: Verdict) -> Said
-    ensures said { result ≡ said_of (Some verdict) }
-    ensures plain { is_plain result ≡ true }
-{
-    match verdict {
-        Verdict::Accept(shape) => Said::Accepts(shape),
-        Verdict::More(_) => Said::Came(Judged::Next),
-        Verdict::Decline(_) => Said::Came(Judged::Next),
     }
 }

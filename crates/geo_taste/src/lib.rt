@@ -4,8 +4,8 @@
 //! All is said of the views of geo_mesh's `Topo`, of an `EventQueue` and of geo_class's `Taste`: the whole mesh and
 //! the events afterwards (`AreBoth`). After want of memory nothing changed (`same`).
 //!
-//! - [`build`], [`stand_disk`]: the geom of a command over its providers, and the geom of a disk, each with its
-//!   provider, which is offered for taste.
+//! - [`build`]: the geom of a command over its providers, or of a disk over none, with its provider, which is offered
+//!   for taste.
 //! - [`accept`]: what a class makes of a provider that it accepts: slices, partitions, a label, a place of an
 //!   assembly with its completion where it is the last. Or it declines after all, and then nothing changed.
 //! - [`is_tasted`]: the model's test whether the provider is tasted now. [`begin`]: the model's taste begins, with
@@ -14,7 +14,7 @@
 //! - [`judge_step`]: in a mesh that is sound, steady and fitting the step is the model's, with the mesh, the events
 //!   and the taste after it (`judged`).
 //!
-//! These are the model's `build`, `stand_disk` and `accept` ([`making_laws::makes_as_the_model`]). In a firm mesh
+//! These are the model's `build` and `accept` ([`making_laws::makes_as_the_model`]). In a firm mesh
 //! `accept` can be called with what a class accepted, and its answer is the model's
 //! ([`making_laws::firm_meshes_accept`]); so can `judge_step` ([`laws::firm_meshes_judge`]). All running counts stay
 //! the model's sums (`settled`): after something was made, in such a mesh. A refused grant ends the class.
@@ -45,7 +45,7 @@ mod step;
 mod tables;
 mod taster;
 
-pub use commands::{build, stand_disk};
+pub use commands::build;
 pub use offer::Offer;
 pub use raise::NewGeom;
 pub use shapes::{Accepted, accept};

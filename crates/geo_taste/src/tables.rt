@@ -101,7 +101,7 @@ pub fn accept_partitions(
     let geom = NewGeom {
         kind: Kind::Ebr,
         name: *name,
-        config: Config::ebr(Some(topo.coming_consumer()), table.parts),
+        config: Config::ebr(alloc, Some(topo.coming_consumer()), &table.parts)?,
     };
     accept_parts(topo, queue, prov, geom, &parts)
 }

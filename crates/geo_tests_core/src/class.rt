@@ -59,18 +59,15 @@ fn a_label_of_its_media_alone(rt: HostRuntime) {
     assert_same(&rt, cause, DeclineCause::Media);
 }
 
-/// A taste with the sector of a link back for EBR.
-fn with_link(rt: &impl Abort, taste: &mut Taste, bytes: Block, facts: &Facts) -> Verdict
+/// What EBR finds in the sector of a link that is back.
+fn with_link(rt: &impl Abort, taste: &mut Taste, bytes: Block, facts: &Facts) -> Option<Shape>
     requires { 512 ≤ length bytes }
 {
     assert!(rt; taste.reads() < 33);
     taste.note_read(Kind::Ebr);
     assert!(rt; taste.read_out());
     taste.take_back(BioResult::Bytes(SharedBytes::from_block(bytes)));
-    let Some(verdict) = taste.judge_back(facts) else {
-        panic!(rt; "no sector")
-    };
-    verdict
+    taste.weigh_back(facts)
 }
 
 #[test]
@@ -85,19 +82,19 @@ fn a_chain_of_two_links(rt: HostRuntime) -> Result<(), Fail> {
     assert_same(&rt, taste.next_class(), Some(Kind::Mbr));
     assert_same(&rt, taste.next_class(), Some(Kind::Ebr));
     let first = Block::from_slice(rt.alloc(), &table_of([(0xA5, 1, 4), (5, 10, 5)]))?;
-    let Verdict::More(next) = with_link(&rt, &mut taste, first, &facts) else {
-        panic!(rt; "no more")
-    };
-    assert_same(&rt, (next, taste.reads()), (10, 1));
-    assert!(rt; matches!(taste.asked(), Asked::NextSector { .. }));
+    assert!(rt; with_link(&rt, &mut taste, first, &facts).is_none());
+    assert_same(&rt, taste.reads(), 1);
+    assert!(rt; matches!(taste.asked(), Asked::NextSector { sector: 10, .. }));
     let last = Block::from_slice(rt.alloc(), &table_of([(0xA5, 1, 3), (0, 0, 0)]))?;
-    let Verdict::Accept(Shape::Logical(table)) = with_link(&rt, &mut taste, last, &facts) else {
+    let Some(Shape::Logical(table)) = with_link(&rt, &mut taste, last, &facts) else {
         panic!(rt; "no chain")
     };
     let Some(part) = table.parts[1] else {
         panic!(rt; "no partition")
     };
     assert_same(&rt, (part.first, part.count), (11, 3));
+    let config = Config::ebr(rt.alloc(), Some(ConsId::new(5)), &table.parts)?;
+    assert_same(&rt, config.component(0), Some(ConsId::new(5)));
     assert_same(&rt, taste.next_class(), Some(Kind::Label));
     Ok(())
 }

@@ -3,7 +3,7 @@ ghost use Rattle.std.specs.Prelude.{◌<◌, ◌≤◌, length};
 use crate::same::assert_same;
 use geo_base::DeclineCause;
 use geo_class::AddressMap;
-use geo_class::ebr::{Chain, EbrMap, Link, Media, read_chain};
+use geo_class::ebr::{Chain, EbrMap, Link};
 use geo_model::{EbrTable, Span};
 use std::process::Abort;
 
@@ -195,37 +195,6 @@ fn a_partition_of_the_second_link_alone(rt: HostRuntime) {
     let table = ended(&rt, &mut chain, &last(1, 52));
     assert!(rt; table.parts[0].is_none());
     assert_same(&rt, part_of(&rt, &table, 1), (11, 52));
-}
-
-/// A media with one link at sector 0 and another everywhere else.
-#[derive(Drop)]
-struct TwoLinks {
-    first: [u8; 512],
-    other: [u8; 512],
-}
-
-impl Media for TwoLinks {
-    ghost use Rattle.std.specs.Prelude.{◌==◌, if◌then◌else◌};
-
-    ghost bytes = { λ m sector. if sector == 0 then m.first else m.other };
-
-    fn sector(&self, sector: u64) -> &[u8] {
-        if sector == 0 {
-            &self.first
-        } else {
-            &self.other
-        }
-    }
-}
-
-#[test]
-fn the_chain_of_a_media(rt: HostRuntime) {
-    let media = TwoLinks {
-        first: leading(1, 4, 10),
-        other: last(1, 3),
-    };
-    let table = read_chain(&media, 63).expect(&rt, "a chain");
-    assert_same(&rt, part_of(&rt, &table, 1), (11, 3));
 }
 
 #[test]

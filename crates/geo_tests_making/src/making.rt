@@ -7,12 +7,12 @@ ghost use Rattle.std.specs.Prelude.{◌≡◌, ◌<◌};
 ghost use Rattle.geo_taste.specs.Accepts.{NamesAPlace};
 
 use crate::same::assert_same;
-use geo_base::{Name, ProvId};
+use geo_base::{Kind, Name, ProvId};
 use geo_class::{Config, Shape};
 use geo_event::{Event, EventQueue};
 use geo_mesh::Topo;
 use geo_model::{ConcatRecord, EbrPart, EbrTable, LabelRecord, MbrTable, Slice, StripeRecord};
-use geo_taste::{Accepted, Offer, accept, stand_disk};
+use geo_taste::{Accepted, NewGeom, Offer, accept, build};
 use std::alloc::Global;
 use std::test::Fail;
 
@@ -49,7 +49,12 @@ fn disk(bench: &mut Bench, text: &[u8], coarse: bool) -> Result<ProvId, Fail> {
         size: 1_048_576,
         sector: if coarse { 4096 } else { 512 },
     };
-    stand_disk(&mut bench.topo, &mut bench.queue, 0, &offer)?;
+    let geom = NewGeom {
+        kind: Kind::Disk,
+        name,
+        config: Config::disk(0),
+    };
+    build(&mut bench.topo, &mut bench.queue, geom, &[], &offer)?;
     Ok(bench.topo.find(&name).ok_or("no provider of the disk")?)
 }
 
@@ -353,7 +358,12 @@ fn smallest(bench: &mut Bench) -> Result<ProvId, Fail> {
         size: 512,
         sector: 512,
     };
-    stand_disk(&mut bench.topo, &mut bench.queue, 1, &offer)?;
+    let geom = NewGeom {
+        kind: Kind::Disk,
+        name,
+        config: Config::disk(1),
+    };
+    build(&mut bench.topo, &mut bench.queue, geom, &[], &offer)?;
     Ok(bench.topo.find(&name).ok_or("no provider of the disk")?)
 }
 

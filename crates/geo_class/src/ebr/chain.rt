@@ -54,6 +54,18 @@ impl Chain {
         }
     }
 
+    /// Nothing is read of the chain from now on.
+    pub fn clear(&mut self)
+        ensures { self.new ≡ record { sectors = 0; chain = no_links } }
+    {
+        if self.count == 0 {
+            self.sectors = 0;
+            self.next = 0;
+            return;
+        }
+        *self = Chain::new(0);
+    }
+
     /// The same chain, on a provider with so many sectors.
     pub fn set_sectors(&mut self, sectors: u64)
         ensures { self.new ≡ record self.old { sectors = sectors } }

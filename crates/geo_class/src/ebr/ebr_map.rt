@@ -35,8 +35,16 @@ impl EbrMap {
         requires { (first + count) * 512 ≤ MAX_MEDIA_BYTES }
         ensures { result ≡ record { start = first * 512; size = count * 512; sector = 512 } }
     {
+        EbrMap::sized(first, u64::from(count) * SECTOR)
+    }
+
+    /// The first `size` bytes from sector `first` on.
+    pub fn sized(first: u64, size: u64) -> EbrMap
+        requires { first * 512 + size ≤ MAX_MEDIA_BYTES }
+        ensures { result ≡ record { start = first * 512; size = size; sector = 512 } }
+    {
         EbrMap {
-            window: Window::new(first * SECTOR, u64::from(count) * SECTOR, SECTOR as u32),
+            window: Window::new(first * SECTOR, size, SECTOR as u32),
         }
     }
 }

@@ -1,10 +1,10 @@
 //! Where a slice lies.
-ghost use Rattle.std.specs.Prelude.{◌≡◌, ◌*◌};
+ghost use Rattle.std.specs.Prelude.{◌≡◌, ◌+◌, ◌*◌, ◌≤◌};
 
 use crate::address_map::AddressMap;
 use crate::piece_list::PieceList;
 use crate::window::Window;
-use geo_model::{NoMemory, Slice, Span};
+use geo_model::{MAX_MEDIA_BYTES, NoMemory, Slice, Span};
 use std::alloc::Global;
 use std::marker::Model;
 
@@ -33,8 +33,24 @@ impl MbrMap {
         ensures { result ≡ record { start = slice.now.first * 512; size = slice.now.count * 512; sector = 512 } }
     {
         let (first, count) = (u64::from(slice.first), u64::from(slice.count));
+        MbrMap::over(first * SECTOR, count * SECTOR)
+    }
+
+    /// The first `size` bytes from where the slice begins.
+    pub fn sized(slice: &Slice, size: u64) -> MbrMap
+        requires { slice.now.first * 512 + size ≤ MAX_MEDIA_BYTES }
+        ensures { result ≡ record { start = slice.now.first * 512; size = size; sector = 512 } }
+    {
+        MbrMap::over(u64::from(slice.first) * SECTOR, size)
+    }
+
+    // The `size` bytes from `start` on.
+    fn over(start: u64, size: u64) -> MbrMap
+        requires { start + size ≤ MAX_MEDIA_BYTES }
+        ensures { result ≡ record { start = start; size = size; sector = 512 } }
+    {
         MbrMap {
-            window: Window::new(first * SECTOR, count * SECTOR, SECTOR as u32),
+            window: Window::new(start, size, SECTOR as u32),
         }
     }
 }
