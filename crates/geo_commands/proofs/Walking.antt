@@ -6,7 +6,7 @@ use Rattle.std.proofs.lemmas.Bool.{le-leb}
 use Rattle.geo_base.specs.declared.kind.Kind.{Kind}
 use Rattle.geo_base.specs.declared.kind.Kind.TheVariants as kinds
 use Rattle.geo_model.specs.Words.{is_kind, same_name}
-use Rattle.geo_model.specs.Topology.{Topology, Geom, Provider, geom_at, provider_at, providers_of, find_provider, Consumer, consumer_at, consumers_of}
+use Rattle.geo_model.specs.Topology.{Topology, Geom, Provider, geom_at, provider_at, providers_of, Consumer, consumer_at, consumers_of}
 use Rattle.geo_model.specs.World.{Config}
 use Rattle.geo_model.specs.Append.{is_growing}
 use Rattle.geo_mesh.specs.Graph.{IsSoundGraph}
