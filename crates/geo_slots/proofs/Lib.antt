@@ -1,2 +1,6 @@
 pub mod RowLemmas
-pub mod IndexLemmas
+pub mod BelowLemmas
+pub mod PageLemmas
+pub mod PlaceLemmas
+pub mod KeyLemmas
+pub mod TableLemmas

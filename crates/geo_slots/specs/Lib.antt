@@ -1,3 +1,4 @@
 pub mod Slots
+pub mod Pages
 pub mod Index
 pub mod Lending

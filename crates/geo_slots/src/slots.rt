@@ -2,12 +2,11 @@
 ghost use Rattle.std.specs.Prelude.{◌≡◌, ◌<◌, ◌≤◌, ◌^◌, max, [], IsOk, OnOk, option_copied};
 ghost use Rattle.std.specs.Option.{option_copied_mut};
 ghost use Rattle.std.specs.Borrow.{sem};
-ghost use Rattle.geo_slots.specs.Index.{key_at, first_key_from};
 ghost use Rattle.geo_slots.specs.Slots.{IsRising, value_at, first_from, with_insert, without};
 
+use crate::index::{self, Index};
 use slab::Slab;
 use std::alloc::{AllocError, Global};
-use std::collections::BTreeMap;
 use std::marker::Model;
 
 /// Want of memory.
@@ -17,12 +16,12 @@ pub type NoMemory = AllocError;
 /// removed.
 ///
 /// Contracts see the rows, each a number with its value, in rising order of the numbers, beside the next number and
-/// the spare room. The values stand in a slab; the index tells the key of each number, in order. It has a row for each
-/// number that room was reserved for, so that an insert finds its row and takes no memory.
+/// the spare room. The values stand in a slab; the index tells the key of each number. It has room for each number that
+/// room was reserved for, so that an insert takes no memory.
 #[derive(Drop)]
 pub struct Slots<T> {
-    // The key of each number that has a value, and then None for each of the next `spare` numbers.
-    index: BTreeMap<u64, Option<usize>>,
+    // The key of each number that has a value.
+    index: Index,
     values: Slab<T>,
     next: u64,
     spare: u64,
@@ -34,9 +33,9 @@ impl<T> Model for Slots<T> {
 
     ghost Value = { SlotsView T };
 
-    ghost view = { λ s. record { rows = rows_of s.values s.index.entries; next = s.next; spare = s.spare } };
+    ghost view = { λ s. record { rows = rows_of s.values s.index.pages.items s.next; next = s.next; spare = s.spare } };
 
-    ghost invariant = { λ s. IsIndex s.index.entries s.values s.next s.spare };
+    ghost invariant = { λ s. IsIndex s.index.pages.items s.index.end s.values s.next s.spare };
 }
 
 impl<T> Slots<T> {
@@ -47,7 +46,7 @@ impl<T> Slots<T> {
         ensures { result ≡ record { rows = []; next = 1; spare = 0 } }
     {
         Slots {
-            index: BTreeMap::new(alloc),
+            index: index::none(alloc),
             values: Slab::new(alloc),
             next: 1,
             spare: 0,
@@ -60,7 +59,7 @@ impl<T> Slots<T> {
         ensures rising { IsRising 1 self.now.rows self.now.next }
         ensures bound { self.now.next < 2 ^ 64 }
     {
-        match key_of(&self.index, number) {
+        match index::key_of(&self.index, number) {
             Some(key) => self.values.get(key),
             None => None,
         }
@@ -73,7 +72,7 @@ impl<T> Slots<T> {
         ensures rising { IsRising 1 self.old.rows self.old.next }
         ensures bound { self.old.next < 2 ^ 64 }
     {
-        match key_of(&self.index, number) {
+        match index::key_of(&self.index, number) {
             Some(key) => self.values.get_mut(key),
             None => None,
         }
@@ -85,7 +84,7 @@ impl<T> Slots<T> {
         ensures rising { IsRising 1 self.now.rows self.now.next }
         ensures bound { self.now.next < 2 ^ 64 }
     {
-        first_keyed(&self.index, number)
+        index::first_key(&self.index, number)
     }
 
     /// The number that the next value gets.
@@ -107,14 +106,12 @@ impl<T> Slots<T> {
         if count <= self.spare {
             return Ok(());
         }
-        let Some(_) = self.next.checked_add(count) else {
+        let Some(end) = self.next.checked_add(count) else {
             return Err(AllocError);
         };
         self.values.reserve(count as usize)?;
-        while self.spare < count {
-            self.index.insert(self.next + self.spare, None)?;
-            self.spare += 1;
-        }
+        index::reserve(&mut self.index, (end - 1) / 64 + 1)?;
+        self.spare = count;
         Ok(())
     }
 
@@ -128,10 +125,7 @@ impl<T> Slots<T> {
     {
         let number = self.next;
         let key = self.values.insert_reserved(value);
-        let Some(row) = self.index.get_mut(&number) else {
-            unreachable!()
-        };
-        *row = Some(key);
+        index::insert(&mut self.index, number, key);
         self.next += 1;
         self.spare -= 1;
         number
@@ -143,33 +137,9 @@ impl<T> Slots<T> {
         ensures removed { self.new ≡ record self.old { rows = without self.old.rows number } }
         ensures rising { IsRising 1 self.old.rows self.old.next }
     {
-        match key_of(&self.index, number) {
-            Some(key) => {
-                let _ = self.index.remove(&number);
-                self.values.try_remove(key)
-            }
+        match index::remove(&mut self.index, number, self.next) {
+            Some(key) => self.values.try_remove(key),
             None => None,
         }
-    }
-}
-
-// The key of a number, if it has one.
-fn key_of(index: &BTreeMap<u64, Option<usize>>, number: u64) -> Option<usize>
-    ensures { result ≡ key_at number index.now.entries }
-{
-    match index.get(&number) {
-        Some(key) => *key,
-        None => None,
-    }
-}
-
-// The first number that isn't below a number and has a key.
-fn first_keyed(index: &BTreeMap<u64, Option<usize>>, number: u64) -> Option<u64>
-    ensures { result ≡ first_key_from number index.now.entries }
-{
-    let (first, key) = index.range(number..).next()?;
-    match key {
-        Some(_) => Some(*first),
-        None => None,
     }
 }
