@@ -6,7 +6,6 @@ use Rattle.std.proofs.lemmas.List.Elements.{All-contains, All-push, Contains-pus
 use Rattle.geo_base.proofs.Options.{some_of, there_with_fact, if_some_weaker, some_and_of, some-with}
 use Rattle.geo_base.proofs.FindLists.{find-Contains, found-before, find-pushed_hit}
 use Rattle.geo_base.specs.declared.request.Counts.{Counts}
-use Rattle.geo_base.specs.declared.kind.Kind.TheVariants as kinds
 use Rattle.geo_base.proofs.MemberLists.{Contains-there, Contains-here}
 use Rattle.geo_model.specs.Words.{names_number, is_granted_kind}
 use Rattle.geo_model.specs.Topology.{Topology, Geom, Provider, Consumer, geom_at, provider_at, consumer_at, providers_of}
@@ -32,11 +31,11 @@ use Rattle.geo_access.specs.declared.decide.Refused.{Refused}
 use Rattle.geo_access.specs.declared.decide.Refused.TheVariants.{Named}
 use Rattle.geo_access.specs.declared.refusal.GrantRefusal.TheVariants.{Enxio}
 use Rattle.geo_access.specs.Access.{granted_by}
-use Rattle.geo_access.specs.Views.{CountsTell, order_of, finish_geom, IsTried, judged, errno_of_refused}
+use Rattle.geo_access.specs.Views.{CountsTell, CountsTellBelow, order_of, finish_geom, IsTried, judged, errno_of_refused}
 use Rattle.geo_access.proofs.Trying.{trying}
 use Rattle.geo_access.proofs.Walked.{walk, walk_covers}
 use Rattle.geo_access.proofs.Verdict.{After, refused}
-use Rattle.geo_access.proofs.Decided.{IsTold, consumer_known, new_is, tells, cleared, decided, end, IsDemand}
+use Rattle.geo_access.proofs.Decided.{IsTold, consumer_known, new_is, tells, below_tells, cleared, decided, end, IsDemand}
 use Rattle.geo_access.proofs.Walking.{none_numbered}
 
 -- what a refusal says of errors: it names the first, or there is none
@@ -234,6 +233,10 @@ module _ {C : Type 0} {t : TopoView C} {p : ℕ} {add : Counts} {new : TopoView 
   -- where the stored counts are told, those of the provider tell whether a consumer there stands in the way
   pub tells_of : CountsTell new p
   tells_of = tells sound told tried its_demand
+
+  -- and those below tell whether a writer stands beside another's exclusive count there
+  pub below_tells_of : CountsTellBelow new (order_of new o)
+  below_tells_of = below_tells sound told tried its_demand
 
   -- the end that keeps nothing leaves the mesh as it was
   pub end_of : fold (finish_geom None) new (order_of new o) ≡ t

@@ -1,5 +1,5 @@
 -- A demand that was tried: what the judgement says, that nothing is left once it ends, and how many steps it took.
-use Rattle.std.specs.Prelude.{◌≡◌, ℕ, ◌+◌, ◌==◌, ◌<◌, ◌≤◌, Bool, true, false, not, ◌||◌, cond, List, [], ◌∷◌, length, map, filter, flat_map, find, fold, Option, Some, None, IsSome, IsSomeAnd, Contains, AllPairs, option_map, unwrap_or, if◌then◌else◌}
+use Rattle.std.specs.Prelude.{◌≡◌, ◌≢◌, ℕ, ◌+◌, ◌==◌, ◌<◌, ◌≤◌, Bool, true, false, not, ◌||◌, cond, List, [], ◌∷◌, length, map, filter, flat_map, find, fold, Option, Some, None, IsSome, IfSome, IsSomeAnd, Contains, AllPairs, option_map, unwrap_or, if◌then◌else◌}
 use Rattle.std.specs.List.{list_any}
 use Rattle.std.specs.Option.{option_map_or}
 use Rattle.std.proofs.Common.{refl, sym, ◌∙◌, ap, subst, arith, inl, inr, eq-eqb, rules}
@@ -8,18 +8,18 @@ use Rattle.std.proofs.lemmas.List.Elements.{All-contains}
 use Rattle.std.proofs.lemmas.List.Kept.{AllPairs-from_increasing}
 use Rattle.geo_base.proofs.FindLists.{any-contained}
 use Rattle.geo_base.specs.declared.request.Counts.{Counts}
-use Rattle.geo_base.proofs.MemberLists.{Contains-there, Contains-cases, Contains-here, flat_map_cases}
+use Rattle.geo_base.proofs.MemberLists.{Contains-there, Contains-cases, Contains-here, Contains-filter, Contains-filter_map, flat_map_cases}
 use Rattle.geo_base.proofs.AllLists.{pairs_tail}
 use Rattle.geo_model.specs.Words.{names_number, is_granted_kind}
 use Rattle.geo_model.specs.Topology.{Topology, Geom, Provider, Consumer, geom_at, provider_at, consumers_of, providers_under, attached_to, consumer_at}
 use Rattle.geo_model.specs.Opens.{below}
-use Rattle.geo_model.specs.Demand.{no_counts, add_counts, have, want, is_exclusive, fits_limit}
+use Rattle.geo_model.specs.Demand.{no_counts, add_counts, sum_counts, have, want, is_exclusive, fits_limit}
 use Rattle.geo_slots.specs.Slots.{value_at}
 use Rattle.geo_mesh.specs.Topo.{TopoView}
 use Rattle.geo_mesh.specs.Graph.{IsSoundGraph}
-use Rattle.geo_laws_counts.proofs.LimitFacts.{of_filter}
+use Rattle.geo_laws_counts.proofs.LimitFacts.{of_filter, apart_from}
 use Rattle.geo_laws_counts.proofs.Numbers.{first_below, numbers_lead}
-use Rattle.geo_laws_counts.proofs.Sums.{add-zero}
+use Rattle.geo_laws_counts.proofs.Sums.{add-zero, add-move, sum-add}
 use Rattle.geo_laws_counts.proofs.Upward.{have_is_sum}
 use Rattle.geo_laws_counts.specs.WalkWords.{has_number, cap}
 use Rattle.geo_laws_counts.proofs.Reach.{below_self}
@@ -33,17 +33,18 @@ use Rattle.geo_access.specs.declared.decide.Side.{Side}
 use Rattle.geo_access.specs.declared.decide.Side.TheVariants.{Writes, Excludes}
 use Rattle.geo_access.specs.Tries.{had, Apart}
 use Rattle.geo_access.specs.Access.{granted_by, clear_scratches, IsCounted, consumers_below, holds_grants}
-use Rattle.geo_access.specs.Views.{CountsTell, order_of, have_at, want_at, made_at, gain_at, raised, raised_have, has_side, other, finish_geom, IsTried, consumers_over, judged}
+use Rattle.geo_access.specs.Views.{CountsTell, CountsTellBelow, order_of, have_at, want_at, made_at, gain_at, raised, raised_have, has_side, other, finish_geom, IsTried, consumers_over, judged}
 use Rattle.geo_access.proofs.Trying.{trying, trying-made, trying-gain}
 use Rattle.geo_access.proofs.TryOut.{Spread}
 use Rattle.geo_access.proofs.Walked.{above_place, reached_touched, attached_reached, first_tries, walked, tried_order, tried_view, order_apart, made_is, outside_gain, walk, walk_covers, walk_ordered, walk_reached}
 use Rattle.geo_access.proofs.Clearing.{clear_whole, link_outside}
-use Rattle.geo_access.proofs.Judging.{other_some}
+use Rattle.geo_access.proofs.Judging.{other_some, other_none}
+use Rattle.geo_access.proofs.Signs.{count_of, no_count, none_of_side, some_unless, tells_below}
 use Rattle.geo_access.proofs.Verdict.{After, IsVerdict, verdict, part_at_most}
 pub use Rattle.geo_access.proofs.Walking.{consumer_known}
 use Rattle.geo_laws_counts.specs.CountWords.{IsAtMost}
 use Rattle.geo_access.proofs.Walking.{provider_known, provider_stands}
-use Rattle.geo_base.proofs.Options.{some_and_of}
+use Rattle.geo_base.proofs.Options.{some_of, some_and_of}
 
 -- the same over one item more
 item_step : {X V : Type 0} (key : X → ℕ) (f : X → V) (n : ℕ) (x y : X) (xs : List X)
@@ -296,46 +297,129 @@ module _ {C : Type 0} {t : TopoView C} (sound : IsSoundGraph t.topology) (told :
               let no : true ≡ false =
               sym has.has ∙ ap (has_side side) (gains_nothing has.one has.at) ∙ none has.one has.at in absurd (cc)
 
-      -- what they want is no more than the provider has
+      -- what they want is together what the provider has
+      place_sum : sum_counts (map (want (granted_by t) t.topology) (attached_to t.topology p)) ≡ have_at t p
+      place_sum =
+          let stands = provider_stands t sound p tried.offer tried.found in
+          sym (have_is_sum t.topology sound.ranked (numbers_lead t.topology sound.orderly.order.providers.0)
+          (granted_by t) p)
+          ∙ sym (subst (λ n. have_at t n ≡ have (granted_by t) t.topology n) stands.1
+          (stored_have tried.offer (provider_known t sound tried.offer stands.0)))
+
+      -- so each wants no more
       wants_within : (c : Consumer) → Contains (attached_to t.topology p) c
           → IsAtMost (want (granted_by t) t.topology c) (have_at t p)
       wants_within c at =
-          let stands = provider_stands t sound p tried.offer tried.found in
-          subst (IsAtMost (want (granted_by t) t.topology c))
-          (sym (have_is_sum t.topology sound.ranked (numbers_lead t.topology sound.orderly.order.providers.0)
-          (granted_by t) p)
-          ∙ sym (subst (λ n. have_at t n ≡ have (granted_by t) t.topology n) stands.1
-          (stored_have tried.offer (provider_known t sound tried.offer stands.0))))
+          subst (IsAtMost (want (granted_by t) t.topology c)) place_sum
           (part_at_most (want (granted_by t) t.topology) (attached_to t.topology p) c at)
 
-      -- and the counts of the provider tell whether one has a side
+      -- a consumer has a number that isn't zero
+      positive : (c : Consumer) → Contains t.topology.consumers c → c.number ≢ 0
+      positive c there none =
+          let some : 1 ≤ c.number =
+          All-contains (λ (d : Consumer). 1 ≤ d.number) t.topology.consumers c sound.orderly.numbers.consumers there in
+          omega arith
+
+      -- and where none has a side, the provider hasn't it
+      none_left : (side : Side) → other (trying t end.tries) p 0 side ≡ None → count_of side (have_at t p) ≡ 0
+      none_left side none =
+          ap (count_of side) (sym place_sum)
+          ∙ none_of_side (want (granted_by t) t.topology) side (attached_to t.topology p) (λ c at.
+          no_count side (want (granted_by t) t.topology c)
+          (ap (has_side side) (sym (gains_nothing c at))
+          ∙ other_none (trying t end.tries) (λ d. add_counts (want (granted_by t) t.topology d) (d_more d)) raises p 0
+          side none c at
+          (positive c (of_filter (λ (x : Consumer). names_number x.provider p) t.topology.consumers c at).0)))
+        where
+          d_more : Consumer → Counts
+          d_more = d.more
+
+      -- so the counts of the provider tell whether one has a side
       pub tells : CountsTell new p
       tells =
           subst (λ v. CountsTell v p) (sym new_is) (record {
             exclusive = search (rules, none_has Excludes, eq-eqb, wants_within);
             writes = λ zero. none_has Writes (λ c at. ap not (eq-eqb (want (granted_by t) t.topology c).w 0
                 (omega (arith, (wants_within c at).w, zero))));
+            excluder = λ some. some_unless (other (trying t end.tries) p 0 Excludes) (λ none. some (none_left Excludes none));
+            writer = λ some. some_unless (other (trying t end.tries) p 0 Writes) (λ none. some (none_left Writes none));
           })
 
-      -- the judgement of the demand
-      pub decided : IsVerdict t.topology p own after u (judged new p add (order_of new o))
-      decided =
-          let totals : (z : Provider) → Contains t.topology.providers z
-          → raised_have (trying t end.tries) z.number ≡ cap (have after u z.number) =
-          λ z there.
+      -- what a provider would have
+      raised_is : (z : Provider) → Contains t.topology.providers z
+          → raised_have (trying t end.tries) z.number
+          ≡ cap (add_counts (have (granted_by t) t.topology z.number) (d.gain z.number))
+      raised_is z there =
           ap (λ a. cap (add_counts a (gain_at (trying t end.tries) z.number)))
           (stored_have z (provider_known t sound z there))
           ∙ ap (λ a. cap (add_counts (have (granted_by t) t.topology z.number) a))
           (trying-gain t end.tries z.number (subst (λ w. IsSome w) (sym (provider_known t sound z there)) refl)
           ∙ end.gains z.number)
           ∙ add-cap (have (granted_by t) t.topology z.number) (d.gain z.number)
-          ∙ ap cap (sym (d.stands.haves z.number)) in
+
+      -- it is what its consumers wanted and gain, and what the demand gives it
+      raised_sum : (z : Provider) → Contains t.topology.providers z
+          → raised_have (trying t end.tries) z.number
+          ≡ cap (add_counts (if p == z.number then add else no_counts)
+          (sum_counts (map (λ c. add_counts (want (granted_by t) t.topology c) (d.more c))
+          (attached_to t.topology z.number))))
+      raised_sum z there =
+          let wants : Counts =
+          sum_counts (map (want (granted_by t) t.topology) (attached_to t.topology z.number)) in
+          let given : Counts = if p == z.number then add else no_counts in
+          raised_is z there
+          ∙ ap cap (ap (λ a. add_counts a (d.gain z.number))
+          (have_is_sum t.topology sound.ranked (numbers_lead t.topology sound.orderly.order.providers.0)
+          (granted_by t) z.number)
+          ∙ ap (add_counts wants) (d.demand.flow.sums z.number)
+          ∙ add-move wants given (sum_counts (map d.more (attached_to t.topology z.number)))
+          ∙ ap (add_counts given)
+          (sym (sum-add (want (granted_by t) t.topology) d.more (attached_to t.topology z.number))))
+
+      -- the provider of a consumer of the order's geoms is of one of them
+      places : (c : Consumer) → Contains t.topology.consumers c → Contains order c.geom → (q : ℕ) → c.provider ≡ Some q
+          → (z : Provider) × Contains t.topology.providers z × (z.number ≡ q) × Contains order z.geom
+      places c there among q placed =
+          let near : Contains (below t.topology p) q =
+          attached_reached t sound told.clear p tried.offer tried.found c.geom q
+          (walk_reached sound told.clear tried c.geom among)
+          (Contains-filter_map (λ (x : Consumer). x.provider) (consumers_of t.topology c.geom) c q
+          (Contains-filter (λ (x : Consumer). x.geom == c.geom) t.topology.consumers c there
+          (eq-eqb c.geom c.geom refl)) placed) in
+          let lives : IsSome (provider_at t.topology q) =
+          subst (λ o. IfSome o (λ n. IsSome (provider_at t.topology n))) placed
+          (All-contains (λ (x : Consumer). IfSome x.provider (λ n. IsSome (provider_at t.topology n)))
+          t.topology.consumers c sound.orderly.parts.providers there) in
+          let z = some_of (provider_at t.topology q) lives in
+          let is = provider_stands t sound q z.0 z.1 in
+          (z.0, is.0, is.1, walk_covers sound told.clear tried q z.0 near z.1)
+
+      -- and counts tell below
+      pub below_tells : CountsTellBelow new (order_of new o)
+      below_tells =
+          subst (λ v. CountsTellBelow v (order_of new o)) (sym new_is)
+          (subst (CountsTellBelow (trying t end.tries)) (sym (tried_order sound told.clear tried))
+          (tells_below (trying t end.tries) p add (want (granted_by t) t.topology) d.more order raises raised_sum positive
+          (λ q. part_apart (λ (c : Consumer). c.number) (λ (c : Consumer). names_number c.provider q)
+          t.topology.consumers
+          (AllPairs-from_increasing (map (λ (c : Consumer). c.number) t.topology.consumers)
+          sound.orderly.order.consumers.0))
+          d.demand.flow.around
+          (λ c at. above_place t sound told.clear p tried.offer tried.found c at)
+          places
+          (λ z there a b at bt apart.
+          apart_from (granted_by t) t.topology told.exclusive z a b there at bt apart)))
+
+      -- the judgement of the demand
+      pub decided : IsVerdict t.topology p own after u (judged new p add (order_of new o))
+      decided =
+          let totals : (z : Provider) → Contains t.topology.providers z
+          → raised_have (trying t end.tries) z.number ≡ cap (have after u z.number) =
+          λ z there. raised_is z there ∙ ap cap (sym (d.stands.haves z.number)) in
           subst (IsVerdict t.topology p own after u)
           (sym (ap (judged new p add) (tried_order sound told.clear tried) ∙ ap (λ v. judged v p add order) new_is))
           (verdict (trying t end.tries) p own add (granted_by t) after u d.gain d.more d.stands raises totals
-          (λ c there none. let some : 1 ≤ c.number =
-          All-contains (λ (d : Consumer). 1 ≤ d.number) t.topology.consumers c sound.orderly.numbers.consumers
-          there in omega arith)
+          positive
           (provider_known t sound) (provider_stands t sound) order
           (λ q near. (reached_touched t sound told.clear p tried.offer tried.found q near).0)
           (λ q there.

@@ -26,7 +26,7 @@ use Rattle.geo_access.specs.Views.{order_of, IsTried, judged, grant_answer, othe
 use Rattle.geo_access.specs.Join.{IsCountedBut, IsJoinRefusal, IsJoinNamed, join_answer, attach_told, errno_of_join, errored_below, error_answer, attach_answer, demand_answer, IsPlacedBut, joined_view, IsLoose, wanted}
 use Rattle.geo_access.proofs.Walked.{walk, walk_covers, tried_graph, tried_order, walk_reached}
 use Rattle.geo_access.proofs.Verdict.{IsVerdict, After, opener_at}
-use Rattle.geo_access.proofs.Decided.{order, decided, IsDemand, IsTold, granted_found, grows}
+use Rattle.geo_access.proofs.Decided.{decided, IsDemand, IsTold, granted_found, grows}
 use Rattle.geo_access.proofs.Coming.{SaysError, open_errors, open_is}
 use Rattle.geo_access.proofs.JoinDemand.{Loose, but_told, joined_want, joined_want_is, join_demand, join_after, joined_cases, loose_is, loose_only, nothing_stored, other_stays, wanted_is, change_none}
 use Rattle.std.proofs.lemmas.Bool.{eqb-true, ne_eqb}

@@ -6,6 +6,8 @@ pub mod Walked
 pub mod Clearing
 pub mod Judging
 pub mod Verdict
+pub mod Errnos
+pub mod Signs
 pub mod Decided
 pub mod Granting
 pub mod Coming

@@ -23,10 +23,9 @@ use Rattle.geo_model.specs.Words.{unless}
 use Rattle.geo_model.specs.Opens.{grant_refusal, with_grant, with_opener}
 use Rattle.geo_laws_counts.specs.CountWords.{HoldsGrants}
 use Rattle.geo_access.specs.declared.counts.Way.TheVariants.{Rises}
-use Rattle.geo_access.specs.declared.decide.Refused.{Refused}
 use Rattle.geo_access.proofs.Folding.{order_graph}
 use Rattle.geo_access.proofs.Decided.{IsTold, counted_told, steps_bound}
-use Rattle.geo_access.proofs.Coming.{end_of, open_refused, tells_of}
+use Rattle.geo_access.proofs.Coming.{end_of, open_refused, tells_of, below_tells_of}
 
 -- the provider that is looked at
 pub provider_found : {C : Type 0} {cell : Option (Bor ProvRec)} {one : Bor ProvRec} (t : Topology C) (p : ℕ)
@@ -110,27 +109,30 @@ may_end {C} {t} {p} {add} {way} {new} {o} tried sound clear =
 -- and judged, where the stored counts are told
 pub may_judge : {C : Type 0} {t : TopoView C} {p : ℕ} {add : Counts} {new : TopoView C} {o : Order}
     → IsTried t p add Rises new o → IsSoundGraph t.topology → IsTold t → MayJudge new p o
-may_judge tried sound told = record { lives = tried_lives sound told.clear tried; tells = tells_of tried sound told }
+may_judge tried sound told = record {
+  lives = tried_lives sound told.clear tried;
+  tells = tells_of tried sound told;
+  below = below_tells_of tried sound told;
+}
 
 -- a demand of a consumer of DEV that would come to the provider: what it is told is the model's, the end that keeps
 -- nothing leaves the mesh as it was, and the steps are within the bound
 pub record IsOpenerAsked {C : Type 0} (t : TopoView C) (p : ℕ) (add : Counts) (new : TopoView C) (o : Order)
-    (judgement : Option Refused) : Type 0 where
-  pub told : ◌≡◌ {A = Result (Unit {0}) Errno} (unless (option_map errno_of_refused judgement) tt)
+    (refused : Option Errno) : Type 0 where
+  pub told : ◌≡◌ {A = Result (Unit {0}) Errno} (unless refused tt)
       (unless (grant_refusal (with_grant (granted_by t) t.topology.next_consumer add) (with_opener t.topology p) p) tt)
   pub ends : fold (finish_geom None) new (order_of new o) ≡ t
   pub bound : consumers_over t.topology (order_of new o) ≤ consumers_below t.topology p
 
--- so it is where it was tried and judged
+-- so it is where it was tried and decided
 pub opener_asked : {C : Type 0} {t : TopoView C} {p : ℕ} {add : Counts} {new : TopoView C} {o : Order}
-    {judgement : Option Refused} → IsTried t p add Rises new o → IsSoundGraph t.topology → IsCounted t
-    → judgement ≡ judged new p add (order_of new o) → IsOpenerAsked t p add new o judgement
-opener_asked {C} {t} {p} {add} {new} {o} tried sound counted judges =
+    {refused : Option Errno} → IsTried t p add Rises new o → IsSoundGraph t.topology → IsCounted t
+    → refused ≡ option_map errno_of_refused (judged new p add (order_of new o)) → IsOpenerAsked t p add new o refused
+opener_asked {C} {t} {p} {add} {new} {o} tried sound counted decides =
     let told : IsTold t = counted_told t sound counted in
     record {
       told =
-          ap (λ (e : Option Errno). unless {A = Unit {0}} e tt) (ap (option_map errno_of_refused) judges
-          ∙ open_refused tried sound told);
+          ap (λ (e : Option Errno). unless {A = Unit {0}} e tt) (decides ∙ open_refused tried sound told);
       ends = end_of tried sound told;
       bound = steps_bound sound counted.clear tried;
     }

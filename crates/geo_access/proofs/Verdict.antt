@@ -95,11 +95,11 @@ module _ {C : Type 0} {t : Topology C} {p own : ℕ} {add : Counts} {granted aft
       )
 
 -- a side that is there isn't zero
-side_there : (n : ℕ) → not (n == 0) ≡ true → n ≢ 0
+pub side_there : (n : ℕ) → not (n == 0) ≡ true → n ≢ 0
 side_there n e none = let no : false ≡ true = sym (ap not (eq-eqb n 0 none)) ∙ e in absurd (cc)
 
 -- and one that isn't is
-side_gone : (n : ℕ) → not (n == 0) ≡ false → n ≡ 0
+pub side_gone : (n : ℕ) → not (n == 0) ≡ false → n ≡ 0
 side_gone n e = search rules
 
 -- what is one of the parts of a sum is at most the sum

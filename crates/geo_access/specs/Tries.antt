@@ -1,5 +1,5 @@
 -- Counts while they are tried: they stop at the greatest number of their type.
-use Rattle.std.specs.Prelude.{ℕ, nat_lt, Bool, not, ◌&&◌, ◌||◌, if◌then◌else◌, List, [], ◌∷◌, Contains}
+use Rattle.std.specs.Prelude.{ℕ, ◌==◌, nat_lt, Bool, not, ◌&&◌, ◌||◌, if◌then◌else◌, List, [], ◌∷◌, Option, Some, None, Contains}
 use Rattle.geo_base.specs.declared.request.Counts.{Counts}
 use Rattle.geo_base.specs.declared.kind.Kind.{Kind}
 use Rattle.geo_base.specs.declared.kind.Kind.TheVariants as kinds
@@ -11,6 +11,8 @@ use Rattle.geo_laws_counts.specs.WalkWords.{cap}
 use Rattle.geo_access.specs.declared.counts.Way.{Way}
 use Rattle.geo_access.specs.declared.counts.Way.TheVariants.{Rises, Falls}
 use Rattle.geo_access.specs.declared.counts.Weight.{Weight}
+use Rattle.geo_access.specs.declared.judge.Sign.{Sign}
+use Rattle.geo_access.specs.declared.judge.Sign.TheVariants.{Clash, Unclear}
 
 -- whether a count is above what a provider may have
 abbrev pub is_too_great : Counts → Bool
@@ -37,6 +39,20 @@ made_of kinds.Dev weight = no_counts
 made_of kinds.Taste weight = no_counts
 made_of kind weight =
     cap (add_counts weight.sum (exclusive_where (adds_exclusive kind && (weight.quiet && not (is_zero weight.sum)))))
+
+-- whether others have an exclusive count beside this writer, or write beside this exclusive count, where all together
+-- have so much
+abbrev pub stands_beside : Counts → Counts → Bool
+stands_beside mine all =
+    (not (mine.w == 0) && nat_lt mine.e all.e) || (not (mine.e == 0) && nat_lt mine.w all.w)
+
+-- whether the write count or the exclusive count stopped at the greatest number
+abbrev pub is_stopped : Counts → Bool
+is_stopped a = (a.w == 4294967295) || (a.e == 4294967295)
+
+-- what the counts of a consumer tell beside those of all consumers at its provider
+abbrev pub sign_of : Counts → Counts → Option Sign
+sign_of mine all = if stands_beside mine all then Some Clash else if is_stopped mine then Some Unclear else None
 
 -- no number comes twice
 abbrev pub Apart : List ℕ → Type 0

@@ -1,6 +1,6 @@
 -- What the walks do to a mesh, step by step. Scratch has the walk's state: a geom's mark is the next geom of the
 -- order, and its counts are what each of its consumers gains; a provider's counts are what it gains.
-use Rattle.std.specs.Prelude.{◌≡◌, ℕ, zero, suc, ◌+◌, ◌-◌, ◌==◌, ◌<◌, ◌≤◌, ◌^◌, min, Bool, true, false, not, ◌&&◌, ◌||◌, List, [], ◌∷◌, length, fold, find, Option, Some, None, Result, Ok, Err, IsSome, IfSome, All, unwrap_or, option_map, if◌then◌else◌}
+use Rattle.std.specs.Prelude.{◌≡◌, ◌≢◌, ℕ, zero, suc, ◌+◌, ◌-◌, ◌==◌, ◌<◌, ◌≤◌, ◌^◌, min, Bool, true, false, not, ◌&&◌, ◌||◌, List, [], ◌∷◌, length, fold, find, Option, Some, None, Result, Ok, Err, IsSome, IfSome, All, unwrap_or, option_map, if◌then◌else◌}
 use Rattle.std.specs.Option.{option_map_or, option_and_then, option_or}
 use Rattle.geo_base.specs.declared.request.Counts.{Counts}
 use Rattle.geo_model.specs.Topology.{Topology, Provider, Consumer, geom_at, provider_at, consumer_at, providers_of, consumers_of, providers_under, attached_to}
@@ -28,7 +28,9 @@ use Rattle.geo_access.specs.declared.decide.Refused.TheVariants.{Named, Writer, 
 use Rattle.geo_base.specs.declared.errno.Errno.{Errno}
 use Rattle.geo_base.specs.declared.errno.Errno.TheVariants.{ENXIO, EPERM, EOVERFLOW}
 use Rattle.geo_laws_counts.specs.WalkWords.{cap}
-use Rattle.geo_access.specs.Tries.{is_too_great, had, shifted, made_of, Apart}
+use Rattle.geo_access.specs.declared.judge.Sign.{Sign}
+use Rattle.geo_access.specs.declared.judge.Sign.TheVariants.{Clash}
+use Rattle.geo_access.specs.Tries.{is_too_great, had, shifted, made_of, sign_of, Apart}
 
 -- a walk over some consumers of the graph comes to this one next
 pub record IsNextConsumer {C : Type 0} (t : Topology C) (xs : List Consumer) (from_number id : ℕ)
@@ -240,15 +242,32 @@ module _ {C : Type 0} where
   abbrev pub first_errored : TopoView C → ℕ → List ℕ → Option ℕ
   first_errored v p xs = fold (λ best x. fold (lesser v) best (providers_under v.topology x)) (lesser v None p) xs
 
-  -- at a provider that has no exclusive count no consumer would have one, and at one without a write count none writes
+  -- what counts tell of a consumer, and of the consumers of a geom
+  abbrev pub sign_at : TopoView C → Consumer → Option Sign
+  sign_at v c = option_and_then (λ q. sign_of (raised v c) (raised_have v q)) c.provider
+
+  abbrev pub sign_in : TopoView C → ℕ → Option Sign
+  sign_in v x = first_given (sign_at v) (consumers_of v.topology x)
+
+  -- a consumer at the provider would have an exclusive count just where the provider has one, and one writes just where
+  -- the provider has a write count
   pub record CountsTell (v : TopoView C) (q : ℕ) : Type 0 where
     pub exclusive : (have_at v q).e ≡ 0 → other v q 0 Excludes ≡ None
     pub writes : (have_at v q).w ≡ 0 → other v q 0 Writes ≡ None
+    pub excluder : (have_at v q).e ≢ 0 → IsSome (other v q 0 Excludes)
+    pub writer : (have_at v q).w ≢ 0 → IsSome (other v q 0 Writes)
 
-  -- a demand that was tried can be judged: the geoms of its order live, and the counts of its provider tell
+  -- where counts tell nothing of the consumers of these geoms, no writer stands beside another's exclusive count at
+  -- their providers; where the first that they tell is a clash, one does
+  pub record CountsTellBelow (v : TopoView C) (xs : List ℕ) : Type 0 where
+    pub free : first_given (sign_in v) xs ≡ None → first_given (fault_in v Exclusion) xs ≡ None
+    pub clash : first_given (sign_in v) xs ≡ Some Clash → IsSome (first_given (fault_in v Exclusion) xs)
+
+  -- a demand that was tried can be judged: the geoms of its order live, and counts tell at its provider and below
   pub record MayJudge (v : TopoView C) (q : ℕ) (o : Order) : Type 0 where
     pub lives : All (λ x. IsSome (geom_at v.topology x)) (order_of v o)
     pub tells : CountsTell v q
+    pub below : CountsTellBelow v (order_of v o)
 
   -- another consumer's exclusive count, where the demand writes; another writer, where it has an exclusive count
   abbrev pub beside_exclusive : TopoView C → ℕ → Counts → Option Refused

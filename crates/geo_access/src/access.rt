@@ -10,8 +10,9 @@ ghost use Rattle.geo_slots.specs.Slots.{value_at};
 ghost use Rattle.geo_access.specs.Access.{IsCounted, IsQuiet, IsPlaced, IsHolder, IsRefusal, IsNamed, clear_scratches, granted_by, granted_view, released_view, consumers_below, place_of, noted};
 
 use crate::counts::{NO_COUNTS, Way};
-use crate::decide::{answer, errno, judge, refusal};
+use crate::decide::{answer, refusal};
 use crate::finish::finish;
+use crate::judge::{decide, judge};
 use crate::order::{Order, gather};
 use crate::refusal::GrantRefusal;
 use crate::spread::{give, spread};
@@ -136,10 +137,10 @@ pub fn could_grant<C, L: Ledger>(
     ensures bound { steps.new ≤ steps.old + consumers_below topo.old.topology prov }
 {
     let order = try_out(topo, prov, add, Way::Rises, steps);
-    let refused = judge(topo, prov, add, order);
+    let refused = decide(topo, prov, add, order);
     finish(topo, order, None);
     match refused {
-        Some(why) => Err(errno(why)),
+        Some(errno) => Err(errno),
         None => Ok(()),
     }
 }

@@ -1,17 +1,17 @@
-//! What refuses a demand that is tried.
+//! Looks at what a demand that is tried meets: what refuses it, and who stands in its way.
 ghost use Rattle.std.specs.Prelude.{◌≡◌, ℕ, All, IsSome, fold, Some, None, filter_map, flat_map, not, ◌&&◌, ◌==◌};
 ghost use Rattle.std.specs.Option.{option_map_or};
 ghost use Rattle.geo_model.specs.Topology.{geom_at, provider_at, consumer_at, providers_under, providers_of, consumers_of, attached_to};
 ghost use Rattle.geo_mesh.specs.Cells.{consumer_seen};
 ghost use Rattle.geo_model.specs.Demand.{add_counts};
 ghost use Rattle.geo_laws_counts.specs.WalkWords.{cap};
-ghost use Rattle.geo_access.specs.Views.{CountsTell, MayJudge, grant_answer, errno_of_refused, judged, against, beside_exclusive, beside_writer, have_at, want_at, made_at, order_of, lesser, raised, has_side, other, second_pair, pair_with, pair_at, raised_have, fault_at, fault_in, first_given};
+ghost use Rattle.geo_access.specs.Views.{CountsTell, MayJudge, grant_answer, judged, against, beside_exclusive, beside_writer, have_at, want_at, made_at, order_of, lesser, raised, has_side, other, second_pair, pair_with, pair_at, raised_have, fault_at, fault_in, first_given};
 
 use crate::counts::{NO_COUNTS, add, is_over};
 use crate::order::{Order, take};
 use crate::refusal::GrantRefusal;
 use crate::walk::{consumer_at, consumer_of, provider_of};
-use geo_base::{ConsId, Counts, Errno, GeomId, ProvId};
+use geo_base::{ConsId, Counts, GeomId, ProvId};
 use geo_mesh::{ConsRec, Topo};
 
 /// What a consumer is asked for: whether it has a write count, or an exclusive count.
@@ -40,8 +40,8 @@ pub enum Refused {
     Exclusive(ConsId),
 }
 
-/// What refuses the demand that is tried, if anything does.
-pub fn judge<C>(topo: &Topo<C>, prov: ProvId, add: Counts, order: Order) -> Option<Refused>
+/// What refuses the demand that is tried, if anything does, with who stands in its way.
+pub fn reason<C>(topo: &Topo<C>, prov: ProvId, add: Counts, order: Order) -> Option<Refused>
     requires { MayJudge topo.now prov order }
     ensures { result ≡ judged topo.now prov add (order_of topo.now order) }
 {
@@ -99,8 +99,8 @@ fn beside_writer<C>(topo: &Topo<C>, prov: ProvId, add: Counts) -> Option<Refused
     Some(Refused::Writer(writer))
 }
 
-// The counts of the provider.
-fn have_of<C>(topo: &Topo<C>, prov: ProvId) -> Counts
+/// The counts of the provider.
+pub fn have_of<C>(topo: &Topo<C>, prov: ProvId) -> Counts
     ensures { result ≡ have_at topo.now prov }
 {
     match topo.provider(prov) {
@@ -138,19 +138,8 @@ pub fn refusal(why: Refused, cons: ConsId, prov: ProvId) -> GrantRefusal
     }
 }
 
-/// The error of what refuses.
-pub fn errno(why: Refused) -> Errno
-    ensures { result ≡ errno_of_refused why }
-{
-    match why {
-        Refused::Named(GrantRefusal::Enxio { .. }) => Errno::ENXIO,
-        Refused::Named(GrantRefusal::Eoverflow { .. }) => Errno::EOVERFLOW,
-        _ => Errno::EPERM,
-    }
-}
-
-// Of the provider and those to which consumers of the order's geoms are attached, the smallest that carries an error.
-fn first_errored<C>(topo: &Topo<C>, prov: ProvId, order: Order) -> Option<ProvId>
+/// Of the provider and those to which consumers of the order's geoms are attached, the smallest that carries an error.
+pub fn first_errored<C>(topo: &Topo<C>, prov: ProvId, order: Order) -> Option<ProvId>
     requires { All (λ x. IsSome (geom_at topo.now.topology x)) (order_of topo.now order) }
     ensures { result ≡ fold (λ best x. fold (lesser topo.now) best (providers_under topo.now.topology x))
         (lesser topo.now None prov) (order_of topo.now order) }
@@ -203,8 +192,8 @@ fn lesser<C>(topo: &Topo<C>, best: Option<ProvId>, prov: ProvId) -> Option<ProvI
     }
 }
 
-// What is wrong at a provider of the order's geoms, if anything is.
-fn first_fault<C>(topo: &Topo<C>, order: Order, asked: Asked) -> Option<GrantRefusal>
+/// What is wrong at a provider of the order's geoms, if anything is.
+pub fn first_fault<C>(topo: &Topo<C>, order: Order, asked: Asked) -> Option<GrantRefusal>
     requires { All (λ x. IsSome (geom_at topo.now.topology x)) (order_of topo.now order) }
     ensures { result ≡ first_given (fault_in topo.now asked) (order_of topo.now order) }
 {
@@ -305,8 +294,8 @@ fn fits<C>(topo: &Topo<C>, id: ConsId, cons: &ConsRec, but: u64, side: Side) -> 
     id.number() != but && has_side(side, raised(topo, cons))
 }
 
-// What the consumer wants once it has what it gains.
-fn raised<C>(topo: &Topo<C>, cons: &ConsRec) -> Counts
+/// What the consumer wants once it has what it gains.
+pub fn raised<C>(topo: &Topo<C>, cons: &ConsRec) -> Counts
     requires { IsSome (geom_at topo.now.topology cons.now.geom) }
     ensures { result ≡ cap (add_counts cons.now.want (made_at topo.now cons.now.geom)) }
 {

@@ -14,8 +14,9 @@ ghost use Rattle.geo_access.specs.Join.{IsLoose, IsCountedBut, IsPlacedBut, IsJo
 
 use crate::access::try_out;
 use crate::counts::{NO_COUNTS, Way, Weight, add, made_of};
-use crate::decide::{Refused, answer, judge};
+use crate::decide::{Refused, answer};
 use crate::finish::finish;
+use crate::judge::judge;
 use crate::refusal::{GrantRefusal, JoinRefusal};
 use crate::steps::Steps;
 use crate::walk::provider_of;

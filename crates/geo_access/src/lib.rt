@@ -28,6 +28,7 @@ mod counts;
 mod decide;
 mod finish;
 mod joins;
+mod judge;
 mod laws;
 mod notes;
 mod order;

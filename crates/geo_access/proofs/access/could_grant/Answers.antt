@@ -7,8 +7,8 @@ pub try_out-order-requires : goal.try_out-order-requires
 try_out-order-requires g c = record { lives = c.requires.lives; clear = c.requires.counted.clear }
 
 -- the geoms that were met stand, and counts that are right tell of each consumer at the provider
-pub judge-refused-requires : goal.judge-refused-requires
-judge-refused-requires g c =
+pub decide-refused-requires : goal.decide-refused-requires
+decide-refused-requires g c =
     may_judge c.try_out-order.ensures.tried c.try_out-order.ensures.sound
     (counted_told c.args.topo.now c.try_out-order.ensures.sound c.requires.counted)
 
@@ -21,10 +21,10 @@ pub returns-in-Some : goal.returns-in-Some
 returns-in-Some g c =
     let asked =
     opener_asked c.try_out-order.ensures.tried c.try_out-order.ensures.sound c.requires.counted
-    (sym c.in-Some.is ∙ c.judge-refused.ensures) in
+    (sym c.in-Some.is ∙ c.decide-refused.ensures) in
     record {
       same = c.finish.ensures ∙ asked.ends;
-      answer = rw c.errno.ensures asked.told;
+      answer = asked.told;
       bound = omega (arith, c.try_out-order.ensures.steps, asked.bound);
     }
 
@@ -32,7 +32,7 @@ pub returns-in-None : goal.returns-in-None
 returns-in-None g c =
     let asked =
     opener_asked c.try_out-order.ensures.tried c.try_out-order.ensures.sound c.requires.counted
-    (sym c.in-None.is ∙ c.judge-refused.ensures) in
+    (sym c.in-None.is ∙ c.decide-refused.ensures) in
     record {
       same = c.finish.ensures ∙ asked.ends;
       answer = asked.told;
