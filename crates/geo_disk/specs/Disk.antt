@@ -2,7 +2,7 @@
 use Rattle.std.specs.Prelude.{◌≡◌, ℕ, ◌+◌, ◌/◌, ◌%◌, ◌<◌, ◌≤◌, List, length, Option, Result, Ok, Err, IfSome}
 use Rattle.std.specs.Option.{option_map}
 use Rattle.geo_base.specs.Sectors.{bytes_between, cut_into, with_sectors, zero_sectors}
-use Rattle.geo_disk.specs.declared.calls.DiskCall.{DiskCall}
+use Rattle.geo_disk.specs.Calls.{CallMade}
 use Rattle.geo_disk.specs.declared.disk.DiskFailed.{DiskFailed}
 
 -- a disk at one moment
@@ -16,7 +16,7 @@ pub record DiskView : Type 0 where
   -- how many calls failed, exactly, up to the end of the count's type
   pub faults : ℕ
   -- what it was asked and what it answered: each call of read, write, zero and flush, in order, and nothing else
-  pub asked : List DiskCall
+  pub asked : List CallMade
 
 -- so many bytes are whole sectors, and from the first on they lie inside the disk
 pub record AreSectors (sector count first bytes : ℕ) : Type 0 where

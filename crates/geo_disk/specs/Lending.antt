@@ -3,7 +3,7 @@ use Rattle.std.specs.Prelude.{◌≡◌, ℕ, List, [], Option, true, is_some}
 use Rattle.std.specs.Option.{option_map_or}
 use Rattle.geo_disk.specs.Counts.{counted_on}
 use Rattle.geo_disk.specs.Names.{is_among, named}
-use Rattle.geo_disk.specs.declared.calls.DiskCall.{DiskCall}
+use Rattle.geo_disk.specs.Calls.{CallMade}
 use Rattle.geo_disk.specs.declared.lending.Count.{Count}
 use Rattle.geo_disk.specs.declared.lending.Returned.{Returned}
 use Rattle.geo_disk.specs.declared.lending.Tally.{Tally}
@@ -61,7 +61,7 @@ abbrev pub give_failed : Tally → Tally
 give_failed tally = record tally { give_faults = counted_on tally.give_faults }
 
 -- what the disk of a name had been asked when it came back last: nothing where none came back
-abbrev pub asked_in : List Returned → List ℕ → List DiskCall
+abbrev pub asked_in : List Returned → List ℕ → List CallMade
 asked_in returned name = option_map_or (λ r. r.asked.items) (named (λ r. r.name) name returned) []
 
 -- with how many sectors it came back last: 0 where none came back
@@ -69,7 +69,7 @@ abbrev pub sectors_in : List Returned → List ℕ → ℕ
 sectors_in returned name = option_map_or (λ r. r.sectors) (named (λ r. r.name) name returned) 0
 
 -- the same, as the calls know them
-abbrev pub returned_asked : Loans → List ℕ → List DiskCall
+abbrev pub returned_asked : Loans → List ℕ → List CallMade
 returned_asked loans name = asked_in loans.returned name
 
 abbrev pub returned_sectors : Loans → List ℕ → ℕ

@@ -12,7 +12,7 @@ use Rattle.geo_disk.specs.Lending.{Loans, faults_of, give_faults_of, returned_as
 use Rattle.geo_disk.specs.Memory.{Memory}
 use Rattle.geo_disk.specs.Names.{is_among, named}
 use Rattle.geo_disk.specs.Shelf.{ShelfView}
-use Rattle.geo_disk.specs.declared.calls.DiskCall.{DiskCall}
+use Rattle.geo_disk.specs.Calls.{CallMade}
 use Rattle.geo_disk.specs.declared.mem_shelf.Slot.{Slot}
 use Rattle.geo_disk.specs.declared.shelf.ShelfCall.{ShelfCall}
 
@@ -46,7 +46,7 @@ abbrev pub slot_at : List Slot → ℕ → Slot
 slot_at slots at = slice_index_or slots at (emptied_slot [])
 
 -- the disk of a place, which failed so often and was asked this before
-abbrev pub disk_of_slot : ℕ → ℕ → List DiskCall → Slot → Memory
+abbrev pub disk_of_slot : ℕ → ℕ → List CallMade → Slot → Memory
 disk_of_slot sector faults asked slot = record {
   sector = sector;
   sectors = sectors_of sector slot.bytes;

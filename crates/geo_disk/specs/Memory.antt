@@ -3,7 +3,7 @@ use Rattle.std.specs.Prelude.{◌≡◌, ℕ, ◌-◌, ◌%◌, ◌<◌, min, Li
 use Rattle.geo_base.specs.Sectors.{cut_into, with_sectors, zero_sectors}
 use Rattle.geo_disk.specs.Counts.{counted_if, counted_on}
 use Rattle.geo_disk.specs.Disk.{DiskView}
-use Rattle.geo_disk.specs.declared.calls.DiskCall.{DiskCall}
+use Rattle.geo_disk.specs.Calls.{CallMade}
 
 -- what a disk in memory is
 pub record Memory : Type 0 where
@@ -18,7 +18,7 @@ pub record Memory : Type 0 where
   -- how many sectors a write or zero that fails still does
   pub part : ℕ
   -- what it was asked and what it answered, in order
-  pub asked : List DiskCall
+  pub asked : List CallMade
 
 -- a disk in memory tells its sectors
 abbrev pub memory_view : Memory → DiskView
@@ -37,7 +37,7 @@ pub record AreWhole (sector : ℕ) (bytes : List ℕ) : Type 0 where
   pub whole : length bytes % sector ≡ 0
 
 -- the disk after one more call
-abbrev pub called : DiskCall → Memory → Memory
+abbrev pub called : CallMade → Memory → Memory
 called call m = record m {
   calls = counted_on m.calls;
   faults = counted_if (is_some call.failed) m.faults;

@@ -5,7 +5,7 @@ use Rattle.geo_base.specs.Sectors.{joined_sectors, sectors_of}
 use Rattle.geo_base.specs.declared.limits.TheConstants.{MAX_IMAGE_BYTES}
 use Rattle.geo_disk.specs.Disk.{DiskView}
 use Rattle.geo_disk.specs.Names.{names_without}
-use Rattle.geo_disk.specs.declared.calls.DiskCall.{DiskCall}
+use Rattle.geo_disk.specs.Calls.{CallMade}
 use Rattle.geo_disk.specs.declared.shelf.ShelfCall.{ShelfCall}
 use Rattle.geo_disk.specs.declared.shelf.Taken.{Taken}
 use Rattle.geo_disk.specs.declared.shelf.Taken.TheVariants.{Disk, Missing, BadSize}
@@ -28,7 +28,7 @@ pub record ShelfView : Type 0 where
   -- how many gives of each name failed
   pub give_faults : List ℕ → ℕ
   -- of each name, what its disk had been asked, and what it had answered, when it came back last
-  pub asked_of : List ℕ → List DiskCall
+  pub asked_of : List ℕ → List CallMade
   -- of each name, how many sectors its disk had when it came back last
   pub sectors_of : List ℕ → ℕ
   -- its takes and gives, in order, those that failed or found nothing among them

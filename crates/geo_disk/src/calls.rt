@@ -3,39 +3,56 @@ ghost use Rattle.std.specs.Prelude.{◌≡◌};
 ghost use Rattle.geo_disk.specs.Calls.{disk_call};
 
 use crate::disk::DiskFailed;
+use crate::notes::Notes;
 use geo_base::BioCmd;
+use std::marker::Model;
 
-/// A call of a disk, and how it ended. Places and counts are in sectors.
-#[derive(Clone, Copy)]
+/// A call of a disk, the bytes that passed by it, and how it ended. Places and counts are in sectors. Its bytes are
+/// noted alone: none are copied.
+#[derive(Drop)]
 pub struct DiskCall {
-    /// What was asked.
-    pub cmd: BioCmd,
-    /// The first sector: 0 of a flush.
-    pub first: u64,
-    /// How many sectors: 0 of a flush.
-    pub count: u64,
-    /// How many of the sectors were done before the call failed, where it failed.
-    pub failed: Option<u64>,
+    cmd: BioCmd,
+    first: u64,
+    count: u64,
+    bytes: Notes<u8>,
+    failed: Option<u64>,
+}
+
+impl Model for DiskCall {
+    ghost use Rattle.geo_disk.specs.Calls.{CallMade};
+
+    ghost Value = { CallMade };
+
+    ghost view = { λ c. record {
+      cmd = c.cmd;
+      first = c.first;
+      count = c.count;
+      bytes = c.bytes.items;
+      failed = c.failed;
+    } };
 }
 
 impl DiskCall {
-    /// The call that asked for `count` sectors from `first` on, and was answered so.
-    pub fn new(cmd: BioCmd, first: u64, count: u64, answer: &Result<(), DiskFailed>) -> DiskCall
-        ensures { result ≡ disk_call cmd first count answer.now }
+    /// The call that asked for `count` sectors from `first` on, by which these bytes passed, and was answered so.
+    pub fn new(
+        cmd: BioCmd,
+        first: u64,
+        count: u64,
+        bytes: &[u8],
+        answer: &Result<(), DiskFailed>,
+    ) -> DiskCall
+        ensures { result ≡ disk_call cmd first count bytes.now answer.now }
     {
-        match answer {
-            Ok(()) => DiskCall {
-                cmd,
-                first,
-                count,
-                failed: None,
-            },
-            Err(failure) => DiskCall {
-                cmd,
-                first,
-                count,
-                failed: Some(failure.done),
-            },
+        let failed = match answer {
+            Ok(()) => None,
+            Err(failure) => Some(failure.done),
+        };
+        DiskCall {
+            cmd,
+            first,
+            count,
+            bytes: Notes::of(bytes),
+            failed,
         }
     }
 }

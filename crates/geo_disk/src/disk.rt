@@ -1,7 +1,7 @@
 //! What a disk is.
 ghost use Rattle.std.specs.Prelude.{◌≡◌, ◌+◌, ◌/◌, ◌≤◌, ◌∷◌, [], ◌++◌, length, IfErr, IfSome, OnOk, is_err};
 ghost use Rattle.geo_base.specs.declared.request.BioCmd.TheVariants as cmds;
-ghost use Rattle.geo_disk.specs.Calls.{disk_call};
+ghost use Rattle.geo_disk.specs.Calls.{disk_call, given_by};
 ghost use Rattle.geo_disk.specs.Counts.{counted_if};
 ghost use Rattle.geo_disk.specs.Disk.{AreSectors, DiskView, IsRead, done_of, written, zeroed};
 
@@ -17,7 +17,7 @@ pub struct DiskFailed {
 /// A disk: sectors of one size, numbered from 0. Places and counts are in sectors.
 pub trait Disk {
     /// What its calls show: the bytes of each sector, where the disk tells them, the size of a sector in bytes, how
-    /// many sectors there are, how many calls failed, and what it was asked and what it answered so far.
+    /// many sectors there are, how many calls failed, and what it was asked and what it answered so far, byte by byte.
     ghost view: { Self → DiskView };
 
     /// How many bytes a sector has, which no call changes.
@@ -38,8 +38,8 @@ pub trait Disk {
         ensures none_done { IfErr result (λ e. e.done ≡ 0) }
         ensures faults { (view self.new).faults ≡ counted_if (is_err result) (view self.old).faults }
         ensures asked { (view self.new).asked
-            ≡ (view self.old).asked ++ disk_call cmds.Read first (length out.old / (view self.old).sector) result
-            ∷ [] };
+            ≡ (view self.old).asked ++ disk_call cmds.Read first (length out.old / (view self.old).sector)
+            (given_by result out.new) result ∷ [] };
 
     /// Writes the bytes over the sectors from `first` on. After a failure the first `done` of them are written, and
     /// no other.
@@ -53,8 +53,8 @@ pub trait Disk {
         ensures part_done { IfErr result (λ e. e.done ≤ length bytes.now / (view self.old).sector) }
         ensures faults { (view self.new).faults ≡ counted_if (is_err result) (view self.old).faults }
         ensures asked { (view self.new).asked
-            ≡ (view self.old).asked ++ disk_call cmds.Write first (length bytes.now / (view self.old).sector) result
-            ∷ [] };
+            ≡ (view self.old).asked ++ disk_call cmds.Write first (length bytes.now / (view self.old).sector)
+            bytes.now result ∷ [] };
 
     /// Writes zeros over `count` sectors from `first` on. After a failure the first `done` of them are zero, and no
     /// other sector changed.
@@ -66,7 +66,7 @@ pub trait Disk {
             ≡ zeroed (view self.old).sector first (done_of result count) (view self.old).held }
         ensures part_done { IfErr result (λ e. e.done ≤ count) }
         ensures faults { (view self.new).faults ≡ counted_if (is_err result) (view self.old).faults }
-        ensures asked { (view self.new).asked ≡ (view self.old).asked ++ disk_call cmds.Delete first count result
+        ensures asked { (view self.new).asked ≡ (view self.old).asked ++ disk_call cmds.Delete first count [] result
             ∷ [] };
 
     /// Makes what was written last.
@@ -76,7 +76,7 @@ pub trait Disk {
         ensures held { (view self.new).held ≡ (view self.old).held }
         ensures none_done { IfErr result (λ e. e.done ≡ 0) }
         ensures faults { (view self.new).faults ≡ counted_if (is_err result) (view self.old).faults }
-        ensures asked { (view self.new).asked ≡ (view self.old).asked ++ disk_call cmds.Flush 0 0 result ∷ [] };
+        ensures asked { (view self.new).asked ≡ (view self.old).asked ++ disk_call cmds.Flush 0 0 [] result ∷ [] };
 
     /// The sectors that are told are as many as there are.
     ghost counted: { (disk : Self) → IfSome (view disk).held (λ sectors. length sectors ≡ (view disk).count) };

@@ -1,7 +1,7 @@
 //! The disk under a provider of class DISK.
 ghost use Rattle.std.specs.Prelude.{◌≡◌, ◌+◌, ◌/◌, ◌≤◌, ◌↔◌, ◌∷◌, [], ◌++◌, length, Contains, IfErr, IsErr, OnOk, is_err};
 ghost use Rattle.geo_base.specs.declared.request.BioCmd.TheVariants as cmds;
-ghost use Rattle.geo_disk.specs.Calls.{disk_call};
+ghost use Rattle.geo_disk.specs.Calls.{disk_call, given_by};
 ghost use Rattle.geo_disk.specs.Counts.{counted_if, counted_on};
 ghost use Rattle.geo_disk.specs.Disk.{AreSectors, IsRead, done_of, written, zeroed};
 ghost use Rattle.geo_disk.specs.Memory.{after_write, after_zero, called};
@@ -48,11 +48,13 @@ impl<D: Disk> Disk for Drive<D> {
             ≡ counted_if (is_err result) (view_by D.view self.old).faults }
         ensures asked { (view_by D.view self.new).asked
             ≡ (view_by D.view self.old).asked
-            ++ disk_call cmds.Read first (length out.old / (view_by D.view self.old).sector) result ∷ [] }
+            ++ disk_call cmds.Read first (length out.old / (view_by D.view self.old).sector)
+            (given_by result out.new) result ∷ [] }
 
         // A disk in memory is as after this call, which fails exactly where its number is in the list.
         ensures ram { IfRam self.old self.new
-            (λ old new. new ≡ called (disk_call cmds.Read first (length out.old / old.sector) result) old) }
+            (λ old new. new ≡ called (disk_call cmds.Read first (length out.old / old.sector)
+            (given_by result out.new) result) old) }
         ensures fails { IfRam self.old self.new (λ old _. IsErr result ↔ Contains old.fails (counted_on old.calls)) }
     {
         match self {
@@ -75,9 +77,10 @@ impl<D: Disk> Disk for Drive<D> {
             ≡ counted_if (is_err result) (view_by D.view self.old).faults }
         ensures asked { (view_by D.view self.new).asked
             ≡ (view_by D.view self.old).asked
-            ++ disk_call cmds.Write first (length bytes.now / (view_by D.view self.old).sector) result ∷ [] }
+            ++ disk_call cmds.Write first (length bytes.now / (view_by D.view self.old).sector)
+            bytes.now result ∷ [] }
         ensures ram { IfRam self.old self.new (λ old new.
-            new ≡ called (disk_call cmds.Write first (length bytes.now / old.sector) result)
+            new ≡ called (disk_call cmds.Write first (length bytes.now / old.sector) bytes.now result)
             (after_write old first (done_of result (length bytes.now / old.sector)) bytes.now)) }
         ensures fails { IfRam self.old self.new (λ old _. IsErr result ↔ Contains old.fails (counted_on old.calls)) }
     {
@@ -97,9 +100,9 @@ impl<D: Disk> Disk for Drive<D> {
         ensures faults { (view_by D.view self.new).faults
             ≡ counted_if (is_err result) (view_by D.view self.old).faults }
         ensures asked { (view_by D.view self.new).asked
-            ≡ (view_by D.view self.old).asked ++ disk_call cmds.Delete first count result ∷ [] }
+            ≡ (view_by D.view self.old).asked ++ disk_call cmds.Delete first count [] result ∷ [] }
         ensures ram { IfRam self.old self.new (λ old new. new
-            ≡ called (disk_call cmds.Delete first count result) (after_zero old first (done_of result count))) }
+            ≡ called (disk_call cmds.Delete first count [] result) (after_zero old first (done_of result count))) }
         ensures fails { IfRam self.old self.new (λ old _. IsErr result ↔ Contains old.fails (counted_on old.calls)) }
     {
         match self {
@@ -116,8 +119,8 @@ impl<D: Disk> Disk for Drive<D> {
         ensures faults { (view_by D.view self.new).faults
             ≡ counted_if (is_err result) (view_by D.view self.old).faults }
         ensures asked { (view_by D.view self.new).asked
-            ≡ (view_by D.view self.old).asked ++ disk_call cmds.Flush 0 0 result ∷ [] }
-        ensures ram { IfRam self.old self.new (λ old new. new ≡ called (disk_call cmds.Flush 0 0 result) old) }
+            ≡ (view_by D.view self.old).asked ++ disk_call cmds.Flush 0 0 [] result ∷ [] }
+        ensures ram { IfRam self.old self.new (λ old new. new ≡ called (disk_call cmds.Flush 0 0 [] result) old) }
         ensures fails { IfRam self.old self.new (λ old _. IsErr result ↔ Contains old.fails (counted_on old.calls)) }
     {
         match self {

@@ -3,7 +3,7 @@ ghost use Rattle.std.specs.Prelude.{◌≡◌, ◌+◌, ◌*◌, ◌/◌, ◌≤
 ghost use Rattle.geo_base.specs.declared.request.BioCmd.TheVariants as cmds;
 ghost use Rattle.std.specs.List.{replace_range};
 ghost use Rattle.geo_base.specs.Sectors.{joined_sectors, sectors_of};
-ghost use Rattle.geo_disk.specs.Calls.{disk_call};
+ghost use Rattle.geo_disk.specs.Calls.{disk_call, given_by};
 ghost use Rattle.geo_disk.specs.Counts.{counted_if, counted_on};
 ghost use Rattle.geo_disk.specs.Disk.{AreSectors, IsRead, done_of};
 ghost use Rattle.geo_disk.specs.Memory.{AreWhole, after_write, after_zero, called, memory_view, part_of};
@@ -153,19 +153,23 @@ impl MemDisk {
         self.fails.has(one_more(self.calls))
     }
 
-    /// A call that asked for `count` sectors from `first` on was answered so: it is counted, and so is its failure.
+    /// A call that asked for `count` sectors from `first` on, by which these bytes passed, was answered so: it is
+    /// counted, and so is its failure.
     fn answered(
         &mut self,
         cmd: BioCmd,
         first: u64,
         count: u64,
+        bytes: &[u8],
         answer: Result<(), DiskFailed>,
     ) -> Result<(), DiskFailed>
         ensures same { result ≡ answer }
-        ensures called { self.new ≡ called (disk_call cmd first count answer) self.old }
+        ensures called { self.new ≡ called (disk_call cmd first count bytes.now answer) self.old }
         ensures faults { self.new.faults ≡ counted_if (is_err answer) self.old.faults }
     {
-        self.asked = self.asked.and(&DiskCall::new(cmd, first, count, &answer));
+        self.asked = self
+            .asked
+            .and(&DiskCall::new(cmd, first, count, bytes, &answer));
         self.calls = one_more(self.calls);
         if answer.is_err() {
             self.faults = one_more(self.faults);
@@ -248,7 +252,7 @@ impl Disk for MemDisk {
     fn read(&mut self, first: u64, out: &mut [u8]) -> Result<(), DiskFailed>
         requires { AreSectors self.old.sector (length self.old.sectors) first (length out.old) }
         ensures memory { self.new
-            ≡ called (disk_call cmds.Read first (length out.old / self.old.sector) result) self.old }
+            ≡ called (disk_call cmds.Read first (length out.old / self.old.sector) (given_by result out.new) result) self.old }
         ensures fails { IsErr result ↔ Contains self.old.fails (counted_on self.old.calls) }
         ensures read { OnOk result (IsRead (Some self.old.sectors) self.old.sector first out.new) }
         ensures none_done { IfErr result (λ e. e.done ≡ 0) }
@@ -256,17 +260,17 @@ impl Disk for MemDisk {
     {
         let count = out.len() as u64 / u64::from(self.sector);
         if self.next_fails() {
-            return self.answered(BioCmd::Read, first, count, Err(DiskFailed { done: 0 }));
+            return self.answered(BioCmd::Read, first, count, &[], Err(DiskFailed { done: 0 }));
         }
         let from = byte_place(self.sector, self.bytes.len(), first, out.len());
         out.copy_from_slice(&self.bytes.bytes()[from..from + out.len()]);
-        self.answered(BioCmd::Read, first, count, Ok(()))
+        self.answered(BioCmd::Read, first, count, out, Ok(()))
     }
 
     fn write(&mut self, first: u64, bytes: &[u8]) -> Result<(), DiskFailed>
         requires { AreSectors self.old.sector (length self.old.sectors) first (length bytes.now) }
         ensures memory { let all = length bytes.now / self.old.sector in self.new
-            ≡ called (disk_call cmds.Write first all result)
+            ≡ called (disk_call cmds.Write first all bytes.now result)
             (after_write self.old first (done_of result all) bytes.now) }
         ensures count { length self.new.sectors ≡ length self.old.sectors }
         ensures fails { IsErr result ↔ Contains self.old.fails (counted_on self.old.calls) }
@@ -277,16 +281,16 @@ impl Disk for MemDisk {
         if self.next_fails() {
             let done = self.part(all);
             self.write_sectors(first, done, bytes);
-            return self.answered(BioCmd::Write, first, all, Err(DiskFailed { done }));
+            return self.answered(BioCmd::Write, first, all, bytes, Err(DiskFailed { done }));
         }
         self.write_sectors(first, all, bytes);
-        self.answered(BioCmd::Write, first, all, Ok(()))
+        self.answered(BioCmd::Write, first, all, bytes, Ok(()))
     }
 
     fn zero(&mut self, first: u64, count: u64) -> Result<(), DiskFailed>
         requires { first + count ≤ length self.old.sectors }
         ensures memory { self.new
-            ≡ called (disk_call cmds.Delete first count result) (after_zero self.old first (done_of result count)) }
+            ≡ called (disk_call cmds.Delete first count [] result) (after_zero self.old first (done_of result count)) }
         ensures count { length self.new.sectors ≡ length self.old.sectors }
         ensures fails { IsErr result ↔ Contains self.old.fails (counted_on self.old.calls) }
         ensures done { IfErr result (λ e. e.done ≡ part_of self.old.part count) }
@@ -295,22 +299,22 @@ impl Disk for MemDisk {
         if self.next_fails() {
             let done = self.part(count);
             self.zero_sectors(first, done);
-            return self.answered(BioCmd::Delete, first, count, Err(DiskFailed { done }));
+            return self.answered(BioCmd::Delete, first, count, &[], Err(DiskFailed { done }));
         }
         self.zero_sectors(first, count);
-        self.answered(BioCmd::Delete, first, count, Ok(()))
+        self.answered(BioCmd::Delete, first, count, &[], Ok(()))
     }
 
     fn flush(&mut self) -> Result<(), DiskFailed>
-        ensures memory { self.new ≡ called (disk_call cmds.Flush 0 0 result) self.old }
+        ensures memory { self.new ≡ called (disk_call cmds.Flush 0 0 [] result) self.old }
         ensures fails { IsErr result ↔ Contains self.old.fails (counted_on self.old.calls) }
         ensures none_done { IfErr result (λ e. e.done ≡ 0) }
         ensures faults { self.new.faults ≡ counted_if (is_err result) self.old.faults }
     {
         if self.next_fails() {
-            return self.answered(BioCmd::Flush, 0, 0, Err(DiskFailed { done: 0 }));
+            return self.answered(BioCmd::Flush, 0, 0, &[], Err(DiskFailed { done: 0 }));
         }
-        self.answered(BioCmd::Flush, 0, 0, Ok(()))
+        self.answered(BioCmd::Flush, 0, 0, &[], Ok(()))
     }
 
     ghost counted = { λ d. refl };

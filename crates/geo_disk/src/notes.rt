@@ -36,6 +36,13 @@ impl<A> Notes<A> {
         picked(&(), &())
     }
 
+    /// The items of a slice, of which none is copied.
+    pub fn of(items: &[A]) -> Notes<A>
+        ensures { result.items ≡ items.now }
+    {
+        picked(&items, &())
+    }
+
     /// The same items.
     pub fn same(&self) -> Notes<A>
         ensures { result.items ≡ self.now.items }
