@@ -3,7 +3,7 @@ use Rattle.std.specs.Prelude.{◌≡◌, ◌≢◌, ℕ, ◌*◌, ◌==◌, Bool
 use Rattle.std.specs.List.{list_any, enumerate_from}
 use Rattle.geo_base.specs.Images.{Images, IsDiskSize}
 use Rattle.geo_base.specs.Sectors.{sectors_of, joined_sectors, zero_sectors}
-use Rattle.geo_disk.specs.declared.calls.DiskCall.{DiskCall}
+use Rattle.geo_disk.specs.Calls.{CallMade}
 use Rattle.geo_disk.specs.declared.shelf.ShelfCall.{ShelfCall}
 use Rattle.geo_disk.specs.declared.shelf.ShelfCall.TheVariants as shelf_calls
 use Rattle.geo_disk.specs.Counts.{counted_many}
@@ -16,7 +16,7 @@ use Rattle.geo_model.specs.declared.step.Entry.{Entry}
 use Rattle.geo_model.specs.declared.step.Request.{Request}
 use Rattle.geo_model.specs.declared.step.Step.{Step}
 use Rattle.geo_model.specs.declared.step.Step.TheVariants as steps
-use Rattle.geo_model.specs.Words.{is_flush, same_name}
+use Rattle.geo_model.specs.Words.{is_flush, is_write, same_name}
 use Rattle.geo_model.specs.World.{Plan}
 use Rattle.geo_model.specs.Results.{request_of}
 use Rattle.geo_model.specs.Contents.{contents, AreTrue}
@@ -132,27 +132,34 @@ abbrev pub failed_in : DeviceResult → Option ℕ
 failed_in (devices.Failed done) = Some done
 failed_in _ = None
 
--- the one call of a disk that serves a request, with the answer that it had; a FLUSH is of no sectors
-abbrev pub call_served : Request → DeviceResult → DiskCall
+-- the bytes of an answer: those that a READ was given, and none of another answer
+abbrev pub bytes_in : DeviceResult → List ℕ
+bytes_in (devices.Bytes bytes) = bytes
+bytes_in _ = []
+
+-- the one call of a disk that serves a request, with the answer that it had; a FLUSH is of no sectors. A WRITE carried
+-- the bytes of its request, a READ gave those of its answer, and by DELETE and FLUSH no byte passed
+abbrev pub call_served : Request → DeviceResult → CallMade
 call_served q got = record {
   cmd = q.cmd;
   first = if is_flush q.cmd then 0 else q.first;
   count = if is_flush q.cmd then 0 else q.count;
+  bytes = if is_write q.cmd then q.bytes else bytes_in got;
   failed = failed_in got;
 }
 
 -- the call of a disk for an answer to a request, if it is one to this disk
-abbrev pub call_for : ℕ → DeviceResult → Option Request → List DiskCall
+abbrev pub call_for : ℕ → DeviceResult → Option Request → List CallMade
 call_for disk got None = []
 call_for disk got (Some q) = if q.disk == disk then call_served q got ∷ [] else []
 
 -- the call of a disk that a step delivers the answer of, in a log that has the requests
-abbrev pub call_in : List Entry → ℕ → Step → List DiskCall
+abbrev pub call_in : List Entry → ℕ → Step → List CallMade
 call_in log disk (steps.Deliver b got) = call_for disk got (request_of log b)
 call_in log disk _ = []
 
 -- the calls of a disk whose answers the log delivers, in its order
-abbrev pub calls_logged : List Entry → ℕ → List DiskCall
+abbrev pub calls_logged : List Entry → ℕ → List CallMade
 calls_logged log disk = flat_map (λ e. call_in log disk e.step) log
 
 -- the bytes that an image of these bytes has after the log

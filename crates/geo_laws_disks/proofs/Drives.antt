@@ -25,7 +25,7 @@ use Rattle.geo_serve.specs.Serve.{TellsWhatIsHeld, is_failed, FailsAsTold, Serve
 use Rattle.geo_serve.specs.Served.{AreServed, IsServed, IsServedAt}
 use Rattle.geo_laws_graph.proofs.Members.{nothing_in}
 use Rattle.geo_laws_disks.specs.DriveLaws.{AreTaken, IsTaken, DrivesFollow, HasSizes}
-use Rattle.geo_disk.specs.declared.calls.DiskCall.{DiskCall}
+use Rattle.geo_disk.specs.Calls.{CallMade}
 use Rattle.std.proofs.lemmas.List.{map-append}
 use Rattle.std.proofs.lemmas.List.Elements.{filter_map-append}
 use Rattle.geo_laws_disks.specs.Deliveries.{Delivery, deliveries, delivery_in, delivery_of, held_by}
@@ -37,7 +37,7 @@ abbrev failures : List Delivery → ℕ
 failures ds = count_by (λ d. is_failed d.got) ds
 
 -- the calls of some deliveries
-abbrev calls : List Delivery → List DiskCall
+abbrev calls : List Delivery → List CallMade
 calls ds = map call_delivered ds
 
 -- a drive did what these deliveries say, whatever its bytes told

@@ -4,7 +4,7 @@ use Rattle.std.proofs.lemmas.List.Elements.{filter_map-append}
 use Rattle.std.proofs.lemmas.List.Sums.{fold-append}
 use Rattle.std.specs.List.{AllByRecursion, cons_option}
 use Rattle.std.specs.Option.{option_map_or, option_to_list}
-use Rattle.geo_disk.specs.declared.calls.DiskCall.{DiskCall}
+use Rattle.geo_disk.specs.Calls.{CallMade}
 use Rattle.geo_model.specs.declared.step.DeviceResult.{DeviceResult}
 use Rattle.geo_model.specs.declared.step.DeviceResult.TheVariants as devices
 use Rattle.geo_model.specs.declared.step.Entry.{Entry}
@@ -33,7 +33,7 @@ use Rattle.geo_laws_disks.specs.DiskLaws.{contents_from, ContentsFollow, Content
 use Rattle.geo_laws_disks.proofs.Requests.{request_same, none_in}
 
 -- the call of a delivery
-abbrev pub call_delivered : Delivery → DiskCall
+abbrev pub call_delivered : Delivery → CallMade
 call_delivered d = call_served d.request d.got
 
 -- What a log does is what it delivers

@@ -1,7 +1,7 @@
 -- A drive as requests find it.
 use Rattle.std.specs.Prelude.{◌≡◌, ℕ, List, length, All, Option, Some, None, IfSome}
 use Rattle.std.specs.Option.{option_map}
-use Rattle.geo_disk.specs.declared.calls.DiskCall.{DiskCall}
+use Rattle.geo_disk.specs.Calls.{CallMade}
 use Rattle.geo_disk.specs.declared.drive.Drive.{Drive}
 use Rattle.geo_disk.specs.declared.drive.Drive.TheVariants.{Ram, Shelved}
 use Rattle.geo_disk.specs.Counts.{counted_on}
@@ -28,7 +28,7 @@ pub record DriveView : Type 0 where
   -- how many calls failed
   pub faults : ℕ
   -- what it was asked and what it answered, in order
-  pub asked : List DiskCall
+  pub asked : List CallMade
 
 -- the calls, if it is a disk in memory
 abbrev pub ram_calls : {D : Type 0} → Drive D → Option RamCalls
