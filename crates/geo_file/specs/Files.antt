@@ -4,8 +4,9 @@ use Rattle.geo_base.specs.declared.limits.TheConstants.{MAX_IMAGE_BYTES}
 use Rattle.geo_disk.specs.Disk.{DiskView}
 use Rattle.geo_disk.specs.Lending.{Loans, faults_of, give_faults_of, returned_asked, returned_sectors, take_faults_of}
 use Rattle.geo_disk.specs.Shelf.{ShelfView}
-use Rattle.geo_disk.specs.declared.calls.DiskCall.{DiskCall}
+use Rattle.geo_disk.specs.Calls.{CallMade}
 use Rattle.geo_disk.specs.declared.shelf.ShelfCall.{ShelfCall}
+use Rattle.geo_file.specs.Pieces.{Put}
 
 -- an image file that is open
 pub record Image : Type 0 where
@@ -15,7 +16,9 @@ pub record Image : Type 0 where
   -- how many calls failed
   pub faults : ℕ
   -- what it was asked and what it answered, in order
-  pub asked : List DiskCall
+  pub asked : List CallMade
+  -- what was written to the file since it was opened, in order
+  pub wrote : List Put
 
 -- a file doesn't tell what it holds
 abbrev pub image_view : Image → DiskView

@@ -1,24 +1,27 @@
 //! An image file as a disk.
-ghost use Rattle.std.specs.Prelude.{◌≡◌, ◌+◌, ◌^◌, ◌≤◌, ◌<◌, ◌∷◌, [], ◌++◌, length, is_err};
-ghost use Rattle.geo_disk.specs.Calls.{disk_call};
+ghost use Rattle.std.specs.Prelude.{◌≡◌, ◌+◌, ◌*◌, ◌/◌, ◌^◌, ◌≤◌, ◌<◌, ◌∷◌, [], ◌++◌, IfErr, OnOk, is_err, length, replicate, take};
+ghost use Rattle.geo_base.specs.declared.request.BioCmd.TheVariants as cmds;
+ghost use Rattle.geo_disk.specs.Calls.{disk_call, given_by};
 ghost use Rattle.geo_disk.specs.Counts.{counted_if};
+ghost use Rattle.geo_disk.specs.Disk.{AreSectors};
 ghost use Rattle.geo_file.specs.Files.{IsReachable, image_view};
+ghost use Rattle.geo_file.specs.Pieces.{Puts, PutsSectors};
 
+use crate::told_file::ToldFile;
 use geo_base::BioCmd;
 use geo_disk::{Disk, DiskCall, DiskFailed, Notes, one_more};
 use std::fs::File;
 use std::io;
 use std::marker::Model;
-use std::os::unix::fs::FileExt;
 
 /// How many zeros are written at a time.
 const PIECE: usize = 4096;
 
-/// An image file as a disk. It doesn't tell what it holds. Each call reads or writes at the place of its sectors, and
-/// nothing else of the file.
+/// An image file as a disk. It doesn't tell what it holds, but each byte that it was asked to write, and each that it
+/// gave. Each call reads or writes at the place of its sectors, and nothing else of the file.
 #[derive(Drop)]
 pub struct FileDisk {
-    file: File,
+    file: ToldFile,
     sector: u32,
     sectors: u64,
     faults: u64,
@@ -30,7 +33,13 @@ impl Model for FileDisk {
 
     ghost Value = { Image };
 
-    ghost view = { λ d. record { sector = d.sector; sectors = d.sectors; faults = d.faults; asked = d.asked.items } };
+    ghost view = { λ d. record {
+      sector = d.sector;
+      sectors = d.sectors;
+      faults = d.faults;
+      asked = d.asked.items;
+      wrote = d.file;
+    } };
 
     ghost invariant = { λ d. IsReachable d.sector d.sectors };
 }
@@ -45,10 +54,16 @@ impl FileDisk {
         asked: Notes<DiskCall>,
     ) -> FileDisk
         requires { IsReachable sector sectors }
-        ensures { result ≡ record { sector = sector; sectors = sectors; faults = faults; asked = asked.items } }
+        ensures { result ≡ record {
+          sector = sector;
+          sectors = sectors;
+          faults = faults;
+          asked = asked.items;
+          wrote = [];
+        } }
     {
         FileDisk {
-            file,
+            file: ToldFile::new(file),
             sector,
             sectors,
             faults,
@@ -75,20 +90,25 @@ impl FileDisk {
         self.file.sync_all()
     }
 
-    /// A call that asked for `count` sectors from `first` on was answered so: where it failed, that is counted.
+    /// A call that asked for `count` sectors from `first` on, by which these bytes passed, was answered so: it is told,
+    /// and where it failed, that is counted.
     fn answered(
         &mut self,
         cmd: BioCmd,
         first: u64,
         count: u64,
+        bytes: &[u8],
         answer: Result<(), DiskFailed>,
     ) -> Result<(), DiskFailed>
         ensures same { result ≡ answer }
         ensures size { (self.new.sector ≡ self.old.sector) × (self.new.sectors ≡ self.old.sectors) }
         ensures faults { self.new.faults ≡ counted_if (is_err answer) self.old.faults }
-        ensures asked { self.new.asked ≡ self.old.asked ++ disk_call cmd first count answer ∷ [] }
+        ensures asked { self.new.asked ≡ self.old.asked ++ disk_call cmd first count bytes.now answer ∷ [] }
+        ensures wrote { self.new.wrote ≡ self.old.wrote }
     {
-        self.asked = self.asked.and(&DiskCall::new(cmd, first, count, &answer));
+        self.asked = self
+            .asked
+            .and(&DiskCall::new(cmd, first, count, bytes, &answer));
         if answer.is_err() {
             self.faults = one_more(self.faults);
         }
@@ -97,24 +117,27 @@ impl FileDisk {
 }
 
 /// Writes the bytes at an offset, and says how many were written before a write failed or was of nothing.
-fn write_bytes(file: &File, at: u64, bytes: &[u8]) -> usize
+fn write_bytes(file: &mut ToldFile, at: u64, bytes: &[u8]) -> usize
     requires { at + length bytes.now < 2 ^ 63 }
-    ensures { result ≤ length bytes.now }
+    ensures few { result ≤ length bytes.now }
+    ensures puts { Puts at (take result bytes.now) file.old file.new }
 {
     let mut done = 0;
     while done < bytes.len() {
-        match file.write_at(&bytes[done..], at + done as u64) {
-            Ok(count) if 0 < count => done += count,
-            _ => return done,
+        let count = file.write_at(at + done as u64, &bytes[done..]);
+        if count == 0 {
+            return done;
         }
+        done += count;
     }
     done
 }
 
 /// Writes so many zeros at an offset, and says how many were written before a write failed.
-fn write_zeros(file: &File, at: u64, size: u64) -> u64
+fn write_zeros(file: &mut ToldFile, at: u64, size: u64) -> u64
     requires { at + size < 2 ^ 63 }
-    ensures { result ≤ size }
+    ensures few { result ≤ size }
+    ensures puts { Puts at (replicate result 0) file.old file.new }
 {
     let zeros = [0u8; PIECE];
     let mut done = 0;
@@ -140,42 +163,86 @@ impl Disk for FileDisk {
         self.sectors
     }
 
-    fn read(&mut self, first: u64, out: &mut [u8]) -> Result<(), DiskFailed> {
+    fn read(&mut self, first: u64, out: &mut [u8]) -> Result<(), DiskFailed>
+        requires { AreSectors self.old.sector self.old.sectors first (length out.old) }
+        ensures bytes { self.new.sector ≡ self.old.sector }
+        ensures count { self.new.sectors ≡ self.old.sectors }
+        ensures none_done { IfErr result (λ e. e.done ≡ 0) }
+        ensures faults { self.new.faults ≡ counted_if (is_err result) self.old.faults }
+        ensures asked { self.new.asked ≡ self.old.asked ++ disk_call cmds.Read first (length out.old / self.old.sector)
+            (given_by result out.new) result ∷ [] }
+
+        // Nothing is written to the file.
+        ensures wrote { self.new.wrote ≡ self.old.wrote }
+    {
         let sector = u64::from(self.sector);
         let count = out.len() as u64 / sector;
-        match self.file.read_exact_at(out, first * sector) {
-            Ok(()) => self.answered(BioCmd::Read, first, count, Ok(())),
-            Err(_) => self.answered(BioCmd::Read, first, count, Err(DiskFailed { done: 0 })),
+        match self.file.read_at(first * sector, out) {
+            Ok(()) => self.answered(BioCmd::Read, first, count, out, Ok(())),
+            Err(_) => {
+                self.answered(BioCmd::Read, first, count, &[], Err(DiskFailed { done: 0 }))
+            }
         }
     }
 
     /// A write of nothing is a failure.
-    fn write(&mut self, first: u64, bytes: &[u8]) -> Result<(), DiskFailed> {
+    fn write(&mut self, first: u64, bytes: &[u8]) -> Result<(), DiskFailed>
+        requires { AreSectors self.old.sector self.old.sectors first (length bytes.now) }
+        ensures bytes { self.new.sector ≡ self.old.sector }
+        ensures count { self.new.sectors ≡ self.old.sectors }
+        ensures part_done { IfErr result (λ e. e.done ≤ length bytes.now / self.old.sector) }
+        ensures faults { self.new.faults ≡ counted_if (is_err result) self.old.faults }
+        ensures asked { self.new.asked ≡ self.old.asked
+            ++ disk_call cmds.Write first (length bytes.now / self.old.sector) bytes.now result ∷ [] }
+
+        // Just these bytes are written to the file, or, where that fails, a first part of them.
+        ensures wrote { PutsSectors result self.old.sector first bytes.now self.old.wrote self.new.wrote }
+    {
         let sector = u64::from(self.sector);
         let count = bytes.len() as u64 / sector;
-        let written = write_bytes(&self.file, first * sector, bytes);
+        let written = write_bytes(&mut self.file, first * sector, bytes);
         if written < bytes.len() {
             let done = written as u64 / sector;
-            return self.answered(BioCmd::Write, first, count, Err(DiskFailed { done }));
+            return self.answered(BioCmd::Write, first, count, bytes, Err(DiskFailed { done }));
         }
-        self.answered(BioCmd::Write, first, count, Ok(()))
+        self.answered(BioCmd::Write, first, count, bytes, Ok(()))
     }
 
-    fn zero(&mut self, first: u64, count: u64) -> Result<(), DiskFailed> {
+    fn zero(&mut self, first: u64, count: u64) -> Result<(), DiskFailed>
+        requires { first + count ≤ self.old.sectors }
+        ensures bytes { self.new.sector ≡ self.old.sector }
+        ensures count { self.new.sectors ≡ self.old.sectors }
+        ensures part_done { IfErr result (λ e. e.done ≤ count) }
+        ensures faults { self.new.faults ≡ counted_if (is_err result) self.old.faults }
+        ensures asked { self.new.asked ≡ self.old.asked ++ disk_call cmds.Delete first count [] result ∷ [] }
+
+        // Just zeros are written to the file, one for each byte of these sectors, or, where that fails, fewer.
+        ensures wrote { PutsSectors result self.old.sector first (replicate (count * self.old.sector) 0) self.old.wrote
+            self.new.wrote }
+    {
         let sector = u64::from(self.sector);
         let size = count * sector;
-        let written = write_zeros(&self.file, first * sector, size);
+        let written = write_zeros(&mut self.file, first * sector, size);
         if written < size {
             let done = written / sector;
-            return self.answered(BioCmd::Delete, first, count, Err(DiskFailed { done }));
+            return self.answered(BioCmd::Delete, first, count, &[], Err(DiskFailed { done }));
         }
-        self.answered(BioCmd::Delete, first, count, Ok(()))
+        self.answered(BioCmd::Delete, first, count, &[], Ok(()))
     }
 
-    fn flush(&mut self) -> Result<(), DiskFailed> {
+    fn flush(&mut self) -> Result<(), DiskFailed>
+        ensures bytes { self.new.sector ≡ self.old.sector }
+        ensures count { self.new.sectors ≡ self.old.sectors }
+        ensures none_done { IfErr result (λ e. e.done ≡ 0) }
+        ensures faults { self.new.faults ≡ counted_if (is_err result) self.old.faults }
+        ensures asked { self.new.asked ≡ self.old.asked ++ disk_call cmds.Flush 0 0 [] result ∷ [] }
+
+        // Nothing is written to the file.
+        ensures wrote { self.new.wrote ≡ self.old.wrote }
+    {
         match self.file.sync_data() {
-            Ok(()) => self.answered(BioCmd::Flush, 0, 0, Ok(())),
-            Err(_) => self.answered(BioCmd::Flush, 0, 0, Err(DiskFailed { done: 0 })),
+            Ok(()) => self.answered(BioCmd::Flush, 0, 0, &[], Ok(())),
+            Err(_) => self.answered(BioCmd::Flush, 0, 0, &[], Err(DiskFailed { done: 0 })),
         }
     }
 
