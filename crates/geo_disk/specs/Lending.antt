@@ -1,4 +1,5 @@
--- What is lent, how often the disks of each name failed, and the takes and gives of it, and with what each came back.
+-- What is lent, how often the disks of each name failed, and the takes and gives of it, and with what each was offered
+-- back.
 use Rattle.std.specs.Prelude.{◌≡◌, ℕ, List, [], Option, true, is_some}
 use Rattle.std.specs.Option.{option_map_or}
 use Rattle.geo_disk.specs.Counts.{counted_on}
@@ -14,7 +15,7 @@ pub record Loans : Type 0 where
   pub lent : List (List ℕ)
   -- the counts of names
   pub counts : List Count
-  -- the disks that came back, the last one first
+  -- the disks that were offered back, the last one first
   pub returned : List Returned
 
 -- the count that stands under a name
@@ -50,7 +51,7 @@ take_faults_of loans name = (tally_of loans name).take_faults
 abbrev pub give_faults_of : Loans → List ℕ → ℕ
 give_faults_of loans name = (tally_of loans name).give_faults
 
--- the counts of a name after its disk came back with a count, and after a take or a give of it failed
+-- the counts of a name after its disk was offered back with a count, and after a take or a give of it failed
 abbrev pub with_faults : ℕ → Tally → Tally
 with_faults faults tally = record tally { faults = faults }
 
@@ -60,11 +61,11 @@ take_failed tally = record tally { take_faults = counted_on tally.take_faults }
 abbrev pub give_failed : Tally → Tally
 give_failed tally = record tally { give_faults = counted_on tally.give_faults }
 
--- what the disk of a name had been asked when it came back last: nothing where none came back
+-- what the disk of a name had been asked when it was last offered back: nothing where none was
 abbrev pub asked_in : List Returned → List ℕ → List CallMade
 asked_in returned name = option_map_or (λ r. r.asked.items) (named (λ r. r.name) name returned) []
 
--- with how many sectors it came back last: 0 where none came back
+-- with how many sectors it was last offered back: 0 where none was
 abbrev pub sectors_in : List Returned → List ℕ → ℕ
 sectors_in returned name = option_map_or (λ r. r.sectors) (named (λ r. r.name) name returned) 0
 

@@ -106,10 +106,9 @@ lent_has_nothing s name one = rw (list_any-from_Contains same_names name s.loans
 abbrev pub with_slot : Store → Slot → Store
 with_slot s slot = record s { slots = s.slots ++ slot ∷ [] }
 
--- the shelf after one more call, which failed or didn't
-abbrev pub shelf_called : Bool → ShelfCall → Store → Store
-shelf_called failed call s =
-    record s { calls = counted_on s.calls; faults = counted_if failed s.faults; asked = s.asked ++ call ∷ [] }
+-- the shelf after one more call was counted, which is to fail or isn't
+abbrev pub shelf_called : Bool → Store → Store
+shelf_called failed s = record s { calls = counted_on s.calls; faults = counted_if failed s.faults }
 
 -- no call was counted, and those that are to fail are the same
 pub record AreSameCalls (old new : Store) : Type 0 where

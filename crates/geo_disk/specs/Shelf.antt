@@ -12,6 +12,8 @@ use Rattle.geo_disk.specs.declared.shelf.Taken.TheVariants.{Disk, Missing, BadSi
 use Rattle.geo_disk.specs.Counts.{counted_if}
 use Rattle.geo_disk.specs.declared.shelf.ShelfFault.{ShelfFault}
 use Rattle.geo_disk.specs.declared.shelf.ShelfFault.TheVariants.{Failed, NoMemory}
+use Rattle.geo_disk.specs.declared.shelf.TakeAnswer.{TakeAnswer}
+use Rattle.geo_disk.specs.declared.shelf.TakeAnswer.TheVariants as answers
 
 -- a shelf at one moment. No count of it falls
 pub record ShelfView : Type 0 where
@@ -21,17 +23,17 @@ pub record ShelfView : Type 0 where
   pub lent : List (List ℕ)
   -- how many calls of the shelf failed; no call that went through counts
   pub faults : ℕ
-  -- of each name, how many calls of its disk had failed when that came back last
+  -- of each name, how many calls of its disk had failed when that was last offered back, be it taken back or not
   pub faults_of : List ℕ → ℕ
   -- how many takes of each name failed
   pub take_faults : List ℕ → ℕ
   -- how many gives of each name failed
   pub give_faults : List ℕ → ℕ
-  -- of each name, what its disk had been asked, and what it had answered, when it came back last
+  -- of each name, what its disk had been asked, and what it had answered, when it was last offered back
   pub asked_of : List ℕ → List CallMade
-  -- of each name, how many sectors its disk had when it came back last
+  -- of each name, how many sectors its disk had when it was last offered back
   pub sectors_of : List ℕ → ℕ
-  -- its takes and gives, in order, those that failed or found nothing among them
+  -- its takes, with their answers, and its gives, in order
   pub calls : List ShelfCall
 
 -- a disk has sectors of the size that was asked for, one or more, and at most MAX_IMAGE_BYTES
@@ -113,10 +115,18 @@ abbrev pub lent_without : {E : Type 0} → Result (Unit {0}) E → List ℕ → 
 lent_without (Ok _) name lent = names_without name lent
 lent_without (Err _) name lent = lent
 
--- what is known of each name after a call of `give`: a disk that came back has brought what is known of its own
-abbrev pub Brings : {E X : Type 0} → Result (Unit {0}) E → List ℕ → X → (List ℕ → X) → (List ℕ → X) → Type 0
-Brings (Ok _) name own old new = (new name ≡ own) × ((other : List ℕ) → other ≢ name → new other ≡ old other)
-Brings (Err _) name own old new = (other : List ℕ) → new other ≡ old other
+-- a disk that is offered back brings what is known of its name; what is known of others stays
+pub record IsBrought {X : Type 0} (name : List ℕ) (known : X) (old new : List ℕ → X) : Type 0 where
+  pub own : new name ≡ known
+  pub others : (other : List ℕ) → other ≢ name → new other ≡ old other
+
+-- the answer of `take` without the disk
+abbrev pub answer_of : {D : Type 0} → Result (Taken D) ShelfFault → TakeAnswer
+answer_of (Ok (Disk d)) = answers.Disk
+answer_of (Ok Missing) = answers.Missing
+answer_of (Ok BadSize) = answers.BadSize
+answer_of (Err Failed) = answers.Failed
+answer_of (Err NoMemory) = answers.NoMemory
 
 -- whether the answer of `take` is a failure of the shelf
 abbrev pub is_failure : ShelfFault → Bool

@@ -1,4 +1,4 @@
-//! Which names of a shelf are lent, how often the disks of each name failed, and with what they came back.
+//! Which names of a shelf are lent, how often the disks of each name failed, and with what they were offered back.
 ghost use Rattle.std.specs.Prelude.{◌≡◌, ◌≢◌, ℕ, ◌↔◌, [], ◌∷◌, ◌++◌, List, true, Contains, IsTrue, OnErr, OnOk, bytes_eq, is_some};
 ghost use Rattle.std.specs.List.{position};
 ghost use Rattle.geo_disk.specs.Names.{is_among, is_named, names_without};
@@ -26,7 +26,7 @@ struct Count {
     tally: Tally,
 }
 
-/// A disk that came back: its name, what it had been asked, and how many sectors it had.
+/// A disk that was offered back: its name, what it had been asked, and how many sectors it had.
 #[derive(Drop)]
 struct Returned {
     name: Name,
@@ -34,7 +34,8 @@ struct Returned {
     sectors: u64,
 }
 
-/// The names of a shelf that are lent, the counts of each name, and, for clauses alone, with what its disks came back.
+/// The names of a shelf that are lent, the counts of each name, and, for clauses alone, with what its disks were
+/// offered back.
 /// A shelf keeps it beside its disks.
 #[derive(Drop)]
 pub struct Lending {
@@ -103,14 +104,14 @@ fn set_count(counts: &mut Vec<Count>, name: &Name, tally: Tally)
     counts[at] = Count { name: *name, tally };
 }
 
-/// What the disk of a name had been asked when it came back last.
+/// What the disk of a name had been asked when it was last offered back.
 fn asked_before(returned: &Notes<Returned>, name: &Name) -> Notes<DiskCall>
     ensures { result.items ≡ asked_in returned.now.items name.now }
 {
     picked(returned, name)
 }
 
-/// One more disk came back.
+/// One more disk was offered back.
 fn returned_by(returned: &Notes<Returned>, last: &Returned) -> Notes<Returned>
     ensures { result.items ≡ last.now ∷ returned.now.items }
 {
@@ -118,7 +119,7 @@ fn returned_by(returned: &Notes<Returned>, last: &Returned) -> Notes<Returned>
 }
 
 impl Lending {
-    /// Nothing is lent, each count is 0, and no disk came back.
+    /// Nothing is lent, each count is 0, and no disk was offered back.
     pub fn new(alloc: Global) -> Lending
         ensures { result ≡ record { lent = []; counts = []; returned = [] } }
     {
@@ -158,7 +159,7 @@ impl Lending {
         self.tally_of(name).faults
     }
 
-    /// What the disk of a name had been asked when it came back last.
+    /// What the disk of a name had been asked when it was last offered back.
     pub fn asked_of(&self, name: &Name) -> Notes<DiskCall>
         ensures { result.items ≡ returned_asked self.now name.now }
     {
@@ -213,11 +214,11 @@ impl Lending {
         Ok(())
     }
 
-    /// A name is lent no more: its disk came back with this count of faults, after it was asked this, and with so many
-    /// sectors. It takes no memory.
-    pub fn give_back(&mut self, name: &Name, faults: u64, asked: Notes<DiskCall>, sectors: u64)
+    /// The disk of a name is offered back with this count of faults, after it was asked this, and with so many sectors:
+    /// that is known from then on, whether the disk is taken back or not. It takes no memory.
+    pub fn offer(&mut self, name: &Name, faults: u64, asked: Notes<DiskCall>, sectors: u64)
         requires { Contains self.old.lent name.now }
-        ensures lent { self.new.lent ≡ names_without name.now self.old.lent }
+        ensures lent { self.new.lent ≡ self.old.lent }
         ensures own { tally_of self.new name.now ≡ with_faults faults (tally_of self.old name.now) }
         ensures others { (other : List ℕ) → other ≢ name.now → tally_of self.new other ≡ tally_of self.old other }
         ensures asked { returned_asked self.new name.now ≡ asked.items }
@@ -236,6 +237,14 @@ impl Lending {
             sectors,
         };
         self.returned = returned_by(&self.returned, &last);
+    }
+
+    /// A name is lent no more. It takes no memory.
+    pub fn give_back(&mut self, name: &Name)
+        ensures lent { self.new.lent ≡ names_without name.now self.old.lent }
+        ensures returned { self.new.returned ≡ self.old.returned }
+        ensures tallies { (other : List ℕ) → tally_of self.new other ≡ tally_of self.old other }
+    {
         self.lent.retain(|lent| !is_same(name, lent));
     }
 }

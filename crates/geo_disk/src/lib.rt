@@ -4,7 +4,8 @@
 //! many calls failed, and the list of what it was asked and answered. A [`Shelf`] is seen (`ShelfView`) as what it
 //! has under each name if it tells that, the names that are lent, and the list of its own calls. Of each name it has
 //! counts: of its disk's faults, of takes that failed, and of gives that failed. It keeps besides what that disk had
-//! been asked, and with how many sectors it came back last. These lists are [`Notes`], which only clauses read.
+//! been asked, and with how many sectors it was last offered back, be it taken back or not. These lists are [`Notes`],
+//! which only clauses read: they tell each byte that was written or read, and take no memory.
 //!
 //! A write or zero changes exactly the sectors that its answer says were done (`held`), a read or flush none. A call
 //! that fails is one fault more, and nothing else is (`faults`). What was asked grows by each call, and by nothing
@@ -36,4 +37,4 @@ pub use lending::Lending;
 pub use mem_disk::MemDisk;
 pub use mem_shelf::MemShelf;
 pub use notes::Notes;
-pub use shelf::{GiveFault, Shelf, ShelfCall, ShelfFault, Taken, is_disk_size};
+pub use shelf::{GiveFault, Shelf, ShelfCall, ShelfFault, TakeAnswer, Taken, is_disk_size};

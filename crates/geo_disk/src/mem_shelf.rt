@@ -8,8 +8,8 @@ ghost use Rattle.geo_base.specs.Sectors.{joined_sectors, IsSectorSize};
 ghost use Rattle.geo_disk.specs.Counts.{counted_if, counted_on};
 ghost use Rattle.geo_disk.specs.Memory.{AreWhole, memory_view};
 ghost use Rattle.geo_disk.specs.Names.{is_named, names_without};
-ghost use Rattle.geo_disk.specs.Lending.{faults_of, give_faults_of, returned_asked, returned_sectors, take_faults_of, tally_of, with_faults};
-ghost use Rattle.geo_disk.specs.Shelf.{Brings, CountsCall, GivesToShelf, IfTaken, IsGivenTo, IsOfSize, TakesFromShelf, UnlessTaken, is_failure, is_take_failed, lent_by, lent_without};
+ghost use Rattle.geo_disk.specs.Lending.{faults_of, give_faults_of, returned_asked, returned_sectors, take_faults_of, tally_of};
+ghost use Rattle.geo_disk.specs.Shelf.{CountsCall, GivesToShelf, IfTaken, IsBrought, IsGivenTo, IsOfSize, TakesFromShelf, UnlessTaken, answer_of, is_failure, is_take_failed, lent_by, lent_without};
 ghost use Rattle.geo_disk.specs.MemShelf.{AreSameCalls, disk_of_slot, emptied_slot, images_of, kept_slot, lent_has_nothing, shelf_called, shelf_view, slot_at, slot_of, with_slot};
 
 use crate::calls::DiskCall;
@@ -18,7 +18,7 @@ use crate::disk::Disk;
 use crate::lending::{Lending, is_same};
 use crate::mem_disk::MemDisk;
 use crate::notes::Notes;
-use crate::shelf::{GiveFault, Shelf, ShelfCall, ShelfFault, Taken, is_disk_size};
+use crate::shelf::{GiveFault, Shelf, ShelfCall, ShelfFault, TakeAnswer, Taken, is_disk_size};
 use geo_base::{Block, Calls, Name, NoMemory};
 use std::alloc::Global;
 use std::marker::Model;
@@ -188,19 +188,25 @@ impl MemShelf {
     }
 
     /// Counts a call, and says whether it is to fail.
-    fn next_fails(&mut self, call: &ShelfCall) -> bool
+    fn next_fails(&mut self) -> bool
         ensures fails { IsTrue result ↔ Contains self.old.fails (counted_on self.old.calls) }
-        ensures called { self.new ≡ shelf_called result call.now self.old }
+        ensures called { self.new ≡ shelf_called result self.old }
         ensures later { self.old.faults ≤ self.new.faults }
         ensures rose { OnTrue result (Rose self.old.faults self.new.faults) }
     {
         self.calls = one_more(self.calls);
-        self.asked = self.asked.and(call);
         let fails = self.fails.has(self.calls);
         if fails {
             self.faults = one_more(self.faults);
         }
         fails
+    }
+
+    /// Notes a call.
+    fn note(&mut self, call: &ShelfCall)
+        ensures { self.new ≡ record self.old { asked = self.old.asked ++ call.now ∷ [] } }
+    {
+        self.asked = self.asked.and(call);
     }
 
     /// Counts a take that fails. Where there is no memory for the count of its name, that is the answer.
@@ -273,27 +279,36 @@ impl MemShelf {
         Ok(Taken::Disk(lend_out(self.alloc, &mut self.slots, at, sector, faults, asked)))
     }
 
+    /// Notes what is known of a disk that is offered back, whether the call fails or not.
+    fn offer(&mut self, name: &Name, disk: &MemDisk)
+        requires { Contains self.old.loans.lent name.now }
+        ensures rest { self.new ≡ record self.old { loans = self.new.loans } }
+        ensures lent { self.new.loans.lent ≡ self.old.loans.lent }
+        ensures counts { IsBrought name.now disk.now.faults (faults_of self.old.loans) (faults_of self.new.loans) }
+        ensures takes { (other : List ℕ) → take_faults_of self.new.loans other ≡ take_faults_of self.old.loans other }
+        ensures gives { (other : List ℕ) → give_faults_of self.new.loans other ≡ give_faults_of self.old.loans other }
+        ensures asked { IsBrought name.now disk.now.asked (returned_asked self.old.loans)
+            (returned_asked self.new.loans) }
+        ensures sectors { IsBrought name.now (length disk.now.sectors) (returned_sectors self.old.loans)
+            (returned_sectors self.new.loans) }
+    {
+        self.lending
+            .offer(name, disk.faults(), disk.asked(), disk.sectors());
+    }
+
     /// Takes a disk back, where the call doesn't fail.
     fn give_now(&mut self, name: &Name, disk: MemDisk)
         requires { Contains self.old.loans.lent name.now }
         ensures given { IsGivenTo name.now (Some disk.sectors) (images_of self.old) (images_of self.new) }
         ensures lent { self.new.loans.lent ≡ names_without name.now self.old.loans.lent }
-        ensures count { tally_of self.new.loans name.now ≡ with_faults disk.faults (tally_of self.old.loans name.now) }
-        ensures counts { (other : List ℕ) → other ≢ name.now → tally_of self.new.loans other
-            ≡ tally_of self.old.loans other }
-        ensures asked { returned_asked self.new.loans name.now ≡ disk.asked }
-        ensures asked_others { (other : List ℕ) → other ≢ name.now → returned_asked self.new.loans other
-            ≡ returned_asked self.old.loans other }
-        ensures sectors { returned_sectors self.new.loans name.now ≡ length disk.sectors }
-        ensures sectors_others { (other : List ℕ) → other ≢ name.now → returned_sectors self.new.loans other
-            ≡ returned_sectors self.old.loans other }
+        ensures counts { (other : List ℕ) → tally_of self.new.loans other ≡ tally_of self.old.loans other }
+        ensures returned { self.new.loans.returned ≡ self.old.loans.returned }
         ensures kept { slot_of self.new.slots name.now ≡ Some (kept_slot name.now disk) }
         ensures others { (other : List ℕ) → other ≢ name.now → slot_of self.new.slots other
             ≡ slot_of self.old.slots other }
         ensures same { AreSameCalls self.old self.new }
     {
-        self.lending
-            .give_back(name, disk.faults(), disk.asked(), disk.sectors());
+        self.lending.give_back(name);
         keep(&mut self.slots, name, disk);
     }
 }
@@ -332,12 +347,15 @@ impl Shelf for MemShelf {
         ensures disk { IfTaken result (λ d. IfSome (slot_of self.old.slots name.now) (λ slot. d
             ≡ disk_of_slot sector (faults_of self.old.loans name.now) (returned_asked self.old.loans name.now) slot)) }
         ensures calls { (self.new.fails ≡ self.old.fails) × (self.new.calls ≡ counted_on self.old.calls) }
-        ensures called { self.new.asked ≡ self.old.asked ++ ShelfCall.Take name.now ∷ [] }
+        ensures called { self.new.asked ≡ self.old.asked ++ ShelfCall.Take name.now (answer_of result) ∷ [] }
     {
-        if self.next_fails(&ShelfCall::Take(*name)) {
-            return Err(self.fail_take(name));
-        }
-        self.take_now(name, sector)
+        let answer = if self.next_fails() {
+            Err(self.fail_take(name))
+        } else {
+            self.take_now(name, sector)
+        };
+        self.note(&ShelfCall::Take(*name, TakeAnswer::of(&answer)));
+        answer
     }
 
     fn give(&mut self, name: &Name, disk: MemDisk) -> Result<(), GiveFault<MemDisk>>
@@ -345,10 +363,9 @@ impl Shelf for MemShelf {
         ensures given { GivesToShelf (Some disk.sectors) name.now result (Some (images_of self.old)) (Some
             (images_of self.new)) }
         ensures lent { self.new.loans.lent ≡ lent_without result name.now self.old.loans.lent }
-        ensures counts { Brings result name.now disk.faults (faults_of self.old.loans) (faults_of self.new.loans) }
-        ensures asked { Brings result name.now disk.asked (returned_asked self.old.loans)
-            (returned_asked self.new.loans) }
-        ensures sectors { Brings result name.now (length disk.sectors) (returned_sectors self.old.loans)
+        ensures counts { IsBrought name.now disk.faults (faults_of self.old.loans) (faults_of self.new.loans) }
+        ensures asked { IsBrought name.now disk.asked (returned_asked self.old.loans) (returned_asked self.new.loans) }
+        ensures sectors { IsBrought name.now (length disk.sectors) (returned_sectors self.old.loans)
             (returned_sectors self.new.loans) }
         ensures name { IfErr result (λ e. e.name ≡ name.now) }
         ensures disk { IfErr result (λ e. e.disk ≡ disk) }
@@ -368,7 +385,9 @@ impl Shelf for MemShelf {
         ensures calls { (self.new.fails ≡ self.old.fails) × (self.new.calls ≡ counted_on self.old.calls) }
         ensures called { self.new.asked ≡ self.old.asked ++ ShelfCall.Give name.now ∷ [] }
     {
-        if self.next_fails(&ShelfCall::Give(*name)) {
+        self.note(&ShelfCall::Give(*name));
+        self.offer(name, &disk);
+        if self.next_fails() {
             self.fail_give(name);
             return Err(GiveFault { name: *name, disk });
         }

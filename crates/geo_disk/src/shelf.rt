@@ -3,7 +3,7 @@ ghost use Rattle.std.specs.Prelude.{◌≡◌, ℕ, ◌≤◌, ◌<◌, ◌↔�
 ghost use Rattle.geo_base.specs.Faults.{HasCause, Rose};
 ghost use Rattle.geo_base.specs.Images.{IsDiskSize};
 ghost use Rattle.geo_base.specs.Sectors.{IsSectorSize};
-ghost use Rattle.geo_disk.specs.Shelf.{Brings, CountsCall, GivesToShelf, IfTaken, IsOfSize, ShelfView, TakesFromShelf, is_take_failed, lent_by, lent_without};
+ghost use Rattle.geo_disk.specs.Shelf.{CountsCall, GivesToShelf, IfTaken, IsBrought, IsOfSize, ShelfView, TakesFromShelf, answer_of, is_take_failed, lent_by, lent_without};
 
 use crate::disk::Disk;
 use geo_base::{MAX_IMAGE_BYTES, Name};
@@ -39,11 +39,36 @@ pub struct GiveFault<D> {
     pub disk: D,
 }
 
-/// A call of a shelf, whatever it answers.
+/// What `take` answered, without the disk.
+#[derive(Clone, Copy)]
+pub enum TakeAnswer {
+    Disk,
+    Missing,
+    BadSize,
+    Failed,
+    NoMemory,
+}
+
+impl TakeAnswer {
+    /// The answer without the disk.
+    pub fn of<D>(answer: &Result<Taken<D>, ShelfFault>) -> TakeAnswer
+        ensures { result ≡ answer_of answer.now }
+    {
+        match answer {
+            Ok(Taken::Disk(_)) => TakeAnswer::Disk,
+            Ok(Taken::Missing) => TakeAnswer::Missing,
+            Ok(Taken::BadSize) => TakeAnswer::BadSize,
+            Err(ShelfFault::Failed) => TakeAnswer::Failed,
+            Err(ShelfFault::NoMemory) => TakeAnswer::NoMemory,
+        }
+    }
+}
+
+/// A call of a shelf.
 #[derive(Clone, Copy)]
 pub enum ShelfCall {
-    /// The disk of this name was asked for.
-    Take(Name),
+    /// The disk of this name was asked for, and this was the answer.
+    Take(Name, TakeAnswer),
     /// The disk of this name was offered back.
     Give(Name),
 }
@@ -62,8 +87,8 @@ pub trait Shelf {
     type D: Disk;
 
     /// What its calls show: the bytes under each name, where the shelf tells them, the names that are lent, how many of
-    /// its calls failed, what they were, and of each name how many takes and gives failed, and with how many faults,
-    /// after which calls, and with how many sectors its disk came back last.
+    /// its calls failed, what they were and what each take answered, and of each name how many takes and gives failed,
+    /// and with how many faults, after which calls, and with how many sectors its disk was last offered back.
     ghost view: { Self → ShelfView };
 
     /// Takes the disk of a name, to be used in sectors of this size. A call that goes through counts no fault.
@@ -84,20 +109,21 @@ pub trait Shelf {
         ensures takes { CountsCall (is_take_failed result) name.now (view self.old).take_faults
             (view self.new).take_faults }
         ensures gives { (other : List ℕ) → (view self.new).give_faults other ≡ (view self.old).give_faults other }
-        ensures called { (view self.new).calls ≡ (view self.old).calls ++ ShelfCall.Take name.now ∷ [] };
+        ensures called { (view self.new).calls
+            ≡ (view self.old).calls ++ ShelfCall.Take name.now (answer_of result) ∷ [] };
 
-    /// Gives back the disk that was taken under a name. After a fault it is still lent. A call that goes through counts
-    /// no fault.
+    /// Gives back the disk that was taken under a name. After a fault it is still lent. Whether it is taken back or not,
+    /// what it was asked, its faults and its sectors are known of its name then. A call that goes through counts no
+    /// fault.
     fn give(&mut self, name: &Name, disk: Self::D) -> Result<(), GiveFault<Self::D>>
         requires is_lent { Contains (view self.old).lent name.now }
         requires counted { (view self.old).faults_of name.now ≤ (Self.D.view disk).faults }
         ensures given { GivesToShelf (Self.D.view disk).held name.now result (view self.old).told (view self.new).told }
         ensures lent { (view self.new).lent ≡ lent_without result name.now (view self.old).lent }
-        ensures counts { Brings result name.now (Self.D.view disk).faults (view self.old).faults_of
+        ensures counts { IsBrought name.now (Self.D.view disk).faults (view self.old).faults_of
             (view self.new).faults_of }
-        ensures asked { Brings result name.now (Self.D.view disk).asked (view self.old).asked_of
-            (view self.new).asked_of }
-        ensures sectors { Brings result name.now (Self.D.view disk).count (view self.old).sectors_of
+        ensures asked { IsBrought name.now (Self.D.view disk).asked (view self.old).asked_of (view self.new).asked_of }
+        ensures sectors { IsBrought name.now (Self.D.view disk).count (view self.old).sectors_of
             (view self.new).sectors_of }
         ensures name { IfErr result (λ e. e.name ≡ name.now) }
         ensures disk { IfErr result (λ e. e.disk ≡ disk) }

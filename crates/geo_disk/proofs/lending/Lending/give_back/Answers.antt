@@ -3,16 +3,10 @@ use Rattle.std.proofs.lemmas.Fn.{filter_same}
 use Rattle.std.proofs.lemmas.Bool.{and_parts}
 use Rattle.geo_disk.specs.Lending.{Loans}
 use Rattle.geo_disk.specs.Names.{is_among, names_without}
-use Rattle.geo_disk.proofs.NameLemmas.{among-from_Contains, among-without}
+use Rattle.geo_disk.proofs.NameLemmas.{among-without}
 use Rattle.geo_disk.proofs.lending.Lending.give_back.Goals as goal
 
--- the name is lent, and each name that is lent has counts
-pub set_count-requires : goal.set_count-requires
-set_count-requires c =
-    c.self.invariant c.args.name.now
-    (among-from_Contains c.args.name.now c.self.inside.lent.items (rw (← c.self.view_is) at c.requires))
-
--- what is lent afterwards was lent before, so it had counts, and setting those of one name keeps all
+-- what is lent afterwards was lent before, so it has counts
 pub invariant_of-self : goal.invariant_of-self
 invariant_of-self c name among =
     let left : c.retain.new.self.items ≡ names_without c.args.name.now c.self.inside.lent.items =
@@ -20,9 +14,8 @@ invariant_of-self c name among =
     c.retain.ensures.filtered in
     let both : (not (bytes_eq c.args.name.now name) && is_among name c.self.inside.lent.items) ≡ true =
     sym (among-without name c.args.name.now c.self.inside.lent.items) ∙ (rw left at among) in
-    c.set_count.ensures.kept name
-    (c.self.invariant name
-    (and_parts (not (bytes_eq c.args.name.now name)) (is_among name c.self.inside.lent.items) both).1)
+    c.self.invariant name
+    (and_parts (not (bytes_eq c.args.name.now name)) (is_among name c.self.inside.lent.items) both).1
 
 -- just the names that aren't this one are retained
 pub returns-clause-lent : goal.returns-clause-lent
