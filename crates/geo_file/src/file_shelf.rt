@@ -1,14 +1,16 @@
 //! A folder of image files as a shelf.
-ghost use Rattle.std.specs.Prelude.{◌≡◌, ℕ, ◌<◌, ◌≤◌, ◌↔◌, [], None, List, Contains, IfOk, IsTrue, OnOk, is_err};
+ghost use Rattle.std.specs.Prelude.{◌≡◌, ℕ, ◌<◌, ◌≤◌, ◌↔◌, [], None, List, Contains, IfOk, IsErrOf, IsTrue, OnOk, is_err};
 ghost use Rattle.geo_base.specs.Faults.{HasCause, Rose};
-ghost use Rattle.geo_disk.specs.Lending.{faults_of, give_faults_of, take_faults_of};
-ghost use Rattle.geo_disk.specs.Shelf.{CountsCall, is_failure};
+ghost use Rattle.geo_base.specs.Sectors.{IsSectorSize};
+ghost use Rattle.geo_disk.specs.Lending.{faults_of, give_faults_of, returned_asked, take_faults_of};
+ghost use Rattle.geo_disk.specs.Shelf.{CountsCall, IfTaken, IsOfSize, is_failure, is_take_failed, lent_by};
 ghost use Rattle.geo_file.specs.Files.{folder_view, tells_nothing};
 
 use crate::file_disk::FileDisk;
 use geo_base::{Name, NoMemory};
 use geo_disk::{
-    Disk, GiveFault, Lending, Notes, Shelf, ShelfCall, ShelfFault, Taken, is_disk_size, one_more,
+    Disk, GiveFault, Lending, Notes, Shelf, ShelfCall, ShelfFault, TakeAnswer, Taken, is_disk_size,
+    one_more,
 };
 use std::alloc::Global;
 use std::fs::File;
@@ -101,6 +103,47 @@ impl<R: Files<File = File> + Drop> FileShelf<R> {
         Ok(())
     }
 
+    /// Takes the disk of a name.
+    fn take_now(&mut self, name: &Name, sector: u32) -> Result<Taken<FileDisk>, ShelfFault>
+        requires { IsSectorSize sector }
+        ensures not_lent { IfTaken result (λ d. Contains self.old.loans.lent name.now → ⊥) }
+        ensures size { IfTaken result (λ d. IsOfSize sector d.sector d.sectors) }
+        ensures brought { IfTaken result (λ d. d.faults ≡ faults_of self.old.loans name.now) }
+        ensures asked { IfTaken result (λ d. d.asked ≡ returned_asked self.old.loans name.now) }
+        ensures lent { self.new.loans.lent ≡ lent_by result name.now self.old.loans.lent }
+        ensures returned { self.new.loans.returned ≡ self.old.loans.returned }
+        ensures disks { (other : List ℕ) → faults_of self.new.loans other ≡ faults_of self.old.loans other }
+        ensures takes { CountsCall (is_take_failed result) name.now (take_faults_of self.old.loans)
+            (take_faults_of self.new.loans) }
+        ensures gives { (other : List ℕ) → give_faults_of self.new.loans other ≡ give_faults_of self.old.loans other }
+        ensures later { self.old.faults ≤ self.new.faults }
+        ensures failed { IsErrOf result ShelfFault.Failed → Rose self.old.faults self.new.faults }
+        ensures no_fault { OnOk result (self.new.faults ≡ self.old.faults) }
+        ensures calls { self.new.asked ≡ self.old.asked }
+    {
+        if self.lending.has(name) || has_slash(name) {
+            return Ok(Taken::Missing);
+        }
+        let Ok(path) = path_of(self.alloc, self.folder.as_str(), name) else {
+            return Err(ShelfFault::NoMemory);
+        };
+        let (file, size) = match self.open(path.as_str()) {
+            Ok(Some(found)) => found,
+            Ok(None) => return Ok(Taken::Missing),
+            Err(_) => return Err(self.fail_take(name)),
+        };
+        if !is_disk_size(size, sector) {
+            return Ok(Taken::BadSize);
+        }
+        let faults = self.lending.faults_of(name);
+        let asked = self.lending.asked_of(name);
+        let Ok(()) = self.lending.lend(name) else {
+            return Err(ShelfFault::NoMemory);
+        };
+        let sectors = size / u64::from(sector);
+        Ok(Taken::Disk(FileDisk::new(file, sector, sectors, faults, asked)))
+    }
+
     /// Opens the file of a name, locks it, and says how long it is. None where there is no such file.
     fn open(&self, path: &str) -> io::Result<Option<(File, u64)>> {
         let mut file = match File::options().read(true).write(true).open(&self.rt, path) {
@@ -138,37 +181,21 @@ impl<R: Files<File = File> + Drop> Shelf for FileShelf<R> {
     ghost view = { folder_view };
 
     fn take(&mut self, name: &Name, sector: u32) -> Result<Taken<FileDisk>, ShelfFault> {
-        self.asked = self.asked.and(&ShelfCall::Take(*name));
-        if self.lending.has(name) || has_slash(name) {
-            return Ok(Taken::Missing);
-        }
-        let Ok(path) = path_of(self.alloc, self.folder.as_str(), name) else {
-            return Err(ShelfFault::NoMemory);
-        };
-        let (file, size) = match self.open(path.as_str()) {
-            Ok(Some(found)) => found,
-            Ok(None) => return Ok(Taken::Missing),
-            Err(_) => return Err(self.fail_take(name)),
-        };
-        if !is_disk_size(size, sector) {
-            return Ok(Taken::BadSize);
-        }
-        let faults = self.lending.faults_of(name);
-        let asked = self.lending.asked_of(name);
-        let Ok(()) = self.lending.lend(name) else {
-            return Err(ShelfFault::NoMemory);
-        };
-        let sectors = size / u64::from(sector);
-        Ok(Taken::Disk(FileDisk::new(file, sector, sectors, faults, asked)))
+        let answer = self.take_now(name, sector);
+        self.asked = self
+            .asked
+            .and(&ShelfCall::Take(*name, TakeAnswer::of(&answer)));
+        answer
     }
 
     fn give(&mut self, name: &Name, disk: FileDisk) -> Result<(), GiveFault<FileDisk>> {
         self.asked = self.asked.and(&ShelfCall::Give(*name));
+        self.lending
+            .offer(name, disk.faults(), disk.asked(), disk.sectors());
         if self.sync(name, &disk).is_err() {
             return Err(GiveFault { name: *name, disk });
         }
-        self.lending
-            .give_back(name, disk.faults(), disk.asked(), disk.sectors());
+        self.lending.give_back(name);
         Ok(())
     }
 
