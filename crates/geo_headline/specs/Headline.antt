@@ -1,8 +1,12 @@
 -- What a whole run keeps, and when it has to succeed.
-use Rattle.std.specs.Prelude.{◌≡◌, ◌≢◌, ◌⊎◌, ℕ, ◌+◌, ◌≤◌, Bool, true, false, List, [], ◌++◌, length, unwrap_or, Option, Some, None, IsSome, IsSomeAnd, IfSome, IfNone, All, Err, zip, ⊤}
+use Rattle.std.specs.Prelude.{◌≡◌, ◌≢◌, ◌⊎◌, ℕ, ◌+◌, ◌≤◌, Bool, true, false, List, [], ◌++◌, drop, length, unwrap_or, Option, Some, None, IsSome, IsSomeAnd, IfSome, IfNone, All, Contains, Err, zip, ⊤}
 use Rattle.std.specs.List.{list_any}
 use Rattle.geo_base.specs.Faults.{Rose, RoseBy}
 use Rattle.geo_disk.specs.Counts.{counted_if}
+use Rattle.geo_disk.specs.declared.shelf.ShelfCall.{ShelfCall}
+use Rattle.geo_disk.specs.declared.shelf.ShelfCall.TheVariants as shelf_calls
+use Rattle.geo_disk.specs.declared.shelf.TakeAnswer.{TakeAnswer}
+use Rattle.geo_disk.specs.declared.shelf.TakeAnswer.TheVariants as answers
 use Rattle.geo_model.specs.declared.command.DiskDecl.{DiskDecl}
 use Rattle.geo_model.specs.declared.step.Entry.{Entry}
 use Rattle.geo_model.specs.Words.{same_name}
@@ -13,8 +17,8 @@ use Rattle.geo_model.specs.Script.{script, Fault, IsScript, empty_plan}
 use Rattle.geo_headline.specs.Modes.{Mode, GenMode, VerifyMode, Accepts, IsAlone, starts_threads, TakesNoDisk, source_limit}
 use Rattle.geo_model.specs.History.{KeepsHistory, RanToItsEnd}
 use Rattle.geo_model.specs.FixedOrder.{StepOrder, FollowsOrder, FollowsJobs, JobsEndedIdle}
-use Rattle.geo_headline.specs.Outside.{Outside, ShelfView, kept_back, IsKeptBack, IsUnasked, DiskStays, HasFactSectors, IsShelf, HasImage, names_of_shelf, takes_of, gives_of, DisksAreKept, OthersStay, ImagesStay, ImagesStand}
-use Rattle.geo_headline.specs.Endings.{Ending, BadWords, ReadFault, OutOfMemory, Call, status_of, due_text, BytesPass, order_of, script_of, reported, IsWhole, HasLog, WasReadWhole, IsOpened, CauseOf, blamed_by, missed_by, failed_takes, IsBeforeDisks}
+use Rattle.geo_headline.specs.Outside.{Outside, ShelfView, kept_back, IsUnasked, HasFactSectors, IsShelf, HasImage, names_of_shelf, takes_of, gives_of, DisksAreKept, OthersStay, ImagesStay, ImagesStand}
+use Rattle.geo_headline.specs.Endings.{Ending, BadWords, ReadFault, ShelfFault, NoDisk, BadSize, OutOfMemory, Call, status_of, due_text, BytesPass, order_of, script_of, reported, IsWhole, HasLog, WasReadWhole, IsOpened, CauseOf, blamed_by, missed_by, failed_takes, IsBeforeDisks}
 
 -- the mode and the plan are those of the words and of the text; a source that wasn't read to its end gives no plan
 pub record ReadAs (call : Call) (mode : Mode) (plan : Plan) : Type 0 where
@@ -84,8 +88,15 @@ abbrev pub IsMissedAt : Ending → List (List ℕ) → Type 0
 IsMissedAt OutOfMemory missed = length missed ≤ 1
 IsMissedAt ending missed = missed ≡ missed_by ending
 
+-- what the take of a disk that couldn't be had answered, where the ending says so; it never answered a disk
+abbrev pub IsAnswerAt : Ending → TakeAnswer → Type 0
+IsAnswerAt (ShelfFault name) answer = answer ≡ answers.Failed
+IsAnswerAt (NoDisk name) answer = answer ≡ answers.Missing
+IsAnswerAt (BadSize name) answer = answer ≡ answers.BadSize
+IsAnswerAt ending answer = answer ≢ answers.Disk
+
 -- the calls of the shelf: takes of its disks in header order, up to one that couldn't be had, and of all where a mesh
--- ran; then gives of those that were had, in header order
+-- ran, each with its answer; then gives of those that were had, in header order
 pub record CallsInOrder (plan : Plan) (ending : Ending) (log : Option (List Entry))
     (before after : ShelfView) : Type 0 where
   pub had : List (List ℕ)
@@ -93,8 +104,10 @@ pub record CallsInOrder (plan : Plan) (ending : Ending) (log : Option (List Entr
   pub left : List (List ℕ)
   pub names : names_of_shelf plan.disks ≡ had ++ missed ++ left
   pub missed_is : IsMissedAt ending missed
+  pub answer : TakeAnswer
+  pub answer_is : IsAnswerAt ending answer
   pub all : IsSome log → had ≡ names_of_shelf plan.disks
-  pub calls : after.calls ≡ before.calls ++ takes_of (had ++ missed) ++ gives_of had
+  pub calls : after.calls ≡ before.calls ++ takes_of answers.Disk had ++ takes_of answer missed ++ gives_of had
 
 -- with threads the log is what the jobs did and then what was left, and in a run to its end it says why the jobs ended
 pub record FollowsRun (order : StepOrder) (plan : Plan) (opened : World) (ending : Ending)
@@ -127,13 +140,9 @@ abbrev pub NoneAskedAt : Call → Ending → Type 0
 NoneAskedAt call OutOfMemory = IsAlone call.words → NoneAsked call.before.shelf call.after.shelf
 NoneAskedAt call _ = NoneAsked call.before.shelf call.after.shelf
 
--- of the disks that were kept back nothing more is known
-abbrev pub KeptDisksStay : ShelfView → ShelfView → Type 0
-KeptDisksStay before after = (name : List ℕ) → IsKeptBack before after name → DiskStays before after name
-
--- the disks that were given back had the sectors with which the mesh began
-abbrev pub HaveFactSectors : Plan → List (ℕ × ℕ) → ShelfView → ShelfView → Type 0
-HaveFactSectors plan facts before after = All (HasFactSectors before after) (zip plan.disks facts)
+-- the disks of the shelf had the sectors with which the mesh began
+abbrev pub HaveFactSectors : Plan → List (ℕ × ℕ) → ShelfView → Type 0
+HaveFactSectors plan facts after = All (HasFactSectors after) (zip plan.disks facts)
 
 abbrev pub IsGen : Mode → Type 0
 IsGen (GenMode start count) = ⊤
@@ -171,8 +180,8 @@ pub record KeepsLog (call : Call) (mode : Mode) (plan : Plan) (ending : Ending) 
   pub order : IfSome call.log (FollowsMode mode plan (opening plan call.facts) ending)
   pub fits : IfSome call.log (Fits (opening plan call.facts))
 
--- what is outside: each disk that wasn't kept back did and holds what the log says, the shelf was called in order, each
--- call that failed is told, and everything else is as it was before
+-- what is outside: each disk did what the log says, and holds it unless it was kept back; the shelf was called in order,
+-- each call that failed is told, and everything else is as it was before
 pub record KeepsOutside (call : Call) (mode : Mode) (plan : Plan) (ending : Ending) : Type 0 where
   pub disks : IfSome call.log (DisksAreKept plan call.before.shelf call.after.shelf)
   pub lent : LentAfter ending call.before.shelf call.after.shelf
@@ -180,8 +189,7 @@ pub record KeepsOutside (call : Call) (mode : Mode) (plan : Plan) (ending : Endi
   pub in_order : CallsInOrder plan ending call.log call.before.shelf call.after.shelf
   pub others : OthersStay plan call.before.shelf call.after.shelf
   pub unasked : IfNone call.log (NoneAskedAt call ending)
-  pub sizes : IsSome call.log → HaveFactSectors plan call.facts call.before.shelf call.after.shelf
-  pub kept_stay : KeptDisksStay call.before.shelf call.after.shelf
+  pub sizes : IsSome call.log → HaveFactSectors plan call.facts call.after.shelf
   pub images : IfNone call.log (ImagesStayAt call ending)
   pub images_stand : ImagesStand call.before.shelf call.after.shelf
   pub untouched : LeavesOutside mode ending call.before call.after
@@ -208,6 +216,20 @@ pub record NoFault (before after : Outside) : Type 0 where
 abbrev pub IsToldThere : ShelfView → DiskDecl → Type 0
 IsToldThere shelf d = IsShelf d.kind → IsSomeAnd shelf.told (HasImage d)
 
+-- the calls of the shelf that came between
+abbrev pub calls_made : ShelfView → ShelfView → List ShelfCall
+calls_made before after = drop (length before.calls) after.calls
+
+-- no take of the call answered that there is no disk of a name, or that it is of a bad size
+abbrev pub FindsDisks : ShelfView → ShelfView → Type 0
+FindsDisks before after =
+    (name : List ℕ) → (Contains (calls_made before after) (shelf_calls.Take name answers.Missing) → ⊥)
+    × (Contains (calls_made before after) (shelf_calls.Take name answers.BadSize) → ⊥)
+
+-- each disk of the plan is there: as the shelf tells before the call, or as its takes answered
+abbrev pub DisksAreThere : ShelfView → ShelfView → Plan → Type 0
+DisksAreThere before after plan = All (IsToldThere before) plan.disks ⊎ FindsDisks before after
+
 -- the text that the source has to give: what it had left where it tells that, else what it gave
 abbrev pub text_to_give : Call → List ℕ
 text_to_give call = unwrap_or call.before.source.left call.text
@@ -217,7 +239,7 @@ abbrev pub GivesScript : Call → Mode → Type 0
 GivesScript call (GenMode start count) = ⊤
 GivesScript call mode =
     (length (text_to_give call) ≤ source_limit mode)
-    × ((p : Plan) × IsScript (text_to_give call) p × All (IsToldThere call.before.shelf) p.disks)
+    × ((p : Plan) × IsScript (text_to_give call) p × DisksAreThere call.before.shelf call.after.shelf p)
 
 -- of a script: where nothing fails and all is there, the status is 0, or 6 or 7
 abbrev pub RunIsComplete : Call → Mode → Type 0

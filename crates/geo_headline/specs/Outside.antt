@@ -6,6 +6,8 @@ use Rattle.geo_base.specs.Sectors.{sectors_of, joined_sectors, zero_sectors}
 use Rattle.geo_disk.specs.Calls.{CallMade}
 use Rattle.geo_disk.specs.declared.shelf.ShelfCall.{ShelfCall}
 use Rattle.geo_disk.specs.declared.shelf.ShelfCall.TheVariants as shelf_calls
+use Rattle.geo_disk.specs.declared.shelf.TakeAnswer.{TakeAnswer}
+use Rattle.geo_disk.specs.declared.shelf.TakeAnswer.TheVariants as answers
 use Rattle.geo_disk.specs.Counts.{counted_many}
 use Rattle.geo_model.specs.declared.command.DiskDecl.{DiskDecl}
 use Rattle.geo_model.specs.declared.command.DiskKind.{DiskKind}
@@ -59,9 +61,9 @@ is_of_plan plan name = list_any (λ d. is_shelf d.kind && same_name d.name name)
 abbrev pub names_of_shelf : List DiskDecl → List (List ℕ)
 names_of_shelf disks = map (λ d. d.name) (filter (λ d. is_shelf d.kind) disks)
 
--- a take of each of these names, and a give of each, in their order
-abbrev pub takes_of : List (List ℕ) → List ShelfCall
-takes_of names = map (λ name. shelf_calls.Take name) names
+-- a take of each of these names that was answered so, and a give of each, in their order
+abbrev pub takes_of : TakeAnswer → List (List ℕ) → List ShelfCall
+takes_of answer names = map (λ name. shelf_calls.Take name answer) names
 
 abbrev pub gives_of : List (List ℕ) → List ShelfCall
 gives_of names = map (λ name. shelf_calls.Give name) names
@@ -166,14 +168,15 @@ calls_logged log disk = flat_map (λ e. call_in log disk e.step) log
 abbrev pub image_after : List Entry → PlannedDisk → List ℕ → List ℕ
 image_after log d bytes = joined_sectors (contents d.decl.sector (sectors_of d.decl.sector bytes) log d.number)
 
--- a disk that was given back: it was asked exactly what the log says, in that order, and answered so; exactly the
--- failures of the log are its faults; where the shelf tells it, it holds and gave what the log says
+-- a disk of the shelf, given back or not: it was asked exactly what the log says, in that order, and answered so, byte
+-- by byte; exactly the failures of the log are its faults; where the shelf tells what it held, it gave what the log
+-- says, and holds that where it was given back
 pub record HoldsWhatIsLogged (before after : ShelfView) (log : List Entry) (d : PlannedDisk) : Type 0 where
   pub asked : after.asked_of d.decl.name ≡ before.asked_of d.decl.name ++ calls_logged log d.number
   pub failures : after.faults_of d.decl.name
       ≡ counted_many (failures_of log d.number) (before.faults_of d.decl.name)
-  pub bytes : WhereTold before after d.decl.name (λ had has.
-      IsSomeAnd had (λ bytes. has ≡ Some (image_after log d bytes)))
+  pub bytes : (IsKeptBack before after d.decl.name → ⊥)
+      → WhereTold before after d.decl.name (λ had has. IsSomeAnd had (λ bytes. has ≡ Some (image_after log d bytes)))
   pub reads : WhereTold before after d.decl.name (λ had has.
       IsSomeAnd had (λ bytes. AreTrue d.decl.sector (sectors_of d.decl.sector bytes) log d.number))
 
@@ -184,10 +187,9 @@ pub record IsMemory (log : List Entry) (d : PlannedDisk) : Type 0 where
 
 abbrev pub IsDiskKept : ShelfView → ShelfView → List Entry → PlannedDisk → DiskKind → Type 0
 IsDiskKept before after log d disk_kinds.Ram = IsMemory log d
-IsDiskKept before after log d disk_kinds.Shelf =
-    (IsKeptBack before after d.decl.name → ⊥) → HoldsWhatIsLogged before after log d
+IsDiskKept before after log d disk_kinds.Shelf = HoldsWhatIsLogged before after log d
 
--- each disk of the plan that wasn't kept back
+-- each disk of the plan
 abbrev pub DisksAreKept : Plan → ShelfView → ShelfView → List Entry → Type 0
 DisksAreKept plan before after log = All (λ d. IsDiskKept before after log d d.decl.kind) (planned_disks plan)
 
@@ -199,21 +201,14 @@ pub record CountsStay (before after : ShelfView) (name : List ℕ) : Type 0 wher
   pub asked : after.asked_of name ≡ before.asked_of name
   pub sectors : after.sectors_of name ≡ before.sectors_of name
 
--- nothing more is known of the disk of a name: its faults, what it was asked, and how many sectors it had
-pub record DiskStays (before after : ShelfView) (name : List ℕ) : Type 0 where
-  pub faults : after.faults_of name ≡ before.faults_of name
-  pub asked : after.asked_of name ≡ before.asked_of name
-  pub sectors : after.sectors_of name ≡ before.sectors_of name
-
 -- the disk of a name wasn't asked, and had no fault
 pub record IsUnasked (before after : ShelfView) (name : List ℕ) : Type 0 where
   pub faults : after.faults_of name ≡ before.faults_of name
   pub asked : after.asked_of name ≡ before.asked_of name
 
--- a disk that was given back had as many sectors as the facts say
-abbrev pub HasFactSectors : ShelfView → ShelfView → DiskDecl × (ℕ × ℕ) → Type 0
-HasFactSectors before after item =
-    IsShelf item.0.kind → (IsKeptBack before after item.0.name → ⊥) → after.sectors_of item.0.name ≡ item.1.1
+-- a disk of the shelf, given back or not, had as many sectors as the facts say
+abbrev pub HasFactSectors : ShelfView → DiskDecl × (ℕ × ℕ) → Type 0
+HasFactSectors after item = IsShelf item.0.kind → after.sectors_of item.0.name ≡ item.1.1
 
 -- everything else of the shelf stays: foreign names, names lent before, and no foreign name is kept back
 pub record OthersStay (plan : Plan) (before after : ShelfView) : Type 0 where
