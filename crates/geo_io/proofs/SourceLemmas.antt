@@ -1,5 +1,5 @@
 -- Bytes taken from a source.
-use Rattle.std.proofs.Common.{◌≡◌, ℕ, ◌+◌, ◌-◌, ◌≤◌, List, ◌++◌, length, take, drop, Option, Some, None, refl, sym, ◌∙◌, ap, subst, arith, append_assoc, length-append, take-append-drop, ◌==◌, Bool}
+use Rattle.std.proofs.Common.{◌≡◌, ℕ, ◌+◌, ◌-◌, ◌≤◌, List, ◌++◌, length, take, drop, Option, Some, None, refl, sym, ◌∙◌, ap, subst, arith, append_assoc, length-append, take-append-drop, ◌==◌, Bool, false}
 use Rattle.std.proofs.Math.Seq.{take-length, take-add}
 use Rattle.std.proofs.lemmas.List.{take_at, drop-drop}
 use Rattle.std.proofs.Common.{length-drop}
@@ -64,7 +64,8 @@ given at n bytes out new part p size e =
     take-add at n bytes ∙ ap (λ t. take at bytes ++ t) (sym (take_at new (drop n out) n size ∙ e ∙ ap (take n) p))
 
 -- a source in memory that stands so many bytes further on is the one after a read of them
-pub fed : (at n calls after piece faults : ℕ) (bytes fails : List ℕ) (ended : Bool) → after ≡ raised calls →
+pub fed : (at n calls after piece faults : ℕ) (bytes fails : List ℕ) (ended failed : Bool)
+    → after ≡ raised calls →
     record {
       given = take (at + n) bytes;
       ended = n == 0;
@@ -73,6 +74,7 @@ pub fed : (at n calls after piece faults : ℕ) (bytes fails : List ℕ) (ended 
       fails = fails;
       calls = after;
       faults = faults;
+      failed = false;
     }
     ≡ after_read (record {
       given = take at bytes;
@@ -82,5 +84,6 @@ pub fed : (at n calls after piece faults : ℕ) (bytes fails : List ℕ) (ended 
       fails = fails;
       calls = calls;
       faults = faults;
+      failed = failed;
     }) n
-fed at n calls after piece faults bytes fails ended is = rw (take-add at n bytes, drop-drop n at bytes, is) refl
+fed at n calls after piece faults bytes fails ended failed is = rw (take-add at n bytes, drop-drop n at bytes, is) refl

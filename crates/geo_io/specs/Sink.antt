@@ -1,5 +1,5 @@
 -- A sink as its calls show it: what it took, and what it holds where it tells that.
-use Rattle.std.specs.Prelude.{◌≡◌, ℕ, List, ◌++◌, Option, Some, None}
+use Rattle.std.specs.Prelude.{◌≡◌, ℕ, Bool, List, ◌++◌, Option, Some, None}
 
 -- a sink at one moment
 pub record SinkView : Type 0 where
@@ -7,8 +7,10 @@ pub record SinkView : Type 0 where
   pub taken : List ℕ
   -- the bytes that it holds, where it tells them
   pub held : Option (List ℕ)
-  -- how many writes failed; no call that went through counts
+  -- how many writes failed; each counts one, and no call that went through counts
   pub faults : ℕ
+  -- whether the last write failed
+  pub failed : Bool
 
 -- these bytes were added at the end; a sink that doesn't tell what it holds goes on not telling
 abbrev pub Grows : Option (List ℕ) → List ℕ → Option (List ℕ) → Type 0

@@ -11,8 +11,10 @@ pub record SourceView : Type 0 where
   pub left : Option (List ℕ)
   -- how often it was read, as far as it counts that
   pub reads : ℕ
-  -- how many reads failed; no call that went through counts
+  -- how many reads failed; each counts one, and no call that went through counts
   pub faults : ℕ
+  -- whether the last read failed
+  pub failed : Bool
 
 -- these bytes were taken from the front; a source that doesn't tell what is left goes on not telling
 abbrev pub Goes : Option (List ℕ) → List ℕ → Option (List ℕ) → Type 0

@@ -1,5 +1,5 @@
 //! A sink in memory.
-ghost use Rattle.std.specs.Prelude.{◌≡◌, ◌≤◌, ◌<◌, ◌↔◌, ◌⊎◌, ◌++◌, [], Contains, IsErr, IfOk, OnErr, OnOk, length, take};
+ghost use Rattle.std.specs.Prelude.{◌≡◌, ◌≤◌, ◌<◌, ◌↔◌, ◌⊎◌, ◌++◌, [], Contains, IsErr, IfOk, OnErr, OnOk, false, is_err, length, take};
 ghost use Rattle.geo_base.specs.Faults.{HasCause};
 ghost use Rattle.geo_io.specs.Counts.{raised};
 ghost use Rattle.geo_io.specs.MemSink.{sink_view, stored_count, after_taking, after_failed_write};
@@ -20,6 +20,7 @@ pub struct MemSink {
     fails: Calls,
     calls: u64,
     faults: u64,
+    failed: bool,
 }
 
 impl Model for MemSink {
@@ -33,9 +34,9 @@ impl Model for MemSink {
       room = s.room;
       piece = s.piece;
       fails = s.fails;
-      calls =
-          s.calls;
+      calls = s.calls;
       faults = s.faults;
+      failed = s.failed;
     } };
 
     ghost invariant = { λ s. (0 < s.piece) × (vec_len s.bytes ≤ s.room) × (s.room ≤ vec_capacity s.bytes) };
@@ -46,8 +47,15 @@ impl MemSink {
     /// `fails` fail, and so does each when the room is used up.
     pub fn new(alloc: Global, room: u32, piece: u32, fails: Calls) -> Result<MemSink, NoMemory>
         requires { 0 < piece }
-        ensures { IfOk result (λ sink. sink
-            ≡ record { written = []; room = room; piece = piece; fails = fails; calls = 0; faults = 0 }) }
+        ensures { IfOk result (λ sink. sink ≡ record {
+          written = [];
+          room = room;
+          piece = piece;
+          fails = fails;
+          calls = 0;
+          faults = 0;
+          failed = false;
+        }) }
     {
         Ok(MemSink {
             bytes: Vec::with_capacity(alloc, room as usize)?,
@@ -56,6 +64,7 @@ impl MemSink {
             fails,
             calls: 0,
             faults: 0,
+            failed: false,
         })
     }
 
@@ -78,6 +87,8 @@ impl Sink for MemSink {
         ensures err { OnErr result (TakesNothing (sink_view self.old) (sink_view self.new)) }
         ensures cause { HasCause self.old.faults self.new.faults result }
         ensures told { OnOk result (self.new.faults ≡ self.old.faults) }
+        ensures one { OnErr result (self.new.faults ≡ raised self.old.faults) }
+        ensures last { self.new.failed ≡ is_err result }
 
         // It fails exactly where the call's number is in the list or the room is used up, and else takes as much as
         // fits.
@@ -89,7 +100,8 @@ impl Sink for MemSink {
     {
         self.calls = self.calls.saturating_add(1);
         let left = self.room as usize - self.bytes.len();
-        if self.fails.has(self.calls) || left == 0 {
+        self.failed = self.fails.has(self.calls) || left == 0;
+        if self.failed {
             self.faults = self.faults.saturating_add(1);
             return Err(Failed);
         }

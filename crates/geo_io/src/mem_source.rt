@@ -1,5 +1,5 @@
 //! A source in memory.
-ghost use Rattle.std.specs.Prelude.{◌≡◌, ◌+◌, ◌≤◌, ◌<◌, ◌==◌, ◌↔◌, ◌++◌, [], false, Contains, IsErr, IfOk, OnErr, OnOk, length, take, drop};
+ghost use Rattle.std.specs.Prelude.{◌≡◌, ◌+◌, ◌≤◌, ◌<◌, ◌==◌, ◌↔◌, ◌++◌, [], false, Contains, IsErr, IfOk, OnErr, OnOk, is_err, length, take, drop};
 ghost use Rattle.geo_base.specs.Faults.{HasCause};
 ghost use Rattle.geo_io.specs.Counts.{CountsOnce, raised};
 ghost use Rattle.geo_io.specs.Source.{Gives, GivesNothing};
@@ -19,6 +19,7 @@ pub struct MemSource {
     fails: Calls,
     calls: u64,
     faults: u64,
+    failed: bool,
 }
 
 impl Model for MemSource {
@@ -35,6 +36,7 @@ impl Model for MemSource {
       fails = s.fails;
       calls = s.calls;
       faults = s.faults;
+      failed = s.failed;
     } };
 
     ghost invariant = { λ s. (s.at ≤ length s.bytes) × (0 < s.piece) };
@@ -53,6 +55,7 @@ impl MemSource {
           fails = fails;
           calls = 0;
           faults = 0;
+          failed = false;
         } }
     {
         MemSource {
@@ -63,6 +66,7 @@ impl MemSource {
             fails,
             calls: 0,
             faults: 0,
+            failed: false,
         }
     }
 }
@@ -80,6 +84,8 @@ impl Source for MemSource {
         ensures err { OnErr result (GivesNothing (source_view self.old) (source_view self.new)) }
         ensures cause { HasCause self.old.faults self.new.faults result }
         ensures told { OnOk result (self.new.faults ≡ self.old.faults) }
+        ensures one { OnErr result (self.new.faults ≡ raised self.old.faults) }
+        ensures last { self.new.failed ≡ is_err result }
         ensures once { CountsOnce self.old.calls self.new.calls }
 
         // It fails exactly where the call's number is in the list, and else gives as much as there is room for.
@@ -93,6 +99,7 @@ impl Source for MemSource {
         self.calls = self.calls.saturating_add(1);
         if self.fails.has(self.calls) {
             self.faults = self.faults.saturating_add(1);
+            self.failed = true;
             return Err(Failed);
         }
         let left = &self.bytes.bytes()[self.at..];
@@ -100,6 +107,7 @@ impl Source for MemSource {
         out[..count].copy_from_slice(&left[..count]);
         self.at += count;
         self.ended = count == 0;
+        self.failed = false;
         Ok(count)
     }
 }

@@ -1,6 +1,7 @@
 //! Reading a source to its end.
 ghost use Rattle.std.specs.Prelude.{◌≡◌, ◌+◌, ◌≤◌, ◌<◌, ◌^◌, [], length, vec_len, IfOk, OnOk, IsErrOf};
 ghost use Rattle.geo_base.specs.Faults.{Rose};
+ghost use Rattle.geo_io.specs.Counts.{FailedAtLast};
 ghost use Rattle.geo_io.specs.Source.{Gives, GivesAtMost, GivesMany, GivesNothing, IsAtEnd, SourceView};
 
 use crate::source::Source;
@@ -39,6 +40,8 @@ fn read_piece<S: Source>(
     ensures end { IfOk result (λ n. n ≡ 0 → IsAtEnd (S.view source.new)) }
     ensures not_long { IsErrOf result ReadRefusal.TooLong → ⊥ }
     ensures fault { IsErrOf result ReadRefusal.ReadFault → Rose (S.view source.old).faults (S.view source.new).faults }
+    ensures one { IsErrOf result ReadRefusal.ReadFault
+        → FailedAtLast (S.view source.old).faults (S.view source.new).faults (S.view source.new).failed }
     ensures fault_left { IsErrOf result ReadRefusal.ReadFault → GivesNothing (S.view source.old) (S.view source.new) }
     ensures lost { IsErrOf result ReadRefusal.NoMemory → GivesAtMost (S.view source.old) (length piece.old)
         (S.view source.new) }
@@ -72,6 +75,8 @@ fn read_through<S: Source>(
     ensures too_long { IsErrOf result ReadRefusal.TooLong → GivesMany (S.view source.old) (limit + 1)
         (S.view source.new) }
     ensures fault { IsErrOf result ReadRefusal.ReadFault → Rose (S.view source.old).faults (S.view source.new).faults }
+    ensures one { IsErrOf result ReadRefusal.ReadFault
+        → FailedAtLast (S.view source.old).faults (S.view source.new).faults (S.view source.new).failed }
     ensures fault_taken { IsErrOf result ReadRefusal.ReadFault
         → GivesAtMost (S.view source.old) limit (S.view source.new) }
     ensures lost { IsErrOf result ReadRefusal.NoMemory → GivesAtMost (S.view source.old) (limit + 1)
@@ -103,6 +108,8 @@ pub fn read_all<S: Source>(alloc: Global, source: &mut S, limit: u32) -> Result<
     ensures too_long { IsErrOf result ReadRefusal.TooLong → GivesMany (S.view source.old) (limit + 1)
         (S.view source.new) }
     ensures fault { IsErrOf result ReadRefusal.ReadFault → Rose (S.view source.old).faults (S.view source.new).faults }
+    ensures one { IsErrOf result ReadRefusal.ReadFault
+        → FailedAtLast (S.view source.old).faults (S.view source.new).faults (S.view source.new).failed }
 
     // What was taken is lost.
     ensures fault_taken { IsErrOf result ReadRefusal.ReadFault

@@ -1,7 +1,7 @@
 //! What bytes come from.
-ghost use Rattle.std.specs.Prelude.{◌≡◌, ◌≤◌, ◌<◌, ◌==◌, length, take, IfOk, OnErr, OnOk};
+ghost use Rattle.std.specs.Prelude.{◌≡◌, ◌≤◌, ◌<◌, ◌==◌, length, take, IfOk, OnErr, OnOk, is_err};
 ghost use Rattle.geo_base.specs.Faults.{HasCause};
-ghost use Rattle.geo_io.specs.Counts.{CountsOnce};
+ghost use Rattle.geo_io.specs.Counts.{CountsOnce, raised};
 ghost use Rattle.geo_io.specs.Source.{Gives, GivesNothing, IsEnd, IsMore, SourceView};
 
 use thiserror::Error;
@@ -14,11 +14,12 @@ pub struct Failed;
 /// What bytes come from, as a file or a stream.
 pub trait Source {
     /// What its calls show: what its reads gave so far, whether the last one found the end, the bytes left, where the
-    /// source tells them, how often it was read, as far as it counts that, and how often a read failed.
+    /// source tells them, how often it was read, as far as it counts that, how often a read failed, and whether the
+    /// last one did.
     ghost view: { Self → SourceView };
 
     /// Moves bytes that are left to the front of `out`, and says how many: 0 exactly where nothing is left. After a
-    /// failure as much is left as before. A call that goes through counts no fault.
+    /// failure as much is left as before. A call that fails counts one fault, and one that goes through none.
     fn read(&mut self, out: &mut [u8]) -> Result<usize, Failed>
         requires { 0 < length out.old }
         ensures bound { IfOk result (λ n. n ≤ length out.new) }
@@ -29,5 +30,7 @@ pub trait Source {
         ensures err { OnErr result (GivesNothing (view self.old) (view self.new)) }
         ensures cause { HasCause (view self.old).faults (view self.new).faults result }
         ensures told { OnOk result ((view self.new).faults ≡ (view self.old).faults) }
-        ensures once { CountsOnce (view self.old).reads (view self.new).reads };
+        ensures once { CountsOnce (view self.old).reads (view self.new).reads }
+        ensures one { OnErr result ((view self.new).faults ≡ raised (view self.old).faults) }
+        ensures last { (view self.new).failed ≡ is_err result };
 }

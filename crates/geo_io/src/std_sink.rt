@@ -1,5 +1,5 @@
 //! A sink over a writer of std.
-ghost use Rattle.std.specs.Prelude.{◌≡◌, [], None};
+ghost use Rattle.std.specs.Prelude.{◌≡◌, [], None, false};
 
 use crate::passed::Passed;
 use crate::sink::Sink;
@@ -12,6 +12,7 @@ pub struct StdSink<W: Drop> {
     writer: W,
     taken: Passed,
     faults: u64,
+    failed: bool,
 }
 
 impl<W: Write + Drop> StdSink<W> {
@@ -19,27 +20,31 @@ impl<W: Write + Drop> StdSink<W> {
     pub fn new(writer: W) -> StdSink<W>
         ensures taken { result.taken.bytes ≡ [] }
         ensures faults { result.faults ≡ 0 }
+        ensures failed { result.failed ≡ false }
     {
         StdSink {
             writer,
             taken: Passed::none(),
             faults: 0,
+            failed: false,
         }
     }
 }
 
 impl<W: Write + Drop> Sink for StdSink<W> {
-    ghost view = { λ s. record { taken = s.taken.bytes; held = None; faults = s.faults } };
+    ghost view = { λ s. record { taken = s.taken.bytes; held = None; faults = s.faults; failed = s.failed } };
 
     /// A write of nothing is a failure.
     fn write(&mut self, bytes: &[u8]) -> Result<usize, Failed> {
         match self.writer.write(bytes) {
             Ok(count) if 0 < count => {
                 self.taken.add(&bytes[..count]);
+                self.failed = false;
                 Ok(count)
             }
             _ => {
                 self.faults = self.faults.saturating_add(1);
+                self.failed = true;
                 Err(Failed)
             }
         }

@@ -13,6 +13,7 @@ pub struct StdSource<R: Drop> {
     ended: bool,
     reads: u64,
     faults: u64,
+    failed: bool,
 }
 
 impl<R: Read + Drop> StdSource<R> {
@@ -22,6 +23,7 @@ impl<R: Read + Drop> StdSource<R> {
         ensures ended { result.ended ≡ false }
         ensures reads { result.reads ≡ 0 }
         ensures faults { result.faults ≡ 0 }
+        ensures failed { result.failed ≡ false }
     {
         StdSource {
             reader,
@@ -29,6 +31,7 @@ impl<R: Read + Drop> StdSource<R> {
             ended: false,
             reads: 0,
             faults: 0,
+            failed: false,
         }
     }
 }
@@ -40,6 +43,7 @@ impl<R: Read + Drop> Source for StdSource<R> {
       left = None;
       reads = s.reads;
       faults = s.faults;
+      failed = s.failed;
     } };
 
     fn read(&mut self, out: &mut [u8]) -> Result<usize, Failed> {
@@ -48,10 +52,12 @@ impl<R: Read + Drop> Source for StdSource<R> {
             Ok(count) => {
                 self.given.add(&out[..count]);
                 self.ended = count == 0;
+                self.failed = false;
                 Ok(count)
             }
             Err(_) => {
                 self.faults = self.faults.saturating_add(1);
+                self.failed = true;
                 Err(Failed)
             }
         }

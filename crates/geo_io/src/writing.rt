@@ -1,6 +1,7 @@
 //! Writing all bytes to a sink.
 ghost use Rattle.std.specs.Prelude.{◌≡◌, ◌≤◌, ◌<◌, IfErr, IfOk, OnErr, OnOk, length, take};
 ghost use Rattle.geo_base.specs.Faults.{HasCause};
+ghost use Rattle.geo_io.specs.Counts.{FailedAtLast};
 ghost use Rattle.geo_io.specs.Sink.{SinkView, Takes, TakesNothing};
 
 use crate::sink::Sink;
@@ -24,6 +25,7 @@ fn write_on<K: Sink>(sink: &mut K, bytes: &[u8], done: usize) -> Result<usize, W
     ensures written { IfErr result (λ fault. fault.written ≡ done) }
     ensures cause { HasCause (K.view sink.old).faults (K.view sink.new).faults result }
     ensures told { OnOk result ((K.view sink.new).faults ≡ (K.view sink.old).faults) }
+    ensures one { OnErr result (FailedAtLast (K.view sink.old).faults (K.view sink.new).faults (K.view sink.new).failed) }
 {
     match sink.write(&bytes[done..]) {
         Ok(count) => Ok(done + count),
@@ -33,14 +35,15 @@ fn write_on<K: Sink>(sink: &mut K, bytes: &[u8], done: usize) -> Result<usize, W
     }
 }
 
-/// Appends all the bytes. Where a write fails, exactly the first `written` bytes were appended, and it isn't tried
-/// again.
+/// Appends all the bytes. Where a write fails, exactly the first `written` bytes were appended, and no write comes
+/// after it.
 pub fn write_out<K: Sink>(sink: &mut K, bytes: &[u8]) -> Result<(), WriteFault>
     ensures ok { OnOk result (Takes (K.view sink.old) bytes.now (K.view sink.new)) }
     ensures some_left { IfErr result (λ fault. fault.written < length bytes.now) }
     ensures err { IfErr result (λ fault. Takes (K.view sink.old) (take fault.written bytes.now) (K.view sink.new)) }
     ensures cause { HasCause (K.view sink.old).faults (K.view sink.new).faults result }
     ensures told { OnOk result ((K.view sink.new).faults ≡ (K.view sink.old).faults) }
+    ensures one { OnErr result (FailedAtLast (K.view sink.old).faults (K.view sink.new).faults (K.view sink.new).failed) }
 {
     let mut done = 0;
     while done < bytes.len() {

@@ -28,5 +28,6 @@ pub returns-clause-fed : goal.returns-clause-fed
 returns-clause-fed c =
     fed c.self.inside.at c.min-count.result c.self.inside.calls c.saturating_add-self-inside.result
     c.self.inside.piece c.self.inside.faults c.self.inside.bytes c.self.inside.fails c.self.inside.ended
+    c.self.inside.failed
     c.saturating_add-self-inside.ensures
     ∙ ap (λ (f : Feed). after_read f c.min-count.result) c.self.view_is
