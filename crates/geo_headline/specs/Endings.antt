@@ -2,6 +2,7 @@
 use Rattle.std.specs.Prelude.{◌≡◌, ◌≢◌, ◌⊎◌, ℕ, ◌+◌, ◌-◌, ◌<◌, ◌≤◌, ◌&&◌, List, [], ◌∷◌, ◌++◌, length, find, Ok, Err, Option, Some, None, IsSome, IsNone, IsSomeAnd, IfSome, IsTrue, All, Contains, codes, decimal, ⊤, zip}
 use Rattle.std.specs.List.{list_any}
 use Rattle.geo_base.specs.Faults.{Rose}
+use Rattle.geo_io.specs.Counts.{FailedAtLast}
 use Rattle.geo_model.specs.declared.command.Cause.{Cause}
 use Rattle.geo_model.specs.declared.command.DiskDecl.{DiskDecl}
 use Rattle.geo_model.specs.declared.step.Entry.{Entry}
@@ -219,7 +220,7 @@ first_kept_back plan before after =
 
 -- Causes
 
--- why a call ends so; only want of memory needs no cause
+-- why a call ends so; want of memory needs no other cause than that the words are accepted
 abbrev pub CauseOf : Call → Mode → Plan → Ending → Type 0
 CauseOf call mode plan Reported = IsSome call.log × (kept_back call.before.shelf call.after.shelf ≡ [])
 CauseOf call mode plan (ReportedButFault name) =
@@ -231,13 +232,13 @@ CauseOf call mode plan (NoScript line cause) =
     ReadsScript call mode × WasReadWhole call mode × IsFault (script_of mode call.text) line cause
 CauseOf call mode plan ReadFault =
     ReadsScript call mode × (length call.text ≤ source_limit mode)
-    × Rose call.before.source.faults call.after.source.faults
+    × FailedAtLast call.before.source.faults call.after.source.faults call.after.source.failed
 CauseOf call mode plan (ShelfFault name) =
     IsParsed call mode plan × StopsAt call.before.shelf plan name (λ d images. ⊤)
     × Rose (call.before.shelf.take_faults name) (call.after.shelf.take_faults name)
 CauseOf call mode plan (NoDisk name) = IsParsed call mode plan × StopsAt call.before.shelf plan name IsMissing
 CauseOf call mode plan (BadSize name) = IsParsed call mode plan × StopsAt call.before.shelf plan name IsBadSize
-CauseOf call mode plan OutOfMemory = ⊤
+CauseOf call mode plan OutOfMemory = Accepts call.words mode
 CauseOf call mode plan LogFull = IsSomeAnd call.log (LogRanFull mode plan (opening plan call.facts))
 CauseOf call mode plan TooLong = ReadsScript call mode × (source_limit mode < length call.text)
 CauseOf call mode plan (Answered answer) =

@@ -7,6 +7,7 @@ use Rattle.geo_disk.specs.declared.shelf.ShelfCall.{ShelfCall}
 use Rattle.geo_disk.specs.declared.shelf.ShelfCall.TheVariants as shelf_calls
 use Rattle.geo_disk.specs.declared.shelf.TakeAnswer.{TakeAnswer}
 use Rattle.geo_disk.specs.declared.shelf.TakeAnswer.TheVariants as answers
+use Rattle.geo_io.specs.Counts.{FailedAtLast}
 use Rattle.geo_model.specs.declared.command.DiskDecl.{DiskDecl}
 use Rattle.geo_model.specs.declared.step.Entry.{Entry}
 use Rattle.geo_model.specs.Words.{same_name}
@@ -14,7 +15,7 @@ use Rattle.geo_model.specs.World.{World, Plan}
 use Rattle.geo_model.specs.Opening.{opening}
 use Rattle.geo_model.specs.Log.{Fits}
 use Rattle.geo_model.specs.Script.{script, Fault, IsScript, empty_plan}
-use Rattle.geo_headline.specs.Modes.{Mode, GenMode, VerifyMode, Accepts, IsAlone, starts_threads, TakesNoDisk, source_limit}
+use Rattle.geo_headline.specs.Modes.{Mode, GenMode, VerifyMode, Accepts, starts_threads, TakesNoDisk, source_limit}
 use Rattle.geo_model.specs.History.{KeepsHistory, RanToItsEnd}
 use Rattle.geo_model.specs.FixedOrder.{StepOrder, FollowsOrder, FollowsJobs, JobsEndedIdle}
 use Rattle.geo_headline.specs.Outside.{Outside, ShelfView, kept_back, IsUnasked, HasFactSectors, IsShelf, HasImage, names_of_shelf, takes_of, gives_of, DisksAreKept, OthersStay, ImagesStay, ImagesStand}
@@ -27,9 +28,9 @@ pub record ReadAs (call : Call) (mode : Mode) (plan : Plan) : Type 0 where
   pub no_plan : (f : Fault) → script (script_of mode call.text) ≡ Err f → plan ≡ empty_plan
   pub not_read : (WasReadWhole call mode → ⊥) → plan ≡ empty_plan
 
--- what a status of 4 means: the sink's faults rose, and a first part of the due text is written, with some left
+-- what a status of 4 means: one write failed, the last, and a first part of the due text is written, with some left
 pub record IsCutOff (call : Call) (due : List ℕ) : Type 0 where
-  pub fault : Rose call.before.sink.faults call.after.sink.faults
+  pub fault : FailedAtLast call.before.sink.faults call.after.sink.faults call.after.sink.failed
   pub rest : List ℕ
   pub some_left : rest ≢ []
   pub written : call.written ++ rest ≡ due
@@ -64,21 +65,16 @@ abbrev pub TakesAreTold : Option (List ℕ) → ShelfView → ShelfView → Type
 TakesAreTold blamed before after =
     (name : List ℕ) → after.take_faults name ≡ counted_if (is_blamed blamed name) (before.take_faults name)
 
--- the take that failed is the one that the ending blames; where memory runs out that may be told of none
-abbrev pub TakesAreToldAt : Ending → ShelfView → ShelfView → Type 0
-TakesAreToldAt OutOfMemory before after = (blamed : Option (List ℕ)) × TakesAreTold blamed before after
-TakesAreToldAt ending before after = TakesAreTold (blamed_by ending) before after
-
 -- of each name that was kept back one give failed, and of each other none
 abbrev pub GivesAreTold : ShelfView → ShelfView → Type 0
 GivesAreTold before after =
     (name : List ℕ) → after.give_faults name
     ≡ counted_if (list_any (same_name name) (kept_back before after)) (before.give_faults name)
 
--- takes and gives that failed are told, each once; where none failed the shelf has no more faults, unless memory ran
--- out
+-- takes and gives that failed are told, each once, and the take is the one that the ending blames; where none failed
+-- the shelf has no more faults, unless memory ran out
 pub record CallsAreTold (ending : Ending) (before after : ShelfView) : Type 0 where
-  pub takes : TakesAreToldAt ending before after
+  pub takes : TakesAreTold (blamed_by ending) before after
   pub gives : GivesAreTold before after
   pub no_fault : ending ≢ OutOfMemory → failed_takes ending ≡ 0 → kept_back before after ≡ []
       → after.faults ≡ before.faults
@@ -126,19 +122,9 @@ FollowsMode mode plan opened ending log = follows (starts_threads mode)
     follows true = FollowsRun (order_of mode) plan opened ending log
     follows false = FollowsOrder (order_of mode) opened [] log
 
--- the images stay where no log came; with threads nothing is said of them where memory ran out
-abbrev pub ImagesStayAt : Call → Ending → Type 0
-ImagesStayAt call OutOfMemory = IsAlone call.words → ImagesStay call.before.shelf call.after.shelf
-ImagesStayAt call _ = ImagesStay call.before.shelf call.after.shelf
-
 -- no disk was asked
 abbrev pub NoneAsked : ShelfView → ShelfView → Type 0
 NoneAsked before after = (name : List ℕ) → IsUnasked before after name
-
--- no disk was asked where no log came; with threads nothing is said of that where memory ran out
-abbrev pub NoneAskedAt : Call → Ending → Type 0
-NoneAskedAt call OutOfMemory = IsAlone call.words → NoneAsked call.before.shelf call.after.shelf
-NoneAskedAt call _ = NoneAsked call.before.shelf call.after.shelf
 
 -- the disks of the shelf had the sectors with which the mesh began
 abbrev pub HaveFactSectors : Plan → List (ℕ × ℕ) → ShelfView → Type 0
@@ -157,6 +143,10 @@ pub record LeavesOutside (mode : Mode) (ending : Ending) (before after : Outside
   pub source : IsGen mode ⊎ IsBadWords ending → after.source ≡ before.source
   pub shelf : TakesNoDisk mode ⊎ IsBeforeDisks ending → after.shelf ≡ before.shelf
 
+-- the source was read no more often than it may give bytes, and twice
+abbrev pub ReadsFew : Call → Mode → Type 0
+ReadsFew call mode = call.after.source.reads ≤ call.before.source.reads + (source_limit mode + 2)
+
 -- what was read and written: mode and plan are those of the words and of the text, the source gave this text, the sink
 -- took what is due, and a write or read that failed is told
 pub record KeepsTexts (call : Call) (mode : Mode) (plan : Plan) (ending : Ending) : Type 0 where
@@ -164,6 +154,7 @@ pub record KeepsTexts (call : Call) (mode : Mode) (plan : Plan) (ending : Ending
   pub bytes : BytesPass call
   pub prints : Prints call ending (due_text (reported mode call.text plan call.facts call.log) ending)
   pub streams : StreamsAreTold call ending
+  pub reads : ReadsFew call mode
 
 -- why it ended so: the ending has its cause, and a log where it has to have one; and a log is only there where the
 -- mesh of the plan could be opened
@@ -188,9 +179,9 @@ pub record KeepsOutside (call : Call) (mode : Mode) (plan : Plan) (ending : Endi
   pub calls : CallsAreTold ending call.before.shelf call.after.shelf
   pub in_order : CallsInOrder plan ending call.log call.before.shelf call.after.shelf
   pub others : OthersStay plan call.before.shelf call.after.shelf
-  pub unasked : IfNone call.log (NoneAskedAt call ending)
+  pub unasked : IfNone call.log (NoneAsked call.before.shelf call.after.shelf)
   pub sizes : IsSome call.log → HaveFactSectors plan call.facts call.after.shelf
-  pub images : IfNone call.log (ImagesStayAt call ending)
+  pub images : IfNone call.log (ImagesStay call.before.shelf call.after.shelf)
   pub images_stand : ImagesStand call.before.shelf call.after.shelf
   pub untouched : LeavesOutside mode ending call.before call.after
 

@@ -2,6 +2,7 @@ pub mod Computed
 pub mod WrongPrograms
 pub mod WrongDisks
 pub mod WrongCalls
+pub mod WrongWords
 pub mod IdleJobs
 pub mod RightCalls
 pub mod WordFacts

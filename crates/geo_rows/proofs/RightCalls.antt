@@ -142,6 +142,7 @@ quiet = record {
       whole = λ _. record { status = refl; written = sym nothing-printed };
     };
     streams = record { writes = λ _. refl; reads = λ _. refl };
+    reads = omega arith;
   };
   ends = record { cause = (refl, refl); has_log = refl; is_opened = λ _. opened };
   log = record { history = history; to_its_end = λ _. at-end; order = λ xs e s. no-more xs e s; fits = fitting };

@@ -3,6 +3,7 @@ use Rattle.std.specs.Prelude.{◌≡◌, ◌≢◌, ℕ, true, false, List, ◌�
 use Rattle.std.specs.List.{enumerate_from, list_any}
 use Rattle.std.proofs.Common.{sym, ◌∙◌, ap, append_assoc, subst, arith}
 use Rattle.std.proofs.lemmas.List.{append_cancel_left}
+use Rattle.geo_io.specs.Counts.{FailedAtLast}
 use Rattle.geo_disk.specs.Counts.{counted_if, counted_many}
 use Rattle.geo_disk.specs.declared.shelf.ShelfCall.{ShelfCall}
 use Rattle.geo_disk.specs.declared.shelf.ShelfCall.TheVariants as shelf_calls
@@ -11,14 +12,14 @@ use Rattle.geo_model.specs.declared.step.Entry.{Entry}
 use Rattle.geo_model.specs.World.{Plan}
 use Rattle.geo_model.specs.Words.{same_name}
 use Rattle.geo_model.specs.Script.{IsScript}
-use Rattle.geo_headline.specs.Modes.{Mode, StepMode, IsAlone}
-use Rattle.geo_headline.specs.Outside.{ShelfView, calls_logged, failures_of, gives_of, is_shelf, names_of_shelf, takes_of, DisksAreKept, HasFactSectors, HoldsWhatIsLogged, IsDiskKept, IsKeptBack, IsShelf, IsUnasked, PlannedDisk, planned_disk}
-use Rattle.geo_headline.specs.Endings.{Call, Ending, Reported, OutOfMemory, Answered, status_of, script_of}
-use Rattle.geo_headline.specs.Headline.{KeepsAll, NoneAskedAt, TakesAreToldAt}
+use Rattle.geo_headline.specs.Modes.{Mode, StepMode}
+use Rattle.geo_headline.specs.Outside.{ShelfView, calls_logged, failures_of, gives_of, is_shelf, names_of_shelf, takes_of, DisksAreKept, HasFactSectors, HoldsWhatIsLogged, IsDiskKept, IsKeptBack, IsShelf, PlannedDisk, planned_disk}
+use Rattle.geo_headline.specs.Endings.{Call, CauseOf, Ending, Reported, ReadFault, Answered, blamed_by, status_of, script_of}
+use Rattle.geo_headline.specs.Headline.{KeepsAll, NoneAsked, TakesAreTold}
 use Rattle.geo_model.specs.declared.command.DiskKind.{DiskKind}
 use Rattle.geo_model.specs.declared.command.DiskKind.TheVariants as disk_kinds
-use Rattle.geo_rows.specs.WrongPrograms.{IsRefused, AsksInSecret, AsksOtherwise, GivesAgain, HidesDiskFault, HidesReadFault, HidesWriteFault, InventsSize, ReportsDisk, TakesAgain, TakesAnotherFirst}
-use Rattle.geo_rows.proofs.WrongPrograms.{ends}
+use Rattle.geo_rows.specs.WrongPrograms.{IsRefused, AsksInSecret, AsksOtherwise, GivesAgain, HidesDiskFault, HidesReadFault, HidesWriteFault, InventsSize, ReadsOn, ReportsDisk, TakesAgain, TakesAnotherFirst, WritesOn}
+use Rattle.geo_rows.proofs.WrongPrograms.{answered, ends}
 use Rattle.geo_rows.proofs.WrongDisks.{by_report}
 
 pub hides_write-refused : IsRefused HidesWriteFault
@@ -27,6 +28,24 @@ hides_write-refused call mode plan ending wrong kept = wrong.1 (kept.texts.strea
 pub hides_read-refused : IsRefused HidesReadFault
 hides_read-refused call mode plan ending wrong kept =
     wrong.2 (kept.texts.streams.reads (λ e. wrong.0 ((kept.texts.prints.whole wrong.1).status ∙ ap status_of e)))
+
+pub writes_on-refused : IsRefused WritesOn
+writes_on-refused call mode plan ending wrong kept = wrong.1 (kept.texts.prints.cut_off wrong.0).fault
+
+-- a read fault is told where one read failed, the last
+one_read : (call : Call) (mode : Mode) (plan : Plan) (ending : Ending) → status_of ending ≡ 3
+    → CauseOf call mode plan ending
+    → FailedAtLast call.before.source.faults call.after.source.faults call.after.source.failed
+one_read call mode plan ReadFault s cause = cause.2
+one_read call mode plan (Answered found) s cause =
+    answered 3 found s (λ e. omega (arith, e)) (λ e. omega (arith, e))
+one_read call mode plan _ s cause = absurd (omega (arith, s))
+
+pub reads_on-refused : IsRefused ReadsOn
+reads_on-refused call mode plan ending wrong kept =
+    wrong.1
+    (one_read call mode plan ending (ends 3 call mode plan ending kept (λ e. omega (arith, e)) wrong.0)
+    kept.ends.cause)
 
 pub gives_again-refused : IsRefused GivesAgain
 gives_again-refused call mode plan ending wrong kept =
@@ -37,7 +56,7 @@ gives_again-refused call mode plan ending wrong kept =
 
 -- at status 0 no take failed
 no_take : (ending : Ending) (before after : ShelfView) (name : List ℕ) → status_of ending ≡ 0
-    → TakesAreToldAt ending before after → after.take_faults name ≡ before.take_faults name
+    → TakesAreTold (blamed_by ending) before after → after.take_faults name ≡ before.take_faults name
 no_take Reported before after name s told = told name
 no_take (Answered found) before after name s told = told name
 no_take _ before after name s told = absurd (omega (arith, s))
@@ -47,17 +66,12 @@ takes_again-refused call mode plan ending wrong kept =
     wrong.failed (no_take ending call.before.shelf call.after.shelf wrong.name
     (ends 0 call mode plan ending kept (λ e. omega (arith, e)) wrong.status) kept.outside.calls.takes)
 
--- no disk was asked, whatever the ending, where no threads are asked for
-unasked : (call : Call) (ending : Ending) (name : List ℕ) → IsAlone call.words → NoneAskedAt call ending
-    → IsUnasked call.before.shelf call.after.shelf name
-unasked call OutOfMemory name alone h = h alone name
-unasked call _ name alone h = h name
-
 pub asks_in_secret-refused : IsRefused AsksInSecret
 asks_in_secret-refused call mode plan ending wrong kept =
-    let none : NoneAskedAt call ending =
-    subst (λ (log : Option (List Entry)). IfNone log (NoneAskedAt call ending)) wrong.no_log kept.outside.unasked in
-    wrong.asked (unasked call ending wrong.name wrong.words none)
+    let none : NoneAsked call.before.shelf call.after.shelf =
+    subst (λ (log : Option (List Entry)). IfNone log (NoneAsked call.before.shelf call.after.shelf)) wrong.no_log
+    kept.outside.unasked in
+    wrong.asked (none wrong.name)
 
 -- Of the first disk
 
@@ -180,6 +194,8 @@ takes_another_first-refused call mode plan ending wrong kept =
 pub ruleset hidden_calls_are_refused = (
   hides_write-refused,
   hides_read-refused,
+  writes_on-refused,
+  reads_on-refused,
   gives_again-refused,
   takes_again-refused,
   asks_in_secret-refused,

@@ -1,10 +1,11 @@
 -- The wrong programs are refused.
-use Rattle.std.specs.Prelude.{◌≡◌, ◌≢◌, ℕ, ◌+◌, ◌-◌, ◌≤◌, ◌<◌, List, ◌∷◌, ◌++◌, length, Option, Some, None, Ok, Err, IsSome, IsSomeAnd, IfSome, All}
+use Rattle.std.specs.Prelude.{◌≡◌, ◌≢◌, ℕ, ◌+◌, ◌-◌, ◌^◌, ◌≤◌, ◌<◌, min, Bool, List, ◌∷◌, ◌++◌, length, Option, Some, None, Ok, Err, IsSome, IsSomeAnd, IfSome, All}
 use Rattle.std.proofs.Common.{sym, ◌∙◌, ap, subst, arith}
 use Rattle.std.proofs.Math.Seq.{get_or-append_seam}
 use Rattle.std.proofs.lemmas.List.{length-append}
 use Rattle.geo_model.proofs.OpeningLemmas.{opening_owes}
 use Rattle.geo_base.specs.Faults.{Rose}
+use Rattle.geo_io.specs.Counts.{FailedAtLast}
 use Rattle.geo_base.specs.Images.{Images, IsDiskSize}
 use Rattle.geo_base.specs.declared.limits.TheConstants.{MAX_LOG_ENTRIES}
 use Rattle.geo_model.specs.declared.command.DiskDecl.{DiskDecl}
@@ -110,9 +111,14 @@ fault_of_trace-refused call mode plan ending wrong kept =
     wrong.2.1
     (subst (λ m. CauseOf call m plan ending) (sym (kept.texts.read_as.mode_is VerifyMode wrong.1)) kept.ends.cause)
 
+-- a call that failed is a fault more
+failed_rose : (before now : ℕ) (failed : Bool) → FailedAtLast before now failed → Rose before now
+failed_rose before now failed f =
+    let e : now ≡ min (before + 1) (2 ^ 64 - 1) = f.one in omega (arith, e)
+
 by_read : (call : Call) (mode : Mode) (plan : Plan) (ending : Ending) → status_of ending ≡ 3
     → (Rose call.before.source.faults call.after.source.faults → ⊥) → CauseOf call mode plan ending → ⊥
-by_read call mode plan ReadFault s none cause = none cause.2
+by_read call mode plan ReadFault s none cause = none (failed_rose _ _ _ cause.2)
 by_read call mode plan (Answered found) s none cause =
     answered 3 found s (λ e. omega (arith, e)) (λ e. omega (arith, e))
 by_read call mode plan _ s none cause = omega (arith, s)
@@ -123,7 +129,8 @@ read_fault-refused call mode plan ending wrong kept =
     kept.ends.cause
 
 pub write_fault-refused : IsRefused AnswersWriteFault
-write_fault-refused call mode plan ending wrong kept = wrong.1 ((kept.texts.prints.cut_off wrong.0).fault)
+write_fault-refused call mode plan ending wrong kept =
+    wrong.1 (failed_rose _ _ _ (kept.texts.prints.cut_off wrong.0).fault)
 
 by_log : (call : Call) (ending : Ending) → status_of ending ≡ 7 → call.log ≡ None → HasLog ending call.log → ⊥
 by_log call LogFull s e has = let no : IsSome {T = List Entry} None = rw e at has in (let bad : ⊥ = cc in bad)
@@ -164,7 +171,7 @@ full_too_early-refused call mode plan ending wrong kept =
     too_early mode plan (opening plan call.facts) call.log (ran_full call mode plan ending wrong.0 kept) (wrong.1 plan)
 
 -- where a text is read, the words are accepted
-accepted_by : (call : Call) (mode : Mode) → ReadsScript call mode → Accepts call.words mode
+pub accepted_by : (call : Call) (mode : Mode) → ReadsScript call mode → Accepts call.words mode
 accepted_by call (GenMode start count) reads = absurd reads
 accepted_by call _ reads = reads
 

@@ -3,7 +3,7 @@ use Rattle.std.specs.Prelude.{ℕ, false, true, List, [], ◌∷◌, ◌++◌, S
 use Rattle.geo_model.specs.declared.command.DiskDecl.{DiskDecl}
 use Rattle.geo_model.specs.declared.command.DiskKind.TheVariants.{Shelf}
 use Rattle.geo_model.specs.World.{Plan}
-use Rattle.geo_headline.specs.Outside.{ShelfView, SourceView, gives_of, takes_of}
+use Rattle.geo_headline.specs.Outside.{ShelfView, SinkView, SourceView, gives_of, takes_of}
 use Rattle.geo_headline.specs.Endings.{Call}
 
 -- a disk of the shelf that isn't to stand yet
@@ -37,10 +37,15 @@ shelf_after = record silent_shelf { calls = takes_of (codes "d" ∷ []) ++ gives
 
 -- a stream that gave these bytes so far
 abbrev pub stream_before : SourceView
-stream_before = record { given = []; ended = false; left = None; reads = 0; faults = 0 }
+stream_before = record { given = []; ended = false; left = None; reads = 0; faults = 0; failed = false }
 
 abbrev pub stream_after : SourceView
-stream_after = record { given = later_text; ended = true; left = None; reads = 2; faults = 0 }
+stream_after =
+    record { given = later_text; ended = true; left = None; reads = 2; faults = 0; failed = false }
+
+-- a sink that took nothing
+abbrev pub nothing_taken : SinkView
+nothing_taken = record { taken = []; held = None; faults = 0; failed = false }
 
 -- its disk has 1,000 sectors, no step is made, and the report is empty
 abbrev pub quiet_call : Call
@@ -51,7 +56,6 @@ quiet_call = record {
   status = 0;
   written = [];
   log = Some [];
-  before =
-      record { source = stream_before; sink = record { taken = []; held = None; faults = 0 }; shelf = silent_shelf };
-  after = record { source = stream_after; sink = record { taken = []; held = None; faults = 0 }; shelf = shelf_after };
+  before = record { source = stream_before; sink = nothing_taken; shelf = silent_shelf };
+  after = record { source = stream_after; sink = nothing_taken; shelf = shelf_after };
 }

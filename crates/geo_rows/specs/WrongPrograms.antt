@@ -3,6 +3,7 @@ use Rattle.std.specs.Prelude.{◌≡◌, ◌≢◌, ℕ, ◌+◌, ◌-◌, ◌^�
 use Rattle.geo_base.specs.Faults.{Rose}
 use Rattle.geo_base.specs.Images.{Images}
 use Rattle.geo_base.specs.declared.limits.TheConstants.{MAX_LOG_ENTRIES}
+use Rattle.geo_io.specs.Counts.{FailedAtLast}
 use Rattle.geo_disk.specs.declared.shelf.ShelfCall.{ShelfCall}
 use Rattle.geo_disk.specs.declared.shelf.ShelfCall.TheVariants as shelf_calls
 use Rattle.geo_model.specs.declared.command.DiskDecl.{DiskDecl}
@@ -16,7 +17,7 @@ use Rattle.geo_model.specs.Report.{end_line}
 use Rattle.geo_model.specs.Script.{IsScript}
 use Rattle.geo_headline.specs.declared.verified.Verified.{Verified}
 use Rattle.geo_headline.specs.declared.verified.Verified.TheVariants as found
-use Rattle.geo_headline.specs.Modes.{Mode, StepMode, VerifyMode, Accepts, IsAlone, StartsThreads, source_limit}
+use Rattle.geo_headline.specs.Modes.{Mode, StepMode, VerifyMode, Accepts, StartsThreads, source_limit}
 use Rattle.geo_model.specs.FixedOrder.{EventWorkerIdle, event_seat}
 use Rattle.geo_headline.specs.Outside.{IsShelf, HasImage, IsKeptBack, IsUnasked, calls_logged, failures_of, kept_back}
 use Rattle.geo_headline.specs.Endings.{Call, Ending, script_of}
@@ -176,6 +177,18 @@ abbrev pub HidesReadFault : Call → Type 0
 HidesReadFault call =
     (call.status ≢ 3) × (call.status ≢ 4) × (call.after.source.faults ≢ call.before.source.faults)
 
+-- a write failed, and the status says so, but it wasn't the one that failed, or it wasn't the last write
+abbrev pub WritesOn : Call → Type 0
+WritesOn call =
+    (call.status ≡ 4)
+    × (FailedAtLast call.before.sink.faults call.after.sink.faults call.after.sink.failed → ⊥)
+
+-- the same of a read
+abbrev pub ReadsOn : Call → Type 0
+ReadsOn call =
+    (call.status ≡ 3)
+    × (FailedAtLast call.before.source.faults call.after.source.faults call.after.source.failed → ⊥)
+
 -- all disks were given back, and yet a give of a name failed on the way
 pub record GivesAgain (call : Call) : Type 0 where
   pub name : List ℕ
@@ -190,7 +203,6 @@ pub record TakesAgain (call : Call) : Type 0 where
 
 -- no mesh was run, and yet the disk of a name was asked, or failed
 pub record AsksInSecret (call : Call) : Type 0 where
-  pub words : IsAlone call.words
   pub no_log : call.log ≡ None
   pub name : List ℕ
   pub asked : IsUnasked call.before.shelf call.after.shelf name → ⊥
@@ -238,3 +250,18 @@ pub record LeavesAllToTheDrain (call : Call) : Type 0 where
 pub record IdlesAtEvent (opened : World) (plan : Plan) (log : List Entry) : Type 0 where
   pub is_due : is_enabled (replay opened log) (event_seat plan) steps.Event ≡ true
   pub idle : EventWorkerIdle opened plan log log
+
+-- Words that aren't accepted
+
+abbrev pub AcceptsNone : Call → Type 0
+AcceptsNone call = (mode : Mode) → Accepts call.words mode → ⊥
+
+-- they are answered by something else than the usage line or a write fault
+abbrev pub AnswersNoWords : Call → Type 0
+AnswersNoWords call = AcceptsNone call × (call.status ≢ 1) × (call.status ≢ 4)
+
+-- the source is read, or the shelf is called
+abbrev pub ActsOnNoWords : Call → Type 0
+ActsOnNoWords call =
+    AcceptsNone call
+    × ((call.after.source ≡ call.before.source) × (call.after.shelf ≡ call.before.shelf) → ⊥)

@@ -8,10 +8,10 @@
 //! tests of being sound, steady and fitting, and each step lowers the measure. These tests are proved to decide
 //! `Steady` and `Fitting`, and `Sound` but for offsets inside a sector ([`fitting`]).
 //!
-//! Twenty-nine kinds of wrong programs are proved not to keep `KeepsAll` ([`wrong`]). Such a program always answers a
+//! Thirty-three kinds of wrong programs are proved not to keep `KeepsAll` ([`wrong`]). Such a program always answers a
 //! status without its cause, loses an image, invents a disk or its size, takes another disk first, or tries a call
-//! that failed again and tells nobody. Another asks a disk something else than it says, leaves all work to one
-//! thread, or says yes to a trace that doesn't hold. One right call is proved to keep it.
+//! that failed again. Another asks a disk something else than it says, leaves all work to one thread, says yes to a
+//! trace that doesn't hold, or works on words that aren't accepted. One right call is proved to keep it.
 //!
 //! No crate stands on this one. Read `src/rows.rt` first, then the scripts in `specs/Scripts.antt`.
 #![tactic(auto)]

@@ -5,7 +5,7 @@ ghost use Rattle.geo_headline.specs.Headline.{KeepsAll};
 ghost use Rattle.geo_model.specs.World.{Plan, World};
 ghost use Rattle.geo_model.specs.declared.step.Entry.{Entry};
 ghost use Rattle.geo_rows.specs.RightCalls.{later_plan, quiet_call};
-ghost use Rattle.geo_rows.specs.WrongPrograms.{AnswersDiskFault, AnswersFaultOfScript, AnswersFaultOfTrace, AnswersFullAtOnce, AnswersFullTooEarly, AnswersFullWithoutLog, AnswersNo, AnswersReadFault, AnswersTooLong, AnswersUsage, AnswersWriteFault, AsksInSecret, AsksOtherwise, BlamesAnotherDisk, DropsDisk, GivesAgain, HidesDiskFault, HidesReadFault, HidesWriteFault, IdlesAtEvent, InventsDisk, InventsLentDisk, InventsSize, IsRefused, KeepsDisk, LeavesAllToTheDrain, LosesImage, RunsTrace, SaysYes, TakesAgain, TakesAnotherFirst};
+ghost use Rattle.geo_rows.specs.WrongPrograms.{AnswersDiskFault, ActsOnNoWords, AnswersFaultOfScript, AnswersFaultOfTrace, AnswersFullAtOnce, AnswersFullTooEarly, AnswersFullWithoutLog, AnswersNo, AnswersNoWords, AnswersReadFault, AnswersTooLong, AnswersUsage, AnswersWriteFault, AsksInSecret, AsksOtherwise, BlamesAnotherDisk, DropsDisk, GivesAgain, HidesDiskFault, HidesReadFault, HidesWriteFault, IdlesAtEvent, InventsDisk, InventsLentDisk, InventsSize, IsRefused, KeepsDisk, LeavesAllToTheDrain, LosesImage, ReadsOn, RunsTrace, SaysYes, TakesAgain, TakesAnotherFirst, WritesOn};
 ghost use Rattle.std.specs.Prelude.{List};
 
 /// A program that always answers with one of the statuses 1 to 5 and 7 to 9 doesn't keep what a run keeps, whatever it
@@ -43,12 +43,14 @@ pub fn lost_disks_are_refused()
     ensures invents_lent_disk { IsRefused InventsLentDisk }
 {}
 
-/// Neither does one that keeps a failure of the outside or a call of a disk to itself, by trying again or by saying
-/// something else, or that runs its mesh with sizes that the disks haven't, or takes another disk first.
+/// Neither does one that keeps a failure of the outside or a call of a disk to itself, by trying again, whether it then
+/// says so or not, or by saying something else, or that runs its mesh with sizes that the disks haven't, or takes another disk first.
 #[tactic(auto, using(crate::proofs::WrongCalls::hidden_calls_are_refused))]
 pub fn hidden_calls_are_refused()
     ensures write_fault { IsRefused HidesWriteFault }
     ensures read_fault { IsRefused HidesReadFault }
+    ensures writes_on { IsRefused WritesOn }
+    ensures reads_on { IsRefused ReadsOn }
     ensures gives_again { IsRefused GivesAgain }
     ensures takes_again { IsRefused TakesAgain }
     ensures asks_in_secret { IsRefused AsksInSecret }
@@ -56,6 +58,14 @@ pub fn hidden_calls_are_refused()
     ensures disk_fault { IsRefused HidesDiskFault }
     ensures invents_size { IsRefused InventsSize }
     ensures takes_another_first { IsRefused TakesAnotherFirst }
+{}
+
+/// Neither does one that answers words that aren't accepted by another status than 1, or 4 where the sink fails, or that
+/// reads its source or calls its shelf on them.
+#[tactic(auto, using(crate::proofs::WrongWords::no_words_are_refused))]
+pub fn no_words_are_refused()
+    ensures status { IsRefused AnswersNoWords }
+    ensures outside { IsRefused ActsOnNoWords }
 {}
 
 /// Neither does one that starts no job on a word that asks for threads; and an event worker that doesn't look isn't

@@ -1,9 +1,10 @@
 -- Where nothing fails and all is there, the status is 0, or 6 or 7; that of a verified trace is one of a verdict.
-use Rattle.std.proofs.Common.{◌≡◌, ◌⊎◌, ℕ, ◌+◌, ◌-◌, ◌^◌, ◌≤◌, min, false, List, [], ◌∷◌, ◌++◌, length, find, All, Option, Some, None, Ok, Err, unwrap_or, refl, ◌∙◌, ap, subst, inl, inr, arith, IfSome, IsSome, IsSomeAnd, ◌&&◌, bytes_eq, if◌then◌else◌, rules}
+use Rattle.std.proofs.Common.{◌≡◌, ◌⊎◌, ℕ, ◌+◌, ◌-◌, ◌^◌, ◌≤◌, min, Bool, false, List, [], ◌∷◌, ◌++◌, length, find, All, Option, Some, None, Ok, Err, unwrap_or, refl, ◌∙◌, ap, subst, inl, inr, arith, IfSome, IsSome, IsSomeAnd, ◌&&◌, bytes_eq, if◌then◌else◌, rules}
 use Rattle.std.specs.List.{AllByRecursion, list_any}
 use Rattle.std.proofs.lemmas.List.{append-nil, length-append}
 use Rattle.std.proofs.lemmas.List.Elements.{recursion_from_All}
 use Rattle.geo_base.specs.Faults.{Rose, RoseBy}
+use Rattle.geo_io.specs.Counts.{FailedAtLast}
 use Rattle.geo_base.specs.Images.{Images}
 use Rattle.geo_model.specs.declared.command.DiskDecl.{DiskDecl}
 use Rattle.geo_model.specs.declared.command.DiskKind.{DiskKind}
@@ -35,6 +36,11 @@ no_longer (Some had) None text h = absurd h
 no_longer (Some had) (Some has) text h = search (rules, length-append text has)
 
 -- Faults
+
+-- a call that failed is a fault more
+failed_rose : (before now : ℕ) (failed : Bool) → FailedAtLast before now failed → Rose before now
+failed_rose before now failed f =
+    let e : now ≡ min (before + 1) (2 ^ 64 - 1) = f.one in omega (arith, e)
 
 rose_from : (f n before after : ℕ) → 1 ≤ f + n → RoseBy (f + n) before after → Rose before after
 rose_from f n before after some r = let h : min (before + (f + n)) (2 ^ 64 - 1) ≤ after = r in omega (arith, some, h)
@@ -132,7 +138,7 @@ script_ends call mode plan (ReportedButFault name) other whole text a k fine s =
     absurd (fine.shelf (kept_rose call plan (ReportedButFault name) name k.ends.cause.1 k.outside.lent.faults))
 script_ends call mode plan BadWords other whole text a k fine s = absurd (k.ends.cause mode a)
 script_ends call mode plan (NoScript line c) other whole text a k fine s = search rules
-script_ends call mode plan ReadFault other whole text a k fine s = absurd (fine.source k.ends.cause.2)
+script_ends call mode plan ReadFault other whole text a k fine s = absurd (fine.source (failed_rose _ _ _ k.ends.cause.2))
 script_ends call mode plan (ShelfFault name) other whole text a k fine s = search rules
 script_ends call mode plan (NoDisk name) other whole text a k fine s =
     search (rules, stopped_there call.before.shelf plan name IsMissing k.ends.cause.1)
@@ -189,7 +195,7 @@ verify_ends call plan Reported a k fine = absurd (no_mesh call plan Reported k k
 verify_ends call plan (ReportedButFault name) a k fine = search rules
 verify_ends call plan BadWords a k fine = absurd (k.ends.cause VerifyMode a)
 verify_ends call plan (NoScript line c) a k fine = inr (inl refl)
-verify_ends call plan ReadFault a k fine = absurd (fine k.ends.cause.2)
+verify_ends call plan ReadFault a k fine = absurd (fine (failed_rose _ _ _ k.ends.cause.2))
 verify_ends call plan OutOfMemory a k fine = inr (inr (inl refl))
 verify_ends call plan LogFull a k fine = search rules
 verify_ends call plan TooLong a k fine = inr (inr (inr (inl refl)))
@@ -215,7 +221,8 @@ verdict_status call ending e (inr (inr (inr (inr z)))) = inr (inr (inr (inr (e �
 -- what is written whole has the status of its ending
 status_is : (call : Call) (mode : Mode) (plan : Plan) (ending : Ending) → KeepsAll call mode plan ending
     → (Rose call.before.sink.faults call.after.sink.faults → ⊥) → call.status ≡ status_of ending
-status_is call mode plan ending k fine = search rules
+status_is call mode plan ending k fine =
+    search (rules, failed_rose call.before.sink.faults call.after.sink.faults call.after.sink.failed)
 
 -- a call that keeps all is complete where its text is the script
 run_complete : (call : Call) (mode : Mode) (plan : Plan) (ending : Ending) → KeepsAll call mode plan ending

@@ -17,8 +17,8 @@ use Rattle.geo_model.specs.Opening.{opening}
 use Rattle.geo_model.specs.Plans.{IsPlan, IsDiskDecl, FactsFit}
 use Rattle.geo_headline.specs.Modes.{Mode}
 use Rattle.geo_headline.specs.Outside.{ShelfView, HasFactSectors, IsShelf, is_shelf, kept_back, IsThere, IsMissing, IsBadSize, HasToldSize, ImagesStay, ImagesStand, DisksAreKept, PlannedDisk, planned_disk, IsDiskKept, CountsStay, is_of_plan, IsForeign as IsForeignName}
-use Rattle.geo_headline.specs.Endings.{Ending, Reported, ReportedButFault, ShelfFault, NoDisk, BadSize, OutOfMemory, LogFull, HasLog, LogRanFull, StopsAt, failed_takes}
-use Rattle.geo_headline.specs.Headline.{GivesAreTold, HaveFactSectors, IsMissedAt, LentAfter, NoneAsked, TakesAreToldAt}
+use Rattle.geo_headline.specs.Endings.{Ending, Reported, ReportedButFault, ShelfFault, NoDisk, BadSize, OutOfMemory, LogFull, HasLog, LogRanFull, StopsAt, blamed_by, failed_takes}
+use Rattle.geo_headline.specs.Headline.{GivesAreTold, HaveFactSectors, IsMissedAt, LentAfter, NoneAsked, TakesAreTold}
 use Rattle.geo_run.specs.Drives.{DriveView, size_of}
 use Rattle.geo_run.specs.declared.stop.Stop.{Stop}
 use Rattle.geo_run.specs.declared.stop.Stop.TheVariants as stops
@@ -325,7 +325,7 @@ take_stopped a b d stop disk_kinds.Shelf h = record {
 -- the take that failed is the one that is blamed
 stopped_takes : (a m n b : ShelfView) (d : DiskDecl) (stop : Stop) (kind : DiskKind)
     → OpensNoDrive m d stop n kind → ((name : List ℕ) → m.take_faults name ≡ a.take_faults name)
-    → ((name : List ℕ) → b.take_faults name ≡ n.take_faults name) → TakesAreToldAt (ending_of stop) a b
+    → ((name : List ℕ) → b.take_faults name ≡ n.take_faults name) → TakesAreTold (blamed_by (ending_of stop)) a b
 stopped_takes a m n b d stop disk_kinds.Ram h before after = search rules
 stopped_takes a m n b d stop disk_kinds.Shelf h before after = by stop h.cause h.takes
   where
@@ -335,11 +335,11 @@ stopped_takes a m n b d stop disk_kinds.Shelf h before after = by stop h.cause h
     counted t name c = search rules
 
     by : (s : Stop) → TakeCause m d s n → CountsCall (is_shelf_fault s) d.name m.take_faults n.take_faults
-        → TakesAreToldAt (ending_of s) a b
+        → TakesAreTold (blamed_by (ending_of s)) a b
     by (stops.ShelfFault name) c takes = search rules
     by (stops.NoDisk name) c takes = λ z. counted false z takes
     by (stops.BadSize name) c takes = λ z. counted false z takes
-    by stops.NoMemory c takes = (None, λ z. counted false z takes)
+    by stops.NoMemory c takes = λ z. counted false z takes
     by _ c takes = absurd c
 
 -- a take that didn't fail is no fault, unless memory ran out

@@ -1,5 +1,5 @@
 -- What a call keeps, from how its run finished.
-use Rattle.std.proofs.Common.{◌≡◌, ◌≢◌, ◌⊎◌, ℕ, ◌≤◌, nat_le, Bool, true, false, List, [], ◌∷◌, ◌++◌, Option, Some, None, Result, Ok, Err, refl, sym, ◌∙◌, ap, subst, inl, inr, arith, bytes_eq, codes, decimal, if◌then◌else◌, IfSome, IfNone, IsSomeAnd, IsTrue, rules}
+use Rattle.std.proofs.Common.{◌≡◌, ◌≢◌, ◌⊎◌, ℕ, ◌+◌, ◌≤◌, nat_le, Bool, true, false, List, [], ◌∷◌, ◌++◌, Option, Some, None, Result, Ok, Err, refl, sym, ◌∙◌, ap, subst, inl, inr, arith, bytes_eq, codes, decimal, if◌then◌else◌, IfSome, IsSomeAnd, IsTrue, rules}
 use Rattle.std.proofs.Math.Seq.{drop-append_seam, drop-length}
 use Rattle.std.specs.Str.Parse.{digits_value}
 use Rattle.std.proofs.lemmas.Fmt.{digits_value-decimal}
@@ -11,10 +11,10 @@ use Rattle.geo_model.specs.World.{World, Plan}
 use Rattle.geo_model.specs.Opening.{opening}
 use Rattle.geo_model.specs.Script.{Fault, empty_plan, script}
 use Rattle.geo_model.specs.Generator.{generated}
-use Rattle.geo_headline.specs.Modes.{Mode, StepMode, RunMode, GenMode, SweepMode, WatchMode, TraceMode, VerifyMode, IsMode, Accepts, OpensMesh, TakesNoDisk, words_for}
-use Rattle.geo_headline.specs.Outside.{ShelfView, SinkView, SourceView, ImagesStay}
+use Rattle.geo_headline.specs.Modes.{Mode, StepMode, RunMode, GenMode, SweepMode, WatchMode, TraceMode, VerifyMode, IsMode, Accepts, OpensMesh, TakesNoDisk, source_limit, words_for}
+use Rattle.geo_headline.specs.Outside.{ShelfView, SinkView, SourceView}
 use Rattle.geo_headline.specs.Endings.{Ending, Reported, ReportedButFault, BadWords, NoScript, ReadFault, ShelfFault, NoDisk, BadSize, OutOfMemory, LogFull, TooLong, Answered, NoTrace, Call, CauseOf, HasLog, IsBeforeDisks, IsParsed, IsReadWhole, IsWhole, ReadsScript, WasReadWhole, missed_by, reported, script_of}
-use Rattle.geo_headline.specs.Headline.{ImagesStayAt, IsBadWords, IsGen, ReadAs}
+use Rattle.geo_headline.specs.Headline.{IsBadWords, IsGen, ReadAs, ReadsFew}
 use Rattle.geo_run.specs.declared.due.Due.TheVariants as dues
 use Rattle.geo_run.specs.declared.finish.Finish.{Finish}
 use Rattle.geo_run.specs.declared.stop.Stop.{Stop}
@@ -114,21 +114,14 @@ read_as call mode accepts =
 
 -- Where no log came
 
--- the images stay, whatever the ending
-images_at : (call : Call) (ending : Ending) (log : Option (List Entry))
-    → IfNone log (ImagesStay call.before.shelf call.after.shelf) → IfNone log (ImagesStayAt call ending)
-images_at call ending (Some l) h = tt
-images_at call OutOfMemory None h = λ alone. h
-images_at call _ None h = h
-
 -- a call that ended before a disk was taken
 early : (call : Call) (mode : Mode) (plan : Plan) (ending : Ending) → ReadAs call mode plan
     → Gave call.before.source call.text call.after.source → CauseOf call mode plan ending
     → call.log ≡ None → call.after.shelf ≡ call.before.shelf → HasLog ending None → (IsWhole ending → ⊥)
     → missed_by ending ≡ [] → (IsGen mode ⊎ IsBadWords ending → call.after.source ≡ call.before.source)
-    → (ending ≢ ReadFault → call.after.source.faults ≡ call.before.source.faults)
+    → (ending ≢ ReadFault → call.after.source.faults ≡ call.before.source.faults) → ReadsFew call mode
     → KeepsInside call mode plan ending
-early call mode plan ending read gave cause none shelf has not_whole none_missed source reads =
+early call mode plan ending read gave cause none shelf has not_whole none_missed source reads few =
     subst (λ (c : Call). KeepsInside c mode plan ending) is keeps
   where
     -- the same call without a log, over a shelf that is as before
@@ -146,7 +139,7 @@ early call mode plan ending read gave cause none shelf has not_whole none_missed
           told_still ending call.before.shelf (none_failed ending none_missed),
           none_in_order plan ending call.before.shelf none_missed,
           others_still plan call.before.shelf,
-          images_at still ending None (images_stay_same call.before.shelf),
+          images_stay_same call.before.shelf,
           images_stand_same call.before.shelf,
         )
 
@@ -159,7 +152,7 @@ plan_cause : (call : Call) (mode : Mode) (plan : Plan) (ending : Ending) → IsP
 plan_cause call mode plan (ShelfFault name) p h = (p, h.0, h.1)
 plan_cause call mode plan (NoDisk name) p h = (p, h)
 plan_cause call mode plan (BadSize name) p h = (p, h)
-plan_cause call mode plan OutOfMemory p h = tt
+plan_cause call mode plan OutOfMemory p h = p.accepted
 plan_cause call mode plan Reported p h = h
 plan_cause call mode plan (ReportedButFault name) p h = h
 plan_cause call mode plan LogFull p h = h
@@ -192,10 +185,10 @@ planned : (call : Call) (mode : Mode) (plan : Plan) (ending : Ending) → ReadAs
     → Gave call.before.source call.text call.after.source → IsParsed call mode plan
     → RunsPlan mode plan call.facts call.log ending call.before.shelf call.after.shelf
     → (IsGen mode → call.after.source ≡ call.before.source)
-    → call.after.source.faults ≡ call.before.source.faults
+    → call.after.source.faults ≡ call.before.source.faults → ReadsFew call mode
     → (TakesNoDisk mode → HasNoShelfDisk plan)
     → KeepsInside call mode plan ending
-planned call mode plan ending read gave parsed ran source told none = search rules
+planned call mode plan ending read gave parsed ran source told few none = search rules
 
 -- How a run finished
 
@@ -241,8 +234,9 @@ module _ (words : List (List ℕ)) (finish : Finish) (source source_after : Sour
       → HasLog (ending_of stop) None → (IsWhole (ending_of stop) → ⊥) → missed_by (ending_of stop) ≡ []
       → (IsGen mode ⊎ IsBadWords (ending_of stop) → source_after ≡ source)
       → (ending_of stop ≢ ReadFault → source_after.faults ≡ source.faults)
+      → source_after.reads ≤ source.reads + (source_limit mode + 2)
       → Finishes words finish source source_after shelf shelf_after
-  stops_early mode stop accepts ends gave cause has not_whole none_missed same told = record {
+  stops_early mode stop accepts ends gave cause has not_whole none_missed same told few = record {
     mode = mode;
     plan = reading.0;
     due = search rules;
@@ -251,11 +245,11 @@ module _ (words : List (List ℕ)) (finish : Finish) (source source_after : Sour
         (sym (ap ending_by ends.due))
         (early (finished status sink sink_after) mode reading.0 (ending_of stop) (again status sink sink_after) gave
         (cause status sink sink_after reading.0) (no_entries finish ends.log) ends.shelf has not_whole none_missed same
-        told);
+        told few);
   }
     where
       none_yet : SinkView
-      none_yet = record { taken = []; held = None; faults = 0 }
+      none_yet = record { taken = []; held = None; faults = 0; failed = false }
 
       reading : (plan : Plan) × ReadAs (finished 0 none_yet none_yet) mode plan
       reading = read_as (finished 0 none_yet none_yet) mode accepts
@@ -275,8 +269,9 @@ module _ (words : List (List ℕ)) (finish : Finish) (source source_after : Sour
       → FinishesPlan text_given (Ok plan) mode finish shelf shelf_after
       → ((status : ℕ) (sink sink_after : SinkView) → WasReadWhole (finished status sink sink_after) mode)
       → (IsGen mode → source_after ≡ source) → source_after.faults ≡ source.faults
+      → source_after.reads ≤ source.reads + (source_limit mode + 2)
       → (IsGen mode → HasNoShelfDisk plan) → Finishes words finish source source_after shelf shelf_after
-  runs_text mode plan opens accepts is gave ends whole same told none = record {
+  runs_text mode plan opens accepts is gave ends whole same told few none = record {
     mode = mode;
     plan = plan;
     due = ends.1;
@@ -284,7 +279,7 @@ module _ (words : List (List ℕ)) (finish : Finish) (source source_after : Sour
         planned (finished status sink sink_after) mode plan (ending_by finish.due)
         (read_as_whole (finished status sink sink_after) mode (Ok plan) accepts (whole status sink sink_after) is) gave
         (record { accepted = accepts; mesh = opens; read = whole status sink sink_after; script = is }) ends.0 same
-        told (λ no_disk. none (no_disk_taken mode opens no_disk));
+        told few (λ no_disk. none (no_disk_taken mode opens no_disk));
   }
 
   -- the end of a text by its reading
@@ -293,27 +288,29 @@ module _ (words : List (List ℕ)) (finish : Finish) (source source_after : Sour
       → FinishesPlan text_given r mode finish shelf shelf_after
       → ((status : ℕ) (sink sink_after : SinkView) → WasReadWhole (finished status sink sink_after) mode)
       → (IsGen mode → source_after ≡ source) → source_after.faults ≡ source.faults
+      → source_after.reads ≤ source.reads + (source_limit mode + 2)
       → (IsGen mode → (plan : Plan) → r ≡ Ok plan → HasNoShelfDisk plan)
       → (IsGen mode → (fault : Fault) → r ≡ Err fault → ⊥)
       → (IsGen mode ⊎ ((status : ℕ) (sink sink_after : SinkView)
       → ReadsScript (finished status sink sink_after) mode))
       → Finishes words finish source source_after shelf shelf_after
-  of_text mode (Ok plan) opens accepts is gave ends whole same told none no_fault reads =
-      runs_text mode plan opens accepts is gave ends whole same told (λ gen. none gen plan refl)
-  of_text mode (Err fault) opens accepts is gave ends whole same told none no_fault (inl gen) = search rules
-  of_text mode (Err fault) opens accepts is gave ends whole same told none no_fault (inr reads) =
+  of_text mode (Ok plan) opens accepts is gave ends whole same told few none no_fault reads =
+      runs_text mode plan opens accepts is gave ends whole same told few (λ gen. none gen plan refl)
+  of_text mode (Err fault) opens accepts is gave ends whole same told few none no_fault (inl gen) = search rules
+  of_text mode (Err fault) opens accepts is gave ends whole same told few none no_fault (inr reads) =
       stops_early mode (stops.NoScript fault.line fault.cause) accepts ends gave
       (λ status sink sink_after plan. (reads status sink sink_after, whole status sink sink_after, is)) refl (λ w. w)
-      refl (λ which. elim which [ inl gen ↦ same gen | inr bad ↦ absurd bad ]) (λ other. told)
+      refl (λ which. elim which [ inl gen ↦ same gen | inr bad ↦ absurd bad ]) (λ other. told) few
 
   -- memory ran out before the mesh opened
   pub no_memory : (mode : Mode) → Accepts words mode → EndsEarly finish stops.NoMemory shelf shelf_after
       → Gave source text_given source_after
       → (IsGen mode → source_after ≡ source) → source_after.faults ≡ source.faults
+      → source_after.reads ≤ source.reads + (source_limit mode + 2)
       → Finishes words finish source source_after shelf shelf_after
-  no_memory mode accepts ends gave same told =
-      stops_early mode stops.NoMemory accepts ends gave (λ status sink sink_after plan. tt) tt (λ w. w) refl
-      (λ which. elim which [ inl gen ↦ same gen | inr bad ↦ absurd bad ]) (λ other. told)
+  no_memory mode accepts ends gave same told few =
+      stops_early mode stops.NoMemory accepts ends gave (λ status sink sink_after plan. accepts) tt (λ w. w) refl
+      (λ which. elim which [ inl gen ↦ same gen | inr bad ↦ absurd bad ]) (λ other. told) few
 
 -- the text that a source gave is what came behind what it had given
 pub text_is : (source source_after : SourceView) (text : List ℕ) → Gave source text source_after
@@ -332,6 +329,10 @@ gave_nothing source = record {
     by None text e = tt
     by (Some l) text e = sym (ap (λ bs. bs ++ l) e)
 
+-- and was read no more often than it may be
+not_read : (source : SourceView) (mode : Mode) → source.reads ≤ source.reads + (source_limit mode + 2)
+not_read source mode = omega arith
+
 -- `gen START COUNT`
 pub finishes_generated : (words : List (List ℕ)) (finish : Finish) (source : SourceView) (shelf shelf_after : ShelfView)
     (start count : ℕ) → Accepts words (GenMode start count)
@@ -339,11 +340,11 @@ pub finishes_generated : (words : List (List ℕ)) (finish : Finish) (source : S
     → Finishes words finish source source shelf shelf_after
 finishes_generated words finish source shelf shelf_after start count accepts (inl out) =
     no_memory words finish source source shelf shelf_after (GenMode start count) accepts out (gave_nothing source)
-    (λ gen. refl) refl
+    (λ gen. refl) refl (not_read source (GenMode start count))
 finishes_generated words finish source shelf shelf_after start count accepts (inr done) =
     of_text words finish source source shelf shelf_after (GenMode start count) (script (generated start count))
     tt accepts refl (gave_nothing source) (aside (script (generated start count)) done) (λ status sink sink_after. tt)
-    (λ gen. refl) refl (λ gen plan e. generated_in_memory start count accepts.in_range plan e)
+    (λ gen. refl) refl (not_read source (GenMode start count)) (λ gen plan e. generated_in_memory start count accepts.in_range plan e)
     (λ gen fault e. no_fault fault e)
     (inl tt)
   where
@@ -371,7 +372,7 @@ finishes_none words finish source shelf none due_is log_is = record {
   mode = StepMode;
   plan = empty_plan;
   due = search rules;
-  keeps = search (rules, ap ending_by due_is, early, reading, gave_nothing source, no_entries finish log_is);
+  keeps = search (rules, ap ending_by due_is, early, reading, gave_nothing source, not_read source StepMode, no_entries finish log_is);
 }
   where
     nothing : added_to source.given source.given ≡ []

@@ -1,6 +1,6 @@
 -- Runs of texts and of sources.
 use Rattle.std.proofs.Common.{◌≡◌, ℕ, ◌+◌, ◌≤◌, List, [], ◌++◌, length, Option, Some, None, Result, Ok, Err, refl, ap, subst, IfSome, IsSomeAnd, IsErrOf, rules}
-use Rattle.geo_base.specs.Faults.{Rose}
+use Rattle.geo_io.specs.Counts.{FailedAtLast}
 use Rattle.geo_base.specs.declared.limits.TheConstants.{MAX_TRACE_BYTES}
 use Rattle.geo_io.specs.declared.reading.ReadRefusal.{ReadRefusal}
 use Rattle.geo_io.specs.declared.reading.ReadRefusal.TheVariants as reads_refused
@@ -73,21 +73,22 @@ none_left (Some l) h = h
 
 -- all that a source gave
 pub gave_whole : (limit : ℕ) (s t : SourceView) (text : List ℕ) → Gives s text t → t.faults ≡ s.faults → IsAtEnd t
-    → length text ≤ limit → ReadsWhole limit s t text
-gave_whole limit s t text gives told end few = search rules
+    → length text ≤ limit → t.reads ≤ s.reads + (limit + 2) → ReadsWhole limit s t text
+gave_whole limit s t text gives told end few reads = search rules
 
 gave_part : (limit : ℕ) (s t : SourceView) (text : List ℕ) (stop : Stop) → Gives s text t
-    → UnreadCause limit text s t stop → ReadsPart limit s t stop
-gave_part limit s t text stop gives cause = record { text = text; gave = gives_gave s t text gives; cause = cause }
+    → t.reads ≤ s.reads + (limit + 2) → UnreadCause limit text s t stop → ReadsPart limit s t stop
+gave_part limit s t text stop gives reads cause =
+    record { text = text; gave = gives_gave s t text gives; reads = reads; cause = cause }
 
 -- a read failed
 pub read_fault : {T : Type 0} (limit : ℕ) (s t : SourceView) (refusal : ReadRefusal) → refusal ≡ reads_refused.ReadFault
     → (IsErrOf {T = T} (Err refusal) reads_refused.ReadFault → GivesAtMost s limit t)
-    → (IsErrOf {T = T} (Err refusal) reads_refused.ReadFault → Rose s.faults t.faults)
-    → ReadsPart limit s t stops.ReadFault
-read_fault limit s t refusal is taken rose =
+    → (IsErrOf {T = T} (Err refusal) reads_refused.ReadFault → FailedAtLast s.faults t.faults t.failed)
+    → t.reads ≤ s.reads + (limit + 2) → ReadsPart limit s t stops.ReadFault
+read_fault limit s t refusal is taken failed reads =
     let gives : GivesAtMost s limit t = taken (ap (λ e. Err e) is) in
-    gave_part limit s t gives.bytes stops.ReadFault gives.gives (gives.few, rose (ap (λ e. Err e) is))
+    gave_part limit s t gives.bytes stops.ReadFault gives.gives reads (gives.few, failed (ap (λ e. Err e) is))
 
 -- neither of these is a read that failed
 long_is_no_fault : {T : Type 0} (refusal : ReadRefusal) → refusal ≡ reads_refused.TooLong
@@ -102,8 +103,8 @@ lost_is_no_fault refusal is fault = cc
 pub read_long : {T : Type 0} (limit : ℕ) (s t : SourceView) (refusal : ReadRefusal) → refusal ≡ reads_refused.TooLong
     → (IsErrOf {T = T} (Err refusal) reads_refused.TooLong → GivesMany s (limit + 1) t)
     → ((IsErrOf {T = T} (Err refusal) reads_refused.ReadFault → ⊥) → t.faults ≡ s.faults)
-    → ReadsPart limit s t stops.TooLong
-read_long limit s t refusal is taken told =
+    → t.reads ≤ s.reads + (limit + 2) → ReadsPart limit s t stops.TooLong
+read_long limit s t refusal is taken told reads =
     let gives : GivesMany s (limit + 1) t = taken (ap (λ e. Err e) is) in
     let many : length gives.bytes ≡ limit + 1 = gives.many in
     search rules
@@ -112,10 +113,10 @@ read_long limit s t refusal is taken told =
 pub read_lost : {T : Type 0} (limit : ℕ) (s t : SourceView) (refusal : ReadRefusal) → refusal ≡ reads_refused.NoMemory
     → (IsErrOf {T = T} (Err refusal) reads_refused.NoMemory → GivesAtMost s (limit + 1) t)
     → ((IsErrOf {T = T} (Err refusal) reads_refused.ReadFault → ⊥) → t.faults ≡ s.faults)
-    → ReadsPart limit s t stops.NoMemory
-read_lost limit s t refusal is taken told =
+    → t.reads ≤ s.reads + (limit + 2) → ReadsPart limit s t stops.NoMemory
+read_lost limit s t refusal is taken told reads =
     let gives : GivesAtMost s (limit + 1) t = taken (ap (λ e. Err e) is) in
-    gave_part limit s t gives.bytes stops.NoMemory gives.gives (told (λ fault. lost_is_no_fault refusal is fault))
+    gave_part limit s t gives.bytes stops.NoMemory gives.gives reads (told (λ fault. lost_is_no_fault refusal is fault))
 
 -- Its text
 

@@ -1,5 +1,5 @@
 -- What a call keeps whose source was read: its script was run, or its trace verified.
-use Rattle.std.proofs.Common.{◌≡◌, ◌⊎◌, ℕ, List, Result, Ok, Err, refl, ap, subst, inl, inr, rules}
+use Rattle.std.proofs.Common.{◌≡◌, ◌⊎◌, ℕ, ◌+◌, ◌≤◌, List, Result, Ok, Err, refl, ap, subst, inl, inr, rules}
 use Rattle.geo_model.specs.declared.command.Cause.{Cause}
 use Rattle.geo_model.specs.World.{Plan}
 use Rattle.geo_model.specs.Script.{Fault, IsFault, script}
@@ -63,26 +63,27 @@ module _ (words : List (List ℕ)) (mode : Mode) (finish : Finish) (source sourc
   asked : (status : ℕ) (sink sink_after : SinkView) → ReadsScript (call_then status sink sink_after) mode
   asked status sink sink_after = reads_script (call_then status sink sink_after) mode not_gen accepts
 
-  unread_stops : Gave source text_given source_after → (stop : Stop)
+  unread_stops : Gave source text_given source_after
+      → source_after.reads ≤ source.reads + (source_limit mode + 2) → (stop : Stop)
       → UnreadCause (source_limit mode) text_given source source_after stop
       → EndsEarly finish stop shelf shelf_after → Finishes words finish source source_after shelf shelf_after
-  unread_stops gave stops.ReadFault cause early =
+  unread_stops gave few stops.ReadFault cause early =
       stops_early words finish source source_after shelf shelf_after mode stops.ReadFault accepts early gave
       (λ status sink sink_after plan. (asked status sink sink_after, cause.0, cause.1)) refl (λ w. w) refl no_gen
-      (λ other. absurd (other refl))
-  unread_stops gave stops.TooLong cause early =
+      (λ other. absurd (other refl)) few
+  unread_stops gave few stops.TooLong cause early =
       stops_early words finish source source_after shelf shelf_after mode stops.TooLong accepts early gave
       (λ status sink sink_after plan. (asked status sink sink_after, cause.0)) refl (λ w. w) refl no_gen
-      (λ other. cause.1)
-  unread_stops gave stops.NoMemory cause early =
+      (λ other. cause.1) few
+  unread_stops gave few stops.NoMemory cause early =
       no_memory words finish source source_after shelf shelf_after mode accepts early gave
-      (λ gen. absurd (not_gen gen)) cause
-  unread_stops gave _ cause early = absurd cause
+      (λ gen. absurd (not_gen gen)) cause few
+  unread_stops gave few _ cause early = absurd cause
 
   unread_finishes : EndsUnread mode source source_after finish shelf shelf_after
       → Finishes words finish source source_after shelf shelf_after
   unread_finishes ends =
-      unread_stops (gave_added source source_after ends.part.text ends.part.gave) ends.stop
+      unread_stops (gave_added source source_after ends.part.text ends.part.gave) ends.part.reads ends.stop
       (subst (λ (t : List ℕ). UnreadCause (source_limit mode) t source source_after ends.stop)
       (text_is source source_after ends.part.text ends.part.gave) ends.part.cause)
       ends.early
@@ -108,11 +109,12 @@ module _ (words : List (List ℕ)) (mode : Mode) (finish : Finish) (source sourc
           → Finishes words finish source source_after shelf shelf_after
       by (inl out) =
           no_memory words finish source source_after shelf shelf_after mode accepts out gave
-          (λ gen. absurd (not_gen gen)) ends.whole.told
+          (λ gen. absurd (not_gen gen)) ends.whole.told ends.whole.reads
       by (inr done) =
           of_text words finish source source_after shelf shelf_after mode (script text_given) opens accepts
           (ap script (script_read mode text_given opens not_gen)) gave done whole
-          (λ gen. absurd (not_gen gen)) ends.whole.told (λ gen. absurd (not_gen gen)) (λ gen. absurd (not_gen gen))
+          (λ gen. absurd (not_gen gen)) ends.whole.told ends.whole.reads (λ gen. absurd (not_gen gen))
+          (λ gen. absurd (not_gen gen))
           (inr asked)
 
   -- a mode whose script the source gives
@@ -186,20 +188,20 @@ found_finishes words finish source source_after shelf shelf_after accepts ends =
         stops_early words finish source source_after shelf shelf_after VerifyMode (stops.Answered answer) accepts early
         gave
         (λ status sink sink_after plan. (accepts, whole status sink sink_after, found)) refl (λ w. w) refl no_gen
-        (λ other. ends.whole.told)
+        (λ other. ends.whole.told) ends.whole.reads
     by (stops.NoTrace line) found early =
         stops_early words finish source source_after shelf shelf_after VerifyMode (stops.NoTrace line) accepts early
         gave
         (λ status sink sink_after plan. (accepts, whole status sink sink_after, found)) refl (λ w. w) refl no_gen
-        (λ other. ends.whole.told)
+        (λ other. ends.whole.told) ends.whole.reads
     by (stops.NoScript line c) found early =
         stops_early words finish source source_after shelf shelf_after VerifyMode (stops.NoScript line c) accepts early
         gave
         (λ status sink sink_after plan. (accepts, whole status sink sink_after, script_first text line c found)) refl
-        (λ w. w) refl no_gen (λ other. ends.whole.told)
+        (λ w. w) refl no_gen (λ other. ends.whole.told) ends.whole.reads
     by stops.NoMemory found early =
         no_memory words finish source source_after shelf shelf_after VerifyMode accepts early gave
-        (λ gen. absurd gen) ends.whole.told
+        (λ gen. absurd gen) ends.whole.told ends.whole.reads
     by _ found early = absurd found
 
 -- the words ask for `verify`

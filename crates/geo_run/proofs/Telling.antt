@@ -1,13 +1,13 @@
 -- Takes and gives that failed, each once.
-use Rattle.std.proofs.Common.{◌≡◌, ◌≢◌, ◌⊎◌, ℕ, true, List, [], ◌∷◌, ◌++◌, None, sym, ◌∙◌, ap, inl, inr, arith, bytes_eq, rules}
+use Rattle.std.proofs.Common.{◌≡◌, ◌≢◌, ◌⊎◌, ℕ, true, List, [], ◌∷◌, ◌++◌, sym, ◌∙◌, ap, inl, inr, arith, bytes_eq, rules}
 use Rattle.std.specs.List.{list_any}
 use Rattle.geo_disk.specs.Counts.{counted_if}
 use Rattle.geo_model.specs.declared.command.DiskDecl.{DiskDecl}
 use Rattle.geo_model.specs.declared.command.DiskKind.{DiskKind}
 use Rattle.geo_model.specs.declared.command.DiskKind.TheVariants as disk_kinds
 use Rattle.geo_headline.specs.Outside.{ShelfView}
-use Rattle.geo_headline.specs.Endings.{Ending, ShelfFault, OutOfMemory, failed_takes}
-use Rattle.geo_headline.specs.Headline.{TakesAreToldAt}
+use Rattle.geo_headline.specs.Endings.{Ending, ShelfFault, blamed_by, failed_takes}
+use Rattle.geo_headline.specs.Headline.{TakesAreTold}
 use Rattle.geo_run.specs.Drives.{DriveView}
 use Rattle.geo_run.specs.Lending.{AreApart, GivesDrive, names_of}
 use Rattle.geo_run.proofs.Taking.{foreign_from}
@@ -73,7 +73,6 @@ gives_no_fault a b _ _ kept h none = absurd h
 
 -- where no take failed none is told
 pub none_blamed : (ending : Ending) (a b : ShelfView) → failed_takes ending ≡ 0
-    → ((name : List ℕ) → b.take_faults name ≡ a.take_faults name) → TakesAreToldAt ending a b
+    → ((name : List ℕ) → b.take_faults name ≡ a.take_faults name) → TakesAreTold (blamed_by ending) a b
 none_blamed (ShelfFault name) a b e h = absurd (let bad : 1 ≡ 0 = e in omega (arith, bad))
-none_blamed OutOfMemory a b e h = (None, h)
 none_blamed _ a b e h = h

@@ -1,5 +1,5 @@
 -- In which order the shelf is called.
-use Rattle.std.proofs.Common.{◌≡◌, ℕ, ◌≤◌, true, false, List, [], ◌∷◌, ◌++◌, length, map, filter, Option, None, refl, sym, ◌∙◌, ap, subst, arith, append_assoc, if◌then◌else◌, rules}
+use Rattle.std.proofs.Common.{◌≡◌, ℕ, true, false, List, [], ◌∷◌, ◌++◌, map, filter, Option, None, refl, sym, ◌∙◌, ap, subst, arith, append_assoc, if◌then◌else◌, rules}
 use Rattle.std.proofs.lemmas.List.{append-nil, map-append}
 use Rattle.geo_disk.specs.declared.shelf.ShelfCall.{ShelfCall}
 use Rattle.geo_disk.specs.declared.shelf.ShelfCall.TheVariants as shelf_calls
@@ -177,27 +177,3 @@ none_in_order plan ending a none_told = record {
 pub none_failed : (ending : Ending) → missed_by ending ≡ [] → failed_takes ending ≡ 0
 none_failed (ShelfFault name) e = search rules
 none_failed _ e = refl
-
--- so few names were missed as are told
-few : (missed told : List (List ℕ)) → missed ≡ told → length told ≤ 1 → length missed ≤ 1
-few missed told e short = search rules
-
--- whatever was missed, where memory runs out besides
-missed_at : (ending : Ending) (missed : List (List ℕ)) → IsMissedAt ending missed → IsMissedAt OutOfMemory missed
-missed_at OutOfMemory missed h = h
-missed_at (ShelfFault name) missed h = few missed (name ∷ []) h (omega arith)
-missed_at (NoDisk name) missed h = few missed (name ∷ []) h (omega arith)
-missed_at (BadSize name) missed h = few missed (name ∷ []) h (omega arith)
-missed_at _ missed h = few missed [] h (omega arith)
-
-pub order_at_last : (plan : Plan) (ending : Ending) (log : Option (List Entry)) (a b : ShelfView)
-    → CallsInOrder plan ending log a b → CallsInOrder plan OutOfMemory log a b
-order_at_last plan ending log a b h = record {
-  had = h.had;
-  missed = h.missed;
-  left = h.left;
-  names = h.names;
-  missed_is = missed_at ending h.missed h.missed_is;
-  all = h.all;
-  calls = h.calls;
-}

@@ -1,6 +1,6 @@
 -- The calls of the program as they are seen from outside.
-use Rattle.std.specs.Prelude.{◌≡◌, ◌≢◌, ◌⊎◌, ℕ, ◌<◌, ◌≤◌, List, [], ◌++◌, drop, length, None, Result, Ok, Err, IfSome, IfNone, IsSome, IsSomeAnd, IsTrue, ⊤}
-use Rattle.geo_base.specs.Faults.{Rose}
+use Rattle.std.specs.Prelude.{◌≡◌, ◌≢◌, ◌⊎◌, ℕ, ◌+◌, ◌<◌, ◌≤◌, List, [], ◌++◌, drop, length, None, Result, Ok, Err, IfSome, IfNone, IsSome, IsSomeAnd, IsTrue, ⊤}
+use Rattle.geo_io.specs.Counts.{FailedAtLast}
 use Rattle.geo_headline.specs.declared.verified.Verified.{Verified}
 use Rattle.geo_headline.specs.Modes.{Mode, VerifyMode, source_limit}
 use Rattle.geo_headline.specs.Traces.{TraceFault, InScript, InTrace}
@@ -8,11 +8,11 @@ use Rattle.geo_headline.specs.Verifying.{verified}
 use Rattle.geo_model.specs.Script.{Fault, script}
 use Rattle.geo_model.specs.World.{Plan}
 use Rattle.geo_model.specs.Opening.{opening}
-use Rattle.geo_headline.specs.Outside.{Outside, ShelfView, SinkView, SourceView, DisksAreKept, OthersStay, ImagesStand}
+use Rattle.geo_headline.specs.Outside.{Outside, ShelfView, SinkView, SourceView, DisksAreKept, OthersStay, ImagesStay, ImagesStand}
 use Rattle.geo_model.specs.Log.{Fits}
 use Rattle.geo_model.specs.History.{KeepsHistory, RanToItsEnd}
 use Rattle.geo_headline.specs.Endings.{Ending, ReadFault, Call, CauseOf, HasLog, IsOpened, IsWhole, reported}
-use Rattle.geo_headline.specs.Headline.{CallsAreTold, CallsInOrder, FollowsMode, HaveFactSectors, ImagesStayAt, KeepsAll, KeptDisksStay, NoneAsked, LeavesOutside, LentAfter, ReadAs}
+use Rattle.geo_headline.specs.Headline.{CallsAreTold, CallsInOrder, FollowsMode, HaveFactSectors, IsComplete, KeepsAll, KeptDisksStay, NoneAsked, LeavesOutside, LentAfter, ReadAs, ReadsFew}
 use Rattle.geo_run.specs.declared.top.Ended.{Ended}
 use Rattle.geo_run.specs.declared.finish.Finish.{Finish}
 use Rattle.geo_run.specs.declared.due.Due.TheVariants as dues
@@ -45,6 +45,13 @@ pub record Keeps (call : Call) : Type 0 where
   pub ending : Ending
   pub all : KeepsAll call mode plan ending
 
+-- it is the status of a call of these words that keeps all that it has to, and is complete
+pub record HasStatus (words : List (List ℕ)) (status : ℕ) (before after : Outside) : Type 0 where
+  pub ended : Ended
+  pub is : status ≡ ended.status
+  pub keeps : Keeps (call_of words ended before after)
+  pub complete : IsComplete (call_of words ended before after)
+
 -- Before anything is written
 
 -- the source gave the text, which it had left where it tells that
@@ -66,13 +73,14 @@ pub record KeepsInside (call : Call) (mode : Mode) (plan : Plan) (ending : Endin
   pub disks : IfSome call.log (DisksAreKept plan call.before.shelf call.after.shelf)
   pub lent : LentAfter ending call.before.shelf call.after.shelf
   pub reads : ending ≢ ReadFault → call.after.source.faults ≡ call.before.source.faults
+  pub few : ReadsFew call mode
   pub calls : CallsAreTold ending call.before.shelf call.after.shelf
   pub in_order : CallsInOrder plan ending call.log call.before.shelf call.after.shelf
   pub others : OthersStay plan call.before.shelf call.after.shelf
   pub unasked : IfNone call.log (NoneAsked call.before.shelf call.after.shelf)
   pub sizes : IsSome call.log → HaveFactSectors plan call.facts call.before.shelf call.after.shelf
   pub kept_stay : KeptDisksStay call.before.shelf call.after.shelf
-  pub images : IfNone call.log (ImagesStayAt call ending)
+  pub images : IfNone call.log (ImagesStay call.before.shelf call.after.shelf)
   pub images_stand : ImagesStand call.before.shelf call.after.shelf
   pub outside : LeavesOutside mode ending call.before call.after
 
@@ -120,13 +128,15 @@ FinishesText text mode finish before after =
 pub record ReadsWhole (limit : ℕ) (before after : SourceView) (text : List ℕ) : Type 0 where
   pub gave : Gave before text after
   pub told : after.faults ≡ before.faults
+  pub reads : after.reads ≤ before.reads + (limit + 2)
   pub few : length text ≤ limit
   pub ended : IsTrue after.ended
   pub none_left : IfSome after.left (λ left. left ≡ [])
 
 -- why a source that gave this text wasn't read to its end
 abbrev pub UnreadCause : ℕ → List ℕ → SourceView → SourceView → Stop → Type 0
-UnreadCause limit text before after stops.ReadFault = (length text ≤ limit) × Rose before.faults after.faults
+UnreadCause limit text before after stops.ReadFault =
+    (length text ≤ limit) × FailedAtLast before.faults after.faults after.failed
 UnreadCause limit text before after stops.TooLong = (limit < length text) × (after.faults ≡ before.faults)
 UnreadCause limit text before after stops.NoMemory = after.faults ≡ before.faults
 UnreadCause limit text before after _ = ⊥
@@ -135,6 +145,7 @@ UnreadCause limit text before after _ = ⊥
 pub record ReadsPart (limit : ℕ) (before after : SourceView) (stop : Stop) : Type 0 where
   pub text : List ℕ
   pub gave : Gave before text after
+  pub reads : after.reads ≤ before.reads + (limit + 2)
   pub cause : UnreadCause limit text before after stop
 
 -- a source wasn't read to its end, and nothing was done

@@ -1,15 +1,17 @@
 //! What is due at the end of a run, and how it is written.
-ghost use Rattle.std.specs.Prelude.{◌≡◌, ◌≢◌, ℕ, List, [], IfOk, codes};
-ghost use Rattle.geo_headline.specs.Endings.{Answered, ReportedButFault, due_text};
+//!
+//! No text of an ending takes memory: what isn't a literal is written in parts, one behind the other.
+ghost use Rattle.std.specs.Prelude.{◌≡◌, ◌≢◌, ◌++◌, ℕ, List, [], codes, decimal};
+ghost use Rattle.geo_model.specs.Report.{end_line};
+ghost use Rattle.geo_headline.specs.Endings.{Answered};
 ghost use Rattle.geo_run.specs.Stops.{IsDue, ending_by, ending_of, ending_with};
-ghost use Rattle.geo_run.specs.Writes.{Writes, WritesEnding, WritesMade};
+ghost use Rattle.geo_run.specs.Writes.{Writes, WritesEnding};
 
-use crate::stop::{Stop, fault_text, named_text, no_step_text, trace_fault_text};
-use geo_base::{Block, Name, NoMemory};
+use crate::stop::{Stop, cause_line};
+use geo_base::{Block, Name};
 use geo_headline::Verified;
 use geo_io::{Sink, write_out};
-use geo_text::Text;
-use std::alloc::Global;
+use itoa::Buffer;
 
 /// What is due at the end of a run.
 #[derive(Drop)]
@@ -37,85 +39,105 @@ fn written<K: Sink>(sink: &mut K, status: u8, text: &[u8]) -> u8
     }
 }
 
-/// Writes a text that was made, or, where it couldn't be made, that memory ran out.
-fn written_made<K: Sink>(sink: &mut K, status: u8, text: Result<Block, NoMemory>) -> u8
+/// Writes a due text of two parts.
+fn written_two<K: Sink>(sink: &mut K, status: u8, first: &[u8], last: &[u8]) -> u8
     requires { status ≢ 4 }
-    ensures { WritesMade status text result (K.view sink.old)
+    ensures { Writes result status (first.now ++ last.now) (K.view sink.old)
         (K.view sink.new) }
 {
-    match text {
-        Ok(text) => written(sink, status, text.bytes()),
-        Err(_) => written(sink, 6, OUT_OF_MEMORY),
+    match write_out(sink, first) {
+        Ok(()) => written(sink, status, last),
+        Err(_) => 4,
     }
 }
 
+/// Writes a due text of three parts.
+fn written_three<K: Sink>(sink: &mut K, status: u8, first: &[u8], middle: &[u8], last: &[u8]) -> u8
+    requires { status ≢ 4 }
+    ensures { Writes result status (first.now ++ middle.now ++ last.now) (K.view sink.old)
+        (K.view sink.new) }
+{
+    match write_out(sink, first) {
+        Ok(()) => written_two(sink, status, middle, last),
+        Err(_) => 4,
+    }
+}
+
+/// Writes a due text in which a number stands, in decimal.
+fn written_number<K: Sink>(sink: &mut K, status: u8, first: &[u8], number: u32, last: &[u8]) -> u8
+    requires { status ≢ 4 }
+    ensures { Writes result status (first.now ++ decimal number ++ last.now) (K.view sink.old)
+        (K.view sink.new) }
+{
+    let mut buffer = Buffer::new();
+    written_three(sink, status, first, buffer.format(number).as_bytes(), last)
+}
+
+/// Writes what is told of a disk.
+fn written_name<K: Sink>(sink: &mut K, label: &[u8], name: &Name) -> u8
+    ensures { Writes result 5 (label.now ++ name.now ++ end_line) (K.view sink.old)
+        (K.view sink.new) }
+{
+    written_three(sink, 5, label, name.bytes(), b"\n")
+}
+
 /// Writes what is found of a trace.
-fn write_found<K: Sink>(alloc: Global, found: &Verified, sink: &mut K) -> u8
+fn write_found<K: Sink>(found: &Verified, sink: &mut K) -> u8
     ensures { WritesEnding [] (Answered found.now) result (K.view sink.old)
         (K.view sink.new) }
 {
     match found {
         Verified::Yes => written(sink, 0, b"yes\n"),
-        Verified::NotEnabled { line } => written_made(sink, 9, no_step_text(alloc, *line)),
+        Verified::NotEnabled { line } => written_number(sink, 9, b"no: line ", *line, b"\n"),
         Verified::NotAtRest => written(sink, 9, b"no: not at rest\n"),
         Verified::OtherReport => written(sink, 9, b"no: report\n"),
     }
 }
 
 /// Writes why there is no report.
-fn write_stop<K: Sink>(alloc: Global, stop: &Stop, sink: &mut K) -> u8
+fn write_stop<K: Sink>(stop: &Stop, sink: &mut K) -> u8
     ensures { WritesEnding [] (ending_of stop.now) result (K.view sink.old)
         (K.view sink.new) }
 {
     match stop {
         Stop::BadWords => written(sink, 1, USAGE),
         Stop::NoScript { line, cause } => {
-            written_made(sink, 2, fault_text(alloc, *line, *cause))
+            written_number(sink, 2, b"line ", *line, cause_line(*cause))
         }
         Stop::ReadFault => written(sink, 3, b"read fault\n"),
-        Stop::ShelfFault(name) => written_made(sink, 5, named_text(alloc, b"shelf fault ", name)),
-        Stop::NoDisk(name) => written_made(sink, 5, named_text(alloc, b"no disk ", name)),
-        Stop::BadSize(name) => written_made(sink, 5, named_text(alloc, b"bad size ", name)),
+        Stop::ShelfFault(name) => written_name(sink, b"shelf fault ", name),
+        Stop::NoDisk(name) => written_name(sink, b"no disk ", name),
+        Stop::BadSize(name) => written_name(sink, b"bad size ", name),
         Stop::NoMemory => written(sink, 6, OUT_OF_MEMORY),
         Stop::LogFull => written(sink, 7, b"log full\n"),
         Stop::TooLong => written(sink, 8, b"script too long\n"),
-        Stop::Answered(found) => write_found(alloc, found, sink),
-        Stop::NoTrace { line } => written_made(sink, 2, trace_fault_text(alloc, *line)),
+        Stop::Answered(found) => write_found(found, sink),
+        Stop::NoTrace { line } => written_number(sink, 2, b"line ", *line, b": trace\n"),
     }
-}
-
-/// The report with the line of a disk that couldn't be given back.
-fn with_fault(alloc: Global, report: &[u8], name: &Name) -> Result<Block, NoMemory>
-    ensures { IfOk result (λ block. block ≡ due_text report.now (ReportedButFault name.now)) }
-{
-    let mut text = Text::new(alloc);
-    text.add(report)?;
-    text.add(b"shelf fault ")?;
-    text.add(name.bytes())?;
-    text.add(b"\n")?;
-    Ok(text.into_block())
 }
 
 /// Writes the report, and behind it the line of the disk that couldn't be given back, if there is one.
-fn write_report<K: Sink>(alloc: Global, text: &[u8], kept: &Option<Name>, sink: &mut K) -> u8
+fn write_report<K: Sink>(text: &[u8], kept: &Option<Name>, sink: &mut K) -> u8
     ensures { WritesEnding text.now (ending_with kept.now) result (K.view sink.old)
         (K.view sink.new) }
 {
-    match kept {
-        None => written(sink, 0, text),
-        Some(name) => written_made(sink, 5, with_fault(alloc, text, name)),
+    let Some(name) = kept else {
+        return written(sink, 0, text);
+    };
+    match write_out(sink, text) {
+        Ok(()) => written_name(sink, b"shelf fault ", name),
+        Err(_) => 4,
     }
 }
 
-/// Writes what is due, and gives the status. Where the sink fails, or memory for the text is wanting, the status says
-/// so.
-pub fn write_due<K: Sink>(alloc: Global, due: &Due, sink: &mut K) -> u8
+/// Writes what is due, and gives the status. Where the sink fails, the status says so.
+pub fn write_due<K: Sink>(due: &Due, sink: &mut K) -> u8
     ensures { (reported : List ℕ) → IsDue due.now reported → WritesEnding reported (ending_by due.now) result
         (K.view sink.old) (K.view sink.new) }
 {
     match due {
-        Due::Report { text, kept } => write_report(alloc, text.bytes(), kept, sink),
-        Due::Stopped(stop) => write_stop(alloc, stop, sink),
+        Due::Report { text, kept } => write_report(text.bytes(), kept, sink),
+        Due::Stopped(stop) => write_stop(stop, sink),
     }
 }
 

@@ -1,15 +1,11 @@
 //! Why a run has no report, and what it writes then.
-ghost use Rattle.std.specs.Prelude.{◌≡◌, ◌∷◌, ◌++◌, [], IfOk, codes};
+ghost use Rattle.std.specs.Prelude.{◌≡◌, ◌++◌, codes};
 ghost use Rattle.geo_model.specs.Report.{end_line};
 ghost use Rattle.geo_model.specs.Script.{cause_text};
-ghost use Rattle.geo_headline.specs.Endings.{Answered, NoScript, NoTrace, due_text};
-ghost use Rattle.geo_headline.specs.declared.verified.Verified.TheVariants as found;
 
-use geo_base::{Block, Name, NoMemory};
+use geo_base::{Name, NoMemory};
 use geo_headline::Verified;
 use geo_model::Cause;
-use geo_text::Text;
-use std::alloc::Global;
 
 /// Why a run has no report.
 #[derive(Clone, Copy, Debug)]
@@ -49,69 +45,25 @@ impl From<NoMemory> for Stop {
     }
 }
 
-/// A cause as it is printed.
-fn cause_text(cause: Cause) -> &'static [u8]
-    ensures { result.now ≡ cause_text cause }
+/// The end of the line that tells a cause.
+pub fn cause_line(cause: Cause) -> &'static [u8]
+    ensures { result.now ≡ codes ": " ++ cause_text cause ++ end_line }
 {
     match cause {
-        Cause::Lines => b"lines",
-        Cause::Long => b"long",
-        Cause::Byte => b"byte",
-        Cause::Space => b"space",
-        Cause::Header => b"header",
-        Cause::Actor => b"actor",
-        Cause::Words => b"words",
-        Cause::Name => b"name",
-        Cause::Number => b"number",
-        Cause::Range => b"range",
-        Cause::Counts => b"counts",
-        Cause::Runs => b"runs",
-        Cause::Word => b"word",
-        Cause::Twice => b"twice",
-        Cause::Many => b"many",
+        Cause::Lines => b": lines\n",
+        Cause::Long => b": long\n",
+        Cause::Byte => b": byte\n",
+        Cause::Space => b": space\n",
+        Cause::Header => b": header\n",
+        Cause::Actor => b": actor\n",
+        Cause::Words => b": words\n",
+        Cause::Name => b": name\n",
+        Cause::Number => b": number\n",
+        Cause::Range => b": range\n",
+        Cause::Counts => b": counts\n",
+        Cause::Runs => b": runs\n",
+        Cause::Word => b": word\n",
+        Cause::Twice => b": twice\n",
+        Cause::Many => b": many\n",
     }
-}
-
-/// The text of a fault of the script.
-pub fn fault_text(alloc: Global, line: u32, cause: Cause) -> Result<Block, NoMemory>
-    ensures { IfOk result (λ block. block ≡ due_text [] (NoScript line cause)) }
-{
-    let mut text = Text::new(alloc);
-    text.add_labelled(b"line ", u64::from(line))?;
-    text.add(b": ")?;
-    text.add(cause_text(cause))?;
-    text.add(b"\n")?;
-    Ok(text.into_block())
-}
-
-/// The text of a line of a trace that isn't of the form.
-pub fn trace_fault_text(alloc: Global, line: u32) -> Result<Block, NoMemory>
-    ensures { IfOk result (λ block. block ≡ due_text [] (NoTrace line)) }
-{
-    let mut text = Text::new(alloc);
-    text.add_labelled(b"line ", u64::from(line))?;
-    text.add(b": trace")?;
-    text.add(b"\n")?;
-    Ok(text.into_block())
-}
-
-/// The text of a trace whose step in this line isn't enabled.
-pub fn no_step_text(alloc: Global, line: u32) -> Result<Block, NoMemory>
-    ensures { IfOk result (λ block. block ≡ due_text [] (Answered (found.NotEnabled line))) }
-{
-    let mut text = Text::new(alloc);
-    text.add_labelled(b"no: line ", u64::from(line))?;
-    text.add(b"\n")?;
-    Ok(text.into_block())
-}
-
-/// The text of what is told of a name.
-pub fn named_text(alloc: Global, label: &[u8], name: &Name) -> Result<Block, NoMemory>
-    ensures { IfOk result (λ block. block ≡ label.now ++ name.now ++ end_line) }
-{
-    let mut text = Text::new(alloc);
-    text.add(label)?;
-    text.add(name.bytes())?;
-    text.add(b"\n")?;
-    Ok(text.into_block())
 }

@@ -58,11 +58,11 @@ where
         (H.view shelf.new))) }
 {
     let finish = run_words(alloc, words, source, shelf);
-    write_finish(alloc, finish, sink)
+    write_finish(finish, sink)
 }
 
 /// Writes what is due at the end of a run.
-fn write_finish<K: Sink>(alloc: Global, finish: Finish, sink: &mut K) -> Ended
+fn write_finish<K: Sink>(finish: Finish, sink: &mut K) -> Ended
     ensures log { result.log ≡ finish.log }
     ensures facts { result.facts ≡ finish.facts }
     ensures writes { (reported : List ℕ) → IsDue finish.due reported
@@ -70,7 +70,7 @@ fn write_finish<K: Sink>(alloc: Global, finish: Finish, sink: &mut K) -> Ended
 {
     let Finish { due, log, facts } = finish;
     Ended {
-        status: write_due(alloc, &due, sink),
+        status: write_due(&due, sink),
         log,
         facts,
     }
@@ -113,7 +113,7 @@ where
         None => run_alone(alloc, words, source, sink, shelf),
         Some(work) => {
             let finish = run_threaded(rt, words, work, source, shelf, gate);
-            write_finish(alloc, finish, sink)
+            write_finish(finish, sink)
         }
     }
 }

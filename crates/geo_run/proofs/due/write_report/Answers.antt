@@ -1,16 +1,19 @@
--- With a disk that couldn't be given back, and without.
-use Rattle.std.proofs.Common.{ap}
-use Rattle.geo_headline.specs.Endings.{Reported, ReportedButFault}
+-- The line of a disk that couldn't be given back stands behind the report.
+use Rattle.std.proofs.Common.{ap, codes}
+use Rattle.geo_model.specs.Report.{end_line}
+use Rattle.geo_headline.specs.Endings.{ReportedButFault}
 use Rattle.geo_run.specs.Stops.{ending_with}
-use Rattle.geo_run.proofs.Writing.{ends, made_ends, same_ends}
+use Rattle.geo_run.proofs.Writing.{behind, cut_off_first, four, same_ends}
 use Rattle.geo_run.proofs.due.write_report.Goals as goal
 
-pub returns-in-None : goal.returns-in-None
-returns-in-None g c =
-    same_ends _ Reported _ _ _ _ (ap ending_with c.in-None.is) (ends _ Reported _ _ _ c.written.ensures)
+pub returns-in-Ok : goal.returns-in-Ok
+returns-in-Ok g c =
+    same_ends c.args.text.now (ReportedButFault c.in-Some.name) _ _ _ _ (ap ending_with c.in-Some.is)
+    (four _ 5 c.args.text.now (codes "shelf fault ") c.in-Some.name end_line _ _
+    (behind _ _ _ _ _ _ _ c.in-Ok.ensures.ok.taken c.in-Ok.ensures.told c.written_name.ensures))
 
--- the line of the disk stands behind the report, and memory for both may be wanting
-pub returns-in-Some : goal.returns-in-Some
-returns-in-Some g c =
-    same_ends _ (ReportedButFault c.in-Some.name) _ _ _ _ (ap ending_with c.in-Some.is)
-    (made_ends _ (ReportedButFault c.in-Some.name) _ _ _ _ tt c.with_fault.ensures c.written_made.ensures)
+pub returns-in-Err : goal.returns-in-Err
+returns-in-Err g c =
+    same_ends c.args.text.now (ReportedButFault c.in-Some.name) _ _ _ _ (ap ending_with c.in-Some.is)
+    (four _ 5 c.args.text.now (codes "shelf fault ") c.in-Some.name end_line _ _
+    (cut_off_first _ _ _ _ _ _ c.in-Err.ensures.some_left c.in-Err.ensures.err.taken c.in-Err.ensures.one))
