@@ -6,3 +6,4 @@ pub mod Traces
 pub mod Verifying
 pub mod Endings
 pub mod Headline
+pub mod Replies

@@ -1,0 +1,5 @@
+pub mod AnsweringBios
+pub mod AnsweringCommands
+pub mod AnsweringSteps
+pub mod PlanLines
+pub mod AllAnswered
