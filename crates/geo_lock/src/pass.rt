@@ -1,5 +1,5 @@
 //! A seat's token.
-ghost use Rattle.std.specs.Prelude.{◌≡◌, [], ◌∷◌, false};
+ghost use Rattle.std.specs.Prelude.{◌≡◌, [], ◌∷◌, false, length};
 ghost use Rattle.geo_lock.specs.View.{a_view};
 ghost use Rattle.geo_lock.specs.Pass.{claim_of, IsGood};
 
@@ -17,11 +17,13 @@ use std::marker::Model;
 pub struct Pass<L: Logged> {
     pub(crate) number: u32,
     pub(crate) made: u32,
+    // The length of what was seen of the log.
+    pub(crate) len: u64,
     pub(crate) seat: Seat<Option<L>, View<L::Start, L::Entry>>,
 }
 
 impl<L: Logged> Model for Pass<L> {
-    ghost use Rattle.std.specs.Prelude.{◌≡◌, []};
+    ghost use Rattle.std.specs.Prelude.{◌≡◌, [], length};
     ghost use Rattle.geo_lock.specs.Pass.{PassView, own_of, IsSound};
 
     ghost Value = { PassView L.Start L.Entry };
@@ -36,7 +38,8 @@ impl<L: Logged> Model for Pass<L> {
       made = p.made;
     } };
 
-    ghost invariant = { λ p. (b : L.Start) × IsSound L.lawful L.seat_of b p.number p.made p.seat.me };
+    ghost invariant = { λ p. ((b : L.Start) × IsSound L.lawful L.seat_of b p.number p.made p.seat.me)
+        × (p.len ≡ length p.seat.me.0.seen) };
 }
 
 impl<L: Logged> Pass<L> {
@@ -49,6 +52,13 @@ impl<L: Logged> Pass<L> {
         self.number
     }
 
+    /// How many entries of the log the pass has seen.
+    pub fn len(&self) -> u64
+        ensures { result ≡ length self.now.seen }
+    {
+        self.len
+    }
+
     pub(crate) fn into_seat(self) -> Seat<Option<L>, View<L::Start, L::Entry>>
         ensures yard { result.table_id ≡ self.yard }
         ensures rests { result.me ≡ (a_view self.start self.seen (claim_of self ∷ []) self.made false, []) }
@@ -56,6 +66,7 @@ impl<L: Logged> Pass<L> {
         let Self {
             number: _,
             made: _,
+            len: _,
             seat,
         } = self;
         seat
@@ -67,6 +78,7 @@ impl<L: Logged> Drop for Pass<L> {
         let Self {
             number: _,
             made: _,
+            len: _,
             seat: _,
         } = self;
     }

@@ -17,13 +17,19 @@ use crate::turns::{Another, Ended, GiveTurn, TakeTurn, Turns};
 use crate::view::View;
 use atomic_table::{Refused, Seat, Table};
 use std::alloc::{AllocFailed, Global};
+use std::hint;
 use std::marker::Model;
 use std::snapshot::Snapshot;
 use std::sync::Wait;
+use std::sync::atomic::AtomicU64;
+use std::sync::atomic::Ordering::SeqCst;
 
 // The word is twice the length of the log, and one more while a pass has the turn. A thread that waits
 // parks on its low half.
 const LOW_HALF: u64 = 1 << 32;
+
+// How often a thread looks at the word before it parks.
+const LOOKS: u32 = 100;
 
 /// A state that threads share, with one turn at a time.
 ///
@@ -31,6 +37,8 @@ const LOW_HALF: u64 = 1 << 32;
 #[derive(Drop)]
 pub struct Yard<L: Logged> {
     table: Table<Option<L>, View<L::Start, L::Entry>, Snapshot<L>, Turns<L>, Global>,
+    // How many threads may be parked. No rule speaks of it: where it is 0 nobody needs to be woken.
+    parked: AtomicU64,
 }
 
 /// There was no memory for a yard. The state comes back as it was.
@@ -78,10 +86,14 @@ impl<L: Logged> Yard<L> {
         }
         match Table::new(alloc, &[0], slots, &key) {
             Ok((table, seat)) => Ok((
-                Yard { table },
+                Yard {
+                    table,
+                    parked: AtomicU64::new(0),
+                },
                 Pass {
                     number: 0,
                     made: 1,
+                    len: 0,
                     seat,
                 },
             )),
@@ -112,8 +124,14 @@ impl<L: Logged> Yard<L> {
         Pass {
             number,
             made: 0,
+            len: pass.len,
             seat,
         }
+    }
+
+    /// Whether the log has grown since the pass saw it, by one load. No clause tells anything of the answer.
+    pub fn has_news(&self, pass: &Pass<L>) -> bool {
+        self.table.shared.peek(0) / 2 != pass.len
     }
 
     // Takes the turn and the state, and tells the word as it was.
@@ -129,10 +147,17 @@ impl<L: Logged> Yard<L> {
         ensures turn { seat.new.me ≡ (in_turn seat.old.me.0 (L.log result.1), (0, None) ∷ []) }
     {
         let shared = &self.table.shared;
+        let mut looks = 0;
         for _ in rt.forever() {
             let word = shared.peek(0);
             if word % 2 == 1 {
-                shared.park(rt, 0, (word % LOW_HALF) as u32);
+                if looks < LOOKS {
+                    looks += 1;
+                    hint::spin_loop();
+                } else {
+                    looks = 0;
+                    self.park(rt, word);
+                }
             } else if shared.compare_exchange::<TakeTurn<L>>(seat, 0, word, word + 1) == word {
                 let Some(state) = shared.exchange(seat, 0, None) else {
                     unreachable!()
@@ -141,6 +166,14 @@ impl<L: Logged> Yard<L> {
             }
         }
         unreachable!()
+    }
+
+    // Parks for as long as the word is the same, or until it is woken. The count rises before the word is compared, and
+    // `leave` reads it behind its store: either it wakes this thread, or this thread finds another word.
+    fn park<R: Wait>(&self, rt: &R, word: u64) {
+        self.parked.fetch_add(1, SeqCst);
+        self.table.shared.park(rt, 0, (word % LOW_HALF) as u32);
+        self.parked.fetch_sub(1, SeqCst);
     }
 
     // Puts the state back and gives the turn up.
@@ -154,12 +187,15 @@ impl<L: Logged> Yard<L> {
         requires word { word ≡ 2 * length (L.log state) }
         ensures same { (seat.new.table_id ≡ seat.old.table_id) × (seat.new.id ≡ seat.old.id) }
         ensures turn { seat.new.me ≡ (out_of_turn L.seat_of seat.old.me.0 (L.log state), []) }
+        ensures seen { word ≡ 2 * length seat.new.me.0.seen }
     {
         let shared = &self.table.shared;
         let left = shared.exchange(seat, 0, Some(state));
         let None = left else { unreachable!() };
         shared.store::<GiveTurn<L>>(seat, 0, word);
-        shared.wake_one(0);
+        if self.parked.load(SeqCst) > 0 {
+            shared.wake_one(0);
+        }
     }
 
     /// Makes one step under the lock, as the seat of the pass. It waits for the turn.
@@ -192,6 +228,7 @@ impl<L: Logged> Yard<L> {
         let result = state.apply_as(pass.number, step);
         let word = if result.is_ok() { word + 2 } else { word };
         self.leave(&mut pass.seat, state, word);
+        pass.len = word / 2;
         result
     }
 
@@ -219,7 +256,7 @@ impl<L: Logged> Yard<L> {
     {
         let mut seat = passes.remove(0).into_seat();
         self.join_all(&mut seat, passes);
-        let Yard { table } = self;
+        let Yard { table, parked: _ } = self;
         let mut closed = table.close_with(seat);
         let left = closed.take(0);
         closed.free();

@@ -1,4 +1,4 @@
-use Rattle.std.proofs.Common.{◌≡◌, ◌∙◌, [], ◌∷◌, ◌++◌, IfOk, ap, sym, subst}
+use Rattle.std.proofs.Common.{◌≡◌, ◌∙◌, [], ◌∷◌, ◌++◌, IfOk, ap, arith, sym, subst}
 use lib.ListN.{get_elem?}
 use mathlib.Core.List.{IsPrefix}
 use Rattle.geo_lock.specs.Logged.{entries_with_seat, Grows}
@@ -10,14 +10,14 @@ use Rattle.geo_lock.proofs.yard.Yard.apply.Goals as goal
 
 -- a pass that isn't in a turn holds no state, and has its claim
 pub enter-word-requires-clause-rests : goal.enter-word-requires-clause-rests
-enter-word-requires-clause-rests g c = let e = c.pass.invariant.1.me_is in
+enter-word-requires-clause-rests g c = let e = c.pass.invariant.0.1.me_is in
     (ap (λ m. m.1) e, (_, ap (λ m. get_elem? m.0.claims 0) e))
 
 -- the step added its entry with the number of the pass, or nothing
 pub leave-requires-clause-grows : goal.leave-requires-clause-grows
 leave-requires-clause-grows g c = let e = c.enter-word.ensures.turn in let m = c.apply_as-result.ensures in (
   _,
-  ap (λ m. m.0.claims) e ∙ claims_are _ _ _ _ _ _ c.pass.invariant.1,
+  ap (λ m. m.0.claims) e ∙ claims_are _ _ _ _ _ _ c.pass.invariant.0.1,
   subst (λ z. Grows g.L.Logged.seat_of c.pass.inside.number z.0.seen (g.L.Logged.log c.apply_as-result.new.self))
       (sym e)
       (grown g.L.Logged.log g.L.Logged.seat_of c.pass.inside.number
@@ -29,15 +29,17 @@ leave-requires-clause-grows g c = let e = c.enter-word.ensures.turn in let m = c
 pub invariant_of-pass : goal.invariant_of-pass
 invariant_of-pass g c = let e = c.enter-word.ensures.turn in let m = c.apply_as-result.ensures in let f =
     c.enter-word.ensures.found in
-    let same = m.start ∙ f.start_is _ (start_is g.L.Logged.lawful g.L.Logged.seat_of _ _ _ _ c.pass.invariant.1) in
-    turned_sound g.L.Logged.lawful g.L.Logged.seat_of _ _ _ _ c.pass.invariant.1 g.L.Logged.start g.L.Logged.log _
-    _ f (g.L.Logged.log c.apply_as-result.new.self)
-    (grown g.L.Logged.log g.L.Logged.seat_of c.pass.inside.number
-    (λ o. g.L.Logged.entry c.pass.inside.number c.args.step o) c.enter-word.result.1 c.apply_as-result.new.self
-    (λ o. g.met.L.Logged.seat_is c.pass.inside.number c.args.step o) c.apply_as-result.result m.ok m.err)
-    (subst (λ z. g.L.Logged.lawful z (g.L.Logged.log c.apply_as-result.new.self)) same m.lawful) _
-    (c.leave.ensures.turn
-    ∙ ap (λ z. (out_of_turn g.L.Logged.seat_of z.0 (g.L.Logged.log c.apply_as-result.new.self), [])) e)
+    let same = m.start ∙ f.start_is _ (start_is g.L.Logged.lawful g.L.Logged.seat_of _ _ _ _ c.pass.invariant.0.1) in (
+      turned_sound g.L.Logged.lawful g.L.Logged.seat_of _ _ _ _ c.pass.invariant.0.1 g.L.Logged.start g.L.Logged.log _
+          _ f (g.L.Logged.log c.apply_as-result.new.self)
+          (grown g.L.Logged.log g.L.Logged.seat_of c.pass.inside.number
+          (λ o. g.L.Logged.entry c.pass.inside.number c.args.step o) c.enter-word.result.1 c.apply_as-result.new.self
+          (λ o. g.met.L.Logged.seat_is c.pass.inside.number c.args.step o) c.apply_as-result.result m.ok m.err)
+          (subst (λ z. g.L.Logged.lawful z (g.L.Logged.log c.apply_as-result.new.self)) same m.lawful) _
+          (c.leave.ensures.turn
+          ∙ ap (λ z. (out_of_turn g.L.Logged.seat_of z.0 (g.L.Logged.log c.apply_as-result.new.self), [])) e),
+      (let n = c.leave.ensures.seen in omega arith),
+    )
 
 -- what the pass had seen is the front of the log that it found, and that of the log that it left
 pub returns-clause-longer : goal.returns-clause-longer
@@ -53,7 +55,7 @@ pub returns-clause-made : goal.returns-clause-made
 returns-clause-made g c = let m = c.apply_as-result.ensures in let f = c.enter-word.ensures.found in let n =
     ap (λ p. p.number) c.pass.view_is in
     let same = f.start_is c.args.self.now.start (ap (λ p. p.start) c.pass.view_is ∙ c.requires.start) in
-    let claims = claims_are g.L.Logged.lawful g.L.Logged.seat_of _ _ _ _ c.pass.invariant.1 in
+    let claims = claims_are g.L.Logged.lawful g.L.Logged.seat_of _ _ _ _ c.pass.invariant.0.1 in
     makes g.L.Logged.log g.L.Logged.seat_of g.L.Logged.is_no_memory c.args.pass.now.number
     (λ o. g.L.Logged.entry c.args.pass.now.number c.args.step o) c.enter-word.result.1 c.apply_as-result.new.self
     (λ o. g.met.L.Logged.seat_is c.args.pass.now.number c.args.step o)
@@ -72,7 +74,7 @@ returns-clause-made g c = let m = c.apply_as-result.ensures in let f = c.enter-w
 -- a refused step adds nothing, so the entries with the number of the pass are those before
 pub returns-clause-unmade : goal.returns-clause-unmade
 returns-clause-unmade g c = let f = c.enter-word.ensures.found in let n = ap (λ p. p.number) c.pass.view_is in
-    let claims = claims_are g.L.Logged.lawful g.L.Logged.seat_of _ _ _ _ c.pass.invariant.1 in
+    let claims = claims_are g.L.Logged.lawful g.L.Logged.seat_of _ _ _ _ c.pass.invariant.0.1 in
     unmade g.L.Logged.log g.L.Logged.seat_of g.L.Logged.is_no_memory c.args.pass.now.number c.enter-word.result.1
     c.apply_as-result.new.self c.args.pass.now.own (own_of c.leave.new.seat.me.0.claims)
     (subst (λ p. entries_with_seat g.L.Logged.seat_of p.number (g.L.Logged.log c.enter-word.result.1) ≡ p.own)
