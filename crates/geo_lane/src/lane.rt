@@ -52,6 +52,7 @@ impl Lane {
             sender: 0,
             split: 0,
             put_so_far: 0,
+            refusals: 0,
             pass,
         };
         Ok((Lane { tickets }, pass))
@@ -79,6 +80,7 @@ impl Lane {
             sender: pass.split,
             split: 0,
             put_so_far: 0,
+            refusals: 0,
             pass: other,
         })
     }
@@ -104,9 +106,13 @@ impl Lane {
         {
             Ok(()) => {
                 pass.put_so_far += 1;
+                pass.refusals = 0;
                 Ok(())
             }
-            Err(ticket) => Err(Full { ticket }),
+            Err(ticket) => {
+                pass.refusals = pass.refusals.saturating_add(1);
+                Err(Full { ticket })
+            }
         }
     }
 

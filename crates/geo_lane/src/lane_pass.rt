@@ -17,6 +17,8 @@ pub struct LanePass {
     pub(crate) sender: u32,
     pub(crate) split: u32,
     pub(crate) put_so_far: u64,
+    // How often in a row its next ticket found no room, or 2^32 - 1. No clause speaks of it.
+    pub(crate) refusals: u32,
     pub(crate) pass: Pass<Ticket, View>,
 }
 
@@ -53,5 +55,11 @@ impl LanePass {
         ensures { result ≡ length self.now.put }
     {
         self.put_so_far
+    }
+
+    /// How often in a row, up to 2^32 - 1, [`Lane::put`](crate::Lane::put) was refused. No clause tells anything of
+    /// the answer.
+    pub fn refusals(&self) -> u32 {
+        self.refusals
     }
 }
