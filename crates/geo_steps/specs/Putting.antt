@@ -12,9 +12,17 @@ use Rattle.geo_model.specs.declared.step.Entry.{Entry}
 abbrev pub ticket_of : LanePassView → TicketStep → Ticket
 ticket_of p s = record { sender = p.sender; number = length p.put; step = s }
 
+-- the pass put the ticket
+abbrev pub PutIt : LanePassView → TicketStep → LanePassView → Type 0
+PutIt p s q = q ≡ record p { put = p.put ++ ticket_of p s ∷ [] }
+
+-- the pass put nothing, for its lane held 1,024 at one moment of the call
+abbrev pub WasFull : LanePassView → LanePassView → Type 0
+WasFull p q = (q ≡ p) × Held LANE_TICKETS (Tells (view_of p))
+
 -- the pass put the ticket, or its lane held 1,024 at one moment of the call
 abbrev pub PutsOne : LanePassView → TicketStep → LanePassView → Type 0
-PutsOne p s q = (q ≡ record p { put = p.put ++ ticket_of p s ∷ [] }) ⊎ ((q ≡ p) × Held LANE_TICKETS (Tells (view_of p)))
+PutsOne p s q = PutIt p s q ⊎ WasFull p q
 
 -- so with each of these, in order
 abbrev pub PutsAll : LanePassView → List TicketStep → LanePassView → Type 0
