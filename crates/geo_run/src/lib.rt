@@ -7,7 +7,8 @@
 //! `IsComplete`, which says when a status has to be one of few. docs/PROVED.md tells both clause by clause.
 //!
 //! [`threads_of`] tells exactly whether the words ask for threads, and by which word. [`without_memory`] writes the
-//! line `out of memory`, with its status, or a part of it and 4 where the sink's faults rose.
+//! line `out of memory`, with its status, or a part of it and 4 where one write failed, the last. [`program`] is all
+//! of this for a process that ends with it: its answer is the status of a call that keeps all (`status`).
 //!
 //! The layers: `src/top.rt` writes what is due, and `src/source_run.rt` reads the source, or makes its text.
 //! `src/opened.rt` parses, takes the disks and opens the mesh. `src/alone.rt` or `src/threaded.rt` makes the steps,
@@ -33,9 +34,11 @@ mod threaded;
 mod threaded_report;
 mod top;
 mod verify_run;
+mod whole;
 mod words;
 
 pub use geo_elev::{ApplyRefusal, Mesh};
 pub use geo_threads::{Gate, GatePlace, OpenGate};
 pub use top::{Ended, run, run_alone, without_memory};
+pub use whole::program;
 pub use words::{Threaded, threads_of};

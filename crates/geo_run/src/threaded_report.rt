@@ -1,5 +1,6 @@
 //! What is reported of a script that was run in threads.
 ghost use Rattle.std.specs.Prelude.{◌≡◌, ◌++◌, Some, IfOk};
+ghost use Rattle.std.specs.Option.{option_copied};
 ghost use Rattle.geo_model.specs.Listing.{listing};
 ghost use Rattle.geo_model.specs.Report.{report};
 ghost use Rattle.geo_model.specs.Script.{IsScript};
@@ -7,6 +8,7 @@ ghost use Rattle.geo_headline.specs.Endings.{reported};
 ghost use Rattle.geo_headline.specs.Modes.{TraceMode};
 ghost use Rattle.geo_headline.specs.Viewing.{view_text};
 ghost use Rattle.geo_elev.specs.Meshes.{opened};
+ghost use Rattle.geo_run.specs.Reports.{list_in};
 
 use crate::alone::report_of;
 use crate::runner::Reporter;
@@ -32,7 +34,9 @@ pub enum ThreadedReport {
 }
 
 /// The list that was seen last, if there is one.
-fn list_of(seen: &Seen) -> Result<Option<&MeshList>, NoMemory> {
+fn list_of(seen: &Seen) -> Result<Option<&MeshList>, NoMemory>
+    ensures { IfOk result (λ list. option_copied list ≡ list_in seen.now) }
+{
     match seen {
         Seen::Nothing => Ok(None),
         Seen::List(list) => Ok(Some(list)),
