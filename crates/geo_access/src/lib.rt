@@ -2,7 +2,9 @@
 //! it, and what refuses it.
 //!
 //! All is said of the view of geo_mesh's `Topo`, for any configuration; [`Steps`] is seen as a number. Each call
-//! keeps `IsCounted`: the stored counts are the model's sums, exclusive and within the limit.
+//! keeps `IsCounted`: the stored counts are the model's sums, exclusive and within the limit. Counts alone tell whether
+//! something refuses a demand. The consumers at a provider are searched only where a refusal names two of them, or where
+//! a count that is tried reached the greatest number of its type.
 //!
 //! [`allowed`], [`could_grant`] and [`grant`] answer exactly the model's refusal, in its order (`answer`). They name
 //! the errored provider with the smallest number, the writer and the exclusive consumer, or the provider past the

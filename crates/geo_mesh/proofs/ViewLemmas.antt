@@ -138,6 +138,13 @@ module _ {C : Type 0} (t : Tables C) (n : ℕ) (v : ProvCell)
         provider_part w provider_scratch_of refl,
       ) refl
 
+  -- the mesh after a provider gets the notes that it has
+  pub same_notes-view : (risen fallen : Bool) → v.provider.risen ≡ risen → v.provider.fallen ≡ fallen
+      → topo_view (with_provider_cell t n v) ≡ with_notes (topo_view t) n risen fallen
+  same_notes-view up down as_risen as_fallen =
+      set_noted-view v.provider.risen v.provider.fallen
+      ∙ (λ i. with_notes (topo_view t) n (as_risen i) (as_fallen i))
+
   -- the mesh after a provider gets other scratch
   pub set_provider_scratch-view : (scratch : Scratch)
       → topo_view (with_provider_cell t n (record v { scratch = scratch }))

@@ -629,6 +629,10 @@ impl<C> Topo<C> {
         ensures { self.new ≡ with_notes self.old prov risen fallen }
     {
         let cell = self.tables.provider_mut(prov);
+        // Most providers that an open passes keep their notes.
+        if cell.provider.risen == risen && cell.provider.fallen == fallen {
+            return;
+        }
         cell.provider.risen = risen;
         cell.provider.fallen = fallen;
         self.tables.notes.risen.set(prov.number(), risen);
