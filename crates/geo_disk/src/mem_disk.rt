@@ -251,8 +251,8 @@ impl Disk for MemDisk {
 
     fn read(&mut self, first: u64, out: &mut [u8]) -> Result<(), DiskFailed>
         requires { AreSectors self.old.sector (length self.old.sectors) first (length out.old) }
-        ensures memory { self.new
-            ≡ called (disk_call cmds.Read first (length out.old / self.old.sector) (given_by result out.new) result) self.old }
+        ensures memory { self.new ≡ called (disk_call cmds.Read first (length out.old / self.old.sector)
+            (given_by result out.new) result) self.old }
         ensures fails { IsErr result ↔ Contains self.old.fails (counted_on self.old.calls) }
         ensures read { OnOk result (IsRead (Some self.old.sectors) self.old.sector first out.new) }
         ensures none_done { IfErr result (λ e. e.done ≡ 0) }

@@ -112,9 +112,9 @@ pub trait Shelf {
         ensures called { (view self.new).calls
             ≡ (view self.old).calls ++ ShelfCall.Take name.now (answer_of result) ∷ [] };
 
-    /// Gives back the disk that was taken under a name. After a fault it is still lent. Whether it is taken back or not,
-    /// what it was asked, its faults and its sectors are known of its name then. A call that goes through counts no
-    /// fault.
+    /// Gives back the disk that was taken under a name. After a fault it is still lent. Whether it is taken back or
+    /// not, what it was asked, its faults and its sectors are known of its name then. A call that goes through counts
+    /// no fault.
     fn give(&mut self, name: &Name, disk: Self::D) -> Result<(), GiveFault<Self::D>>
         requires is_lent { Contains (view self.old).lent name.now }
         requires counted { (view self.old).faults_of name.now ≤ (Self.D.view disk).faults }

@@ -22,7 +22,8 @@ pub puts_none : (at : ℕ) (old : List Put) → Puts at [] old old
 puts_none at old = sym (append-nil (placed old))
 
 -- what one write puts
-pub puts_piece : (at : ℕ) (bytes : List ℕ) (old : List Put) → Puts at bytes old (old ++ (record { at = at; bytes = bytes }) ∷ [])
+pub puts_piece : (at : ℕ) (bytes : List ℕ) (old : List Put)
+    → Puts at bytes old (old ++ (record { at = at; bytes = bytes }) ∷ [])
 puts_piece at bytes old =
     flat_map-append (λ (p : Put). enumerate_from p.at p.bytes) old ((record { at = at; bytes = bytes }) ∷ [])
     ∙ ap (λ ps. placed old ++ ps) (append-nil (enumerate_from at bytes))
@@ -38,13 +39,15 @@ puts_more at xs ys old mid new first more =
 -- a write puts the next bytes behind the first ones
 pub puts_next : (at done count : ℕ) (bytes part : List ℕ) (old mid new : List Put) → part ≡ drop done bytes
     → done ≤ length bytes → Puts at (take done bytes) old mid
-    → new ≡ mid ++ (record { at = at + done; bytes = take count part }) ∷ [] → Puts at (take (done + count) bytes) old new
+    → new ≡ mid ++ (record { at = at + done; bytes = take count part }) ∷ []
+    → Puts at (take (done + count) bytes) old new
 puts_next at done count bytes part old mid new is fits first told =
     subst (λ bs. Puts at bs old new) (sym (take-add done count bytes))
     (puts_more at (take done bytes) (take count (drop done bytes)) old mid new first
     (subst (λ n. Puts (at + n) (take count (drop done bytes)) mid new) (sym (length-take-le done bytes fits))
     (subst (λ bs. Puts (at + done) (take count bs) mid new) is
-    (subst (λ puts. Puts (at + done) (take count part) mid puts) (sym told) (puts_piece (at + done) (take count part) mid)))))
+    (subst (λ puts. Puts (at + done) (take count part) mid puts) (sym told)
+    (puts_piece (at + done) (take count part) mid)))))
 
 -- zeros are put behind zeros
 pub puts_zeros : (at done count : ℕ) (bytes : List ℕ) (old mid new : List Put) → bytes ≡ replicate count 0

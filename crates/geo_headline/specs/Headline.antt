@@ -171,8 +171,8 @@ pub record KeepsLog (call : Call) (mode : Mode) (plan : Plan) (ending : Ending) 
   pub order : IfSome call.log (FollowsMode mode plan (opening plan call.facts) ending)
   pub fits : IfSome call.log (Fits (opening plan call.facts))
 
--- what is outside: each disk did what the log says, and holds it unless it was kept back; the shelf was called in order,
--- each call that failed is told, and everything else is as it was before
+-- what is outside: each disk did what the log says, and holds it unless it was kept back; the shelf was called in
+-- order, each call that failed is told, and everything else is as it was before
 pub record KeepsOutside (call : Call) (mode : Mode) (plan : Plan) (ending : Ending) : Type 0 where
   pub disks : IfSome call.log (DisksAreKept plan call.before.shelf call.after.shelf)
   pub lent : LentAfter ending call.before.shelf call.after.shelf
