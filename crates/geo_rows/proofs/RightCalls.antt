@@ -2,6 +2,7 @@
 use Rattle.std.specs.Prelude.{◌≡◌, ℕ, List, [], ◌∷◌, ◌++◌, Ok, Err, All, refl, codes}
 use Rattle.std.proofs.Common.{sym, ◌∙◌, arith, inl, inr}
 use Rattle.std.proofs.lemmas.List.Elements.{All-nil, All-cons}
+use Rattle.geo_disk.specs.declared.shelf.TakeAnswer.TheVariants as answers
 use Rattle.geo_model.specs.declared.command.DiskKind.TheVariants.{Shelf}
 use Rattle.geo_model.specs.declared.step.Entry.{Entry}
 use Rattle.geo_model.specs.World.{Plan, World}
@@ -111,7 +112,7 @@ opened = record {
 
 kept : IsDiskKept silent_shelf shelf_after []
     (record { number = 0; decl = later_disk }) Shelf
-kept not_back = record { asked = refl; failures = refl; bytes = tt; reads = tt }
+kept = record { asked = refl; failures = refl; bytes = λ not_back. tt; reads = tt }
 
 kept_disks : DisksAreKept later_plan silent_shelf shelf_after []
 kept_disks =
@@ -119,9 +120,8 @@ kept_disks =
     (record { number = 0; decl = later_disk }) kept
 
 -- the disk had 1,000 sectors
-fact-sectors : HaveFactSectors later_plan ((512, 1000) ∷ []) silent_shelf shelf_after
-fact-sectors =
-    one (HasFactSectors silent_shelf shelf_after) (later_disk, (512, 1000)) (λ of_shelf not_back. refl)
+fact-sectors : HaveFactSectors later_plan ((512, 1000) ∷ []) shelf_after
+fact-sectors = one (HasFactSectors shelf_after) (later_disk, (512, 1000)) (λ of_shelf. refl)
 
 fitting : Fits (opening later_plan ((512, 1000) ∷ [])) []
 unfolding opening
@@ -156,6 +156,8 @@ quiet = record {
       left = [];
       names = refl;
       missed_is = refl;
+      answer = answers.NoMemory;
+      answer_is = λ e. let bad : answers.NoMemory ≡ answers.Disk = e in cc;
       all = λ _. refl;
       calls = refl;
     };
@@ -167,7 +169,6 @@ quiet = record {
     };
     unasked = tt;
     sizes = λ _. fact-sectors;
-    kept_stay = λ name back. record { faults = refl; asked = refl; sectors = refl };
     images = tt;
     images_stand = λ name not_kept. tt;
     untouched = record {

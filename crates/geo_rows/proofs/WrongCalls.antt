@@ -7,13 +7,15 @@ use Rattle.geo_io.specs.Counts.{FailedAtLast}
 use Rattle.geo_disk.specs.Counts.{counted_if, counted_many}
 use Rattle.geo_disk.specs.declared.shelf.ShelfCall.{ShelfCall}
 use Rattle.geo_disk.specs.declared.shelf.ShelfCall.TheVariants as shelf_calls
+use Rattle.geo_disk.specs.declared.shelf.TakeAnswer.{TakeAnswer}
+use Rattle.geo_disk.specs.declared.shelf.TakeAnswer.TheVariants as answers
 use Rattle.geo_model.specs.declared.command.DiskDecl.{DiskDecl}
 use Rattle.geo_model.specs.declared.step.Entry.{Entry}
 use Rattle.geo_model.specs.World.{Plan}
 use Rattle.geo_model.specs.Words.{same_name}
 use Rattle.geo_model.specs.Script.{IsScript}
 use Rattle.geo_headline.specs.Modes.{Mode, StepMode}
-use Rattle.geo_headline.specs.Outside.{ShelfView, calls_logged, failures_of, gives_of, is_shelf, names_of_shelf, takes_of, DisksAreKept, HasFactSectors, HoldsWhatIsLogged, IsDiskKept, IsKeptBack, IsShelf, PlannedDisk, planned_disk}
+use Rattle.geo_headline.specs.Outside.{ShelfView, calls_logged, failures_of, gives_of, is_shelf, names_of_shelf, takes_of, DisksAreKept, HasFactSectors, HoldsWhatIsLogged, IsDiskKept, IsShelf, PlannedDisk, planned_disk}
 use Rattle.geo_headline.specs.Endings.{Call, CauseOf, Ending, Reported, ReadFault, Answered, blamed_by, status_of, script_of}
 use Rattle.geo_headline.specs.Headline.{KeepsAll, NoneAsked, TakesAreTold}
 use Rattle.geo_model.specs.declared.command.DiskKind.{DiskKind}
@@ -97,12 +99,11 @@ log_of_first call mode plan ending disk reports kept =
     by_report call mode plan ending (ends 0 call mode plan ending kept (λ e. omega (arith, e)) reports.status)
     reports.words kept
 
--- it holds and was asked what the log says, unless it was kept back
+-- it holds and was asked what the log says
 first_kept : (plan : Plan) (disk : DiskDecl) (rest : List DiskDecl) (before after : ShelfView) (log : List Entry)
     → plan.disks ≡ disk ∷ rest → DisksAreKept plan before after log → IsShelf disk.kind
-    → (IsKeptBack before after disk.name → ⊥)
     → HoldsWhatIsLogged before after log (record { number = 0; decl = disk })
-first_kept plan disk rest before after log e all is given =
+first_kept plan disk rest before after log e all is =
     let moved : All (λ (d : PlannedDisk). IsDiskKept before after log d d.decl.kind)
     (map planned_disk (enumerate_from 0 (disk ∷ rest))) =
     subst (λ (ds : List DiskDecl). All (λ (d : PlannedDisk). IsDiskKept before after log d d.decl.kind)
@@ -112,7 +113,7 @@ first_kept plan disk rest before after log e all is given =
     by : (kind : DiskKind) → IsShelf kind → IsDiskKept before after log (record { number = 0; decl = disk }) kind
         → HoldsWhatIsLogged before after log (record { number = 0; decl = disk })
     by disk_kinds.Ram s h = absurd (let bad : false ≡ true = s in cc)
-    by disk_kinds.Shelf s h = h given
+    by disk_kinds.Shelf s h = h
 
 otherwise : (call : Call) (mode : Mode) (plan : Plan) (ending : Ending) (wrong : AsksOtherwise call)
     → KeepsAll call mode plan ending → (log : Option (List Entry)) → IsSome log
@@ -122,8 +123,7 @@ otherwise : (call : Call) (mode : Mode) (plan : Plan) (ending : Ending) (wrong :
 otherwise call mode plan ending wrong kept None some disks other = let bad : ⊥ = cc in bad
 otherwise call mode plan ending wrong kept (Some l) some disks other =
     other (first_kept plan wrong.disk wrong.reports.rest call.before.shelf call.after.shelf l
-    (first_disk call mode plan ending wrong.disk wrong.reports kept) disks wrong.reports.of_shelf
-    wrong.given_back).asked
+    (first_disk call mode plan ending wrong.disk wrong.reports kept) disks wrong.reports.of_shelf).asked
 
 pub asks_otherwise-refused : IsRefused AsksOtherwise
 asks_otherwise-refused call mode plan ending wrong kept =
@@ -136,8 +136,7 @@ hidden : (call : Call) (mode : Mode) (plan : Plan) (ending : Ending) (wrong : Hi
 hidden call mode plan ending wrong kept None some disks none = let bad : ⊥ = cc in bad
 hidden call mode plan ending wrong kept (Some l) some disks none =
     wrong.failed ((first_kept plan wrong.disk wrong.reports.rest call.before.shelf call.after.shelf l
-    (first_disk call mode plan ending wrong.disk wrong.reports kept) disks wrong.reports.of_shelf
-    wrong.given_back).failures
+    (first_disk call mode plan ending wrong.disk wrong.reports kept) disks wrong.reports.of_shelf).failures
     ∙ ap (λ (k : ℕ). counted_many k (call.before.shelf.faults_of wrong.disk.name)) none)
 
 pub hides_disk_fault-refused : IsRefused HidesDiskFault
@@ -147,28 +146,28 @@ hides_disk_fault-refused call mode plan ending wrong kept =
 
 pub invents_size-refused : IsRefused InventsSize
 invents_size-refused call mode plan ending wrong kept =
-    let sizes : All (HasFactSectors call.before.shelf call.after.shelf) (zip plan.disks call.facts) =
+    let sizes : All (HasFactSectors call.after.shelf) (zip plan.disks call.facts) =
     kept.outside.sizes (log_of_first call mode plan ending wrong.disk wrong.reports kept) in
     let disks : plan.disks ≡ wrong.disk ∷ wrong.reports.rest =
     first_disk call mode plan ending wrong.disk wrong.reports kept in
-    let moved : All (HasFactSectors call.before.shelf call.after.shelf)
+    let moved : All (HasFactSectors call.after.shelf)
     ((wrong.disk, (wrong.bytes, wrong.sectors)) ∷ zip wrong.reports.rest wrong.rest) =
     rw (disks, wrong.facts) at sizes in
-    wrong.other
-    (moved 0 (wrong.disk, (wrong.bytes, wrong.sectors)) (omega arith) wrong.reports.of_shelf wrong.given_back)
+    wrong.other (moved 0 (wrong.disk, (wrong.bytes, wrong.sectors)) (omega arith) wrong.reports.of_shelf)
 
 -- where the first name that was had is this one, so is that of the first take
-first_take : (start calls rest : List ShelfCall) (first other : List ℕ) (had more missed : List (List ℕ))
-    → had ≡ first ∷ more → calls ≡ start ++ takes_of (had ++ missed) ++ gives_of had
-    → calls ≡ start ++ shelf_calls.Take other ∷ rest → other ≡ first
-first_take start calls rest first other had more missed e is told =
-    let moved : calls ≡ start ++ takes_of ((first ∷ more) ++ missed) ++ gives_of (first ∷ more) =
-    subst (λ (ns : List (List ℕ)). calls ≡ start ++ takes_of (ns ++ missed) ++ gives_of ns) e is in
-    let both : shelf_calls.Take other ∷ rest
-    ≡ shelf_calls.Take first ∷ (takes_of (more ++ missed) ++ gives_of (first ∷ more)) =
-    append_cancel_left start (shelf_calls.Take other ∷ rest)
-    (shelf_calls.Take first ∷ (takes_of (more ++ missed) ++ gives_of (first ∷ more)))
-    (sym told ∙ moved ∙ append_assoc start (takes_of ((first ∷ more) ++ missed)) (gives_of (first ∷ more))) in
+first_take : (start calls rest : List ShelfCall) (first other : List ℕ) (had more : List (List ℕ))
+    (answer : TakeAnswer) (misses : List ShelfCall)
+    → had ≡ first ∷ more → calls ≡ start ++ takes_of answers.Disk had ++ misses ++ gives_of had
+    → calls ≡ start ++ shelf_calls.Take other answer ∷ rest → other ≡ first
+first_take start calls rest first other had more answer misses e is told =
+    let takes : List ShelfCall = takes_of answers.Disk (first ∷ more) in
+    let moved : calls ≡ start ++ takes ++ misses ++ gives_of (first ∷ more) =
+    subst (λ (ns : List (List ℕ)). calls ≡ start ++ takes_of answers.Disk ns ++ misses ++ gives_of ns) e is in
+    let both : shelf_calls.Take other answer ∷ rest ≡ takes ++ misses ++ gives_of (first ∷ more) =
+    append_cancel_left start (shelf_calls.Take other answer ∷ rest) (takes ++ misses ++ gives_of (first ∷ more))
+    (sym told ∙ moved ∙ ap (λ (cs : List ShelfCall). cs ++ gives_of (first ∷ more)) (append_assoc start takes misses)
+    ∙ append_assoc start (takes ++ misses) (gives_of (first ∷ more))) in
     let same : other ≡ first = cc in same
 
 -- the names of the shelf begin with that of the first disk, where it is of the shelf
@@ -188,7 +187,7 @@ takes_another_first-refused call mode plan ending wrong kept =
     ∙ first_name wrong.disk wrong.reports.rest wrong.reports.of_shelf in
     wrong.other
     (first_take call.before.shelf.calls call.after.shelf.calls wrong.rest wrong.disk.name wrong.name order.had
-    (names_of_shelf wrong.reports.rest) order.missed had order.calls wrong.calls)
+    (names_of_shelf wrong.reports.rest) wrong.answer (takes_of order.answer order.missed) had order.calls wrong.calls)
 
 -- what `hidden_calls_are_refused` says
 pub ruleset hidden_calls_are_refused = (

@@ -1,5 +1,6 @@
 -- Calls of a right program.
 use Rattle.std.specs.Prelude.{ℕ, false, true, List, [], ◌∷◌, ◌++◌, Some, None, codes}
+use Rattle.geo_disk.specs.declared.shelf.TakeAnswer.TheVariants as answers
 use Rattle.geo_model.specs.declared.command.DiskDecl.{DiskDecl}
 use Rattle.geo_model.specs.declared.command.DiskKind.TheVariants.{Shelf}
 use Rattle.geo_model.specs.World.{Plan}
@@ -33,7 +34,7 @@ silent_shelf = record {
 
 -- the same after its disk was taken and given back
 abbrev pub shelf_after : ShelfView
-shelf_after = record silent_shelf { calls = takes_of (codes "d" ∷ []) ++ gives_of (codes "d" ∷ []) }
+shelf_after = record silent_shelf { calls = takes_of answers.Disk (codes "d" ∷ []) ++ gives_of (codes "d" ∷ []) }
 
 -- a stream that gave these bytes so far
 abbrev pub stream_before : SourceView

@@ -6,6 +6,7 @@ use Rattle.geo_base.specs.declared.limits.TheConstants.{MAX_LOG_ENTRIES}
 use Rattle.geo_io.specs.Counts.{FailedAtLast}
 use Rattle.geo_disk.specs.declared.shelf.ShelfCall.{ShelfCall}
 use Rattle.geo_disk.specs.declared.shelf.ShelfCall.TheVariants as shelf_calls
+use Rattle.geo_disk.specs.declared.shelf.TakeAnswer.{TakeAnswer}
 use Rattle.geo_model.specs.declared.command.DiskDecl.{DiskDecl}
 use Rattle.geo_model.specs.declared.step.Entry.{Entry}
 use Rattle.geo_model.specs.declared.step.Step.TheVariants as steps
@@ -163,8 +164,9 @@ pub record TakesAnotherFirst (call : Call) : Type 0 where
   pub reports : ReportsDisk call disk
   pub name : List ℕ
   pub other : name ≢ disk.name
+  pub answer : TakeAnswer
   pub rest : List ShelfCall
-  pub calls : call.after.shelf.calls ≡ call.before.shelf.calls ++ shelf_calls.Take name ∷ rest
+  pub calls : call.after.shelf.calls ≡ call.before.shelf.calls ++ shelf_calls.Take name answer ∷ rest
 
 -- Failures and calls that are kept secret
 
@@ -207,27 +209,25 @@ pub record AsksInSecret (call : Call) : Type 0 where
   pub name : List ℕ
   pub asked : IsUnasked call.before.shelf call.after.shelf name → ⊥
 
--- the first disk was given back, and was asked something else than the log says, or in another order
+-- the first disk was asked something else than the log says, or in another order: it was written other bytes, say, or
+-- gave others
 pub record AsksOtherwise (call : Call) : Type 0 where
   pub disk : DiskDecl
   pub reports : ReportsDisk call disk
-  pub given_back : IsKeptBack call.before.shelf call.after.shelf disk.name → ⊥
   pub otherwise : IfSome call.log (λ log.
       call.after.shelf.asked_of disk.name ≢ call.before.shelf.asked_of disk.name ++ calls_logged log 0)
 
--- the first disk was given back, and failed, though the log says of no failure
+-- the first disk failed, though the log says of no failure
 pub record HidesDiskFault (call : Call) : Type 0 where
   pub disk : DiskDecl
   pub reports : ReportsDisk call disk
-  pub given_back : IsKeptBack call.before.shelf call.after.shelf disk.name → ⊥
   pub none_told : IfSome call.log (λ log. failures_of log 0 ≡ 0)
   pub failed : call.after.shelf.faults_of disk.name ≢ call.before.shelf.faults_of disk.name
 
--- the first disk was given back, and had other sectors than the mesh began with, also where the shelf tells nothing
+-- the first disk had other sectors than the mesh began with, also where the shelf tells nothing
 pub record InventsSize (call : Call) : Type 0 where
   pub disk : DiskDecl
   pub reports : ReportsDisk call disk
-  pub given_back : IsKeptBack call.before.shelf call.after.shelf disk.name → ⊥
   pub bytes : ℕ
   pub sectors : ℕ
   pub rest : List (ℕ × ℕ)
