@@ -98,10 +98,11 @@ pub fn accept_partitions(
     let Some(parts) = partition_parts(alloc, name, &table.parts)? else {
         return Ok(Accepted::Declined);
     };
+    let config = Config::ebr(alloc, Some(topo.coming_consumer()), &table.parts)?;
     let geom = NewGeom {
         kind: Kind::Ebr,
         name: *name,
-        config: Config::ebr(alloc, Some(topo.coming_consumer()), &table.parts)?,
+        config,
     };
     accept_parts(topo, queue, prov, geom, &parts)
 }

@@ -39,7 +39,7 @@ returns-clause-made c =
     c.in_ok-parts.ensures.named c.in-Some.parts c.in-Some.is c.deref.result.now c.deref.ensures.value in
     sliced_as (both c.args.topo.now c.args.queue.now) c.args.prov kinds.Ebr c.args.name.now c.accept_parts.result
     c.accept_parts.new.topo c.accept_parts.new.queue
-    (c.ebr.ensures ∙ ap (λ n. Ebr (Some n) c.args.table.now.parts) c.coming_consumer.ensures.number) all.same
+    (c.in_ok-config.ensures ∙ ap (λ n. Ebr (Some n) c.args.table.now.parts) c.coming_consumer.ensures.number) all.same
     c.accept_parts.ensures.made
 
 -- there are no more partitions than links, and 32 links at most
