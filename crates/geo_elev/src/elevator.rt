@@ -49,9 +49,9 @@ impl Heads {
         })
     }
 
-    /// Notes what a mesh did since: each entry of the log by the logarithm of how many wait, where requests come in
-    /// order of their numbers, each is noted before the next one comes, and each disk takes one that may be next; else
-    /// all is gathered anew. On `NoMemory` nothing is known, as before the first entry.
+    /// Notes what a mesh did since, entry by entry where requests come in order of their numbers, each is noted before
+    /// the next one comes, and each disk takes one that may be next; else all is gathered anew. No clause says which.
+    /// On `NoMemory` nothing is known, as before the first entry.
     pub fn note(&mut self, mesh: &Mesh) -> Result<(), NoMemory>
         requires earlier { (seen : List EntryValue)
             × IsPrefixOf seen mesh.now.log × AreHeads (opened mesh.now) seen self.old }

@@ -1,8 +1,8 @@
 //! A view of the mesh that is read without waiting (geom(4)): one publisher shows the mesh as it is printed, and one
 //! watcher looks at it.
 //!
-//! A look gives the listing of the world after a beginning of the log. The beginning begins with all that this
-//! watcher saw before and was told of. A look takes no handle of the runtime, so it can't wait. Nor does a publisher
+//! A look gives the listing of the world after what some good pass with the publisher's start and number had seen.
+//! That begins with all that this watcher saw before and was told of. A look takes no handle of the runtime, so it can't wait. Nor does a publisher
 //! ever wait.
 //!
 //! The view is three slots: one is the publisher's, one the watcher's, and the list that was shown last waits in the
