@@ -18,6 +18,7 @@ use Rattle.geo_model.specs.Script.{script, Fault, IsScript, empty_plan}
 use Rattle.geo_headline.specs.Modes.{Mode, GenMode, VerifyMode, Accepts, starts_threads, TakesNoDisk, source_limit}
 use Rattle.geo_model.specs.History.{KeepsHistory, RanToItsEnd}
 use Rattle.geo_model.specs.FixedOrder.{StepOrder, FollowsOrder, FollowsJobs, JobsEndedIdle}
+use Rattle.geo_headline.specs.Replies.{EachCommandHasItsReply}
 use Rattle.geo_headline.specs.Outside.{Outside, ShelfView, kept_back, IsUnasked, HasFactSectors, IsShelf, HasImage, names_of_shelf, takes_of, gives_of, DisksAreKept, OthersStay, ImagesStay, ImagesStand}
 use Rattle.geo_headline.specs.Endings.{Ending, BadWords, ReadFault, ShelfFault, NoDisk, BadSize, OutOfMemory, Call, status_of, due_text, BytesPass, order_of, script_of, reported, IsWhole, HasLog, WasReadWhole, IsOpened, CauseOf, blamed_by, missed_by, failed_takes, IsBeforeDisks}
 
@@ -163,11 +164,12 @@ pub record KeepsEnding (call : Call) (mode : Mode) (plan : Plan) (ending : Endin
   pub has_log : HasLog ending call.log
   pub is_opened : IsSome call.log → IsOpened call mode plan
 
--- what the log is: the history of the opened mesh, which runs to its end where a report is due, stands in the order of
--- the mode, and has places left for what it owes
+-- what the log is: the history of the opened mesh, which runs to its end where a report is due, and has then one reply
+-- for each command; it stands in the order of the mode, and has places left for what it owes
 pub record KeepsLog (call : Call) (mode : Mode) (plan : Plan) (ending : Ending) : Type 0 where
   pub history : IfSome call.log (KeepsHistory (opening plan call.facts))
   pub to_its_end : IsWhole ending → IfSome call.log (RanToItsEnd (opening plan call.facts))
+  pub replies : IsWhole ending → IfSome call.log (EachCommandHasItsReply plan)
   pub order : IfSome call.log (FollowsMode mode plan (opening plan call.facts) ending)
   pub fits : IfSome call.log (Fits (opening plan call.facts))
 

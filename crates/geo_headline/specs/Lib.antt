@@ -5,5 +5,5 @@ pub mod Viewing
 pub mod Traces
 pub mod Verifying
 pub mod Endings
-pub mod Headline
 pub mod Replies
+pub mod Headline

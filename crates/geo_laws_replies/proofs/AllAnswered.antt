@@ -190,7 +190,8 @@ rest_answers_each_command plan facts is fit log legal rests =
     let firm : Firm (opening plan facts) = firm_after plan facts is fit [] in
     record {
       once = All-from_recursion (λ c. replies_for c.line log ≡ 1) plan.commands
-          (answered plan.commands (one_each plan.commands (AllPairs-from_increasing (map (λ c. c.line) plan.commands) is.lines)));
+          (answered plan.commands
+          (one_each plan.commands (AllPairs-from_increasing (map (λ c. c.line) plan.commands) is.lines)));
       no_other = λ line. as_many line plan facts is firm log legal rests;
     }
   where

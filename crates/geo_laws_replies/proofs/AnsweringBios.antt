@@ -51,7 +51,8 @@ module _ (line : ℕ) where
 
   -- a request that goes
   pub gone_answers : (w : World) (x : Bio) → AreNumbers (map (λ (y : Bio). y.number) w.bios) w.next_bio
-      → bio_at w x.number ≡ Some x → unanswered line (without_bio w x.number) + counts_bio line x ≡ unanswered line w
+      → bio_at w x.number ≡ Some x
+      → unanswered line (without_bio w x.number) + counts_bio line x ≡ unanswered line w
   gone_answers w x order found =
       let sums = sum_gone (λ (y : Bio). y.number) x.number (counts_bio line) x w.next_bio w.bios order found in
       omega (arith, sums)

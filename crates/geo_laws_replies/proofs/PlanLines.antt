@@ -46,7 +46,8 @@ module _ (line : ℕ) where
       )
 
   -- a number that isn't among these counts nothing
-  none_among : (k v from n : ℕ) → k < from → sum_by (λ (a : ℕ). cond (k == a) v 0) (range_with_len from n) ≡ 0
+  none_among : (k v from n : ℕ) → k < from
+      → sum_by (λ (a : ℕ). cond (k == a) v 0) (range_with_len from n) ≡ 0
   none_among k v from zero below = refl
   none_among k v from (suc n) below =
       let other : (k == from) ≡ false = ne_eqb k from (λ same. omega (arith, same, below)) in

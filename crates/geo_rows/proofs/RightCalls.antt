@@ -19,6 +19,7 @@ use Rattle.geo_model.specs.Log.{IsSplitBy, IsPrefixOf, replay, Fits}
 use Rattle.geo_model.specs.History.{KeepsHistory, RanToItsEnd}
 use Rattle.geo_headline.specs.Outside.{HasFactSectors, IsThere, HasToldSize, IsDiskKept, DisksAreKept}
 use Rattle.geo_headline.specs.Endings.{Reported, IsOpened}
+use Rattle.geo_headline.specs.Replies.{EachCommandHasItsReply}
 use Rattle.geo_headline.specs.Headline.{HaveFactSectors, KeepsAll}
 use Rattle.geo_laws_life.proofs.Opened.{opening-sound}
 use Rattle.geo_rows.specs.RightCalls.{quiet_call, later_disk, later_plan, later_text, silent_shelf, shelf_after}
@@ -127,6 +128,10 @@ fitting : Fits (opening later_plan ((512, 1000) ∷ [])) []
 unfolding opening
 fitting = omega arith
 
+-- it has no command, and no reply
+replied : EachCommandHasItsReply later_plan []
+replied = record { once = All-nil _; no_other = λ line. refl }
+
 pub quiet : KeepsAll quiet_call StepMode later_plan Reported
 quiet = record {
   texts = record {
@@ -145,7 +150,7 @@ quiet = record {
     reads = omega arith;
   };
   ends = record { cause = (refl, refl); has_log = refl; is_opened = λ _. opened };
-  log = record { history = history; to_its_end = λ _. at-end; order = λ xs e s. no-more xs e s; fits = fitting };
+  log = record { history = history; to_its_end = λ _. at-end; replies = λ _. replied; order = λ xs e s. no-more xs e s; fits = fitting };
   outside = record {
     disks = kept_disks;
     lent = record { faults = omega arith; gives = All-nil _ };

@@ -26,5 +26,6 @@ pub mod Keeping
 pub mod Opening
 pub mod Sources
 pub mod Completing
+pub mod Replying
 pub mod Topping
 pub mod Asked

@@ -13,6 +13,7 @@ use Rattle.geo_run.specs.Ends.{entries_in}
 use Rattle.geo_run.specs.Stops.{IsDue, ending_by}
 use Rattle.geo_run.specs.Writes.{Writes, WritesEnding}
 use Rattle.geo_run.proofs.Completing.{complete}
+use Rattle.geo_run.proofs.Replying.{replied}
 
 -- What is written
 
@@ -48,6 +49,7 @@ keeps_all : (call : Call) (mode : Mode) (plan : Plan) (ending : Ending) → Keep
 keeps_all call mode plan ending k w e =
     search (
       rules,
+      replied call mode plan ending k,
       took call call.status (status_of ending) (due_text (reported mode call.text plan call.facts call.log) ending) w e,
       prints call ending (due_text (reported mode call.text plan call.facts call.log) ending) w e,
     )
