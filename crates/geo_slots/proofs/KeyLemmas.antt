@@ -11,7 +11,7 @@ use Rattle.geo_slots.specs.Pages.{Pages, IsGap, IsFull, IsFirst, IsWith, AreInOr
 use Rattle.geo_slots.specs.declared.page.Page.{Page}
 use Rattle.geo_slots.proofs.RowLemmas.{IsRising-push, IsRising-with_value, IsRising-without, value_at_next, value_at-last, value_at-other, value_at-set, value_at-kept, value_at-without, value_at-gone}
 use Rattle.geo_slots.proofs.PageLemmas.{none_live, live_with_key}
-use Rattle.geo_slots.proofs.PlaceLemmas.{entry_at, entry_read, place_in, place_within, before_here, value_here, set_here, remove_here, gap}
+use Rattle.geo_slots.proofs.PlaceLemmas.{entry_at, entry_read, number_at, place_in, place_within, before_here, value_here, set_here, remove_here, gap}
 
 -- the key of a number is that of its page
 pub key_there : (pages : Pages) (n m : ℕ) (page : Page) → n / 64 ≡ m → value_at pages m ≡ Some page
@@ -31,6 +31,12 @@ same_key old new n same = ap (option_and_then (λ p. key_in p (n % 64))) same
 pub page_read : (pages : Pages) (end at m : ℕ) (e : ℕ × Page) → AreInOrder pages end → page_at pages at ≡ Some m
     → e ≡ slice_index_or pages at e → value_at pages m ≡ Some e.1
 page_read pages end at m e o is read = value_here 0 at end pages m e.1 o.rising (entry_read pages at m e is read)
+
+-- the same of a place that was guessed, where the number is the page's
+pub page_got : (pages : Pages) (end at m : ℕ) (e : ℕ × Page) → AreInOrder pages end → at < length pages
+    → e ≡ slice_index_or pages at e → e.0 ≡ m → value_at pages m ≡ Some e.1
+page_got pages end at m e o within read is =
+    page_read pages end at m e o (number_at pages at e within ∙ ap (λ x. Some x.0) (sym read) ∙ ap Some is) read
 
 -- where a page would stand, its numbers have no key
 pub no_key_in_gap : (pages : Pages) (end at n : ℕ) → AreInOrder pages end → IsGap pages (n / 64) at

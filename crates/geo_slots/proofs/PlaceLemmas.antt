@@ -143,7 +143,7 @@ numbers_rise low high (q ∷ ps) rising (suc i) (suc j) d le within =
     numbers_rise (q.0 + 1) high ps rising.1 i j d (omega (arith, le)) (omega (arith, within))
 
 -- each place within the list has a page
-number_at : (pages : Pages) (at : ℕ) (d : ℕ × Page) → at < length pages
+pub number_at : (pages : Pages) (at : ℕ) (d : ℕ × Page) → at < length pages
     → page_at pages at ≡ Some (slice_index_or pages at d).0
 number_at [] at d within = absurd (omega (arith, within))
 number_at (q ∷ ps) zero d within = refl

@@ -1,6 +1,7 @@
 //! The index of a table: from numbers to keys, by pages.
-ghost use Rattle.std.specs.Prelude.{◌≡◌, ◌≢◌, ℕ, true, false, ◌<◌, ◌≤◌, ◌+◌, ◌*◌, ◌^◌, [], Some, None, max, IfNone, OnOk, MatchResult, ◌/◌, ◌%◌};
+ghost use Rattle.std.specs.Prelude.{◌≡◌, ◌≢◌, ℕ, true, false, ◌<◌, ◌≤◌, ◌+◌, ◌*◌, ◌^◌, [], Some, None, max, IfNone, IfSome, OnOk, MatchResult, ◌/◌, ◌%◌};
 ghost use Rattle.std.specs.List.{slice_get};
+ghost use Rattle.geo_slots.specs.Slots.{value_at};
 ghost use Rattle.geo_slots.specs.declared.page.Page.{Page};
 ghost use Rattle.geo_slots.specs.Pages.{AreInOrder, ArePages, AreWith, HaveRoom, IsGap, IsFirst, bits_at, key_in, key_at, page_at};
 
@@ -42,6 +43,7 @@ fn stands_at(index: &Index, at: usize, page: u64) -> bool
 }
 
 // Where a page stands or would stand, by halving.
+#[inline(never)]
 fn search(index: &Index, page: u64) -> Result<usize, usize>
     requires { AreInOrder index.now.pages.items index.now.end }
     ensures { MatchResult result (λ at. page_at index.now.pages.items at ≡ Some page)
@@ -55,15 +57,20 @@ fn search(index: &Index, page: u64) -> Result<usize, usize>
     }
 }
 
-// Where a page stands or would stand. Where none behind it is missing, the end tells.
+// Where a page stands, if none behind it is missing.
+#[inline]
+fn guess(index: &Index, page: u64) -> usize {
+    page.wrapping_add(index.pages.len() as u64)
+        .wrapping_sub(index.end) as usize
+}
+
+// Where a page stands or would stand.
 fn place(index: &Index, page: u64) -> Result<usize, usize>
     requires { AreInOrder index.now.pages.items index.now.end }
     ensures { MatchResult result (λ at. page_at index.now.pages.items at ≡ Some page)
         (IsGap index.now.pages.items page) }
 {
-    let guess = page
-        .wrapping_add(index.pages.len() as u64)
-        .wrapping_sub(index.end) as usize;
+    let guess = guess(index, page);
     if stands_at(index, guess, page) {
         Ok(guess)
     } else {
@@ -71,14 +78,40 @@ fn place(index: &Index, page: u64) -> Result<usize, usize>
     }
 }
 
+// The page at a place, if it is this one.
+#[inline]
+fn page_there(index: &Index, at: usize, page: u64) -> Option<&Page>
+    requires { AreInOrder index.now.pages.items index.now.end }
+    ensures { IfSome result (λ slots. value_at index.now.pages.items page ≡ Some slots.now) }
+{
+    match index.pages.get(at) {
+        Some((number, slots)) if *number == page => Some(slots),
+        _ => None,
+    }
+}
+
+// The key of a number, by a search for its page.
+#[inline(never)]
+fn key_by_search(index: &Index, number: u64) -> Option<usize>
+    requires { AreInOrder index.now.pages.items index.now.end }
+    ensures { result ≡ key_at index.now.pages.items number }
+{
+    match search(index, number / 64) {
+        Ok(at) => key_in(&index.pages[at].1, number % 64),
+        Err(_) => None,
+    }
+}
+
 /// The key of a number, if it has one.
+#[inline]
 pub fn key_of(index: &Index, number: u64) -> Option<usize>
     requires { AreInOrder index.now.pages.items index.now.end }
     ensures { result ≡ key_at index.now.pages.items number }
 {
-    match place(index, number / 64) {
-        Ok(at) => key_in(&index.pages[at].1, number % 64),
-        Err(_) => None,
+    let page = number / 64;
+    match page_there(index, guess(index, page), page) {
+        Some(slots) => key_in(slots, number % 64),
+        None => key_by_search(index, number),
     }
 }
 

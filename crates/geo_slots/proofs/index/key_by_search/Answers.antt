@@ -1,7 +1,7 @@
 use Rattle.std.proofs.Common.{◌≡◌, ◌∙◌, ◌/◌, Some, sym, refl}
 use Rattle.geo_slots.specs.Slots.{value_at}
 use Rattle.geo_slots.proofs.KeyLemmas.{page_read, key_there, no_key_in_gap}
-use Rattle.geo_slots.proofs.index.key_of.Goals as goal
+use Rattle.geo_slots.proofs.index.key_by_search.Goals as goal
 
 there : (c : goal.After-index)
     → value_at c.args.index.now.pages.items (c.args.number / 64) ≡ Some c.index.result.now.1
