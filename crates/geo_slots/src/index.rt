@@ -102,6 +102,28 @@ fn key_by_search(index: &Index, number: u64) -> Option<usize>
     }
 }
 
+// Where a page stands, if none before it is missing.
+#[inline]
+fn guess_from_front(index: &Index, page: u64) -> usize {
+    match index.pages.front() {
+        Some((first, _)) => page.wrapping_sub(*first) as usize,
+        None => 0,
+    }
+}
+
+// The key of a number whose page doesn't stand where its distance from the end says.
+#[inline(never)]
+fn key_elsewhere(index: &Index, number: u64) -> Option<usize>
+    requires { AreInOrder index.now.pages.items index.now.end }
+    ensures { result ≡ key_at index.now.pages.items number }
+{
+    let page = number / 64;
+    match page_there(index, guess_from_front(index, page), page) {
+        Some(slots) => key_in(slots, number % 64),
+        None => key_by_search(index, number),
+    }
+}
+
 /// The key of a number, if it has one.
 #[inline]
 pub fn key_of(index: &Index, number: u64) -> Option<usize>
@@ -111,7 +133,7 @@ pub fn key_of(index: &Index, number: u64) -> Option<usize>
     let page = number / 64;
     match page_there(index, guess(index, page), page) {
         Some(slots) => key_in(slots, number % 64),
-        None => key_by_search(index, number),
+        None => key_elsewhere(index, number),
     }
 }
 
