@@ -41,6 +41,30 @@ fn every_other_of_a_hundred_thousand_is_removed(rt: HostRuntime) {
     assert_same(&rt, table.insert(7), 100_001);
 }
 
+// A table that gave out this many numbers more than the first, of which the first alone kept its value.
+fn first_kept(alloc: Global, count: u64) -> Result<Slots<u64>, AllocError> {
+    let mut table: Slots<u64> = Slots::new(alloc);
+    table.reserve(1)?;
+    table.insert(7);
+    for value in 0..count {
+        table.reserve(1)?;
+        let number = table.insert(value);
+        let _ = table.remove(number);
+    }
+    Ok(table)
+}
+
+#[test]
+fn many_numbers_are_given_out_behind_one_that_stays(rt: HostRuntime) {
+    let mut table = first_kept(rt.alloc(), 200_000).expect(&rt, "memory");
+    assert_same(&rt, table.get(1).copied(), Some(7));
+    assert_same(&rt, walk(&table, 1_000), (1, 1));
+    assert_same(&rt, table.get(200_000).copied(), None);
+    assert_same(&rt, table.next_number(), 200_002);
+    assert_same(&rt, table.remove(1), Some(7));
+    assert_same(&rt, table.first_from(0), None);
+}
+
 #[test]
 fn a_value_that_is_text_is_changed_and_taken_out(rt: HostRuntime) {
     let mut table: Slots<String> = Slots::new(rt.alloc());
