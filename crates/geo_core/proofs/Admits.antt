@@ -19,12 +19,12 @@ use Rattle.geo_state.specs.Steps.{against, Does}
 use Rattle.geo_state.specs.World.{world, HasBytes}
 use Rattle.geo_core.specs.Left.{left_of, next_command_of, rest_of}
 use Rattle.geo_core.specs.Moves.{IsFound, Moves}
-use Rattle.geo_commands.specs.declared.decisions.Decision.{Decision}
-use Rattle.geo_commands.specs.Decisions.{IsDecided, places_owed, decision_of, is_closed}
+use Rattle.geo_moves.specs.declared.decisions.Decision.{Decision}
+use Rattle.geo_moves.specs.Decisions.{IsDecided, places_owed, decision_of, is_closed}
 use Rattle.geo_core.specs.Goes.{IsReady, IsOwedAfter, IsDecidedNext}
 use Rattle.geo_model.specs.declared.command.Command.{Command}
 use Rattle.geo_model.specs.declared.step.DeviceResult.{DeviceResult}
-use Rattle.geo_commands.proofs.Owed.{owed_changes}
+use Rattle.geo_moves.proofs.Owed.{owed_changes}
 use Rattle.geo_core.specs.declared.running.Running.{Running}
 use Rattle.geo_core.specs.Mesh.{world_of}
 use Rattle.geo_core.specs.Running.{seen, world_now, IsMesh}
@@ -39,7 +39,7 @@ use Rattle.geo_laws_graph.proofs.Members.{Contains-here}
 use Rattle.geo_model.specs.declared.step.Step.TheVariants as steps
 use Rattle.geo_model.specs.declared.step.Outcome.TheVariants as outcomes
 use Rattle.geo_model.specs.declared.step.Reply.TheVariants as replies
-use Rattle.geo_commands.specs.declared.decisions.Decision.TheVariants as decisions
+use Rattle.geo_moves.specs.declared.decisions.Decision.TheVariants as decisions
 
 -- what is against a step is so in each world for which the state stands with these commands left
 pub found_at : (commands : List LineCommand) (left : List ℕ) (s : State) (seat : ℕ) (st : Step) (f : Option Found)

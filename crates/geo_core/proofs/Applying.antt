@@ -12,10 +12,10 @@ use Rattle.geo_model.specs.World.{World}
 use Rattle.geo_model.specs.History.{next_command}
 use Rattle.geo_model.specs.Step.{Answer, step}
 use Rattle.geo_model.specs.Log.{owed, is_full}
-use Rattle.geo_commands.specs.Owed.{is_answered_ok, is_close, is_open}
-use Rattle.geo_commands.proofs.Owed.{owed_changes}
+use Rattle.geo_moves.specs.Owed.{is_answered_ok, is_close, is_open}
+use Rattle.geo_moves.proofs.Owed.{owed_changes}
 use Rattle.geo_state.specs.Steps.{against}
-use Rattle.geo_commands.specs.declared.decisions.Decision.{Decision}
+use Rattle.geo_moves.specs.declared.decisions.Decision.{Decision}
 use Rattle.geo_core.specs.declared.refusal.ApplyRefusal.{ApplyRefusal}
 use Rattle.geo_core.specs.declared.running.Running.{Running}
 use Rattle.geo_core.specs.declared.twin.Spare.{Spare}

@@ -1,2 +1,2 @@
 -- A law of full logs, handed on to what drives a mesh.
-pub use Rattle.geo_commands.proofs.Owed.{full_logs_are_long}
+pub use Rattle.geo_moves.proofs.Owed.{full_logs_are_long}

@@ -16,7 +16,7 @@ use Rattle.geo_model.specs.Step.{Answer, step}
 use Rattle.geo_model.specs.Log.{is_full, is_full_after}
 use Rattle.geo_model.specs.History.{next_command}
 use Rattle.geo_model.specs.Laws.{ClosesOk}
-use Rattle.geo_commands.specs.Owed.{is_close}
+use Rattle.geo_moves.specs.Owed.{is_close}
 use Rattle.geo_lock.specs.Logged.{lacks_memory}
 use Rattle.geo_core.specs.declared.refusal.ApplyRefusal.{ApplyRefusal}
 use Rattle.geo_core.specs.declared.refusal.ApplyRefusal.TheVariants as refusals

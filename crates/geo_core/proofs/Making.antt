@@ -15,7 +15,7 @@ use Rattle.geo_model.specs.Step.{Answer, step, go, go_of, start_of, deliver_of, 
 use Rattle.geo_state.specs.declared.state.State.{State}
 use Rattle.geo_state.specs.Steps.{against, IsAgainst, Makes}
 use Rattle.geo_state.specs.World.{world, HasBytes}
-use Rattle.geo_commands.specs.declared.decisions.Decision.{Decision}
+use Rattle.geo_moves.specs.declared.decisions.Decision.{Decision}
 use Rattle.geo_core.specs.declared.running.Running.{Running}
 use Rattle.geo_core.specs.Goes.{IsReady}
 use Rattle.geo_core.specs.Left.{left_of, next_command_of}

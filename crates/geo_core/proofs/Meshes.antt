@@ -17,7 +17,7 @@ use Rattle.geo_model.proofs.LogLemmas.{replay-append}
 use Rattle.geo_laws_requests.proofs.Legal.{firm_after}
 use Rattle.geo_laws_texts.specs.Naming.{HaveNames}
 use Rattle.geo_laws_texts.proofs.Logs.{legal_logs_have_names}
-use Rattle.geo_commands.proofs.Owed.{logs_stay_lawful}
+use Rattle.geo_moves.proofs.Owed.{logs_stay_lawful}
 use Rattle.geo_laws_requests.proofs.Complete.{legal_logs_complete_requests}
 use Rattle.geo_log.specs.Places.{delivered_at}
 use Rattle.geo_state.specs.ShownLaws.{LoggedStay}
@@ -28,7 +28,7 @@ use Rattle.geo_state.specs.Holds.{Holds}
 use Rattle.geo_state.specs.Steps.{Makes, SameWorld, Stands}
 use Rattle.geo_state.specs.World.{world, HasBytes}
 use Rattle.geo_core.specs.declared.running.Running.{Running}
-use Rattle.geo_commands.specs.Decisions.{places_owed}
+use Rattle.geo_moves.specs.Decisions.{places_owed}
 use Rattle.geo_core.specs.Goes.{HasRoomFor}
 use Rattle.geo_core.specs.Left.{left_at, left_of, AreNext}
 use Rattle.geo_core.specs.Mesh.{MeshView, opened, world_of, entry_of, IsHistory, Made}

@@ -16,7 +16,7 @@ use Rattle.geo_model.specs.World.{World, Plan, HeaderDisk, commands_of, Config, 
 use Rattle.geo_model.specs.Fitting.{Firm}
 use Rattle.geo_model.specs.Opening.{bare_world, disk_in_size, opening, first_topology}
 use Rattle.geo_model.specs.Plans.{IsPlan, IsDiskDecl, IsFact, FactsFit, Differ}
-use Rattle.geo_commands.proofs.Opening.{IsNumbered, stand-firm}
+use Rattle.geo_moves.proofs.Opening.{IsNumbered, stand-firm}
 use Rattle.geo_laws_life.proofs.Standing.{Stander, disk_geoms, disk_providers, standers, stand-all}
 use Rattle.geo_laws_requests.proofs.Legal.{opened_firm}
 use Rattle.geo_core.specs.Openings.{stand_one, stood, IsOpened}
@@ -36,8 +36,8 @@ use Rattle.geo_state.specs.Holds.{Holds}
 use Rattle.geo_state.specs.Parts.{geom_of_disk}
 use Rattle.geo_state.specs.World.{world, disk_of_seat, HasBytes}
 use Rattle.geo_state.specs.Steps.{Stands}
-use Rattle.geo_commands.specs.Disks.{item_at}
-use Rattle.geo_commands.proofs.Finding.{seat-absent}
+use Rattle.geo_moves.specs.Disks.{item_at}
+use Rattle.geo_moves.proofs.Finding.{seat-absent}
 use Rattle.geo_mesh.specs.Topo.{TopoView}
 use Rattle.geo_handles.specs.Handles.{HandlesView}
 use Rattle.geo_state.specs.declared.state.OwnBios.{OwnBios}

@@ -8,9 +8,9 @@ use Rattle.geo_model.specs.World.{World}
 use Rattle.geo_model.specs.Step.{step}
 use Rattle.geo_model.specs.Log.{owed, is_full}
 use Rattle.geo_state.specs.declared.state.State.{State}
-use Rattle.geo_commands.specs.declared.decisions.Decision.{Decision}
+use Rattle.geo_moves.specs.declared.decisions.Decision.{Decision}
 use Rattle.geo_core.specs.declared.running.Running.{Running}
-use Rattle.geo_commands.specs.Decisions.{IsDecided}
+use Rattle.geo_moves.specs.Decisions.{IsDecided}
 use Rattle.geo_core.specs.Left.{left_of, next_command_of}
 use Rattle.geo_core.specs.Mesh.{world_of}
 use Rattle.geo_core.specs.Moves.{IsFound}

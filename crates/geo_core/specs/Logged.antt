@@ -14,7 +14,7 @@ use Rattle.geo_model.specs.Step.{Answer, is_enabled, step}
 use Rattle.geo_model.specs.Log.{is_full}
 use Rattle.geo_model.specs.History.{next_command}
 use Rattle.geo_model.specs.Passes.{GoodPass, Pass}
-use Rattle.geo_commands.specs.Owed.{is_close}
+use Rattle.geo_moves.specs.Owed.{is_close}
 use Rattle.geo_lock.specs.Pass.{IsGoodIn, PassView}
 use Rattle.geo_core.specs.declared.logged.MeshStart.{MeshStart}
 use Rattle.geo_core.specs.declared.refusal.ApplyRefusal.{ApplyRefusal}

@@ -10,8 +10,8 @@ use crate::refusal::ApplyRefusal;
 use crate::running::Running;
 use geo_access::Steps;
 use geo_base::MAX_LOG_ENTRIES;
-use geo_commands::Decision;
 use geo_model::Step;
+use geo_moves::Decision;
 use std::sync::ledger::Ledger;
 
 /// Whether a step of a seat can be made: nothing is against it, it has its place in the log, and there is room for its

@@ -4,9 +4,11 @@ ghost use Rattle.geo_core.specs.Left.{AreNext};
 ghost use Rattle.geo_core.specs.Moves.{IsFound};
 
 use crate::left::Left;
-use geo_commands::{deliver_found, reap_found, start_found, take_found, up_found, wait_found};
-use geo_events::{event_found, judge_found, wash_found};
 use geo_model::{Found, Step};
+use geo_moves::{
+    deliver_found, event_found, judge_found, reap_found, start_found, take_found, up_found,
+    wait_found, wash_found,
+};
 use geo_script::Plan;
 use geo_state::State;
 

@@ -9,9 +9,9 @@ ghost use Rattle.geo_state.specs.World.{disk_of_seat};
 ghost use Rattle.geo_core.specs.Openings.{IsOpened, stood};
 
 use geo_base::NoMemory;
-use geo_commands::stand;
 use geo_log::DiskFacts;
 use geo_model::DiskDecl;
+use geo_moves::stand;
 use geo_script::Plan;
 use geo_state::{DiskSeat, OwnBios, State, empty};
 use std::alloc::Global;

@@ -11,7 +11,7 @@ ghost use Rattle.geo_core.specs.Running.{seen, is_idle, is_none_left, IsMesh};
 use crate::running::Running;
 use geo_base::{BioCmd, BioId};
 use geo_bio::Bio;
-use geo_commands::disk_at;
+use geo_moves::disk_at;
 use geo_state::State;
 
 /// Whether no command, bio, event or taste is left.

@@ -8,9 +8,9 @@ ghost use Rattle.geo_core.specs.Sent.{spot_in, spot_of};
 use crate::running::Running;
 use geo_base::{BioCmd, BioId};
 use geo_bio::Bio;
-use geo_commands::{disk_at, sector_at};
 use geo_mesh::Topo;
 use geo_model::Phase;
+use geo_moves::{disk_at, sector_at};
 use geo_state::Config;
 
 /// What a bio that waits for its disk will have the disk asked for: its command, and the sector at which it begins.

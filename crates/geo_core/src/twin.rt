@@ -11,8 +11,8 @@ ghost use Rattle.geo_core.specs.Twins.{HasReply, HasTwin, HasOutcome, HasCommand
 
 use crate::running::Running;
 use geo_base::{BioId, NoMemory, SharedBytes};
-use geo_commands::listing;
 use geo_model::{BioResult, Command, MeshList, Outcome, Owner, Reply, Request, Step};
+use geo_moves::listing;
 use std::alloc::Global;
 
 /// What an outcome has that takes memory.

@@ -3,7 +3,7 @@ use Rattle.geo_model.specs.declared.step.Outcome.TheVariants as outcomes
 use Rattle.geo_model.specs.declared.step.Step.{Step}
 use Rattle.geo_model.specs.Step.{step}
 use Rattle.geo_state.specs.World.{world}
-use Rattle.geo_commands.proofs.Doing.{logged_same}
+use Rattle.geo_moves.proofs.Doing.{logged_same}
 use Rattle.geo_core.specs.Left.{left_of}
 use Rattle.geo_core.specs.Mesh.{IsSure}
 use Rattle.geo_core.proofs.Meshes.{longer_bytes}

@@ -1,4 +1,0 @@
-pub mod Steps
-pub mod Killing
-pub mod Judging
-pub mod Washing

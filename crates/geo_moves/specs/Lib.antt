@@ -1,0 +1,27 @@
+pub mod Holders
+pub mod Handles
+pub mod Ways
+pub mod Founds
+pub mod Started
+pub mod Asked
+pub mod Risen
+pub mod Returned
+-- handed on to the crates above: what geoms are made of, and who can stand where
+pub use Rattle.geo_taste.specs.Making
+pub use Rattle.geo_taste.specs.Standing
+pub use Rattle.geo_taste.specs.declared.offer.Offer
+pub use Rattle.geo_taste.specs.declared.raise.NewGeom
+pub mod Steps
+pub mod Killing
+pub mod Judging
+pub mod Washing
+pub mod Decisions
+pub mod Names
+pub mod Below
+pub mod Disks
+pub mod Makes
+pub mod Above
+pub mod Appends
+pub mod Assemblies
+pub mod Lines
+pub mod Owed

@@ -1,0 +1,180 @@
+//! What the command of a line does.
+ghost use Rattle.std.specs.Prelude.{◌≡◌, true, List, IfOk, IsOk, OnErr};
+ghost use Rattle.geo_model.specs.declared.command.Command.{Command as CommandValue};
+ghost use Rattle.geo_model.specs.declared.step.Entry.{Entry};
+ghost use Rattle.geo_model.specs.declared.step.Outcome.TheVariants as outcomes;
+ghost use Rattle.geo_model.specs.declared.step.Reply.TheVariants as replies;
+ghost use Rattle.geo_model.specs.Commands.{do_command};
+ghost use Rattle.geo_model.specs.HandleCommands.{do_open};
+ghost use Rattle.geo_model.specs.Listing.{listing};
+ghost use Rattle.geo_model.specs.Plans.{IsCommand, IsGrant};
+ghost use Rattle.geo_laws_texts.specs.Naming.{HaveNames};
+ghost use Rattle.geo_state.specs.Holds.{Holds};
+ghost use Rattle.geo_state.specs.Steps.{Does, SameWorld, Stands};
+ghost use Rattle.geo_state.specs.World.{HasBytes};
+ghost use Rattle.geo_moves.specs.declared.decisions.Decision.TheVariants as decisions;
+ghost use Rattle.geo_moves.specs.Decisions.{IsDecided, is_on_geoms};
+
+use crate::asked::{ask, write};
+use crate::closes::close;
+use crate::decisions::Decision;
+use crate::mark::Mark;
+use crate::marks::{concat_record, stripe_record};
+use crate::opens::open;
+use crate::reply::done;
+use crate::requests::write_record;
+use crate::{append, concat, destroy, insert, listing, nop, pull, stripe};
+use geo_access::Steps;
+use geo_base::{BioCmd, Counts, Name, NoMemory};
+use geo_model::{Command, Outcome, Reply};
+use geo_state::State;
+use std::alloc::Global;
+use std::sync::ledger::Ledger;
+
+/// What the command of a line of an actor does, once it is decided: the reply to the line, or the request that it
+/// began. A close that is answered ok takes no memory; after `NoMemory` all is as before.
+pub fn do_command<L: Ledger>(
+    alloc: Global,
+    state: &mut State,
+    line: u32,
+    actor: u32,
+    command: &Command,
+    decision: Decision,
+    steps: &mut Steps<L>,
+) -> Result<Outcome, NoMemory>
+    requires stands { Stands state.old }
+    requires named { HaveNames state.old.topo.topology }
+    requires is_command { IsCommand command.now }
+    requires decided { IsDecided state.old actor command.now decision }
+    ensures does { (log : List Entry) → IfOk result (λ o.
+        Does (λ w. do_command w line actor command.now) log state.old state.new o) }
+    ensures kept { Holds state.new }
+    ensures same { OnErr result (SameWorld state.old state.new) }
+    ensures logged { (log : List Entry) → HasBytes log state.old → HasBytes log state.new }
+    ensures no_memory { decision ≡ decisions.Closes → IsOk result }
+{
+    match command {
+        Command::Open(name, prov, grant) => {
+            open_decided(state, line, actor, name, prov, *grant, decision, steps)
+        }
+        Command::Close(name) => Ok(close(state, line, actor, name, steps)),
+        Command::Read(name, offset, len) => {
+            ask(alloc, state, line, actor, name, BioCmd::Read, *offset, *len)
+        }
+        Command::Write(name, offset, bytes) => {
+            write(alloc, state, line, actor, name, *offset, bytes)
+        }
+        Command::Delete(name, from, len) => {
+            ask(alloc, state, line, actor, name, BioCmd::Delete, *from, *len)
+        }
+        Command::Flush(name) => ask(alloc, state, line, actor, name, BioCmd::Flush, 0, 0),
+        Command::Sync => Ok(done(line)),
+        Command::Settle => Ok(done(line)),
+        Command::Mesh => list(alloc, state, line),
+        Command::Insert(..)
+        | Command::Pull(..)
+        | Command::Nop(..)
+        | Command::Concat(..)
+        | Command::Stripe(..)
+        | Command::Append(..)
+        | Command::Destroy(..)
+        | Command::Label(..)
+        | Command::Relabel(..)
+        | Command::MarkConcat(..)
+        | Command::MarkStripe(..) => on_geoms(alloc, state, line, actor, command, steps),
+    }
+}
+
+// What a command on geoms does, and one that writes a record.
+fn on_geoms<L: Ledger>(
+    alloc: Global,
+    state: &mut State,
+    line: u32,
+    actor: u32,
+    command: &Command,
+    steps: &mut Steps<L>,
+) -> Result<Outcome, NoMemory>
+    requires stands { Stands state.old }
+    requires named { HaveNames state.old.topo.topology }
+    requires is_command { IsCommand command.now }
+    requires geoms { is_on_geoms command.now ≡ true }
+    ensures does { (log : List Entry) → IfOk result (λ o.
+        Does (λ w. do_command w line actor command.now) log state.old state.new o) }
+    ensures kept { Holds state.new }
+    ensures same { OnErr result (SameWorld state.old state.new) }
+    ensures logged { (log : List Entry) → HasBytes log state.old → HasBytes log state.new }
+{
+    match command {
+        Command::Insert(disk) => insert(state, line, disk),
+        Command::Pull(disk) => Ok(pull(state, line, disk)),
+        Command::Nop(prov, offset, size, fail) => { nop(state, line, prov, *offset, *size, *fail) }
+        Command::Concat(name, provs) => concat(alloc, state, line, name, provs.items()),
+        Command::Stripe(name, strip, provs) => {
+            stripe(alloc, state, line, name, *strip, provs.items())
+        }
+        Command::Append(name, prov) => append(alloc, state, line, name, prov, steps),
+        Command::Destroy(kind, name) => Ok(destroy(state, line, *kind, name)),
+        Command::Label(name, label) => {
+            write_record(alloc, state, line, actor, name, &Mark::Label(*label))
+        }
+        Command::Relabel(name, label) => {
+            write_record(alloc, state, line, actor, name, &Mark::Relabel(*label))
+        }
+        Command::MarkConcat(name, label, id, place, count) => {
+            let part = concat_record(label, *id, *place, *count);
+            write_record(alloc, state, line, actor, name, &Mark::Concat(part))
+        }
+        Command::MarkStripe(name, label, id, place, count, strip) => {
+            let part = stripe_record(label, *id, *place, *count, *strip);
+            write_record(alloc, state, line, actor, name, &Mark::Stripe(part))
+        }
+        Command::Open(..)
+        | Command::Close(..)
+        | Command::Read(..)
+        | Command::Write(..)
+        | Command::Delete(..)
+        | Command::Flush(..)
+        | Command::Sync
+        | Command::Settle
+        | Command::Mesh => unreachable!(),
+    }
+}
+
+// An open, once it is decided.
+fn open_decided<L: Ledger>(
+    state: &mut State,
+    line: u32,
+    actor: u32,
+    name: &Name,
+    prov: &Name,
+    grant: Counts,
+    decision: Decision,
+    steps: &mut Steps<L>,
+) -> Result<Outcome, NoMemory>
+    requires stands { Stands state.old }
+    requires grant { IsGrant grant }
+    requires decided { IsDecided state.old actor (CommandValue.Open name.now prov.now grant) decision }
+    ensures does { (log : List Entry) → IfOk result (λ o.
+        Does (λ w. do_open w line actor name.now prov.now grant) log state.old state.new o) }
+    ensures kept { Holds state.new }
+    ensures same { OnErr result (SameWorld state.old state.new) }
+    ensures logged { (log : List Entry) → HasBytes log state.old → HasBytes log state.new }
+{
+    let Decision::Opens(refusal) = decision else {
+        unreachable!()
+    };
+    open(state, line, actor, name, prov, grant, refusal, steps)
+}
+
+// The mesh is listed.
+fn list(alloc: Global, state: &State, line: u32) -> Result<Outcome, NoMemory>
+    requires stands { Stands state.now }
+    ensures { (log : List Entry) → IfOk result (λ o.
+        Does (λ w. (w, outcomes.Replied line (replies.Listing (listing w)))) log state.now state.now o) }
+{
+    let lines = listing(alloc, state)?;
+    Ok(Outcome::Replied {
+        line,
+        reply: Reply::Listing(lines),
+    })
+}

@@ -1,4 +1,0 @@
-pub mod Holding
-pub mod Settling
-pub mod Stepping
-pub mod Admitting
