@@ -5,3 +5,4 @@ pub mod Full
 pub mod Lines
 pub mod Waiting
 pub mod HandedOn
+pub mod Falling

@@ -1,8 +1,12 @@
 -- What a run to rest adds to the log and leaves of the drives.
-use Rattle.std.specs.Prelude.{◌≡◌, ◌+◌, ◌-◌, ◌≤◌, List, ◌++◌, length, map}
+use Rattle.std.specs.Prelude.{◌≡◌, ◌+◌, ◌-◌, ◌≤◌, List, ◌++◌, length, map, IsTrue}
 use Rattle.geo_base.specs.declared.limits.TheConstants.{MAX_LOG_ENTRIES}
 use Rattle.geo_model.specs.declared.step.Entry.{Entry}
+use Rattle.geo_model.specs.declared.step.Step.{Step}
+use Rattle.geo_model.specs.Laws.{Lowers}
 use Rattle.geo_model.specs.Log.{owed}
+use Rattle.geo_model.specs.Step.{is_enabled}
+use Rattle.geo_model.specs.World.{World}
 use Rattle.geo_model.specs.FixedOrder.{StepOrder, FollowsOrder}
 use Rattle.geo_headline.specs.Endings.{NextIsFull}
 use Rattle.geo_serve.specs.Drives.{DriveView}
@@ -13,6 +17,11 @@ use Rattle.geo_core.specs.Mesh.{MeshView, opened, world_of}
 -- the mesh with more entries
 abbrev pub with_entries : MeshView → List Entry → MeshView
 with_entries m added = record m { log = m.log ++ added }
+
+-- a step of seat 0 that is enabled and lowers the measure, a Take together with its Deliver
+pub record Falls (w : World) (s : Step) : Type 0 where
+  pub enabled : IsTrue (is_enabled w 0 s)
+  pub lowers : Lowers w 0 s
 
 -- there is one drive for each disk of the plan, in header order, with the sizes with which the mesh began
 abbrev pub DrivesFit : MeshView → List DriveView → Type 0

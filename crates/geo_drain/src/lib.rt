@@ -6,7 +6,7 @@
 //! knows of that (`knows`). [`FixedOrder`] is the order of `step`, and knows nothing.
 //!
 //! In a mesh without a Busy bio [`pick`] is the step that the fixed order has due (`picked`), and there is none
-//! exactly at rest (`rest`). From such a mesh [`run_to_rest`] makes the steps of its order until all is at rest
+//! exactly at rest (`rest`). It is enabled and lowers the measure (`falls`). From such a mesh [`run_to_rest`] makes the steps of its order until all is at rest
 //! (`rest`). What it added to the log follows the order, with the Take of each of its Delivers, and each drive served
 //! just that (`runs`: `Runs`). `LogFull` comes only where the step that is due has no place (`full`). That it ends is
 //! proved for every order that goes on. An order may keep what it needs of what the mesh did: it notes that after

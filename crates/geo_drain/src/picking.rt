@@ -1,10 +1,11 @@
 //! The step that is due in the fixed order.
-ghost use Rattle.std.specs.Prelude.{◌≡◌, ◌↔◌, IsNone, IsTrue};
+ghost use Rattle.std.specs.Prelude.{◌≡◌, ◌↔◌, IfSome, IsNone, IsTrue};
 ghost use Rattle.std.specs.Option.{option_map};
 ghost use Rattle.geo_model.specs.declared.step.Step.TheVariants as steps;
 ghost use Rattle.geo_model.specs.Laws.{NoneBusy};
 ghost use Rattle.geo_model.specs.Order.{Rest, earliest, if_enabled, pick, ready_actors};
 ghost use Rattle.geo_core.specs.Mesh.{IsHistory, world_of};
+ghost use Rattle.geo_drain.specs.Drain.{Falls};
 ghost use Rattle.geo_drain.specs.Earliest.{earlier_of, ready_at};
 
 use geo_core::Mesh;
@@ -12,11 +13,13 @@ use geo_model::Step;
 
 /// The step that is due in the fixed order, where no bio is Busy: the first enabled of Up, Take and Start of the
 /// smallest bio, Judge, Event, Reap, Wash, and the Go of the actor whose next line is the smallest. None exactly at
-/// rest.
+/// rest. It lowers the measure, a Take together with its Deliver, so the order comes to rest however long the log may
+/// be.
 pub fn pick(mesh: &Mesh) -> Option<Step>
     requires { NoneBusy (world_of mesh.now) }
     ensures picked { result ≡ pick (world_of mesh.now) }
     ensures rest { IsNone result ↔ Rest (world_of mesh.now) }
+    ensures falls { IfSome result (Falls (world_of mesh.now)) }
     ensures history { IsHistory mesh.now }
 {
     if mesh.at_rest() {
