@@ -1,21 +1,28 @@
 -- Where nothing fails and all is there, the status is 0, or 6 or 7; that of a verified trace is one of a verdict.
-use Rattle.std.proofs.Common.{◌≡◌, ◌⊎◌, ℕ, ◌+◌, ◌-◌, ◌^◌, ◌≤◌, min, Bool, false, List, [], ◌∷◌, ◌++◌, length, find, All, Option, Some, None, Ok, Err, unwrap_or, refl, ◌∙◌, ap, subst, inl, inr, arith, IfSome, IsSome, IsSomeAnd, ◌&&◌, bytes_eq, if◌then◌else◌, rules}
+use Rattle.std.proofs.Common.{◌≡◌, ◌⊎◌, ℕ, ◌+◌, ◌-◌, ◌^◌, ◌≤◌, min, Bool, false, List, [], ◌∷◌, ◌++◌, length, find, All, Option, Some, None, Ok, Err, unwrap_or, refl, ◌∙◌, ap, subst, inl, inr, arith, IfSome, IsSome, IsSomeAnd, ◌&&◌, bytes_eq, if◌then◌else◌, rules, drop, Contains, sym, append_assoc}
 use Rattle.std.specs.List.{AllByRecursion, list_any}
 use Rattle.std.proofs.lemmas.List.{append-nil, length-append}
-use Rattle.std.proofs.lemmas.List.Elements.{recursion_from_All}
+use Rattle.std.proofs.lemmas.List.Elements.{recursion_from_All, Contains-append_left, Contains-append_right}
+use Rattle.std.proofs.Math.Seq.{drop-append_seam}
 use Rattle.geo_base.specs.Faults.{Rose, RoseBy}
 use Rattle.geo_io.specs.Counts.{FailedAtLast}
 use Rattle.geo_base.specs.Images.{Images}
+use Rattle.geo_disk.specs.declared.shelf.ShelfCall.{ShelfCall}
+use Rattle.geo_disk.specs.declared.shelf.ShelfCall.TheVariants as shelf_calls
+use Rattle.geo_disk.specs.declared.shelf.TakeAnswer.{TakeAnswer}
+use Rattle.geo_disk.specs.declared.shelf.TakeAnswer.TheVariants as answers
 use Rattle.geo_model.specs.declared.command.DiskDecl.{DiskDecl}
 use Rattle.geo_model.specs.declared.command.DiskKind.{DiskKind}
 use Rattle.geo_model.specs.declared.command.DiskKind.TheVariants as disk_kinds
+use Rattle.geo_model.specs.declared.step.Entry.{Entry}
 use Rattle.geo_model.specs.World.{Plan}
 use Rattle.geo_model.specs.Script.{Fault, script}
 use Rattle.geo_headline.specs.Modes.{Mode, StepMode, RunMode, GenMode, SweepMode, WatchMode, TraceMode, VerifyMode, Accepts, source_limit}
-use Rattle.geo_headline.specs.Outside.{ShelfView, IsShelf, is_shelf, kept_back, HasImage, IsMissing, IsBadSize}
-use Rattle.geo_headline.specs.Endings.{Ending, Reported, ReportedButFault, BadWords, NoScript, ReadFault, ShelfFault, NoDisk, BadSize, OutOfMemory, LogFull, TooLong, Answered, NoTrace, Call, IsReadWhole, StopsAt, WasReadWhole, failed_takes, first_kept_back, script_of, status_of}
+use Rattle.geo_headline.specs.Outside.{ShelfView, IsShelf, is_shelf, kept_back, HasImage, IsMissing, IsBadSize, takes_of, gives_of}
+use Rattle.geo_headline.specs.Endings.{Ending, Reported, ReportedButFault, BadWords, NoScript, ReadFault, ShelfFault, NoDisk, BadSize, OutOfMemory, LogFull, TooLong, Answered, NoTrace, BytesPass, Call, IsParsed, IsReadWhole, StopsAt, WasReadWhole, failed_takes, first_kept_back, script_of, status_of}
 use Rattle.geo_headline.specs.declared.verified.Verified.TheVariants as found
-use Rattle.geo_headline.specs.Headline.{GivesScript, IsComplete, IsToldThere, KeepsAll, ModeIsComplete, NoFault, RunIsComplete, text_to_give}
+use Rattle.geo_headline.specs.Headline.{CallsInOrder, DisksAreThere, FindsDisks, GivesScript, IsComplete, IsToldThere, KeepsAll, ModeIsComplete, NoFault, RunIsComplete, calls_made, text_to_give}
+use Rattle.geo_run.proofs.Tests.{contains_first}
 use Rattle.geo_run.proofs.Generated.{generated_in_memory, one_plan, plan_or_fault}
 
 -- Texts
@@ -94,10 +101,62 @@ in_memory plan name F shelf s all =
     (subst (λ (ds : List DiskDecl). AllByRecursion (λ (d : DiskDecl). IsShelf d.kind → ⊥) ds) s.in_plan
     (recursion_from_All (λ (d : DiskDecl). IsShelf d.kind → ⊥) plan.disks all)) s.of_shelf
 
+-- the takes and gives of a call came behind those before it
+made : (plan : Plan) (ending : Ending) (log : Option (List Entry)) (a b : ShelfView)
+    → (c : CallsInOrder plan ending log a b)
+    → calls_made a b ≡ takes_of answers.Disk c.had ++ takes_of c.answer c.missed ++ gives_of c.had
+made plan ending log a b c =
+    let had : List ShelfCall = takes_of answers.Disk c.had in
+    let missed : List ShelfCall = takes_of c.answer c.missed in
+    ap (λ (calls : List ShelfCall). drop (length a.calls) calls)
+    (c.calls ∙ ap (λ (calls : List ShelfCall). calls ++ gives_of c.had) (append_assoc a.calls had missed)
+    ∙ append_assoc a.calls (had ++ missed) (gives_of c.had))
+    ∙ drop-append_seam a.calls (had ++ missed ++ gives_of c.had)
+
+-- the take of the one name that was missed is among them, with its answer
+missed_made : (plan : Plan) (ending : Ending) (log : Option (List Entry)) (a b : ShelfView)
+    (c : CallsInOrder plan ending log a b) (name : List ℕ) (answer : TakeAnswer) → c.missed ≡ name ∷ []
+    → c.answer ≡ answer → Contains (calls_made a b) (shelf_calls.Take name answer)
+missed_made plan ending log a b c name answer missed is =
+    let had : List ShelfCall = takes_of answers.Disk c.had in
+    let taken : List ShelfCall = takes_of c.answer c.missed in
+    let one : Contains taken (shelf_calls.Take name answer) =
+    subst (λ (calls : List ShelfCall). Contains calls (shelf_calls.Take name answer))
+    (ap (λ (names : List (List ℕ)). takes_of answer names) (sym missed)
+    ∙ ap (λ (z : TakeAnswer). takes_of z c.missed) (sym is))
+    (contains_first (shelf_calls.Take name answer) []) in
+    subst (λ (calls : List ShelfCall). Contains calls (shelf_calls.Take name answer)) (sym (made plan ending log a b c))
+    (Contains-append_left (had ++ taken) (gives_of c.had) (shelf_calls.Take name answer)
+    (Contains-append_right had taken (shelf_calls.Take name answer) one))
+
+-- where no take missed its disk, none is told to be missing, or of a bad size
+never_missing : (plan : Plan) (log : Option (List Entry)) (a b : ShelfView) (name : List ℕ) → FindsDisks a b
+    → CallsInOrder plan (NoDisk name) log a b → ⊥
+never_missing plan log a b name finds c =
+    (finds name).0 (missed_made plan (NoDisk name) log a b c name answers.Missing c.missed_is c.answer_is)
+
+never_bad : (plan : Plan) (log : Option (List Entry)) (a b : ShelfView) (name : List ℕ) → FindsDisks a b
+    → CallsInOrder plan (BadSize name) log a b → ⊥
+never_bad plan log a b name finds c =
+    (finds name).1 (missed_made plan (BadSize name) log a b c name answers.BadSize c.missed_is c.answer_is)
+
+-- the disks of a plan are those of another that is the same
+same_disks : (shelf : ShelfView) (p plan : Plan) → p ≡ plan → All (IsToldThere shelf) p.disks
+    → All (IsToldThere shelf) plan.disks
+same_disks shelf p plan e all = subst (λ (z : Plan). All (IsToldThere shelf) z.disks) e all
+
 -- the plan of the text that was to be given is the plan of the text
 same_plan : (text to_give : List ℕ) (p plan : Plan) → to_give ≡ text → script to_give ≡ Ok p → script text ≡ Ok plan
     → p ≡ plan
 same_plan text to_give p plan e a b = one_plan p plan (script to_give) a (ap script e ∙ b)
+
+the_plan : (call : Call) (mode : Mode) (plan p : Plan) → (WasReadWhole call mode → IsReadWhole call mode)
+    → script_of mode call.text ≡ call.text → IsParsed call mode plan → BytesPass call
+    → script (text_to_give call) ≡ Ok p → p ≡ plan
+the_plan call mode plan p whole text parsed bytes is =
+    same_plan call.text (text_to_give call) p plan
+    (all_given call.before.source.left call.after.source.left call.text bytes.had_left (whole parsed.read).none_left)
+    is (ap script (sym text) ∙ parsed.script)
 
 no_fault_there : (text to_give : List ℕ) (p : Plan) (fault : Fault) → to_give ≡ text → script to_give ≡ Ok p
     → script text ≡ Err fault → ⊥
@@ -109,7 +168,7 @@ no_fault_there text to_give p fault e a b = plan_or_fault p fault (script to_giv
 abbrev HasScript : Call → Mode → Type 0
 HasScript call mode =
     (length (text_to_give call) ≤ source_limit mode)
-    × ((p : Plan) × (script (text_to_give call) ≡ Ok p) × All (IsToldThere call.before.shelf) p.disks)
+    × ((p : Plan) × (script (text_to_give call) ≡ Ok p) × DisksAreThere call.before.shelf call.after.shelf p)
 
 -- an ending that can't be where nothing fails, or one with its status
 abbrev IsGood : Ending → Type 0
@@ -140,10 +199,26 @@ script_ends call mode plan BadWords other whole text a k fine s = absurd (k.ends
 script_ends call mode plan (NoScript line c) other whole text a k fine s = search rules
 script_ends call mode plan ReadFault other whole text a k fine s = absurd (fine.source (failed_rose _ _ _ k.ends.cause.2))
 script_ends call mode plan (ShelfFault name) other whole text a k fine s = search rules
-script_ends call mode plan (NoDisk name) other whole text a k fine s =
-    search (rules, stopped_there call.before.shelf plan name IsMissing k.ends.cause.1)
-script_ends call mode plan (BadSize name) other whole text a k fine s =
-    search (rules, stopped_there call.before.shelf plan name IsBadSize k.ends.cause.1)
+script_ends call mode plan (NoDisk name) other whole text a k fine s = by s.1.2
+  where
+    by : DisksAreThere call.before.shelf call.after.shelf s.1.0 → IsGood (NoDisk name)
+    by (inl told) =
+        let all = same_disks call.before.shelf s.1.0 plan
+        (the_plan call mode plan s.1.0 whole text k.ends.cause.0 k.texts.bytes s.1.1) told in
+        absurd (not_missing k.ends.cause.1.disk call.before.shelf.told
+        (stopped_there call.before.shelf plan name IsMissing k.ends.cause.1 all) k.ends.cause.1.cause)
+    by (inr finds) =
+        absurd (never_missing plan call.log call.before.shelf call.after.shelf name finds k.outside.in_order)
+script_ends call mode plan (BadSize name) other whole text a k fine s = by s.1.2
+  where
+    by : DisksAreThere call.before.shelf call.after.shelf s.1.0 → IsGood (BadSize name)
+    by (inl told) =
+        let all = same_disks call.before.shelf s.1.0 plan
+        (the_plan call mode plan s.1.0 whole text k.ends.cause.0 k.texts.bytes s.1.1) told in
+        absurd (not_bad k.ends.cause.1.disk call.before.shelf.told
+        (stopped_there call.before.shelf plan name IsBadSize k.ends.cause.1 all) k.ends.cause.1.cause)
+    by (inr finds) =
+        absurd (never_bad plan call.log call.before.shelf call.after.shelf name finds k.outside.in_order)
 script_ends call mode plan OutOfMemory other whole text a k fine s = inr (inl refl)
 script_ends call mode plan LogFull other whole text a k fine s = inr (inr refl)
 script_ends call mode plan TooLong other whole text a k fine s =

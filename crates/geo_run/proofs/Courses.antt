@@ -9,9 +9,9 @@ use Rattle.geo_model.specs.declared.command.DiskKind.{DiskKind}
 use Rattle.geo_model.specs.declared.command.DiskKind.TheVariants as disk_kinds
 use Rattle.geo_model.specs.declared.step.Entry.{Entry}
 use Rattle.geo_model.specs.Plans.{IsDiskDecl}
-use Rattle.geo_headline.specs.Outside.{ShelfView, DiskStays, IsUnasked, HasFactSectors, IsShelf, kept_back, ImagesStay, ImagesStand, KeepsLength}
+use Rattle.geo_headline.specs.Outside.{ShelfView, IsUnasked, HasFactSectors, IsShelf, kept_back, ImagesStay, ImagesStand, KeepsLength}
 use Rattle.geo_serve.specs.Served.{IsServed}
-use Rattle.geo_headline.specs.Headline.{KeptDisksStay, NoneAsked}
+use Rattle.geo_headline.specs.Headline.{NoneAsked}
 use Rattle.geo_run.specs.Drives.{size_of, DriveView, ServeAll}
 use Rattle.geo_run.specs.Lending.{AreApart, AreOther, names_of}
 use Rattle.geo_run.proofs.Tests.{other-contains, other-from, same_or_other}
@@ -227,37 +227,12 @@ images_stand_still a m b ds xs kept c =
 
 -- What is known of disks
 
--- a name isn't kept, or nothing more is known of its disk
-abbrev KnownFate : ShelfView → ShelfView → List (List ℕ) → List ℕ → Type 0
-KnownFate a b kept name = AreOther name kept ⊎ DiskStays a b name
-
-known_fates : (a m b : ShelfView) (ds : List DiskDecl) (ys : List DriveView) (kept : List (List ℕ))
-    → ((name : List ℕ) → DiskStays a m name) → EachFate m b ds ys kept
-    → AllByRecursion (λ (d : DiskDecl). IsShelf d.kind → KnownFate a b kept d.name) ds
-known_fates a m b [] ys kept same f = tt
-known_fates a m b (d ∷ ds) [] kept same f = absurd f
-known_fates a m b (d ∷ ds) (y ∷ ys) kept same f = search (rules, known_fates a m b ds ys kept same f.1)
-
--- of the disks that were kept nothing more is known
-pub kept_stay : (a m b : ShelfView) (ds : List DiskDecl) (xs ys : List DriveView) (kept : List (List ℕ))
-    → Course a m b ds xs ys kept → KeptDisksStay a b
-kept_stay a m b ds xs ys kept c name back =
-    search (
-      rules,
-      lookup (KnownFate a b kept) ds
-          (known_fates a m b ds ys kept (λ n. record { faults = c.disks n; asked = c.asked n; sectors = c.sectors n })
-          (course_fate a m b ds xs ys kept c)) name,
-      course_foreign a m b ds xs ys kept c name,
-      other-contains name kept,
-      course_back a m b ds xs ys kept c,
-    )
-
 unasked_fates : (a m b : ShelfView) (ds : List DiskDecl) (xs : List DriveView) (kept : List (List ℕ))
-    → ((name : List ℕ) → DiskStays a m name) → EachHad a m ds xs → EachFate m b ds xs kept
+    → EachHad a m ds xs → EachFate m b ds xs kept
     → AllByRecursion (λ (d : DiskDecl). IsShelf d.kind → IsUnasked a b d.name) ds
-unasked_fates a m b [] xs kept same h f = tt
-unasked_fates a m b (d ∷ ds) [] kept same h f = absurd f
-unasked_fates a m b (d ∷ ds) (x ∷ xs) kept same h f = search (rules, unasked_fates a m b ds xs kept same h.1 f.1)
+unasked_fates a m b [] xs kept h f = tt
+unasked_fates a m b (d ∷ ds) [] kept h f = absurd f
+unasked_fates a m b (d ∷ ds) (x ∷ xs) kept h f = search (rules, unasked_fates a m b ds xs kept h.1 f.1)
 
 -- disks that served no mesh weren't asked
 pub none_asked : (a m b : ShelfView) (ds : List DiskDecl) (xs : List DriveView) (kept : List (List ℕ))
@@ -266,17 +241,16 @@ none_asked a m b ds xs kept c name =
     search (
       rules,
       lookup (λ n. IsUnasked a b n) ds
-          (unasked_fates a m b ds xs kept (λ n. record { faults = c.disks n; asked = c.asked n; sectors = c.sectors n })
-          c.had (course_fate a m b ds xs xs kept c)) name,
+          (unasked_fates a m b ds xs kept c.had (course_fate a m b ds xs xs kept c)) name,
       gives_stay m b ds xs kept name c.given,
     )
 
--- disks that served and were given back have the sizes that they had
-pub sizes_back : (a m b : ShelfView) (log : List Entry) (n : ℕ) (ds : List DiskDecl) (xs ys : List DriveView)
-    (kept : List (List ℕ)) → kept_back a b ≡ kept → ServeAll log n xs ys → EachFate m b ds ys kept
-    → AllByRecursion (HasFactSectors a b) (zip ds (map size_of xs))
-sizes_back a m b log n [] xs ys kept e s f = tt
-sizes_back a m b log n (d ∷ ds) [] ys kept e s f = tt
-sizes_back a m b log n (d ∷ ds) (x ∷ xs) [] kept e s f = absurd s
-sizes_back a m b log n (d ∷ ds) (x ∷ xs) (y ∷ ys) kept e s f =
-    search (rules, sizes_back a m b log (n + 1) ds xs ys kept e s.1 f.1)
+-- disks that served have the sizes that they had
+pub sizes_back : (m b : ShelfView) (log : List Entry) (n : ℕ) (ds : List DiskDecl) (xs ys : List DriveView)
+    (kept : List (List ℕ)) → ServeAll log n xs ys → EachFate m b ds ys kept
+    → AllByRecursion (HasFactSectors b) (zip ds (map size_of xs))
+sizes_back m b log n [] xs ys kept s f = tt
+sizes_back m b log n (d ∷ ds) [] ys kept s f = tt
+sizes_back m b log n (d ∷ ds) (x ∷ xs) [] kept s f = absurd s
+sizes_back m b log n (d ∷ ds) (x ∷ xs) (y ∷ ys) kept s f =
+    search (rules, sizes_back m b log (n + 1) ds xs ys kept s.1 f.1)

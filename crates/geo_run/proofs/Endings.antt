@@ -33,7 +33,7 @@ use Rattle.geo_run.proofs.Outs.{apart_front}
 use Rattle.geo_run.proofs.Visits.{all_in_order, none_in_order, stopped_in_order}
 use Rattle.geo_run.proofs.Telling.{gives_no_fault, gives_take_none, gives_told, none_blamed}
 use Rattle.geo_run.proofs.Planned.{all_there, apart_from, disks_kept, facts_had, kinds_had, kinds_served, sizes_told}
-use Rattle.geo_run.proofs.Courses.{Course, course_back, course_fate, course_lent, course_rose, course_told, images_stand, images_stand_still, images_stay, kept_stay, none_asked, sizes_back}
+use Rattle.geo_run.proofs.Courses.{Course, course_back, course_fate, course_lent, course_rose, course_told, images_stand, images_stand_still, images_stay, none_asked, sizes_back}
 use Rattle.geo_run.proofs.Untaken.{images_stand_same, images_stay_same, lent_still, others_still, told_still}
 
 -- The parts of a course
@@ -213,12 +213,11 @@ unasked_by plan (Some log) a m b xs ys kept c served = tt
 
 sizes_by : (plan : Plan) (log : Option (List Entry)) (a m b : ShelfView) (xs ys : List DriveView)
     (kept : List (List ℕ)) → Course a m b plan.disks xs ys kept → Served log xs ys → IsSome log
-    → HaveFactSectors plan (map size_of xs) a b
+    → HaveFactSectors plan (map size_of xs) b
 sizes_by plan None a m b xs ys kept c served some = absurd (let bad : false ≡ true = some in cc)
 sizes_by plan (Some log) a m b xs ys kept c served some =
-    All-from_recursion (HasFactSectors a b) (zip plan.disks (map size_of xs))
-    (sizes_back a m b log 0 plan.disks xs ys kept (course_back a m b plan.disks xs ys kept c) served
-    (course_fate a m b plan.disks xs ys kept c))
+    All-from_recursion (HasFactSectors b) (zip plan.disks (map size_of xs))
+    (sizes_back m b log 0 plan.disks xs ys kept served (course_fate a m b plan.disks xs ys kept c))
 
 stand_by : (plan : Plan) (log : Option (List Entry)) (a m b : ShelfView) (xs ys : List DriveView)
     (kept : List (List ℕ)) → Course a m b plan.disks xs ys kept → Served log xs ys → ImagesStand a b
@@ -269,7 +268,6 @@ runs_plan mode plan facts log ending xs a m b is opens r = record {
   };
   unasked = unasked_by plan log a m b xs r.served r.kept course r.serves;
   sizes = search (rules, sizes_by plan log a m b xs r.served r.kept course r.serves);
-  kept_stay = kept_stay a m b plan.disks xs r.served r.kept course;
   images = images_by plan log a m b xs r.served r.kept course r.serves;
   images_stand = stand_by plan log a m b xs r.served r.kept course r.serves;
   untouched = λ none.
@@ -485,7 +483,6 @@ nothing_done mode plan facts a = record {
   others = others_still plan a;
   unasked = λ name. record { faults = refl; asked = refl };
   sizes = λ some. absurd (let bad : false ≡ true = some in cc);
-  kept_stay = λ name back. record { faults = refl; asked = refl; sectors = refl };
   images = images_stay_same a;
   images_stand = images_stand_same a;
   untouched = λ none. refl;
@@ -527,7 +524,6 @@ gave_up mode plan facts stop a b is g = record {
   };
   unasked = none_asked a n b front xs g.kept course;
   sizes = λ some. absurd (let bad : false ≡ true = some in cc);
-  kept_stay = kept_stay a n b front xs xs g.kept course;
   images = images_stay a n b front xs g.kept course;
   images_stand = images_stand_still a n b front xs g.kept course;
   untouched = λ none.

@@ -1,7 +1,7 @@
 -- What becomes of each disk that is given back, and which names are kept.
 use Rattle.std.proofs.Common.{◌≡◌, ◌≢◌, ◌⊎◌, ℕ, ◌+◌, ◌-◌, Bool, true, false, not, ◌&&◌, ◌||◌, List, [], ◌∷◌, ◌++◌, length, filter, find, Option, Some, refl, sym, ◌∙◌, ap, subst, inl, inr, bytes_eq, Contains, IfSome, IsSomeAnd, append_assoc, slice_get, if◌then◌else◌, rules}
 use Rattle.std.specs.Prelude.{⊤}
-use Rattle.geo_disk.specs.Shelf.{IsGivenTo}
+use Rattle.geo_disk.specs.Shelf.{IsAsBefore, IsGivenTo}
 use Rattle.std.specs.List.{AllByRecursion, list_any}
 use Rattle.std.proofs.lemmas.List.Elements.{Contains-append_right}
 use Rattle.geo_base.specs.Faults.{Rose, RoseBy}
@@ -12,7 +12,7 @@ use Rattle.geo_disk.specs.Names.{names_without}
 use Rattle.geo_model.specs.declared.command.DiskDecl.{DiskDecl}
 use Rattle.geo_model.specs.declared.command.DiskKind.{DiskKind}
 use Rattle.geo_model.specs.declared.command.DiskKind.TheVariants as disk_kinds
-use Rattle.geo_headline.specs.Outside.{ShelfView, DiskStays, IsShelf, is_shelf, kept_back}
+use Rattle.geo_headline.specs.Outside.{ShelfView, IsShelf, is_shelf, kept_back}
 use Rattle.geo_run.specs.Drives.{DriveView}
 use Rattle.geo_run.specs.Lending.{AreApart, AreOther, GivesDrive, names_of}
 use Rattle.geo_run.proofs.Tests.{contains_first, contains-among, same_itself, other-append, other-among, without_none, without_first, without_both}
@@ -26,25 +26,29 @@ use Rattle.geo_run.proofs.Giving.{GivesAll, first_other, give_stays, gives_stay,
 abbrev pub HasSectors : DriveView → Option (List ℕ) → Option (List ℕ) → Type 0
 HasSectors x had has = IfSome x.held (λ sectors. has ≡ Some (joined_sectors sectors))
 
+-- what is known of a name is what a drive was
+pub record IsKnown (b : ShelfView) (name : List ℕ) (x : DriveView) : Type 0 where
+  pub faults : b.faults_of name ≡ x.faults
+  pub asked : b.asked_of name ≡ x.asked
+  pub sectors : b.sectors_of name ≡ x.count
+
 -- a disk was given back
 pub record WasGiven (a b : ShelfView) (name : List ℕ) (x : DriveView) (kept : List (List ℕ)) : Type 0 where
   pub not_kept : AreOther name kept
   pub told : OfName a.told b.told name (HasSectors x)
   pub counted : IfSome x.held (λ sectors. length sectors ≡ x.count)
-  pub faults : b.faults_of name ≡ x.faults
-  pub asked : b.asked_of name ≡ x.asked
-  pub sectors : b.sectors_of name ≡ x.count
+  pub known : IsKnown b name x
 
 -- a disk wasn't given back
-pub record WasKept (a b : ShelfView) (name : List ℕ) (kept : List (List ℕ)) : Type 0 where
+pub record WasKept (a b : ShelfView) (name : List ℕ) (x : DriveView) (kept : List (List ℕ)) : Type 0 where
   pub among : Contains kept name
   pub told : OfName a.told b.told name IsSame
   pub gives : Rose (a.give_faults name) (b.give_faults name)
-  pub stays : DiskStays a b name
+  pub known : IsKnown b name x
 
 abbrev pub Fate : ShelfView → ShelfView → List ℕ → DriveView → List (List ℕ) → DiskKind → Type 0
 Fate a b name x kept disk_kinds.Ram = ⊤
-Fate a b name x kept disk_kinds.Shelf = WasGiven a b name x kept ⊎ WasKept a b name kept
+Fate a b name x kept disk_kinds.Shelf = WasGiven a b name x kept ⊎ WasKept a b name x kept
 
 abbrev pub EachFate : ShelfView → ShelfView → List DiskDecl → List DriveView → List (List ℕ) → Type 0
 EachFate a b [] [] kept = ⊤
@@ -62,9 +66,7 @@ fate_before a m b name x first rest kept disk_kinds.Shelf e others stays fate =
         not_kept = subst (λ ks. AreOther name ks) (sym e) (other-append name first rest others given.not_kept);
         told = chain a.told m.told b.told name (λ u v w p q. q) stays.told given.told;
         counted = given.counted;
-        faults = given.faults;
-        asked = given.asked;
-        sectors = given.sectors;
+        known = given.known;
       })
       | inr held ↦ inr (search (rules, Contains-append_right first rest name held.among))
     ]
@@ -98,11 +100,24 @@ fate_first a m b name x first rest kept disk_kinds.Shelf h e others stays =
             (of_name a.told m.told name (IsGivenTo name x.held) {F = HasSectors x} (λ o v p. p.bytes) given.1.told)
             stays.told;
         counted = given.1.counted;
-        faults = stays.disks ∙ given.1.disks.own;
-        asked = stays.asked ∙ given.1.asked.own;
-        sectors = stays.sectors ∙ given.1.sectors.own;
+        known = record {
+          faults = stays.disks ∙ given.1.disks.own;
+          asked = stays.asked ∙ given.1.asked.own;
+          sectors = stays.sectors ∙ given.1.sectors.own;
+        };
       })
-      | inr held ↦ inr (search rules)
+      | inr held ↦ inr (record {
+        among = subst (λ ks. Contains ks name) (sym (e ∙ ap (λ ks. ks ++ rest) held.0)) (contains_first name rest);
+        told = chain a.told m.told b.told name (λ u v w p q. q ∙ p)
+            (of_name a.told m.told name IsAsBefore (λ o v p. p name) held.1.told) stays.told;
+        gives = counted_rose (a.give_faults name) (m.give_faults name) (b.give_faults name) held.1.gives.own
+            stays.gives;
+        known = record {
+          faults = stays.disks ∙ held.1.disks.own;
+          asked = stays.asked ∙ held.1.asked.own;
+          sectors = stays.sectors ∙ held.1.sectors.own;
+        };
+      })
     ]
 
 -- what becomes of each disk

@@ -99,11 +99,11 @@ give_stays a b n x k name disk_kinds.Shelf h other =
       }
       | inr kept ↦ record {
         told = of_name a.told b.told name IsAsBefore (λ o v p. p name) kept.1.told;
-        disks = kept.1.disks name;
+        disks = kept.1.disks.others name (λ e. other refl (sym e));
         takes = kept.1.takes name;
         gives = kept.1.gives.others name (λ e. other refl (sym e));
-        asked = kept.1.asked name;
-        sectors = kept.1.sectors name;
+        asked = kept.1.asked.others name (λ e. other refl (sym e));
+        sectors = kept.1.sectors.others name (λ e. other refl (sym e));
       }
     ]
 

@@ -1,7 +1,8 @@
 -- Disks that were taken for a plan, served its mesh, and were given back.
-use Rattle.std.proofs.Common.{◌≡◌, ℕ, suc, ◌+◌, ◌*◌, ◌/◌, ◌<◌, true, false, not, List, [], ◌∷◌, length, map, Option, Some, None, refl, sym, ◌∙◌, ap, subst, arith, bytes_eq, IfSome, IsSomeAnd, get_or, zip, rules}
+use Rattle.std.proofs.Common.{◌≡◌, ℕ, suc, ◌+◌, ◌*◌, ◌/◌, ◌<◌, true, false, not, List, [], ◌∷◌, ◌++◌, length, map, Option, Some, None, refl, sym, ◌∙◌, ap, subst, arith, bytes_eq, inl, inr, Contains, IfSome, IsSomeAnd, get_or, zip, rules}
 use Rattle.std.specs.List.{AllByRecursion, AllPairs, AllZip, enumerate_from}
 use Rattle.geo_base.specs.Images.{Images, IsDiskSize}
+use Rattle.geo_disk.specs.Counts.{counted_many}
 use Rattle.geo_base.specs.Sectors.{IsSectorSize, sectors_of}
 use Rattle.geo_model.specs.declared.command.DiskDecl.{DiskDecl}
 use Rattle.geo_model.specs.declared.command.DiskKind.{DiskKind}
@@ -9,15 +10,15 @@ use Rattle.geo_model.specs.declared.command.DiskKind.TheVariants as disk_kinds
 use Rattle.geo_model.specs.declared.step.Entry.{Entry}
 use Rattle.geo_model.specs.Contents.{contents, AreTrue}
 use Rattle.geo_model.specs.Plans.{Differ, IsDiskDecl, IsFact}
-use Rattle.geo_headline.specs.Outside.{ShelfView, IsShelf, IsThere, HasImage, HasToldSize, CanBeTaken, PlannedDisk, planned_disk, image_after, HoldsWhatIsLogged, IsMemory, IsDiskKept, kept_back}
+use Rattle.geo_headline.specs.Outside.{ShelfView, IsShelf, IsThere, HasImage, HasToldSize, CanBeTaken, PlannedDisk, planned_disk, calls_logged, failures_of, image_after, HoldsWhatIsLogged, IsMemory, IsDiskKept, kept_back}
 use Rattle.geo_serve.specs.Served.{IsServed}
 use Rattle.geo_run.specs.Drives.{DriveView, ServeAll, size_of, drive_kind}
 use Rattle.geo_run.specs.Lending.{AreApart, AreOther, IsMade}
 use Rattle.geo_run.proofs.Tests.{same_itself}
-use Rattle.geo_run.proofs.Told.{OfName}
+use Rattle.geo_run.proofs.Told.{OfName, chain}
 use Rattle.geo_run.proofs.Taking.{EachHad, IsHad, IsTaken, WentInto}
 use Rattle.geo_run.proofs.Giving.{SameKinds}
-use Rattle.geo_run.proofs.Fates.{EachFate, Fate, HasSectors, WasGiven}
+use Rattle.geo_run.proofs.Fates.{EachFate, Fate, HasSectors, WasGiven, WasKept}
 use Rattle.geo_run.proofs.Sizes.{cut_count}
 
 -- Names
@@ -141,18 +142,35 @@ reads_after : (log : List Entry) (n : ℕ) (d : DiskDecl) (x y : DriveView) → 
 reads_after log n d x y same served None v p = p.0
 reads_after log n d x y same served (Some bytes) v p = search rules
 
+-- a disk that was given back holds what the log says
 shelf_kept : (a m b : ShelfView) (log : List Entry) (n : ℕ) (d : DiskDecl) (x y : DriveView) (kept : List (List ℕ))
     → IsTaken a m d x → IsServed log n x y → WasGiven m b d.name y kept
     → HoldsWhatIsLogged a b log (record { number = n; decl = d })
 shelf_kept a m b log n d x y kept had served given = search rules
 
+-- one that was kept back did what the log says
+kept_did : (a m b : ShelfView) (log : List Entry) (n : ℕ) (d : DiskDecl) (x y : DriveView) (kept : List (List ℕ))
+    → kept_back a b ≡ kept → IsTaken a m d x → IsServed log n x y → WasKept m b d.name y kept
+    → HoldsWhatIsLogged a b log (record { number = n; decl = d })
+kept_did a m b log n d x y kept e had served held = record {
+  asked = held.known.asked ∙ served.asked ∙ ap (λ calls. calls ++ calls_logged log n) had.asked;
+  failures = held.known.faults ∙ served.failures ∙ ap (λ k. counted_many (failures_of log n) k) had.brought;
+  bytes = λ given. absurd (given (subst (λ ks. Contains ks d.name) (sym e) held.among));
+  reads = (chain a.told m.told b.told d.name
+      {H = λ u w. IsSomeAnd u (λ bytes. AreTrue d.sector (sectors_of d.sector bytes) log n)}
+      (λ u v w p q. reads_after log n d x y had.size.asked served u v p) had.image held.told).is;
+}
+
 disk_kept : (a m b : ShelfView) (log : List Entry) (n : ℕ) (d : DiskDecl) (x y : DriveView) (kept : List (List ℕ))
     (kind : DiskKind) → kept_back a b ≡ kept → IsHad a m d x kind → IsServed log n x y → Fate m b d.name y kept kind
     → IsDiskKept a b log (record { number = n; decl = d }) kind
 disk_kept a m b log n d x y kept disk_kinds.Ram e had served fate = memory_kept a b log n d x y had served
-disk_kept a m b log n d x y kept disk_kinds.Shelf e had served fate = search rules
+disk_kept a m b log n d x y kept disk_kinds.Shelf e had served (inl given) =
+    shelf_kept a m b log n d x y kept had served given
+disk_kept a m b log n d x y kept disk_kinds.Shelf e had served (inr held) =
+    kept_did a m b log n d x y kept e had served held
 
--- each disk of the plan that was given back holds what the log says
+-- each disk of the plan did what the log says
 pub disks_kept : (a m b : ShelfView) (log : List Entry) (n : ℕ) (ds : List DiskDecl) (xs ys : List DriveView)
     (kept : List (List ℕ)) → kept_back a b ≡ kept → EachHad a m ds xs → ServeAll log n xs ys → EachFate m b ds ys kept
     → AllByRecursion (λ (p : PlannedDisk). IsDiskKept a b log p p.decl.kind) (map planned_disk (enumerate_from n ds))

@@ -1,8 +1,10 @@
 -- In which order the shelf is called.
-use Rattle.std.proofs.Common.{◌≡◌, ℕ, true, false, List, [], ◌∷◌, ◌++◌, map, filter, Option, None, refl, sym, ◌∙◌, ap, subst, arith, append_assoc, if◌then◌else◌, rules}
+use Rattle.std.proofs.Common.{◌≡◌, ℕ, true, false, List, [], ◌∷◌, ◌++◌, map, filter, Option, None, refl, sym, ◌∙◌, ap, subst, arith, append_assoc, if◌then◌else◌, rules, ◌≢◌, ◌≤◌, length}
 use Rattle.std.proofs.lemmas.List.{append-nil, map-append}
 use Rattle.geo_disk.specs.declared.shelf.ShelfCall.{ShelfCall}
 use Rattle.geo_disk.specs.declared.shelf.ShelfCall.TheVariants as shelf_calls
+use Rattle.geo_disk.specs.declared.shelf.TakeAnswer.{TakeAnswer}
+use Rattle.geo_disk.specs.declared.shelf.TakeAnswer.TheVariants as answers
 use Rattle.geo_model.specs.declared.command.DiskDecl.{DiskDecl}
 use Rattle.geo_model.specs.declared.command.DiskKind.{DiskKind}
 use Rattle.geo_model.specs.declared.command.DiskKind.TheVariants as disk_kinds
@@ -10,9 +12,9 @@ use Rattle.geo_model.specs.declared.step.Entry.{Entry}
 use Rattle.geo_model.specs.World.{Plan}
 use Rattle.geo_headline.specs.Outside.{ShelfView, is_shelf, names_of_shelf, takes_of, gives_of}
 use Rattle.geo_headline.specs.Endings.{Ending, ShelfFault, NoDisk, BadSize, OutOfMemory, failed_takes, missed_by}
-use Rattle.geo_headline.specs.Headline.{CallsInOrder, IsMissedAt}
+use Rattle.geo_headline.specs.Headline.{CallsInOrder, IsAnswerAt, IsMissedAt}
 use Rattle.geo_run.specs.Drives.{DriveView}
-use Rattle.geo_run.specs.Lending.{GivesDrive, OpensDrive, OpensDrives, OpensNoDrive, TakeCause}
+use Rattle.geo_run.specs.Lending.{GivesDrive, OpensDrive, OpensDrives, OpensNoDrive, TakeCause, answer_at}
 use Rattle.geo_run.specs.Stops.{ending_of}
 use Rattle.geo_run.specs.declared.stop.Stop.{Stop}
 use Rattle.geo_run.specs.declared.stop.Stop.TheVariants as stops
@@ -51,20 +53,21 @@ names_around (e ∷ front) d back = by e.kind (names_around front d back)
 
 -- a take is one call, where the disk is of the shelf
 take_called : (a b : ShelfView) (d : DiskDecl) (x : DriveView) (rest : List (List ℕ)) (kind : DiskKind)
-    → OpensDrive a d x b kind → b.calls ++ takes_of rest ≡ a.calls ++ takes_of (with_shelf kind d.name rest)
-take_called a b d x rest disk_kinds.Ram h = ap (λ (v : ShelfView). v.calls ++ takes_of rest) h.1
+    → OpensDrive a d x b kind
+    → b.calls ++ takes_of answers.Disk rest ≡ a.calls ++ takes_of answers.Disk (with_shelf kind d.name rest)
+take_called a b d x rest disk_kinds.Ram h = ap (λ (v : ShelfView). v.calls ++ takes_of answers.Disk rest) h.1
 take_called a b d x rest disk_kinds.Shelf h =
-    search (rules, append_assoc a.calls (shelf_calls.Take d.name ∷ []) (takes_of rest))
+    search (rules, append_assoc a.calls (shelf_calls.Take d.name answers.Disk ∷ []) (takes_of answers.Disk rest))
 
 takes_called : (a b : ShelfView) (ds : List DiskDecl) (xs : List DriveView) → OpensDrives a ds xs b
-    → b.calls ≡ a.calls ++ takes_of (shelf_names ds)
+    → b.calls ≡ a.calls ++ takes_of answers.Disk (shelf_names ds)
 takes_called a b [] [] h = ap (λ (v : ShelfView). v.calls) h ∙ sym (append-nil a.calls)
 takes_called a b (d ∷ ds) (x ∷ xs) h = takes_called h.0 b ds xs h.2 ∙ take_called a h.0 d x (shelf_names ds) d.kind h.1
 takes_called a b _ _ h = absurd h
 
 -- so is one by which no disk was had
 stop_called : (a b : ShelfView) (d : DiskDecl) (stop : Stop) (kind : DiskKind) → OpensNoDrive a d stop b kind
-    → b.calls ≡ a.calls ++ takes_of (with_shelf kind d.name [])
+    → b.calls ≡ a.calls ++ takes_of (answer_at stop) (with_shelf kind d.name [])
 stop_called a b d stop disk_kinds.Ram h = ap (λ (v : ShelfView). v.calls) h.1 ∙ sym (append-nil a.calls)
 stop_called a b d stop disk_kinds.Shelf h = h.called
 
@@ -86,11 +89,30 @@ gives_called a b (d ∷ ds) (x ∷ xs) kept h =
 gives_called a b _ _ kept h = absurd h
 
 -- takes, and then gives
-both_called : (start taken after : List ShelfCall) (tried had : List (List ℕ)) → taken ≡ start ++ takes_of tried
-    → after ≡ taken ++ gives_of had → after ≡ start ++ takes_of tried ++ gives_of had
-both_called start taken after tried had takes gives = gives ∙ ap (λ calls. calls ++ gives_of had) takes
+both_called : (start taken after : List ShelfCall) (had missed : List (List ℕ)) (answer : TakeAnswer)
+    → taken ≡ start ++ takes_of answers.Disk had ++ takes_of answer missed → after ≡ taken ++ gives_of had
+    → after ≡ start ++ takes_of answers.Disk had ++ takes_of answer missed ++ gives_of had
+both_called start taken after had missed answer takes gives = gives ∙ ap (λ calls. calls ++ gives_of had) takes
 
 -- In order
+
+-- a take that had no memory had no disk
+none_had : answers.NoMemory ≢ answers.Disk
+none_had e = let bad : answers.NoMemory ≡ answers.Disk = e in cc
+
+-- where no disk was missed, no take is told that missed one
+none_answered : (ending : Ending) → IsMissedAt ending [] → IsAnswerAt ending answers.NoMemory
+none_answered (ShelfFault name) h = absurd (let bad : [] ≡ name ∷ [] = h in cc)
+none_answered (NoDisk name) h = absurd (let bad : [] ≡ name ∷ [] = h in cc)
+none_answered (BadSize name) h = absurd (let bad : [] ≡ name ∷ [] = h in cc)
+none_answered _ h = none_had
+
+-- the answer of the take that stopped is the one that the ending tells
+answered : (stop : Stop) → IsAnswerAt (ending_of stop) (answer_at stop)
+answered (stops.ShelfFault name) = refl
+answered (stops.NoDisk name) = refl
+answered (stops.BadSize name) = refl
+answered _ = none_had
 
 -- all disks were had, and given back
 pub all_in_order : (plan : Plan) (ending : Ending) (log : Option (List Entry)) (a m b : ShelfView)
@@ -102,9 +124,12 @@ all_in_order plan ending log a m b xs ys kept missed opens gives = record {
   left = [];
   names = names_are plan.disks ∙ none_more ∙ sym (append-nil (shelf_names plan.disks ++ []));
   missed_is = missed;
+  answer = answers.NoMemory;
+  answer_is = none_answered ending missed;
   all = λ some. sym (names_are plan.disks);
-  calls = both_called a.calls m.calls b.calls (shelf_names plan.disks ++ []) (shelf_names plan.disks)
-      (takes_called a m plan.disks xs opens ∙ ap (λ names. a.calls ++ takes_of names) none_more)
+  calls = both_called a.calls m.calls b.calls (shelf_names plan.disks) [] answers.NoMemory
+      (takes_called a m plan.disks xs opens
+      ∙ sym (append-nil (a.calls ++ takes_of answers.Disk (shelf_names plan.disks))))
       (gives_called m b plan.disks ys kept gives);
 }
   where
@@ -135,8 +160,10 @@ stopped_in_order plan stop a m n b front d back xs ys kept e opens stopped gives
   left = shelf_names back;
   names = names_are plan.disks ∙ ap (λ (ds : List DiskDecl). shelf_names ds) e ∙ names_around front d back;
   missed_is = missed_told m n d stop d.kind stopped;
+  answer = answer_at stop;
+  answer_is = answered stop;
   all = λ some. absurd (let bad : false ≡ true = some in cc);
-  calls = both_called a.calls n.calls b.calls (had ++ missed) had tried (gives_called n b front ys kept gives);
+  calls = both_called a.calls n.calls b.calls had missed (answer_at stop) tried (gives_called n b front ys kept gives);
 }
   where
     had : List (List ℕ)
@@ -145,12 +172,10 @@ stopped_in_order plan stop a m n b front d back xs ys kept e opens stopped gives
     missed : List (List ℕ)
     missed = with_shelf d.kind d.name []
 
-    tried : n.calls ≡ a.calls ++ takes_of (had ++ missed)
+    tried : n.calls ≡ a.calls ++ takes_of answers.Disk had ++ takes_of (answer_at stop) missed
     tried =
         stop_called m n d stop d.kind stopped
-        ∙ ap (λ calls. calls ++ takes_of missed) (takes_called a m front xs opens)
-        ∙ append_assoc a.calls (takes_of had) (takes_of missed)
-        ∙ ap (λ calls. a.calls ++ calls) (sym (map-append (λ (name : List ℕ). shelf_calls.Take name) had missed))
+        ∙ ap (λ calls. calls ++ takes_of (answer_at stop) missed) (takes_called a m front xs opens)
 
 -- where no name is told, none was missed
 none_missed : (ending : Ending) → missed_by ending ≡ [] → IsMissedAt ending []
@@ -169,8 +194,10 @@ none_in_order plan ending a none_told = record {
   left = names_of_shelf plan.disks;
   names = refl;
   missed_is = none_missed ending none_told;
+  answer = answers.NoMemory;
+  answer_is = none_answered ending (none_missed ending none_told);
   all = λ some. absurd (let bad : false ≡ true = some in cc);
-  calls = sym (append-nil a.calls) ∙ sym (append-nil (a.calls ++ []));
+  calls = sym (append-nil a.calls) ∙ sym (append-nil (a.calls ++ [])) ∙ sym (append-nil (a.calls ++ [] ++ []));
 }
 
 -- where no disk is told to be missed, no take failed

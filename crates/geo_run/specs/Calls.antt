@@ -12,7 +12,7 @@ use Rattle.geo_headline.specs.Outside.{Outside, ShelfView, SinkView, SourceView,
 use Rattle.geo_model.specs.Log.{Fits}
 use Rattle.geo_model.specs.History.{KeepsHistory, RanToItsEnd}
 use Rattle.geo_headline.specs.Endings.{Ending, ReadFault, Call, CauseOf, HasLog, IsOpened, IsWhole, reported}
-use Rattle.geo_headline.specs.Headline.{CallsAreTold, CallsInOrder, FollowsMode, HaveFactSectors, IsComplete, KeepsAll, KeptDisksStay, NoneAsked, LeavesOutside, LentAfter, ReadAs, ReadsFew}
+use Rattle.geo_headline.specs.Headline.{CallsAreTold, CallsInOrder, FollowsMode, HaveFactSectors, IsComplete, KeepsAll, NoneAsked, LeavesOutside, LentAfter, ReadAs, ReadsFew}
 use Rattle.geo_run.specs.declared.top.Ended.{Ended}
 use Rattle.geo_run.specs.declared.finish.Finish.{Finish}
 use Rattle.geo_run.specs.declared.due.Due.TheVariants as dues
@@ -78,8 +78,7 @@ pub record KeepsInside (call : Call) (mode : Mode) (plan : Plan) (ending : Endin
   pub in_order : CallsInOrder plan ending call.log call.before.shelf call.after.shelf
   pub others : OthersStay plan call.before.shelf call.after.shelf
   pub unasked : IfNone call.log (NoneAsked call.before.shelf call.after.shelf)
-  pub sizes : IsSome call.log → HaveFactSectors plan call.facts call.before.shelf call.after.shelf
-  pub kept_stay : KeptDisksStay call.before.shelf call.after.shelf
+  pub sizes : IsSome call.log → HaveFactSectors plan call.facts call.after.shelf
   pub images : IfNone call.log (ImagesStay call.before.shelf call.after.shelf)
   pub images_stand : ImagesStand call.before.shelf call.after.shelf
   pub outside : LeavesOutside mode ending call.before call.after

@@ -12,7 +12,7 @@ use Rattle.geo_model.specs.Log.{Fits}
 use Rattle.geo_model.specs.History.{KeepsHistory, RanToItsEnd}
 use Rattle.geo_headline.specs.Outside.{ShelfView, IsShelf, IsThere, IsMissing, IsBadSize, HasToldSize, kept_back, DisksAreKept, OthersStay, ImagesStay, ImagesStand}
 use Rattle.geo_headline.specs.Endings.{Ending, Reported, ReportedButFault, ShelfFault, NoDisk, BadSize, OutOfMemory, LogFull, IsWhole, HasLog, LogRanFull, StopsAt, first_kept_back, reported}
-use Rattle.geo_headline.specs.Headline.{CallsAreTold, CallsInOrder, FollowsMode, HaveFactSectors, KeptDisksStay, LentAfter, NoneAsked}
+use Rattle.geo_headline.specs.Headline.{CallsAreTold, CallsInOrder, FollowsMode, HaveFactSectors, LentAfter, NoneAsked}
 use Rattle.geo_headline.specs.Modes.{Mode}
 use Rattle.geo_elev.specs.Meshes.{MeshView}
 use Rattle.geo_elev.specs.DrainRefusal.{DrainRefusal}
@@ -101,8 +101,7 @@ pub record RunsPlan (mode : Mode) (plan : Plan) (facts : List (ℕ × ℕ)) (log
   pub in_order : CallsInOrder plan ending log before after
   pub others : OthersStay plan before after
   pub unasked : IfNone log (NoneAsked before after)
-  pub sizes : IsSome log → HaveFactSectors plan facts before after
-  pub kept_stay : KeptDisksStay before after
+  pub sizes : IsSome log → HaveFactSectors plan facts after
   pub images : IfNone log (ImagesStay before after)
   pub images_stand : ImagesStand before after
   pub untouched : HasNoShelfDisk plan → after ≡ before

@@ -7,8 +7,10 @@ use Rattle.geo_disk.specs.Disk.{DiskView}
 use Rattle.geo_disk.specs.Memory.{Memory}
 use Rattle.geo_disk.specs.declared.drive.Drive.TheVariants.{Shelved}
 use Rattle.geo_disk.specs.declared.shelf.ShelfCall.TheVariants as shelf_calls
+use Rattle.geo_disk.specs.declared.shelf.TakeAnswer.{TakeAnswer}
+use Rattle.geo_disk.specs.declared.shelf.TakeAnswer.TheVariants as answers
 use Rattle.geo_disk.specs.Names.{names_without}
-use Rattle.geo_disk.specs.Shelf.{WhereBothTell, IsTakenFrom, IsGivenTo, IsAsBefore, IsOfSize, CountsCall}
+use Rattle.geo_disk.specs.Shelf.{WhereBothTell, IsTakenFrom, IsGivenTo, IsAsBefore, IsBrought, IsOfSize, CountsCall}
 use Rattle.geo_model.specs.declared.command.DiskDecl.{DiskDecl}
 use Rattle.geo_model.specs.declared.command.DiskKind.{DiskKind}
 use Rattle.geo_model.specs.declared.command.DiskKind.TheVariants as disk_kinds
@@ -39,7 +41,7 @@ pub record TakesDisk (before : ShelfView) (d : DiskDecl) (x : DriveView) (after 
   pub lent : after.lent ≡ before.lent ++ d.name ∷ []
   pub counts : SameCounts before after
   pub no_fault : after.faults ≡ before.faults
-  pub called : after.calls ≡ before.calls ++ shelf_calls.Take d.name ∷ []
+  pub called : after.calls ≡ before.calls ++ shelf_calls.Take d.name answers.Disk ∷ []
 
 -- a disk in memory, of zeros, none of whose calls is to fail
 pub record IsMade (d : DiskDecl) (x : DriveView) : Type 0 where
@@ -79,6 +81,13 @@ TakeCause before d (stops.BadSize name) after =
 TakeCause before d stops.NoMemory after = ⊤
 TakeCause before d _ after = ⊥
 
+-- what a take answered that stops so
+abbrev pub answer_at : Stop → TakeAnswer
+answer_at (stops.ShelfFault name) = answers.Failed
+answer_at (stops.NoDisk name) = answers.Missing
+answer_at (stops.BadSize name) = answers.BadSize
+answer_at _ = answers.NoMemory
+
 -- nothing was taken of a name: all is as before, but that it was asked for, and what is counted of it
 pub record TakesNothing (before : ShelfView) (d : DiskDecl) (stop : Stop) (after : ShelfView) : Type 0 where
   pub cause : TakeCause before d stop after
@@ -90,7 +99,7 @@ pub record TakesNothing (before : ShelfView) (d : DiskDecl) (stop : Stop) (after
   pub takes : CountsCall (is_shelf_fault stop) d.name before.take_faults after.take_faults
   pub gives : (name : List ℕ) → after.give_faults name ≡ before.give_faults name
   pub later : before.faults ≤ after.faults
-  pub called : after.calls ≡ before.calls ++ shelf_calls.Take d.name ∷ []
+  pub called : after.calls ≡ before.calls ++ shelf_calls.Take d.name (answer_at stop) ∷ []
 
 -- the disk of a declaration couldn't be had
 abbrev pub OpensNoDrive : ShelfView → DiskDecl → Stop → ShelfView → DiskKind → Type 0
@@ -124,11 +133,6 @@ pub record StopsOpening (before : ShelfView) (disks : List DiskDecl) (names : Li
 
 -- Disks are given back
 
--- of its own name a disk brought this; what is known of others stays
-pub record IsBrought {X : Type 0} (name : List ℕ) (known : X) (old new : List ℕ → X) : Type 0 where
-  pub own : new name ≡ known
-  pub others : (other : List ℕ) → other ≢ name → new other ≡ old other
-
 -- the disk of a name was given back
 pub record GivesDisk (before : ShelfView) (name : List ℕ) (x : DriveView) (after : ShelfView) : Type 0 where
   pub told : WhereBothTell (IsGivenTo name x.held) before.told after.told
@@ -142,13 +146,13 @@ pub record GivesDisk (before : ShelfView) (name : List ℕ) (x : DriveView) (aft
   pub no_fault : after.faults ≡ before.faults
   pub called : after.calls ≡ before.calls ++ shelf_calls.Give name ∷ []
 
--- the disk of a name couldn't be given back: it stays lent
-pub record KeepsDisk (before : ShelfView) (name : List ℕ) (after : ShelfView) : Type 0 where
+-- the disk of a name couldn't be given back: it stays lent, but is known
+pub record KeepsDisk (before : ShelfView) (name : List ℕ) (x : DriveView) (after : ShelfView) : Type 0 where
   pub told : WhereBothTell IsAsBefore before.told after.told
   pub lent : after.lent ≡ before.lent
-  pub disks : (other : List ℕ) → after.faults_of other ≡ before.faults_of other
-  pub asked : (other : List ℕ) → after.asked_of other ≡ before.asked_of other
-  pub sectors : (other : List ℕ) → after.sectors_of other ≡ before.sectors_of other
+  pub disks : IsBrought name x.faults before.faults_of after.faults_of
+  pub asked : IsBrought name x.asked before.asked_of after.asked_of
+  pub sectors : IsBrought name x.count before.sectors_of after.sectors_of
   pub takes : (other : List ℕ) → after.take_faults other ≡ before.take_faults other
   pub gives : CountsCall true name before.give_faults after.give_faults
   pub rose : Rose before.faults after.faults
@@ -158,7 +162,7 @@ pub record KeepsDisk (before : ShelfView) (name : List ℕ) (after : ShelfView) 
 abbrev pub GivesDrive : ShelfView → List ℕ → DriveView → List (List ℕ) → ShelfView → DiskKind → Type 0
 GivesDrive before name x kept after disk_kinds.Ram = (kept ≡ []) × (after ≡ before)
 GivesDrive before name x kept after disk_kinds.Shelf =
-    ((kept ≡ []) × GivesDisk before name x after) ⊎ ((kept ≡ name ∷ []) × KeepsDisk before name after)
+    ((kept ≡ []) × GivesDisk before name x after) ⊎ ((kept ≡ name ∷ []) × KeepsDisk before name x after)
 
 -- the drives are given back under their names, in order; kept are the names of those for which that failed
 abbrev pub GivesBack : ShelfView → List (List ℕ) → List DriveView → List (List ℕ) → ShelfView → Type 0
