@@ -7,6 +7,7 @@ pub mod Downward
 pub mod Showing
 pub mod Sending
 pub mod Running
+pub mod Quiet
 pub mod Rows
 pub mod Ending
 pub mod Zips

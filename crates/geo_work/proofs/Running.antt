@@ -230,7 +230,7 @@ module _ {D : Type 0} (y : YardView _) (opened : World) (facts : List (ℕ × �
 -- a turn of a job is one of its role
 pub did_role : {D : Type 0} (opened : World) (seen : Drive D → DriveView) (a : Job D) (was : Role D) (q : MeshPass)
     (b : Role D) (r : Turn) → a.role ≡ was → DidRole opened seen a.pass q was b r
-    → DidTurn opened seen a (record { pass = q; role = b }) r
+    → DidTurn opened seen a (record { pass = q; role = b; quiet = a.quiet }) r
 unfolding DidTurn
 did_role opened seen a was q b r is did = subst (λ x. DidRole opened seen a.pass q x b r) (sym is) did
 

@@ -23,8 +23,8 @@ use Rattle.geo_work.specs.LanePasses.{IsPassTo, MadeOneStep, Rests}
 abbrev pub IsEventJob : Lanes → List Entry → EventJob → Type 0
 IsEventJob lanes entries j = IsPassTo lanes.down entries j.down
 
--- a step was tried, and wasn't enabled at what had been seen then, which lies between what was seen first and last and
--- has all own entries that stand before this turn
+-- a step wasn't enabled at something that had been seen, which lies between what was seen first and last and has all own
+-- entries that stand before this turn
 pub record IsInVain (opened : World) (p q : MeshPass) (step : Step) : Type 0 where
   pub seen : List Entry
   pub behind_first : IsPrefix p.seen seen

@@ -1,10 +1,11 @@
 //! A job, which goes on by turns of its role.
-ghost use Rattle.std.specs.Prelude.{◌≡◌};
+ghost use Rattle.std.specs.Prelude.{◌≡◌, false};
+ghost use Rattle.geo_lock.specs.Yard.{IsPassOf};
 ghost use Rattle.geo_serve.specs.Drives.{drive_view};
 ghost use Rattle.geo_disk_job.specs.Passes.{IsGoodPass, opened_by};
 ghost use Rattle.geo_disk_job.specs.Turn.TheVariants as turns;
 ghost use Rattle.geo_work.specs.declared.job.Role.TheVariants as roles;
-ghost use Rattle.geo_work.specs.Jobs.{DidTurn, HasItsDrives, IsJobOf, drives_of, publisher_of};
+ghost use Rattle.geo_work.specs.Jobs.{DidTurn, HasItsDrives, IsJobOf, IsRoleOf, drives_of, is_in_vain, publisher_of};
 ghost use Rattle.geo_work.specs.Runs.{EndedBy, JobRan, RestedFor};
 
 use crate::client::ClientJob;
@@ -30,11 +31,13 @@ pub enum Role<D> {
     Disk(DiskJob<D>),
 }
 
-/// A job: the pass by which it makes its steps, and its role.
+/// A job: the pass by which it makes its steps, its role, and whether its turns are in vain until the log grows beyond
+/// what the pass has seen.
 #[derive(Drop)]
 pub struct Job<D> {
     pub pass: Pass<Mesh>,
     pub role: Role<D>,
+    pub quiet: bool,
 }
 
 /// What a job leaves: its pass, and the drives of a disk worker.
@@ -56,6 +59,7 @@ impl<D> Job<D> {
         ensures pass { result.pass ≡ pass }
         ensures role { result.role
             ≡ roles.Client (record { actor = actor; line = 0; down = down; publisher = publisher }) }
+        ensures quiet { result.quiet ≡ false }
     {
         let job = ClientJob {
             actor,
@@ -66,6 +70,7 @@ impl<D> Job<D> {
         Job {
             pass,
             role: Role::Client(job),
+            quiet: false,
         }
     }
 
@@ -73,10 +78,12 @@ impl<D> Job<D> {
     pub fn events(pass: Pass<Mesh>, down: LanePass) -> Job<D>
         ensures pass { result.pass ≡ pass }
         ensures role { result.role ≡ roles.Events (record { down = down }) }
+        ensures quiet { result.quiet ≡ false }
     {
         Job {
             pass,
             role: Role::Events(EventJob { down }),
+            quiet: false,
         }
     }
 
@@ -90,6 +97,7 @@ impl<D> Job<D> {
     ) -> Job<D>
         ensures pass { result.pass ≡ pass }
         ensures role { result.role ≡ roles.Down (record { down = down; up = up; disk0 = disk0; disk1 = disk1 }) }
+        ensures quiet { result.quiet ≡ false }
     {
         let job = DownJob {
             down,
@@ -100,6 +108,7 @@ impl<D> Job<D> {
         Job {
             pass,
             role: Role::Down(job),
+            quiet: false,
         }
     }
 
@@ -107,10 +116,12 @@ impl<D> Job<D> {
     pub fn up(pass: Pass<Mesh>, up: LanePass) -> Job<D>
         ensures pass { result.pass ≡ pass }
         ensures role { result.role ≡ roles.Up (record { up = up }) }
+        ensures quiet { result.quiet ≡ false }
     {
         Job {
             pass,
             role: Role::Up(UpJob { up }),
+            quiet: false,
         }
     }
 
@@ -125,6 +136,7 @@ impl<D> Job<D> {
     ) -> Job<D>
         ensures pass { result.pass ≡ pass }
         ensures role { result.role ≡ roles.Disk (record { worker = worker; drives = drives; own = own; up = up }) }
+        ensures quiet { result.quiet ≡ false }
     {
         let job = DiskJob {
             worker,
@@ -135,6 +147,21 @@ impl<D> Job<D> {
         Job {
             pass,
             role: Role::Disk(job),
+            quiet: false,
+        }
+    }
+}
+
+impl<D> Job<D> {
+    // Whether, after an idle turn before which the pass had seen so much, the next one is in vain until the log grows: a
+    // client's is, and the event worker's if the pass saw no more in that turn.
+    fn is_in_vain(&self, seen: u64) -> bool
+        ensures { result ≡ is_in_vain self.now seen }
+    {
+        match &self.role {
+            Role::Client(_) => true,
+            Role::Events(_) => self.pass.len() == seen,
+            _ => false,
         }
     }
 }
@@ -157,7 +184,7 @@ impl<D: Drop> Job<D> {
         ensures pass { result.pass ≡ self.pass }
         ensures drives { result.drives ≡ drives_of self.role }
     {
-        let Job { pass, role } = self;
+        let Job { pass, role, .. } = self;
         let drives = match role {
             Role::Disk(job) => Some(drives_in(job)),
             _ => None,
@@ -175,7 +202,9 @@ fn drives_in<D: Drop>(job: DiskJob<D>) -> DriveList<D>
 }
 
 impl<D: Disk + Drop> Job<D> {
-    /// One turn of the job's role.
+    /// One turn. A quiet job whose pass has seen all of the log, by one look at its length, is idle again. Another one
+    /// has a turn of its role.
+    #[tactic(auto, using(crate::proofs::Quiet::same_turn, crate::proofs::Quiet::other_job))]
     pub fn turn<R: Wait + AllocGlobal, G: Gate>(
         &mut self,
         rt: &R,
@@ -186,6 +215,40 @@ impl<D: Disk + Drop> Job<D> {
         requires job { IsJobOf yard.now lanes.now self.old }
         requires drives { HasItsDrives yard.now.start.facts (drive_view D.view) self.old.role }
         ensures job { IsJobOf yard.now lanes.now self.new }
+        ensures drives { HasItsDrives yard.now.start.facts (drive_view D.view) self.new.role }
+        ensures good { IsGoodPass self.new.pass }
+        ensures did { DidTurn (opened_by yard.now.start) (drive_view D.view) self.old self.new result }
+    {
+        if self.quiet && !yard.has_news(&self.pass) {
+            // The number of a pass tells that it is good at this moment too.
+            let _ = self.pass.number();
+            return Turn::Idle;
+        }
+        let seen = self.pass.len();
+        match self.turn_of_role(rt, yard, lanes, gate) {
+            Turn::Idle => {
+                self.quiet = self.is_in_vain(seen);
+                Turn::Idle
+            }
+            other => {
+                self.quiet = false;
+                other
+            }
+        }
+    }
+
+    // One turn of the job's role.
+    fn turn_of_role<R: Wait + AllocGlobal, G: Gate>(
+        &mut self,
+        rt: &R,
+        yard: &Yard<Mesh>,
+        lanes: &Lanes,
+        gate: &G,
+    ) -> Turn
+        requires job { IsJobOf yard.now lanes.now self.old }
+        requires drives { HasItsDrives yard.now.start.facts (drive_view D.view) self.old.role }
+        ensures pass { IsPassOf yard.now self.new.pass }
+        ensures role { IsRoleOf lanes.now self.new.pass self.new.role }
         ensures drives { HasItsDrives yard.now.start.facts (drive_view D.view) self.new.role }
         ensures good { IsGoodPass self.new.pass }
         ensures did { DidTurn (opened_by yard.now.start) (drive_view D.view) self.old self.new result }
