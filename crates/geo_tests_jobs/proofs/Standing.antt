@@ -1,5 +1,5 @@
 -- Workers that stand by their numbers.
-use Rattle.std.specs.Prelude.{◌≡◌, ℕ, zero, suc, ◌+◌, ◌<◌, List, [], ◌∷◌, ◌++◌, drop, length, Some, slice_get, slice_index_or, slice_set, take}
+use Rattle.std.specs.Prelude.{◌≡◌, ℕ, zero, suc, ◌+◌, ◌<◌, List, [], ◌∷◌, ◌++◌, drop, false, length, Some, slice_get, slice_index_or, slice_set, take}
 use Rattle.std.specs.List.{AllZip}
 use Rattle.std.proofs.Common.{ap, arith, refl, subst, sym, ◌∙◌}
 use Rattle.std.proofs.lemmas.List.{append-nil, length-map, take_all}
@@ -42,7 +42,7 @@ module _ (y : YardView MeshStart) (lanes : Lanes) where
   pub new_worker : (opener pass : MeshPass) (ws : List (Worker Memory)) (role : Role Memory) (a : Turn)
       → IsFirst y (length ws + 1) opener → pass ≡ record opener { number = opener.made; own = []; made = 0 }
       → IsNewRole lanes role → HasItsDrives y.start.facts seen_drive role
-      → IsStanding y lanes (1 + length ws) (record { job = record { pass = pass; role = role }; answer = a })
+      → IsStanding y lanes (1 + length ws) (record { job = record { pass = pass; role = role; quiet = false }; answer = a })
   new_worker opener pass ws role a is next new drives =
       let made = is.made in
       let number = ap (λ (p : MeshPass). p.number) next in
@@ -52,6 +52,7 @@ module _ (y : YardView MeshStart) (lanes : Lanes) where
             pass = subst (λ (p : MeshPass). IsPassOf y p) (sym next)
                 (record { yard = is.of_yard.yard; start = is.of_yard.start });
             role = new pass (ap (λ (p : MeshPass). p.own) next);
+            quiet = λ is. absurd (let bad : ⊥ = cc in bad);
           };
           drives = drives;
         };

@@ -37,7 +37,11 @@ fn hire(
 {
     let pass = yard.split(opener);
     workers.push_reserved(Worker {
-        job: Job { pass, role },
+        job: Job {
+            pass,
+            role,
+            quiet: false,
+        },
         answer: Turn::Worked,
     });
 }

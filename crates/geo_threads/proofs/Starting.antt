@@ -1,5 +1,5 @@
 -- Workers that begin, by their numbers.
-use Rattle.std.specs.Prelude.{◌≡◌, ℕ, ◌+◌, ◌<◌, List, [], ◌∷◌, ◌++◌, length, Option, Some, IfSome}
+use Rattle.std.specs.Prelude.{◌≡◌, ℕ, ◌+◌, ◌<◌, List, [], ◌∷◌, ◌++◌, length, true, false, Option, Some, IfSome}
 use Rattle.std.proofs.Common.{ap, arith, refl, subst, rules}
 use Rattle.atomic_table.specs.Seated.{TableId}
 use Rattle.std.proofs.lemmas.List.{append_assoc, length-append}
@@ -22,6 +22,10 @@ use Rattle.geo_threads.specs.declared.lanes.Passes.{Passes}
 use Rattle.geo_threads.specs.Deal.{dealt}
 use Rattle.geo_threads.specs.Lanes.{ArePasses, IsPutter, taker_of}
 use Rattle.geo_threads.specs.Started.{AreStarted, HasBegun, HasRole, IsFirst, IsStarted, MeshYard, beginning, other_workers, pass_of_number}
+
+-- a job that begins isn't quiet
+not_quiet : {P : Type 0} → false ≡ true → P
+not_quiet {P} is = absurd {A = P} (let bad : ⊥ = cc in bad)
 
 module _ {D : Type 0} (y : MeshYard) (lanes : Lanes) (seen : Drive D → DriveView) (actors : ℕ)
     (drives : List (Drive D)) where
@@ -49,7 +53,19 @@ module _ {D : Type 0} (y : MeshYard) (lanes : Lanes) (seen : Drive D → DriveVi
       → IsRoleOf lanes (pass_of_number first number) role → HasItsDrives y.start.facts seen role
       → HasRole actors drives n role
       → IsStarted y lanes seen actors drives n (beginning (pass_of_number first number) role)
-  begun n first number role of_yard is its_lanes its_drives its = search rules
+  begun n first number role of_yard is its_lanes its_drives its = record {
+    ready = record {
+      job = record {
+        pass = record { yard = of_yard.yard; start = of_yard.start };
+        role = its_lanes;
+        quiet = λ yes. not_quiet yes;
+      };
+      drives = its_drives;
+    };
+    number = is;
+    own = refl;
+    role = its;
+  }
 
 -- a pass that has put nothing is within any budget
 within_none : (lane : TableId) (p : LanePassView) → IsPutter lane p → IsPassTo lane [] p
@@ -63,14 +79,30 @@ module _ {D : Type 0} (y : MeshYard) (lanes : Lanes) (seen : Drive D → DriveVi
       → IfSome publisher (λ (v : PublisherView). CanShow v pass) → pass ≡ pass_of_number first first.made
       → role ≡ roles.Client (record { actor = actor; line = 0; down = down; publisher = publisher })
       → IsStarted y lanes seen actors drives (1 + actor) (beginning pass role)
-  client_started actor pass role down publisher is lt putter shows pass_is role_is = search rules
+  client_started actor pass role down publisher is lt putter shows pass_is role_is = record {
+    ready = record {
+      job = record { pass = search rules; role = search rules; quiet = λ yes. not_quiet yes };
+      drives = search rules;
+    };
+    number = search rules;
+    own = search rules;
+    role = search rules;
+  }
 
   -- the others
   pub others_started : (p : Passes) (even odd : DriveListView D) → IsFirst y (actors + 1) first → ArePasses lanes p
       → even.items ≡ dealt 0 drives → odd.items ≡ dealt 1 drives
       → HasDrives y.start.facts seen even.items → HasDrives y.start.facts seen odd.items
       → AreStarted y lanes seen actors drives (1 + actors) (other_workers first p even odd)
-  others_started p even odd is passes evens odds fit_even fit_odd = search rules
+  others_started p even odd is passes evens odds fit_even fit_odd =
+      let starts = begun y lanes seen actors drives in (
+        starts _ first _ _ is.of_yard (search rules) (search rules) (search rules) (search rules),
+        starts _ first _ _ is.of_yard (search rules) (search rules) (search rules) (search rules),
+        starts _ first _ _ is.of_yard (search rules) (search rules) (search rules) (search rules),
+        starts _ first _ _ is.of_yard (search rules) (search rules) (search rules) (search rules),
+        starts _ first _ _ is.of_yard (search rules) (search rules) (search rules) (search rules),
+        tt,
+      )
 
 -- the pass that is made of another has seen the mesh as that has
 pub next_listing : (p : MeshPass) (n : ℕ) → listing_seen (pass_of_number p n) ≡ listing_seen p

@@ -1,5 +1,5 @@
 -- Jobs by their numbers, before they begin.
-use Rattle.std.specs.Prelude.{◌≡◌, ℕ, ◌+◌, ◌<◌, ◌≤◌, List, [], ◌∷◌, length, ⊤}
+use Rattle.std.specs.Prelude.{◌≡◌, ℕ, ◌+◌, ◌<◌, ◌≤◌, List, [], ◌∷◌, length, false, ⊤}
 use Rattle.geo_disk.specs.declared.drive.Drive.{Drive}
 use Rattle.geo_serve.specs.Drives.{DriveView}
 use Rattle.geo_lock.specs.Yard.{IsPassOf, YardView}
@@ -34,7 +34,7 @@ pass_of_number first number = record first { number = number; own = []; made = 0
 
 -- a worker that begins
 abbrev pub beginning : {D : Type 0} → MeshPass → Role D → Worker D
-beginning pass role = record { job = record { pass = pass; role = role }; answer = turns.Idle }
+beginning pass role = record { job = record { pass = pass; role = role; quiet = false }; answer = turns.Idle }
 
 -- the role of the job with a number, where there are so many actors: first come the clients in order of their actors,
 -- then the event worker, the down worker, the up worker and the two disk workers, which have the drives in turn

@@ -1,5 +1,5 @@
 //! The workers of a run, before they begin.
-ghost use Rattle.std.specs.Prelude.{◌≡◌, ◌+◌, ◌<◌, ◌≤◌, ◌^◌, ℕ, [], ◌∷◌, ◌++◌, List, Some, None, IfOk, IfSome, OnOk, length, vec_capacity, vec_len};
+ghost use Rattle.std.specs.Prelude.{◌≡◌, ◌+◌, ◌<◌, ◌≤◌, ◌^◌, ℕ, false, [], ◌∷◌, ◌++◌, List, Some, None, IfOk, IfSome, OnOk, length, vec_capacity, vec_len};
 ghost use mathlib.Core.List.{IsPrefix};
 ghost use Rattle.geo_base.specs.declared.limits.TheConstants.{MAX_ACTORS};
 ghost use Rattle.geo_disk.specs.declared.drive.Drive.{Drive as DriveValue};
@@ -28,9 +28,10 @@ fn next_pass(yard: &Yard<Mesh>, first: &mut Pass<Mesh>) -> Pass<Mesh>
     yard.split(first)
 }
 
-// Puts a worker for a job behind the others, in room that was made.
+// Puts a worker for a new job behind the others, in room that was made.
 fn hire<D>(workers: &mut Vec<Worker<D>>, job: Job<D>)
-    requires { vec_len workers.old < vec_capacity workers.old }
+    requires new { job.quiet ≡ false }
+    requires room { vec_len workers.old < vec_capacity workers.old }
     ensures items { workers.new.items ≡ workers.old.items ++ beginning job.pass job.role ∷ [] }
     ensures room { vec_capacity workers.new ≡ vec_capacity workers.old }
 {
