@@ -22,10 +22,14 @@ class Program:
             folder = pathlib.Path(folder)
             for name, held in dict(images).items():
                 (folder / f'{name}.img').write_bytes(bytes(held))
-            done = subprocess.run([self.path, word], input=text.encode(), stdout=subprocess.PIPE, cwd=folder,
-                                  timeout=600)
+            status, printed = self.call(word, text.encode(), folder)
             left = {path.stem: path.read_bytes() for path in folder.glob('*.img')}
-        return done.returncode, done.stdout.decode(), left
+        return status, printed.decode(), left
+
+    def call(self, word, data, folder):
+        """The status of one run, and what is printed."""
+        done = subprocess.run([self.path, word], input=data, stdout=subprocess.PIPE, cwd=folder, timeout=600)
+        return done.returncode, done.stdout
 
     def expect(self, name, got, due):
         if got != due:
