@@ -3,8 +3,8 @@
 //!
 //! All is said of the view of geo_mesh's `Topo`, for any configuration; [`Steps`] is seen as a number. Each call
 //! keeps `IsCounted`: the stored counts are the model's sums, exclusive and within the limit. Counts alone tell whether
-//! something refuses a demand. The consumers at a provider are searched only where a refusal names two of them, or where
-//! a count that is tried reached the greatest number of its type.
+//! something refuses a demand. The consumers at a provider are searched only where a refusal names two of them, or
+//! where a count that is tried reached the greatest number of its type.
 //!
 //! [`allowed`], [`could_grant`] and [`grant`] answer exactly the model's refusal, in its order (`answer`). They name
 //! the errored provider with the smallest number, the writer and the exclusive consumer, or the provider past the
@@ -22,7 +22,7 @@
 //! TASTE that joined only was attached ([`refused_consumers_go`] says both).
 //!
 //! Only tested, in geo_tests_core: that meshes can be built so far that the calls decide something. geo_life,
-//! geo_taste, geo_opens, geo_requests and geo_commands call it. Read `src/access.rt` and `specs/Access.antt` first.
+//! geo_taste and geo_moves call it. Read `src/access.rt` and `specs/Access.antt` first.
 #![tactic(auto)]
 
 mod access;

@@ -28,8 +28,8 @@
 //! nothing is found it leaves the taste that the model's step leaves ([`laws::tastes_follow`]). After `NoMemory`
 //! nothing is changed.
 //!
-//! geo_bio keeps lists of pieces, geo_taste and geo_commands make geoms by it, geo_requests splits requests and writes
-//! records, and geo_state keeps the taste under way. Tests stand in geo_tests_low, class by class, and in
+//! geo_bio keeps lists of pieces, geo_taste and geo_moves make geoms by it, geo_moves splits requests and writes
+//! records by it, and geo_state keeps the taste under way. Tests stand in geo_tests_low, class by class, and in
 //! geo_tests_core. Read `src/address_map.rt`, `src/config.rt` and `src/verdict.rt` first.
 #![tactic(auto)]
 

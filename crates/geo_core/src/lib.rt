@@ -28,7 +28,7 @@
 //! one of the model ([`passes_are_good`]).
 //!
 //! Tested by lists of steps (geo_tests_program) and by two threads (geo_tests_threads). geo_drain and geo_verify
-//! drive it on one thread, geo_steps under the lock. Read `src/mesh.rt` and `specs/Mesh.antt` first.
+//! drive it on one thread, geo_jobs under the lock. Read `src/mesh.rt` and `specs/Mesh.antt` first.
 #![tactic(auto)]
 
 mod admit;

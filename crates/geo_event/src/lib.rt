@@ -5,7 +5,7 @@
 //! [`EventQueue::head`] and [`EventQueue::drop_head`] are exact. [`EventQueue::cancel`] leaves exactly the events
 //! that don't name the provider (`events`: g_cancel_event).
 //!
-//! geo_life and geo_taste post, geo_events does what stands at the head, and geo_state keeps the room. Tests stand in
+//! geo_life and geo_taste post, geo_moves does what stands at the head, and geo_state keeps the room. Tests stand in
 //! geo_tests_low. Read `src/queue.rt`.
 #![tactic(auto)]
 

@@ -11,8 +11,7 @@
 //! takes memory, and after want of it nothing changed.
 //!
 //! Only tested: that there is memory, and two actors' handles, notes and want of room (geo_tests_bios,
-//! geo_tests_state). geo_state keeps them; geo_opens, geo_requests and geo_commands look them up. Read
-//! `src/handles.rt` first.
+//! geo_tests_state). geo_state keeps them; geo_moves looks them up. Read `src/handles.rt` first.
 #![tactic(auto)]
 
 mod handles;

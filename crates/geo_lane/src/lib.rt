@@ -14,8 +14,7 @@
 //! geo_tests_threads: such a sender finds room for 1,024 tickets and is refused only with the next, and a ticket of a
 //! pass which wasn't taken in comes.
 //!
-//! geo_steps puts tickets, the jobs of geo_disk_job and geo_work take them, geo_threads opens the lanes of a run.
-//! Read `src/lane.rt` first.
+//! The jobs of geo_jobs put tickets and take them; a run opens its lanes. Read `src/lane.rt` first.
 //!
 //! Nothing is promised of progress, fairness or time.
 #![tactic(auto)]

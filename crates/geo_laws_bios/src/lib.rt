@@ -9,7 +9,7 @@
 //! [`frames::commands_are_apart`]); [`ups::sources_serve_all`] whether bios have still their counts where grants fall.
 //!
 //! The laws of handles, maps, steps, what is owed, rest, requests, the elevator order and traces need them; so do
-//! geo_requests and geo_drain. Read `specs/BioStepLaws.antt` first.
+//! geo_moves and geo_drain. Read `specs/BioStepLaws.antt` first.
 #![tactic(auto)]
 
 pub mod frames;

@@ -14,8 +14,8 @@
 //! ([`by_seats::seats_serve_their_disks`]). A drive that served one part of a log and then the other served both
 //! ([`by_seats::parts_are_served_as_one`]).
 //!
-//! geo_drain, geo_steps, geo_threads and geo_run need them; geo_drain hands some on to geo_elev. Read
-//! `specs/DiskLaws.antt` and `specs/TakenLaws.antt` first.
+//! geo_drain, geo_jobs and geo_run need them; geo_drain hands some on to geo_elev. Read `specs/DiskLaws.antt` and
+//! `specs/TakenLaws.antt` first.
 #![tactic(auto)]
 
 pub mod by_seats;

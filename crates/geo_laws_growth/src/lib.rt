@@ -10,7 +10,7 @@
 //! [`growth`] answers what stands after an append ([`growth::grown_is_found`], [`growth::appends_hold`]), and whether
 //! growth moves bytes: each old offset lies where it lay ([`growth::concats_grow`], [`growth::flat_stays`]).
 //!
-//! geo_access needs the first for its `join`, geo_commands both for `append`, and geo_laws_making for the step of an
+//! geo_access needs the first for its `join`, geo_moves both for `append`, and geo_laws_making for the step of an
 //! append. Read `specs/JoinLaws.antt` first.
 #![tactic(auto)]
 

@@ -9,7 +9,7 @@
 //! what was closed, detached and idle.
 //!
 //! The laws of handles, making, maps, all steps, rest, the elevator order and traces need them; so do geo_taste,
-//! geo_requests, geo_commands, geo_core and geo_rows. Read `specs/LessLaws.antt` first.
+//! geo_moves, geo_core and geo_rows. Read `specs/LessLaws.antt` first.
 #![tactic(auto)]
 
 pub mod effects;

@@ -8,8 +8,8 @@
 //! labels and places of assemblies ([`places`], [`assemblies`]). [`tasting::tastes_stay_firm`] and
 //! [`judges::judges_stay_firm`] are the step of a taste; [`judges::links_stay_in_order`] keeps its chain.
 //!
-//! geo_taste and geo_commands need them, and the laws of all steps and of rest; geo_taste hands some on to geo_events
-//! and geo_requests. Read `specs/MoreLaws.antt` and `specs/MakingLaws.antt` first.
+//! geo_taste and geo_moves need them, and the laws of all steps and of rest. Read `specs/MoreLaws.antt` and
+//! `specs/MakingLaws.antt` first.
 #![tactic(auto)]
 
 pub mod accepting;

@@ -6,7 +6,7 @@
 //! within its limit exactly if each entry had its place ([`logs_stay_lawful`]). Where a step has no place, the log
 //! with what is owed is at its limit but for one, and that sum never falls ([`full_logs_stay_long`]).
 //!
-//! geo_commands needs them, geo_threads for the answer of a job that found the log full, and geo_laws_traces. Read
+//! geo_moves needs them, geo_jobs for the answer of a job that found the log full, and geo_laws_traces. Read
 //! `specs/OwedLaws.antt` first.
 #![tactic(auto)]
 

@@ -10,7 +10,7 @@
 //! every order that goes on and ends at rest ([`rest::orders_end`]). [`others::others_leave_commands`]: what an actor
 //! has left changes by its own Goes alone.
 //!
-//! geo_drain needs them for its run to rest, geo_threads for clients that stopped, geo_laws_sweep for the elevator
+//! geo_drain needs them for its run to rest, geo_jobs for clients that stopped, geo_laws_sweep for the elevator
 //! order. Read `specs/RestLaws.antt` first.
 #![tactic(auto)]
 

@@ -11,7 +11,7 @@
 //!   front of those that were asked for ([`generator::generated_texts_are_scripts`]).
 //! - [`naming`]: where a legal log leads, each provider has a name that is one ([`naming::legal_logs_have_names`]).
 //!
-//! geo_gen and geo_run need the generator's law, geo_core and geo_commands that of names, geo_taste and
+//! geo_gen and geo_run need the generator's law, geo_core and geo_moves that of names, geo_taste and
 //! geo_laws_making those of sectors; geo_laws_scripts and geo_laws_traces need how numbers are written. Read
 //! `specs/GeneratorLaws.antt` and `specs/Naming.antt` first.
 #![tactic(auto)]

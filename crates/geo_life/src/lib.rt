@@ -21,7 +21,7 @@
 //! (`IsDevMade`). Each sound and steady world has both ([`handles_are_spared`]).
 //!
 //! Only tested, in geo_tests_life: that there is memory, and marks, spoils, orphans and washes at a concrete type.
-//! geo_opens, geo_events and geo_commands call it. Read `src/withers.rt` and `specs/Life.antt` first.
+//! geo_moves calls it. Read `src/withers.rt` and `specs/Life.antt` first.
 #![tactic(auto)]
 
 mod above;

@@ -14,8 +14,8 @@
 //! has the number of a pass, so it is one of that pass's own ([`each_entry_is_own`]).
 //!
 //! [`Tally`] is the smallest such state, for tests; geo_core's mesh is the real one. geo_tests_threads has two
-//! threads on one yard, of a sum and of a mesh. geo_steps makes steps by it, and geo_threads opens and closes the
-//! yard. Read `src/yard.rt` first; docs/ARCHITECTURE.md tells the rule (`IsKept`).
+//! threads on one yard, of a sum and of a mesh. geo_jobs makes steps by it, and opens and closes the yard. Read `src/yard.rt`
+//! first; docs/ARCHITECTURE.md tells the rule (`IsKept`).
 //!
 //! Nothing is promised of progress, fairness or time.
 #![tactic(auto)]

@@ -6,7 +6,7 @@
 //! exactly what the entry of a place delivered. That stays while the log grows ([`laws::places_stay`]), and a bio
 //! that names the place has the model's result ([`laws::delivered_has_place`], [`laws::delivered_is_result`]).
 //!
-//! geo_core keeps the log of a mesh, geo_requests reads delivered bytes, geo_report, geo_shown and geo_verify read
+//! geo_core keeps the log of a mesh, geo_moves reads delivered bytes, geo_report, geo_shown and geo_verify read
 //! the whole. Tests stand in geo_tests_bios and geo_tests_state. Read `src/log.rt`.
 #![tactic(auto)]
 

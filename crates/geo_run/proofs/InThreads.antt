@@ -18,9 +18,9 @@ use Rattle.geo_elev.specs.Drain as drain
 use Rattle.geo_elev.specs.Drain.{with_entries}
 use Rattle.geo_elev.specs.DrainRefusal.{DrainRefusal}
 use Rattle.geo_elev.specs.DrainRefusal.TheVariants as refusals
-use Rattle.geo_threads.specs.Left.{ThreadsRan}
-use Rattle.geo_threads.specs.declared.left.JobsEnd.{JobsEnd}
-use Rattle.geo_threads.specs.declared.left.JobsEnd.TheVariants as ends
+use Rattle.geo_jobs.specs.Left.{ThreadsRan}
+use Rattle.geo_jobs.specs.declared.left.JobsEnd.{JobsEnd}
+use Rattle.geo_jobs.specs.declared.left.JobsEnd.TheVariants as ends
 use Rattle.geo_run.specs.Drives.{DriveView}
 use Rattle.geo_run.specs.Runners.{AfterThreads, Ran, RanOrNot, ending_after}
 use Rattle.geo_run.specs.Work.{mode_threaded}

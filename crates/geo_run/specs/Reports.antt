@@ -4,8 +4,8 @@ use Rattle.geo_model.specs.declared.listing.GeomLine.{GeomLine}
 use Rattle.geo_model.specs.World.{World}
 use Rattle.geo_model.specs.Listing.{listing}
 use Rattle.geo_headline.specs.Modes.{Mode, RunMode, TraceMode, WatchMode}
-use Rattle.geo_threads.specs.declared.left.Seen.{Seen}
-use Rattle.geo_threads.specs.declared.left.Seen.TheVariants as seens
+use Rattle.geo_jobs.specs.declared.left.Seen.{Seen}
+use Rattle.geo_jobs.specs.declared.left.Seen.TheVariants as seens
 use Rattle.geo_run.specs.declared.threaded_report.ThreadedReport.{ThreadedReport}
 use Rattle.geo_run.specs.declared.threaded_report.ThreadedReport.TheVariants as reports
 

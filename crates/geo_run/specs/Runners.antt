@@ -11,8 +11,8 @@ use Rattle.geo_elev.specs.Meshes.{IsHistory, MeshView, opened, world_of}
 use Rattle.geo_elev.specs.Drain as drain
 use Rattle.geo_elev.specs.DrainRefusal.{DrainRefusal}
 use Rattle.geo_elev.specs.DrainRefusal.TheVariants as refusals
-use Rattle.geo_threads.specs.declared.left.JobsEnd.{JobsEnd}
-use Rattle.geo_threads.specs.declared.left.JobsEnd.TheVariants as ends
+use Rattle.geo_jobs.specs.declared.left.JobsEnd.{JobsEnd}
+use Rattle.geo_jobs.specs.declared.left.JobsEnd.TheVariants as ends
 use Rattle.geo_headline.specs.Outside.{ShelfView}
 use Rattle.geo_run.specs.declared.finish.Finish.{Finish}
 use Rattle.geo_run.specs.Drives.{DriveView, ServeAll, size_of}

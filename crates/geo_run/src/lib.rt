@@ -38,7 +38,7 @@ mod whole;
 mod words;
 
 pub use geo_elev::{ApplyRefusal, Mesh};
-pub use geo_threads::{Gate, GatePlace, OpenGate};
+pub use geo_jobs::{Gate, GatePlace, OpenGate};
 pub use top::{Ended, run, run_alone, without_memory};
 pub use whole::program;
 pub use words::{Threaded, threads_of};

@@ -18,7 +18,7 @@ use geo_base::MAX_SCRIPT_BYTES;
 use geo_disk::Shelf;
 use geo_gen::make_script;
 use geo_io::Source;
-use geo_threads::Gate;
+use geo_jobs::Gate;
 use std::alloc::Global;
 use std::sync::Wait;
 use std::thread::Threads;

@@ -14,10 +14,10 @@ use crate::alone::report_of;
 use crate::runner::Reporter;
 use geo_base::{Block, NoMemory};
 use geo_elev::Mesh;
+use geo_jobs::Seen;
 use geo_log::DiskFacts;
 use geo_model::MeshList;
 use geo_shown::watched_report;
-use geo_threads::Seen;
 use geo_verify::trace_text;
 use std::alloc::Global;
 

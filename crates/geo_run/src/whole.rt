@@ -8,7 +8,7 @@ use crate::top::{run, without_memory};
 use geo_base::NoMemory;
 use geo_disk::Shelf;
 use geo_io::{Sink, Source};
-use geo_threads::Gate;
+use geo_jobs::Gate;
 use std::mem;
 use std::sync::Wait;
 use std::thread::Threads;

@@ -13,7 +13,7 @@
 //! Along a log `IsServed` says the same of all that a drive did: it was asked exactly the requests whose answers the
 //! log delivers, in its order, and has exactly their failures more.
 //!
-//! geo_drain and geo_disk_job call it. Read `specs/Serve.antt` and `specs/Served.antt` first.
+//! geo_drain and geo_jobs call it. Read `specs/Serve.antt` and `specs/Served.antt` first.
 #![tactic(auto)]
 
 mod serving;

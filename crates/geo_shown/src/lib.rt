@@ -11,7 +11,7 @@
 //! `listed`). [`same_lists`] answers yes exactly where two listings are the same. [`replies_are_listings`]: a listing
 //! that an entry of a legal log was replied, whatever its step, is that of the world after the log up to that entry.
 //!
-//! geo_run prints by it for the word `watch`; geo_view shows the listings while the jobs run. Read `src/watched.rt`
+//! geo_run prints by it for the word `watch`; geo_jobs shows the listings while the jobs run. Read `src/watched.rt`
 //! first.
 #![tactic(auto)]
 

@@ -27,8 +27,8 @@
 //!
 //! Only tested: that there is memory, what is due in a few examples (geo_tests_bios), READs that pass over each
 //! other, and a Deliver after more room was refused (geo_tests_state). Else it has no tests of its own:
-//! geo_tests_program and `tests/` run it. geo_opens, geo_requests, geo_events, geo_commands and geo_core work on it.
-//! Read `src/state.rt` and `specs/Holds.antt` first.
+//! geo_tests_program and `tests/` run it. geo_moves and geo_core work on it. Read `src/state.rt` and
+//! `specs/Holds.antt` first.
 #![tactic(auto)]
 
 mod bios;

@@ -21,8 +21,8 @@
 //! [`judge_step`] and [`hand_back`] tick at most one step for each consumer below the tasted provider (`bound`).
 //!
 //! Only tested: that there is memory; how geoms are made at concrete names and sizes (geo_tests_making); tastes of
-//! hostile tables, chains and records, and of a disk that is pulled at each moment (geo_tests_core). geo_events and
-//! geo_requests call it, and the latter hands it on to geo_commands. Read `src/step.rt` and `src/shapes.rt` first.
+//! hostile tables, chains and records, and of a disk that is pulled at each moment (geo_tests_core). geo_moves calls
+//! it. Read `src/step.rt` and `src/shapes.rt` first.
 #![tactic(auto)]
 
 mod ask;

@@ -5,7 +5,7 @@ use Rattle.geo_base.specs.Sectors.{cut_into, sectors_of}
 use Rattle.geo_disk.specs.Memory.{Memory}
 use Rattle.geo_disk.specs.declared.drive.Drive.{Drive}
 use Rattle.geo_disk.specs.declared.drive.Drive.TheVariants.{Ram}
-use Rattle.geo_work.specs.Drives.{HasDrives}
+use Rattle.geo_jobs.specs.Drives.{HasDrives}
 use Rattle.geo_tests_jobs.specs.Benches.{IsSmall, seen_drive, two_facts}
 
 -- bytes are cut into as many sectors as is said

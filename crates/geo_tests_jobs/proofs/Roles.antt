@@ -5,8 +5,8 @@ use Rattle.atomic_table.specs.Seated.{TableId}
 use Rattle.geo_model.specs.declared.step.Entry.{Entry}
 use Rattle.geo_lane.specs.declared.ticket.Ticket.{Ticket}
 use Rattle.geo_lane.specs.LanePass.{LanePassView}
-use Rattle.geo_work.specs.LanePasses.{IsPassTo}
-use Rattle.geo_work.specs.Putting.{IsWithin}
+use Rattle.geo_jobs.specs.LanePasses.{IsPassTo}
+use Rattle.geo_jobs.specs.Putting.{IsWithin}
 use Rattle.geo_tests_jobs.specs.Benches.{IsTaker}
 
 -- a pass that put nothing has put few tickets

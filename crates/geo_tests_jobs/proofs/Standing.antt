@@ -6,14 +6,14 @@ use Rattle.std.proofs.lemmas.List.{append-nil, length-map, take_all}
 use Rattle.std.proofs.Math.ListN.{drop_of_length-le}
 use Rattle.geo_disk.specs.Memory.{Memory}
 use Rattle.geo_lock.specs.Yard.{IsPassOf, IsWhole, YardView, first_pass}
-use Rattle.geo_work.specs.MeshStart.{MeshStart}
-use Rattle.geo_work.specs.Lanes.{Lanes}
-use Rattle.geo_work.specs.Passes.{MeshPass}
-use Rattle.geo_work.specs.Turn.{Turn}
-use Rattle.geo_work.specs.declared.job.Role.{Role}
-use Rattle.geo_work.specs.declared.run.Worker.{Worker}
-use Rattle.geo_work.specs.Jobs.{HasItsDrives}
-use Rattle.geo_work.specs.Workers.{IsReady, WorkerRan}
+use Rattle.geo_jobs.specs.MeshStart.{MeshStart}
+use Rattle.geo_jobs.specs.Lanes.{Lanes}
+use Rattle.geo_jobs.specs.Passes.{MeshPass}
+use Rattle.geo_jobs.specs.Turn.{Turn}
+use Rattle.geo_jobs.specs.declared.job.Role.{Role}
+use Rattle.geo_jobs.specs.declared.run.Worker.{Worker}
+use Rattle.geo_jobs.specs.Jobs.{HasItsDrives}
+use Rattle.geo_jobs.specs.Workers.{IsReady, WorkerRan}
 use Rattle.geo_tests_jobs.specs.Benches.{seen_drive}
 use Rattle.geo_tests_jobs.specs.Standing.{AreStanding, IsFirst, IsNewRole, IsStanding, passes_of}
 

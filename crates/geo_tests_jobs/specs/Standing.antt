@@ -2,13 +2,13 @@
 use Rattle.std.specs.Prelude.{◌≡◌, ℕ, ◌+◌, List, [], ◌∷◌, map, ⊤}
 use Rattle.geo_disk.specs.Memory.{Memory}
 use Rattle.geo_lock.specs.Yard.{IsPassOf, YardView}
-use Rattle.geo_work.specs.MeshStart.{MeshStart}
-use Rattle.geo_work.specs.Lanes.{Lanes}
-use Rattle.geo_work.specs.Passes.{MeshPass}
-use Rattle.geo_work.specs.declared.job.Role.{Role}
-use Rattle.geo_work.specs.declared.run.Worker.{Worker}
-use Rattle.geo_work.specs.Jobs.{IsRoleOf}
-use Rattle.geo_work.specs.Workers.{IsReady}
+use Rattle.geo_jobs.specs.MeshStart.{MeshStart}
+use Rattle.geo_jobs.specs.Lanes.{Lanes}
+use Rattle.geo_jobs.specs.Passes.{MeshPass}
+use Rattle.geo_jobs.specs.declared.job.Role.{Role}
+use Rattle.geo_jobs.specs.declared.run.Worker.{Worker}
+use Rattle.geo_jobs.specs.Jobs.{IsRoleOf}
+use Rattle.geo_jobs.specs.Workers.{IsReady}
 use Rattle.geo_tests_jobs.specs.Benches.{seen_drive}
 
 -- the pass 0 of a yard, which made no step, and of which so many passes were made with itself

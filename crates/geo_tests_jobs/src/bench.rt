@@ -1,19 +1,20 @@
 //! A small script, its mesh, and the disks, lanes and room that its jobs take.
 ghost use Rattle.std.specs.Prelude.{◌≡◌, ◌+◌, ◌<◌, ◌≤◌, [], IfOk, IfSome};
 ghost use Rattle.geo_model.specs.Plans.{FactsFit, IsFact};
-ghost use Rattle.geo_work.specs.Drives.{HasDrives};
-ghost use Rattle.geo_work.specs.Mesh.{IsHistory};
+ghost use Rattle.geo_jobs.specs.Drives.{HasDrives};
+ghost use Rattle.geo_jobs.specs.Mesh.{IsHistory};
 ghost use Rattle.geo_tests_jobs.specs.Benches.{AreTakers, HasRoom, IsPutter, IsSmall, IsTaker, seen_drive, two_facts};
 
 use crate::rooms::{Room, Takers};
 use geo_base::{Block, Calls, NoMemory};
+use geo_core::Mesh;
 use geo_disk::{Drive, MemDisk};
+use geo_jobs::{DriveList, Lanes};
 use geo_lane::{Lane, LanePass};
 use geo_lock::PassList;
 use geo_log::DiskFacts;
 use geo_model::{DiskDecl, DiskKind};
 use geo_script::{Plan, parse};
-use geo_work::{DriveList, Lanes, Mesh};
 use std::alloc::Global;
 
 /// Two actors, each of which reads from a disk of its own.

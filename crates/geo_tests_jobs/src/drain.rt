@@ -1,8 +1,8 @@
 //! The steps that jobs leave, made with seat 0 until none is left.
 use crate::bench::BYTE;
 use geo_base::{BioId, Block, SharedBytes};
+use geo_core::Mesh;
 use geo_model::{DeviceResult, Outcome, Request, Step};
-use geo_work::Mesh;
 use std::alloc::Global;
 use std::test::Fail;
 

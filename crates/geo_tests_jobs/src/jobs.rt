@@ -2,8 +2,8 @@
 //! seat 0.
 ghost use Rattle.std.specs.Prelude.{◌≡◌, ◌+◌, ◌<◌, ◌≤◌, [], ◌∷◌, ◌++◌, length};
 ghost use Rattle.geo_lock.specs.Yard.{IsWhole, first_pass};
-ghost use Rattle.geo_work.specs.Mesh.{IsHistory};
-ghost use Rattle.geo_work.specs.Workers.{IsReady};
+ghost use Rattle.geo_jobs.specs.Mesh.{IsHistory};
+ghost use Rattle.geo_jobs.specs.Workers.{IsReady};
 ghost use Rattle.geo_tests_jobs.specs.Benches.{HasRoom, IsTaker, seen_drive, two_facts};
 ghost use Rattle.geo_tests_jobs.specs.Standing.{AreStanding, passes_of};
 
@@ -13,12 +13,13 @@ use crate::fill::fill;
 use crate::rooms::Room;
 use crate::start::start;
 use geo_base::Block;
+use geo_core::Mesh;
 use geo_disk::MemDisk;
+use geo_jobs::{JobParts, Lanes, OpenGate, Turn, Worker, run_jobs};
 use geo_lane::{Lane, LanePass};
-use geo_lock::PassList;
+use geo_lock::{Pass, PassList, Yard};
 use geo_log::Log;
 use geo_report::report;
-use geo_work::{JobParts, Lanes, Mesh, OpenGate, Pass, Turn, Worker, Yard, run_jobs};
 use std::alloc::Global;
 use std::sync::Wait;
 use std::test::Fail;

@@ -1,8 +1,9 @@
 //! What the jobs of a test take.
+use geo_core::Mesh;
 use geo_disk::MemDisk;
+use geo_jobs::{DriveList, Lanes, Worker};
 use geo_lane::LanePass;
 use geo_lock::PassList;
-use geo_work::{DriveList, Lanes, Mesh, Worker};
 
 /// The passes 0 of the lanes, by which tickets are taken.
 #[derive(Drop)]

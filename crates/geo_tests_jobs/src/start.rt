@@ -1,20 +1,19 @@
 //! The jobs of the script, before they begin.
 ghost use Rattle.std.specs.Prelude.{◌≡◌, ℕ, ◌+◌, ◌<◌, ◌≤◌, [], List, length, vec_capacity};
-ghost use Rattle.geo_work.specs.Drives.{HasDrives};
-ghost use Rattle.geo_work.specs.Jobs.{HasItsDrives};
-ghost use Rattle.geo_work.specs.Turns.{lane_of};
-ghost use Rattle.geo_work.specs.Lanes.{Lanes as LanesValue};
+ghost use Rattle.geo_jobs.specs.Drives.{HasDrives};
+ghost use Rattle.geo_jobs.specs.Jobs.{HasItsDrives};
+ghost use Rattle.geo_jobs.specs.Turns.{lane_of};
+ghost use Rattle.geo_jobs.specs.Lanes.{Lanes as LanesValue};
 ghost use Rattle.geo_tests_jobs.specs.Benches.{AreTakers, IsPutter, IsTaker, seen_drive};
 ghost use Rattle.geo_tests_jobs.specs.Standing.{AreStanding, IsFirst, IsNewRole};
 
 use crate::bench::putter;
 use crate::rooms::Takers;
+use geo_core::Mesh;
 use geo_disk::MemDisk;
+use geo_jobs::{ClientJob, DiskJob, DownJob, DriveList, EventJob, Job, Lanes, Role, Turn, UpJob, Worker};
 use geo_lane::LanePass;
-use geo_work::{
-    ClientJob, DiskJob, DownJob, DriveList, EventJob, Job, Lanes, Mesh, Pass, Role, Turn, UpJob,
-    Worker, Yard,
-};
+use geo_lock::{Pass, Yard};
 
 // Starts the job of a role, with the next pass.
 fn hire(

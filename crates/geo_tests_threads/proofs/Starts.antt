@@ -14,15 +14,15 @@ use Rattle.geo_model.specs.declared.step.Step.TheVariants as steps
 use Rattle.geo_model.specs.Listing.{listing}
 use Rattle.geo_model.specs.Log.{replay}
 use Rattle.geo_model.specs.Opening.{opening}
-use Rattle.geo_view.specs.MeshStart.{MeshStart}
-use Rattle.geo_view.specs.Logged.{mesh_start}
-use Rattle.geo_view.specs.Mesh.{MeshView, world_of}
-use Rattle.geo_view.specs.Tried.{Tried}
-use Rattle.geo_view.specs.Tried.TheVariants as tries
-use Rattle.geo_view.specs.Passes.{MeshPass}
-use Rattle.geo_view.specs.Making.{DidTry, MakesStep}
-use Rattle.geo_view.specs.Listings.{listing_after, listing_seen}
-use Rattle.geo_view.proofs.Replies.{replies_can_be_shown}
+use Rattle.geo_jobs.specs.MeshStart.{MeshStart}
+use Rattle.geo_jobs.specs.Logged.{mesh_start}
+use Rattle.geo_jobs.specs.Mesh.{MeshView, world_of}
+use Rattle.geo_jobs.specs.Tried.{Tried}
+use Rattle.geo_jobs.specs.Tried.TheVariants as tries
+use Rattle.geo_jobs.specs.Passes.{MeshPass}
+use Rattle.geo_jobs.specs.Making.{DidTry, MakesStep}
+use Rattle.geo_jobs.specs.Listings.{listing_after, listing_seen}
+use Rattle.geo_jobs.proofs.Replies.{replies_can_be_shown}
 
 -- a mesh that made no step is what the first pass of its yard has seen
 pub listed_first : (m : MeshView) (y : YardView MeshStart) → m.log ≡ [] → y.start ≡ mesh_start m

@@ -3,14 +3,14 @@ ghost use Rattle.std.specs.Prelude.{◌≡◌, ◌+◌, ◌<◌, ◌≤◌, [], 
 ghost use Rattle.geo_model.specs.Plans.{FactsFit, IsFact};
 ghost use Rattle.geo_lock.specs.Pass.{IsSamePass};
 ghost use Rattle.geo_lock.specs.Yard.{IsPassOf, IsWhole, first_pass};
-ghost use Rattle.geo_view.specs.Mesh.{IsHistory};
+ghost use Rattle.geo_jobs.specs.Mesh.{IsHistory};
 
 use crate::same::assert_same;
+use geo_core::Mesh;
 use geo_lock::{Pass, PassList, Yard};
 use geo_log::DiskFacts;
 use geo_model::{DiskDecl, DiskKind, Entry, Outcome, Reply, Step};
 use geo_script::{Plan, parse};
-use geo_view::Mesh;
 use std::alloc::Global;
 use std::sync::Wait;
 use std::test::Fail;

@@ -2,16 +2,17 @@
 ghost use Rattle.std.specs.Prelude.{◌≡◌, [], IfSome};
 ghost use Rattle.geo_lock.specs.Yard.{IsPassOf, first_pass};
 ghost use Rattle.geo_model.specs.Listing.{listing};
-ghost use Rattle.geo_view.specs.Mesh.{IsHistory, world_of};
-ghost use Rattle.geo_view.specs.Ends.{CanShow};
-ghost use Rattle.geo_view.specs.Listings.{listing_seen};
+ghost use Rattle.geo_jobs.specs.Mesh.{IsHistory, world_of};
+ghost use Rattle.geo_jobs.specs.Ends.{CanShow};
+ghost use Rattle.geo_jobs.specs.Listings.{listing_seen};
 
 use crate::mesh::mesh_of;
 use crate::same::assert_same;
+use geo_core::Mesh;
+use geo_jobs::{Publisher, Tried, Watcher, try_step, view_create};
 use geo_lock::{Pass, Yard};
 use geo_model::{MeshList, Outcome, Reply, Step};
 use geo_script::parse;
-use geo_view::{Mesh, Publisher, Tried, Watcher, try_step, view_create};
 use std::alloc::Global;
 use std::sync::Wait;
 use std::test::Fail;
@@ -242,7 +243,7 @@ struct Setup {
 }
 
 // A view of what the pass has seen, if there is memory.
-#[tactic(auto, using(crate::proofs::Starts::first_is_of, geo_view::proofs::Shows::shows_first))]
+#[tactic(auto, using(crate::proofs::Starts::first_is_of, geo_jobs::proofs::Shows::shows_first))]
 fn view_of<R: AllocGlobal>(rt: &R, begun: Begun) -> Option<Setup>
     requires pass { begun.pass ≡ first_pass begun.yard }
     requires list { begun.list ≡ listing_seen begun.pass }

@@ -1,6 +1,6 @@
 use Rattle.std.proofs.Common.{rules, ◌≡◌, length, subst, sym}
 use Rattle.std.specs.List.{AllZip}
-use Rattle.geo_work.specs.Workers.{WorkerRan}
+use Rattle.geo_jobs.specs.Workers.{WorkerRan}
 use Rattle.geo_tests_jobs.specs.Benches.{seen_drive}
 use Rattle.geo_tests_jobs.specs.Standing.{AreStanding}
 use Rattle.geo_tests_jobs.proofs.Standing.{ready_each, standing_ran, written}

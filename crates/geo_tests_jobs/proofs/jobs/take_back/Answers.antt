@@ -2,7 +2,7 @@ use Rattle.std.proofs.Common.{◌≡◌, ◌++◌, ◌∷◌, ◌∙◌, [], ap,
 use Rattle.std.proofs.lemmas.List.{map-append}
 use Rattle.std.specs.Vec.Iter.{into_iter_items}
 use Rattle.geo_disk.specs.Memory.{Memory}
-use Rattle.geo_work.specs.declared.run.Worker.{Worker}
+use Rattle.geo_jobs.specs.declared.run.Worker.{Worker}
 use Rattle.geo_tests_jobs.specs.Standing.{passes_of}
 use Rattle.geo_tests_jobs.proofs.jobs.take_back.Goals as goal
 

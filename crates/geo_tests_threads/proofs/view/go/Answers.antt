@@ -1,5 +1,5 @@
 use Rattle.std.proofs.Common.{rules}
-use Rattle.geo_view.proofs.Shows.{shows_on}
+use Rattle.geo_jobs.proofs.Shows.{shows_on}
 use Rattle.geo_tests_threads.proofs.Starts.{reply_shows, went}
 use Rattle.geo_tests_threads.proofs.view.go.Goals as goal
 

@@ -1,6 +1,6 @@
 use Rattle.std.proofs.Common.{◌≡◌}
 use Rattle.geo_lock.specs.Yard.{IsPassOf}
-use Rattle.geo_view.specs.Ends.{CanShow}
+use Rattle.geo_jobs.specs.Ends.{CanShow}
 use Rattle.geo_tests_threads.proofs.view.go_all.Given as goal
 
 abbrev pub invariant-loop : goal.invariant-loop

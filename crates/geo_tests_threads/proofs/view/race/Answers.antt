@@ -1,5 +1,5 @@
 use denote.Param.Send.{sendable}
-use Rattle.geo_view.proofs.Sending.{watcher_send}
+use Rattle.geo_jobs.proofs.ViewSending.{watcher_send}
 use Rattle.geo_tests_threads.proofs.view.race.Goals as goal
 
 pub join-looked-requires-send-F : goal.join-looked-requires-send-F

@@ -1,5 +1,5 @@
 use Rattle.std.proofs.Common.{◌≡◌}
-use Rattle.geo_view.specs.Ends.{CanShow}
+use Rattle.geo_jobs.specs.Ends.{CanShow}
 use Rattle.geo_tests_threads.proofs.view.show.Given as goal
 
 abbrev pub invariant-loop : goal.invariant-loop

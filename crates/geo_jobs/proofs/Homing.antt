@@ -1,0 +1,217 @@
+-- What comes home of a run: the view that it shows is the one that is looked at, and how its workers ended.
+use Rattle.std.specs.Prelude.{◌≡◌, ◌≢◌, ℕ, ◌<◌, List, [], ◌∷◌, length, All, Any, Option, Some, None, slice_index_or, ◌+◌, ◌≤◌, ◌++◌}
+use Rattle.std.specs.List.{AllZip, cons_option}
+use Rattle.std.specs.Option.{option_to_list}
+use Rattle.std.proofs.Common.{ap, arith, refl, subst, sym, ◌∙◌, rules}
+use Rattle.std.proofs.lemmas.List.{get_or-map, length-map, length-append, map-append}
+use Rattle.std.proofs.lemmas.Option.{none-some}
+use Rattle.std.proofs.lemmas.List.Elements.{All-push, All-weaker, Contains-append_left, Contains-append_right, filter_map-append}
+use mathlib.Core.List.{IsPrefix}
+use Rattle.geo_disk.specs.declared.drive.Drive.{Drive}
+use Rattle.geo_model.specs.declared.step.Entry.{Entry}
+use Rattle.geo_serve.specs.Drives.{DriveView}
+use Rattle.geo_jobs.specs.Ends.{PublisherView, WatcherView}
+use Rattle.geo_jobs.specs.Lanes.{Lanes}
+use Rattle.geo_jobs.specs.Turn.{Turn}
+use Rattle.geo_jobs.specs.declared.job.Role.{Role}
+use Rattle.geo_jobs.specs.declared.run.Worker.{Worker}
+use Rattle.geo_jobs.specs.Jobs.{publisher_of, drives_of}
+use Rattle.geo_jobs.specs.Runs.{IsKept}
+use Rattle.geo_jobs.specs.Workers.{WorkerRan}
+use Rattle.geo_jobs.specs.declared.left.JobsEnd.{JobsEnd}
+use Rattle.geo_jobs.specs.Closing.{IsEndOf, answers_of, lists_of, passes_of, worse}
+use Rattle.geo_jobs.specs.Started.{MeshYard}
+use Rattle.geo_jobs.specs.Viewed.{LooksAt, LooksAtFirst, first_view, seen_by, shown_by}
+use Rattle.geo_laws_graph.proofs.Members.{Contains-here}
+use Rattle.geo_jobs.specs.DriveList.{DriveListView}
+use Rattle.geo_jobs.specs.Deal.{AreTwo, gathered_drives, gathered_of}
+use Rattle.geo_jobs.specs.Turn.TheVariants as turns
+use Rattle.geo_jobs.specs.declared.job.Role.TheVariants as roles
+use Rattle.geo_jobs.specs.declared.left.JobsEnd.TheVariants as ends
+
+-- The view
+
+-- more workers behind the first change nothing of what it shows
+pub begins_view : {D : Type 0} (w : Option WatcherView) (ws vs : List (Worker D)) → IsPrefix ws vs
+    → LooksAtFirst w ws → LooksAtFirst w vs
+begins_view None ws vs pre looks = tt
+begins_view (Some v) [] vs pre looks = absurd (none-some v.view looks)
+begins_view (Some v) (x ∷ xs) vs pre looks = subst (λ (l : List (Worker _)). first_view l ≡ Some v.view) pre.1 looks
+
+-- a role that stays shows the same view
+role_view : {D : Type 0} (seen : Drive D → DriveView) (added : List Entry) (a b : Role D) → IsKept seen added a b
+    → shown_by (publisher_of b) ≡ shown_by (publisher_of a)
+role_view seen added (roles.Client a) (roles.Client b) kept = kept.1
+role_view seen added (roles.Events a) (roles.Events b) kept = refl
+role_view seen added (roles.Down a) (roles.Down b) kept = refl
+role_view seen added (roles.Up a) (roles.Up b) kept = refl
+role_view seen added (roles.Disk a) (roles.Disk b) kept = refl
+role_view seen added _ _ kept = absurd kept
+
+-- so the first of workers that ran shows the same view as before
+pub ran_view : {D : Type 0} (y : MeshYard) (lanes : Lanes) (seen : Drive D → DriveView) (ws vs : List (Worker D))
+    → AllZip (WorkerRan y lanes seen) ws vs → first_view vs ≡ first_view ws
+ran_view y lanes seen [] [] ran = refl
+ran_view y lanes seen [] (v ∷ vs) ran = absurd ran
+ran_view y lanes seen (w ∷ ws) [] ran = absurd ran
+ran_view y lanes seen (w ∷ ws) (v ∷ vs) ran = role_view seen ran.0.ran.added w.job.role v.job.role ran.0.ran.kept
+
+-- who looked at what the first shows still looks at what is taken away from the first
+pub looks_meet : {D : Type 0} (before after : Option WatcherView) (p : Option PublisherView) (ws vs : List (Worker D))
+    → LooksAtFirst before ws → seen_by after ≡ seen_by before → first_view vs ≡ first_view ws
+    → shown_by p ≡ first_view vs → LooksAt after p
+looks_meet before None p ws vs looks same kept taken = tt
+looks_meet before (Some a) None ws vs looks same kept taken = tt
+looks_meet None (Some a) (Some q) ws vs looks same kept taken = absurd (none-some a.view (sym same))
+looks_meet (Some b) (Some a) (Some q) ws vs looks same kept taken = search rules
+
+-- nobody looks where nobody looked
+pub nobody_looks : (before after : Option WatcherView) → seen_by after ≡ seen_by before → before ≡ None → after ≡ None
+nobody_looks before None same none = refl
+nobody_looks before (Some a) same none = search rules
+
+-- Answers
+
+module _ {D : Type 0} (ws vs : List (Worker D)) (same : answers_of vs ≡ answers_of ws) where
+  -- as many workers
+  pub as_many : length ws ≡ length vs
+  as_many = search (rules, length-map ws (λ (w : Worker D). w.answer), length-map vs (λ (w : Worker D). w.answer))
+
+  -- at each place the same answer
+  answer_at : (k : ℕ) (d : Worker D) → k < length vs → (slice_index_or vs k d).answer ≡ (slice_index_or ws k d).answer
+  answer_at k d lt =
+      let many = as_many in
+      sym (get_or-map (λ (w : Worker D). w.answer) vs k d d.answer lt)
+      ∙ ap (λ (l : List Turn). slice_index_or l k d.answer) same
+      ∙ get_or-map (λ (w : Worker D). w.answer) ws k d d.answer (omega (arith, many, lt))
+
+  -- what holds of each answer, or of some
+  all_alike : (P : Turn → Type 0) → All (λ (w : Worker D). P w.answer) vs → All (λ (w : Worker D). P w.answer) ws
+  all_alike P each k d lt = search (rules, as_many, answer_at k d)
+
+  any_alike : (P : Turn → Type 0) → Any (λ (w : Worker D). P w.answer) vs → Any (λ (w : Worker D). P w.answer) ws
+  any_alike P some = search (rules, as_many, answer_at)
+
+  -- the same end
+  pub ends_alike : (e : JobsEnd) → IsEndOf vs e → IsEndOf ws e
+  ends_alike ends.Idle ended = all_alike (λ (t : Turn). (t ≢ turns.NoMemory) × (t ≢ turns.LogFull)) ended
+  ends_alike ends.LogFull ended = (
+    all_alike (λ (t : Turn). t ≢ turns.NoMemory) ended.0,
+    any_alike (λ (t : Turn). t ≡ turns.LogFull) ended.1,
+  )
+  ends_alike ends.NoMemory ended = any_alike (λ (t : Turn). t ≡ turns.NoMemory) ended
+
+-- Workers that come home.
+
+module _ {X : Type 0} (P : X → Type 0) (xs : List X) (x : X) where
+  -- some element of more
+  any_front : Any P xs → Any P (xs ++ x ∷ [])
+  any_front some = search (rules, Contains-append_left xs (x ∷ []) some.1 (some.0, some.2, some.3))
+
+  any_last : P x → Any P (xs ++ x ∷ [])
+  any_last its = search (rules, Contains-append_right xs (x ∷ []) x (Contains-here x []))
+
+-- what is known of a worker by its answer
+module _ {D : Type 0} where
+  abbrev Lacks : Worker D → Type 0
+  Lacks x = x.answer ≡ turns.NoMemory
+
+  abbrev IsFull : Worker D → Type 0
+  IsFull x = x.answer ≡ turns.LogFull
+
+  abbrev HasMemory : Worker D → Type 0
+  HasMemory x = x.answer ≢ turns.NoMemory
+
+  abbrev IsCalm : Worker D → Type 0
+  IsCalm x = (x.answer ≢ turns.NoMemory) × (x.answer ≢ turns.LogFull)
+
+module _ {D : Type 0} (ws : List (Worker D)) (w : Worker D) where
+  full_memory : w.answer ≡ turns.LogFull → HasMemory w
+  full_memory is same = let bad : turns.LogFull ≡ turns.NoMemory = sym is ∙ same in (let wrong : ⊥ = cc in wrong)
+
+  -- where the last is calm nothing is worse
+  calm : (f : JobsEnd) → IsCalm w → IsEndOf ws f → IsEndOf (ws ++ w ∷ []) f
+  calm ends.Idle its of = All-push IsCalm ws w of its
+  calm ends.LogFull its of = (All-push HasMemory ws w of.0 its.0, any_front IsFull ws w of.1)
+  calm ends.NoMemory its of = any_front Lacks ws w of
+
+  by_answer : (f : JobsEnd) (a : Turn) → w.answer ≡ a → IsEndOf ws f → IsEndOf (ws ++ w ∷ []) (worse f a)
+  by_answer f turns.NoMemory is of = any_last Lacks ws w is
+  by_answer ends.NoMemory turns.LogFull is of = any_front Lacks ws w of
+  by_answer ends.LogFull turns.LogFull is of = (All-push HasMemory ws w of.0 (full_memory is), any_last IsFull ws w is)
+  by_answer ends.Idle turns.LogFull is of = (
+    All-push HasMemory ws w (All-weaker IsCalm HasMemory (λ x its. its.0) ws of) (full_memory is),
+    any_last IsFull ws w is,
+  )
+  by_answer ends.NoMemory a is of = any_front Lacks ws w of
+  by_answer f a is of =
+      calm f (
+        (λ same. let bad : a ≡ turns.NoMemory = sym is ∙ same in (let wrong : ⊥ = cc in wrong)),
+        (λ same. let bad : a ≡ turns.LogFull = sym is ∙ same in (let wrong : ⊥ = cc in wrong)),
+      ) of
+
+  -- how jobs and one more ended
+  pub ends_push : (e : JobsEnd) → IsEndOf ws e → IsEndOf (ws ++ w ∷ []) (worse e w.answer)
+  ends_push e ended = by_answer e w.answer refl ended
+
+-- an option in front of nothing
+one_option : {X : Type 0} (o : Option X) → cons_option o [] ≡ option_to_list o
+one_option None = refl
+one_option (Some x) = refl
+
+module _ {D : Type 0} (ws : List (Worker D)) (w : Worker D) where
+  -- one worker more
+  pub passes_push : passes_of (ws ++ w ∷ []) ≡ passes_of ws ++ w.job.pass ∷ []
+  passes_push = map-append (λ (x : Worker D). x.job.pass) ws (w ∷ [])
+
+  pub lists_push : lists_of (ws ++ w ∷ []) ≡ lists_of ws ++ option_to_list (drives_of w.job.role)
+  lists_push = search (rules, filter_map-append (λ (x : Worker D). drives_of x.job.role) ws (w ∷ []))
+
+-- the first of two lists and the second
+pub record Pair {D : Type 0} (count : ℕ) (lists : List (DriveListView D)) : Type 0 where
+  pub even : DriveListView D
+  pub odd : DriveListView D
+  pub both : lists ≡ even ∷ [] ++ odd ∷ []
+  pub fewer : length odd.items ≤ length even.items
+  pub fits : length even.items + length odd.items ≤ count
+
+pub pair_of : {D : Type 0} (count : ℕ) (lists : List (DriveListView D)) → AreTwo count lists → Pair count lists
+pair_of count [] two = absurd two
+pair_of count (even ∷ []) two = absurd two
+pair_of count (even ∷ odd ∷ []) two = record { even = even; odd = odd; both = refl; fewer = two.0; fits = two.1 }
+pair_of count (even ∷ odd ∷ x ∷ rest) two = absurd two
+
+-- two that stand behind a list are its last two
+pub last_two : {X : Type 0} (xs ys : List X) (a b c d : X) → a ∷ b ∷ [] ≡ xs → xs ≡ ys ++ c ∷ [] ++ d ∷ []
+    → (a ≡ c) × (b ≡ d)
+last_two xs [] a b c d is split = search rules
+last_two xs (y ∷ ys) a b c d is split =
+    search (rules, length-append (y ∷ ys ++ c ∷ []) (d ∷ []), length-append (y ∷ ys) (c ∷ []))
+
+pub two_are : {D : Type 0} (count : ℕ) (lists front : List (DriveListView D)) (even odd : DriveListView D)
+    → AreTwo count lists → lists ≡ front ++ even ∷ [] ++ odd ∷ []
+    → (length odd.items ≤ length even.items) × (length even.items + length odd.items ≤ count)
+    × (gathered_of lists ≡ gathered_drives even.items odd.items)
+two_are count lists front even odd two split =
+    let p = pair_of count lists two in
+    search (rules, last_two lists front p.even p.odd even odd (sym p.both) split)
+
+-- so it is where the two were taken from the end
+module _ {D : Type 0} (count : ℕ) (lists front : List (DriveListView D)) {mid : List (DriveListView D)}
+    {o p : Option (DriveListView D)} {even odd : DriveListView D} (two : AreTwo count lists)
+    (last : lists ≡ mid ++ option_to_list o) (next : mid ≡ front ++ option_to_list p) (is_even : p ≡ Some even)
+    (is_odd : o ≡ Some odd) where
+  pub two_taken : (length odd.items ≤ length even.items) × (length even.items + length odd.items ≤ count)
+      × (gathered_of lists ≡ gathered_drives even.items odd.items)
+  two_taken =
+      two_are count lists front even odd two
+      (last
+      ∙ ap (λ (l : List (DriveListView D)). l ++ option_to_list o)
+      (next ∙ ap (λ (q : Option (DriveListView D)). front ++ option_to_list q) is_even)
+      ∙ ap (λ (q : Option (DriveListView D)). front ++ even ∷ [] ++ option_to_list q) is_odd)
+
+-- what was put into an empty list, and then the rest behind it
+module _ {A : Type 0} (first : A) (rest : List A) {empty one all : List A} (none : empty ≡ [])
+    (put : one ≡ empty ++ first ∷ []) (more : all ≡ one ++ rest) where
+  pub first_of_all : all ≡ first ∷ rest
+  first_of_all = more ∙ ap (λ (l : List A). l ++ rest) (put ∙ ap (λ (l : List A). l ++ first ∷ []) none)

@@ -1,9 +1,0 @@
-pub mod Joins
-pub mod Trying
-pub mod Asking
-pub mod Delivering
-pub mod Tickets
-pub mod Budgets
-pub mod Disks
-pub mod PassSending
-pub use Rattle.geo_core.proofs.Openings

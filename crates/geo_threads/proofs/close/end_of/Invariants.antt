@@ -1,7 +1,0 @@
--- The end so far is that of so many workers.
-use Rattle.std.proofs.Common.{take}
-use Rattle.geo_threads.specs.Closing.{IsEndOf}
-use Rattle.geo_threads.proofs.close.end_of.Given as goal
-
-abbrev pub invariant-loop-k : goal.invariant-loop-k
-invariant-loop-k g l = IsEndOf (take l.k l.workers) l.ended

@@ -1,6 +1,0 @@
--- A look leaves the watcher with the view that it looks at.
-use Rattle.std.proofs.Common.{◌≡◌}
-use Rattle.geo_threads.proofs.watch.look_on.Given as goal
-
-abbrev pub invariant-loop : goal.invariant-loop
-invariant-loop l = l.watcher.view ≡ l.fn.watcher.view

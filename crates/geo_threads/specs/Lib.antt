@@ -1,9 +1,0 @@
-pub mod Deal
-pub mod Lanes
-pub mod Rooms
-pub mod Started
-pub mod Ended
-pub mod Closing
-pub mod Left
-pub mod Viewed
-pub mod Crews

@@ -1,7 +1,0 @@
--- A ticket was put for each child so far whose number a ticket can have.
-use Rattle.geo_disk_job.specs.Putting.{PutsAll}
-use Rattle.geo_work.specs.Hints.{start_hints}
-use Rattle.geo_work.proofs.down.start_all.Given as goal
-
-abbrev pub invariant-loop-k : goal.invariant-loop-k
-invariant-loop-k g l = PutsAll l.fn.pass (start_hints l.first l.k) l.pass
