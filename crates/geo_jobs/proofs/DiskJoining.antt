@@ -12,11 +12,11 @@ use Rattle.geo_model.specs.World.{World}
 use Rattle.geo_model.specs.Results.{request_of}
 use Rattle.geo_laws_graph.proofs.Members.{Contains-here, Contains-map, filter-Contains}
 use Rattle.geo_serve.specs.Drives.{DriveView}
-use Rattle.geo_jobs.specs.DriveLaws.{AreTaken}
+use Rattle.geo_laws_disks.specs.DriveLaws.{AreTaken}
 use Rattle.geo_jobs.proofs.Disks.{request_among, taken_more, taken_once}
 use Rattle.geo_lock.specs.Yard.{IsPassOf, YardView}
-use Rattle.geo_jobs.specs.Turn.{Turn}
-use Rattle.geo_jobs.specs.Turn.TheVariants as turns
+use Rattle.geo_jobs.specs.declared.turn.Turn.{Turn}
+use Rattle.geo_jobs.specs.declared.turn.Turn.TheVariants as turns
 use Rattle.geo_jobs.specs.Passes.{Goes, IsGoodPass, MeshPass}
 use Rattle.geo_jobs.proofs.Joins.{goes_join, goes_self, history_of, still_of}
 use Rattle.geo_jobs.specs.declared.disk_job.DiskJob.{DiskJob}

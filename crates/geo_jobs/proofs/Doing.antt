@@ -14,7 +14,7 @@ use Rattle.geo_laws_graph.proofs.Members.{Contains-map}
 use Rattle.geo_serve.specs.Drives.{DriveView}
 use Rattle.geo_serve.specs.Serve.{Serves}
 use Rattle.geo_serve.specs.Served.{IsServed}
-use Rattle.geo_jobs.specs.DriveLaws.{AreTaken}
+use Rattle.geo_laws_disks.specs.DriveLaws.{AreTaken}
 use Rattle.geo_jobs.proofs.Disks.{served_none, served_other, served_own, served_quiet}
 use Rattle.geo_jobs.specs.Drives.{disks_of}
 use Rattle.geo_jobs.proofs.Places.{place_contained}

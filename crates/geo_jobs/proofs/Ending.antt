@@ -8,8 +8,8 @@ use Rattle.geo_model.specs.World.{World}
 use Rattle.geo_model.specs.FixedOrder.{FoundFull, HasFinished, WasIdle}
 use Rattle.geo_model.specs.Passes.{entries_of_seat}
 use Rattle.geo_serve.specs.Drives.{DriveView}
-use Rattle.geo_jobs.specs.Turn.{Turn}
-use Rattle.geo_jobs.specs.Turn.TheVariants as turns
+use Rattle.geo_jobs.specs.declared.turn.Turn.{Turn}
+use Rattle.geo_jobs.specs.declared.turn.Turn.TheVariants as turns
 use Rattle.geo_jobs.specs.Passes.{Goes, MeshPass}
 use Rattle.geo_jobs.specs.declared.disk_job.DiskJob.{DiskJob}
 use Rattle.geo_jobs.specs.Turns.{take_in}

@@ -11,8 +11,8 @@ use Rattle.geo_disk.specs.declared.drive.Drive.{Drive}
 use Rattle.geo_model.specs.declared.step.Entry.{Entry}
 use Rattle.geo_serve.specs.Drives.{DriveView}
 use Rattle.geo_jobs.specs.Ends.{PublisherView, WatcherView}
-use Rattle.geo_jobs.specs.Lanes.{Lanes}
-use Rattle.geo_jobs.specs.Turn.{Turn}
+use Rattle.geo_jobs.specs.declared.lanes.Lanes.{Lanes}
+use Rattle.geo_jobs.specs.declared.turn.Turn.{Turn}
 use Rattle.geo_jobs.specs.declared.job.Role.{Role}
 use Rattle.geo_jobs.specs.declared.run.Worker.{Worker}
 use Rattle.geo_jobs.specs.Jobs.{publisher_of, drives_of}
@@ -25,7 +25,7 @@ use Rattle.geo_jobs.specs.Viewed.{LooksAt, LooksAtFirst, first_view, seen_by, sh
 use Rattle.geo_laws_graph.proofs.Members.{Contains-here}
 use Rattle.geo_jobs.specs.DriveList.{DriveListView}
 use Rattle.geo_jobs.specs.Deal.{AreTwo, gathered_drives, gathered_of}
-use Rattle.geo_jobs.specs.Turn.TheVariants as turns
+use Rattle.geo_jobs.specs.declared.turn.Turn.TheVariants as turns
 use Rattle.geo_jobs.specs.declared.job.Role.TheVariants as roles
 use Rattle.geo_jobs.specs.declared.left.JobsEnd.TheVariants as ends
 

@@ -35,8 +35,8 @@ use Rattle.geo_serve.specs.Drives.{DriveView}
 use Rattle.geo_laws_rest.proofs.CommandsLeft.{others_leave_commands}
 use Rattle.geo_lock.specs.Pass.{IsGoodIn}
 use Rattle.geo_lock.proofs.Prefixes.{prefix_self, prefix_trans}
-use Rattle.geo_jobs.proofs.Openings.{opening_actors}
-use Rattle.geo_jobs.specs.Turn.{Turn}
+use Rattle.geo_core.proofs.Openings.{opening_actors}
+use Rattle.geo_jobs.specs.declared.turn.Turn.{Turn}
 use Rattle.geo_jobs.specs.declared.job.Role.{Role}
 use Rattle.geo_jobs.specs.declared.run.Worker.{Worker}
 use Rattle.geo_jobs.specs.Clients.{IsWaiting}
@@ -46,7 +46,7 @@ use Rattle.geo_jobs.specs.Started.{MeshYard}
 use Rattle.geo_jobs.proofs.RunEnding.{IsMine, mine_at}
 use Rattle.geo_model.specs.declared.step.Found.TheVariants as founds
 use Rattle.geo_model.specs.declared.step.Step.TheVariants as steps
-use Rattle.geo_jobs.specs.Turn.TheVariants as turns
+use Rattle.geo_jobs.specs.declared.turn.Turn.TheVariants as turns
 use Rattle.geo_jobs.specs.declared.job.Role.TheVariants as roles
 
 pub found_full : (plan : Plan) (facts : List (ℕ × ℕ)) → IsPlan plan → FactsFit plan facts → (log : List Entry)

@@ -18,9 +18,9 @@ use Rattle.geo_laws_disks.specs.SeatLaws.{AreBySeats}
 use Rattle.geo_laws_disks.proofs.Seats.{seats_serve}
 use Rattle.geo_lock.specs.Pass.{IsGoodIn}
 use Rattle.geo_lock.specs.Yard.{IsPassOf, IsWhole, first_pass}
-use Rattle.geo_jobs.specs.MeshStart.{MeshStart}
-use Rattle.geo_jobs.specs.Mesh.{IsHistory, MeshView, world_of}
-use Rattle.geo_jobs.specs.Logged.{mesh_of, mesh_start}
+use Rattle.geo_core.specs.declared.logged.MeshStart.{MeshStart}
+use Rattle.geo_core.specs.Mesh.{IsHistory, MeshView, world_of}
+use Rattle.geo_core.specs.Logged.{mesh_of, mesh_start}
 use Rattle.geo_jobs.specs.Passes.{MeshPass, opened_by}
 use Rattle.geo_jobs.specs.DriveList.{DriveListView}
 use Rattle.geo_jobs.specs.Served.{HasServed}
@@ -41,7 +41,7 @@ use Rattle.geo_model.specs.declared.listing.GeomLine.{GeomLine}
 use Rattle.geo_model.specs.Listing.{listing}
 use Rattle.geo_model.specs.Plans.{IsFact}
 use Rattle.geo_jobs.specs.Listings.{listing_after, listing_seen}
-use Rattle.geo_jobs.specs.Lanes.{Lanes}
+use Rattle.geo_jobs.specs.declared.lanes.Lanes.{Lanes}
 use Rattle.geo_jobs.specs.Workers.{IsReady, WorkerRan}
 use Rattle.geo_jobs.specs.declared.crew.Crew.{Crew}
 use Rattle.geo_jobs.specs.Crews.{Begins}

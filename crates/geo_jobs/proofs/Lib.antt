@@ -6,7 +6,6 @@ pub mod Tickets
 pub mod Budgets
 pub mod Disks
 pub mod PassSending
-pub use Rattle.geo_core.proofs.Openings
 pub mod Listed
 pub mod Meeting
 pub mod Moves
@@ -15,29 +14,12 @@ pub mod Replies
 pub mod ViewSending
 pub mod Shows
 pub mod Watching
--- handed on to the crates above
-pub use Rattle.geo_jobs.proofs.Joins
-pub use Rattle.geo_jobs.proofs.Delivering
-pub use Rattle.geo_jobs.proofs.Tickets
-pub use Rattle.geo_jobs.proofs.Budgets
-pub use Rattle.geo_jobs.proofs.Disks
-pub use Rattle.geo_jobs.proofs.PassSending
-pub use Rattle.geo_jobs.proofs.Openings
 pub mod Places
 pub mod Serving
 pub mod Turning
 pub mod Answering
 pub mod Doing
 pub mod DiskJoining
--- handed on to the crate above
-pub use Rattle.geo_jobs.proofs.Joins
-pub use Rattle.geo_jobs.proofs.Tickets
-pub use Rattle.geo_jobs.proofs.Budgets
-pub use Rattle.geo_jobs.proofs.Openings
-pub use Rattle.geo_jobs.proofs.Replies
-pub use Rattle.geo_jobs.proofs.PassSending
-pub use Rattle.geo_jobs.proofs.ViewSending
-pub use Rattle.geo_jobs.proofs.Shows
 pub mod Joining
 pub mod Waits
 pub mod Tries
@@ -51,7 +33,6 @@ pub mod Quiet
 pub mod Rows
 pub mod Ending
 pub mod Zips
-pub use Rattle.geo_jobs.proofs.Openings
 pub mod Dealing
 pub mod RunEnding
 pub mod Idle

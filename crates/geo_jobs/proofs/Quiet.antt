@@ -12,9 +12,9 @@ use Rattle.geo_model.specs.FixedOrder.{WasIdle}
 use Rattle.geo_model.specs.Passes.{entries_of_seat}
 use Rattle.geo_serve.specs.Drives.{DriveView}
 use Rattle.geo_lock.specs.Yard.{IsPassOf, YardView}
-use Rattle.geo_jobs.specs.Turn.{Turn}
-use Rattle.geo_jobs.specs.Turn.TheVariants as turns
-use Rattle.geo_jobs.specs.Lanes.{Lanes}
+use Rattle.geo_jobs.specs.declared.turn.Turn.{Turn}
+use Rattle.geo_jobs.specs.declared.turn.Turn.TheVariants as turns
+use Rattle.geo_jobs.specs.declared.lanes.Lanes.{Lanes}
 use Rattle.geo_jobs.specs.Passes.{Goes, MeshPass, opened_by}
 use Rattle.geo_jobs.proofs.Joins.{goes_self}
 use Rattle.geo_jobs.specs.declared.client.ClientJob.{ClientJob}

@@ -1,8 +1,8 @@
 -- Rows of idle turns.
 use Rattle.std.specs.Prelude.{ℕ, ◌+◌, refl}
 use Rattle.std.proofs.Common.{add-one, subst, sym}
-use Rattle.geo_jobs.specs.Turn.{Turn}
-use Rattle.geo_jobs.specs.Turn.TheVariants as turns
+use Rattle.geo_jobs.specs.declared.turn.Turn.{Turn}
+use Rattle.geo_jobs.specs.declared.turn.Turn.TheVariants as turns
 use Rattle.geo_jobs.specs.Runs.{IdleTurns}
 
 -- no turn

@@ -12,8 +12,8 @@ use Rattle.geo_model.specs.World.{Plan, World}
 use Rattle.geo_model.specs.FixedOrder.{IsOfItsJob, event_seat, disk_seat}
 use Rattle.geo_serve.specs.Drives.{DriveView}
 use Rattle.geo_laws_graph.proofs.Members.{All-from_contained, at_contained, filter-Contains, find-Contains}
-use Rattle.geo_jobs.specs.Lanes.{Lanes}
-use Rattle.geo_jobs.specs.Turn.{Turn}
+use Rattle.geo_jobs.specs.declared.lanes.Lanes.{Lanes}
+use Rattle.geo_jobs.specs.declared.turn.Turn.{Turn}
 use Rattle.geo_jobs.specs.Passes.{Goes, MeshPass, opened_by}
 use Rattle.geo_jobs.specs.Drives.{disks_of}
 use Rattle.geo_jobs.specs.Served.{HasServed, IsOfDisks, AreAnswered}
@@ -42,7 +42,7 @@ use Rattle.geo_lock.specs.Pass.{IsGoodIn}
 use Rattle.geo_lock.proofs.EachOwn.{each_own}
 use Rattle.geo_jobs.specs.Closing.{passes_of}
 use Rattle.geo_model.specs.declared.step.Step.TheVariants as steps
-use Rattle.geo_jobs.specs.Turn.TheVariants as turns
+use Rattle.geo_jobs.specs.declared.turn.Turn.TheVariants as turns
 use Rattle.geo_jobs.specs.declared.job.Role.TheVariants as roles
 
 -- Entries

@@ -7,7 +7,7 @@ use Rattle.geo_disk.specs.declared.drive.Drive.{Drive}
 use Rattle.geo_serve.specs.Drives.{DriveView}
 use Rattle.geo_lane.specs.LanePass.{LanePassView, next_pass}
 use Rattle.geo_lock.specs.Yard.{IsPassOf}
-use Rattle.geo_jobs.specs.Lanes.{Lanes}
+use Rattle.geo_jobs.specs.declared.lanes.Lanes.{Lanes}
 use Rattle.geo_jobs.specs.Passes.{MeshPass}
 use Rattle.geo_jobs.specs.DriveList.{DriveListView}
 use Rattle.geo_jobs.specs.Drives.{HasDrives}

@@ -10,8 +10,8 @@ use Rattle.geo_model.specs.declared.step.Step.TheVariants as steps
 use Rattle.geo_model.specs.World.{World}
 use Rattle.geo_serve.specs.Drives.{DriveView}
 use Rattle.geo_lock.specs.Yard.{IsPassOf, YardView}
-use Rattle.geo_jobs.specs.Turn.{Turn}
-use Rattle.geo_jobs.specs.Turn.TheVariants as turns
+use Rattle.geo_jobs.specs.declared.turn.Turn.{Turn}
+use Rattle.geo_jobs.specs.declared.turn.Turn.TheVariants as turns
 use Rattle.geo_jobs.specs.Passes.{Goes, IsGoodPass, MeshPass}
 use Rattle.geo_jobs.proofs.Joins.{goes_join, goes_self}
 use Rattle.geo_jobs.specs.declared.disk_job.DiskJob.{DiskJob}

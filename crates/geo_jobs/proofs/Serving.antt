@@ -14,7 +14,7 @@ use Rattle.geo_serve.specs.Serve.{CanServe, HasRoom}
 use Rattle.geo_lane.specs.declared.ticket.TicketStep.TheVariants as hints
 use Rattle.geo_lane.specs.LanePass.{LanePassView}
 use Rattle.geo_lock.specs.Yard.{IsPassOf, YardView}
-use Rattle.geo_jobs.specs.Turn.TheVariants as turns
+use Rattle.geo_jobs.specs.declared.turn.Turn.TheVariants as turns
 use Rattle.geo_jobs.specs.Passes.{Goes, IsGoodPass, MeshPass, opened_by}
 use Rattle.geo_jobs.specs.Putting.{IsWithin, PutsOne}
 use Rattle.geo_jobs.specs.Taking.{CanDeliver, HasSizesOf, IsAskedOf}

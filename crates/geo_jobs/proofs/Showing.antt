@@ -13,7 +13,7 @@ use Rattle.geo_lane.specs.LanePass.{LanePassView}
 use Rattle.geo_lock.specs.Pass.{IsSamePass}
 use Rattle.geo_lock.specs.Yard.{IsPassOf, YardView}
 use Rattle.geo_jobs.specs.Ends.{CanShow, PublisherView}
-use Rattle.geo_jobs.specs.Lanes.{Lanes}
+use Rattle.geo_jobs.specs.declared.lanes.Lanes.{Lanes}
 use Rattle.geo_jobs.specs.Listings.{listing_seen}
 use Rattle.geo_jobs.specs.Making.{MakesStep}
 use Rattle.geo_jobs.specs.Passes.{Goes, MeshPass}

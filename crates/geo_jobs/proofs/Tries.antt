@@ -12,8 +12,8 @@ use Rattle.geo_model.specs.Log.{replay}
 use Rattle.geo_model.specs.FixedOrder.{WasIdle}
 use Rattle.geo_model.specs.Passes.{entries_of_seat}
 use Rattle.geo_lock.proofs.Prefixes.{prefix_self, prefix_trans}
-use Rattle.geo_jobs.specs.Tried.{Tried}
-use Rattle.geo_jobs.specs.Tried.TheVariants as tries
+use Rattle.geo_jobs.specs.declared.tried.Tried.{Tried}
+use Rattle.geo_jobs.specs.declared.tried.Tried.TheVariants as tries
 use Rattle.geo_jobs.specs.Passes.{Goes, IsGoodPass, MeshPass}
 use Rattle.geo_jobs.proofs.Joins.{goes_join, goes_self}
 use Rattle.geo_jobs.specs.Events.{AreInVain, DidLast, EndsAt, TriesInVain}

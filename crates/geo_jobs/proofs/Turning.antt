@@ -12,9 +12,9 @@ use Rattle.geo_serve.specs.Drives.{DriveView}
 use Rattle.geo_lane.specs.declared.ticket.Ticket.{Ticket}
 use Rattle.geo_lane.specs.declared.ticket.TicketStep.TheVariants as hints
 use Rattle.geo_lane.specs.LanePass.{LanePassView}
-use Rattle.geo_jobs.specs.Lanes.{Lanes}
-use Rattle.geo_jobs.specs.Turn.{Turn}
-use Rattle.geo_jobs.specs.Turn.TheVariants as turns
+use Rattle.geo_jobs.specs.declared.lanes.Lanes.{Lanes}
+use Rattle.geo_jobs.specs.declared.turn.Turn.{Turn}
+use Rattle.geo_jobs.specs.declared.turn.Turn.TheVariants as turns
 use Rattle.geo_jobs.specs.Passes.{Goes, MeshPass}
 use Rattle.geo_jobs.specs.Putting.{PutsAll}
 use Rattle.geo_jobs.proofs.Budgets.{within_worked}

@@ -6,8 +6,8 @@ use Rattle.geo_model.specs.declared.step.Step.{Step}
 use Rattle.geo_model.specs.World.{World}
 use Rattle.geo_model.specs.FixedOrder.{FoundFull, HasFinished, WasIdle}
 use Rattle.geo_model.specs.Passes.{entries_of_seat}
-use Rattle.geo_jobs.specs.Turn.{Turn}
-use Rattle.geo_jobs.specs.Turn.TheVariants as turns
+use Rattle.geo_jobs.specs.declared.turn.Turn.{Turn}
+use Rattle.geo_jobs.specs.declared.turn.Turn.TheVariants as turns
 use Rattle.geo_jobs.specs.Passes.{MeshPass}
 use Rattle.geo_jobs.specs.declared.job.Role.{Role}
 use Rattle.geo_jobs.specs.declared.job.Role.TheVariants as roles

@@ -13,9 +13,9 @@ use Rattle.geo_model.specs.World.{World}
 use Rattle.geo_model.specs.FixedOrder.{FoundFull, HasFinished, IsWait, WasIdle}
 use Rattle.geo_model.specs.History.{next_command}
 use Rattle.geo_model.specs.Log.{replay}
-use Rattle.geo_jobs.specs.Lanes.{Lanes}
-use Rattle.geo_jobs.specs.Turn.{Turn}
-use Rattle.geo_jobs.specs.Turn.TheVariants as turns
+use Rattle.geo_jobs.specs.declared.lanes.Lanes.{Lanes}
+use Rattle.geo_jobs.specs.declared.turn.Turn.{Turn}
+use Rattle.geo_jobs.specs.declared.turn.Turn.TheVariants as turns
 use Rattle.geo_jobs.specs.Passes.{MeshPass}
 use Rattle.geo_jobs.specs.Putting.{PutsAll}
 use Rattle.geo_jobs.specs.Ends.{CanShow, PublisherView}

@@ -1,10 +1,10 @@
 -- The end of the yard, and the answers of the jobs.
 use Rattle.std.specs.Prelude.{◌≡◌, ◌≢◌, List, map, filter_map, All, Any}
 use Rattle.geo_lock.specs.Yard.{IsEnd}
-use Rattle.geo_jobs.specs.Mesh.{IsHistory, MeshView}
-use Rattle.geo_jobs.specs.Logged.{mesh_of, mesh_start}
-use Rattle.geo_jobs.specs.Turn.{Turn}
-use Rattle.geo_jobs.specs.Turn.TheVariants as turns
+use Rattle.geo_core.specs.Mesh.{IsHistory, MeshView}
+use Rattle.geo_core.specs.Logged.{mesh_of, mesh_start}
+use Rattle.geo_jobs.specs.declared.turn.Turn.{Turn}
+use Rattle.geo_jobs.specs.declared.turn.Turn.TheVariants as turns
 use Rattle.geo_jobs.specs.Passes.{MeshPass}
 use Rattle.geo_jobs.specs.DriveList.{DriveListView}
 use Rattle.geo_jobs.specs.declared.run.Worker.{Worker}

@@ -2,7 +2,7 @@
 use Rattle.std.specs.Prelude.{◌≡◌, ℕ, ◌+◌, List, length}
 use Rattle.geo_disk.specs.declared.drive.Drive.{Drive}
 use Rattle.geo_serve.specs.Drives.{DriveView}
-use Rattle.geo_jobs.specs.Lanes.{Lanes}
+use Rattle.geo_jobs.specs.declared.lanes.Lanes.{Lanes}
 use Rattle.geo_jobs.specs.Passes.{MeshPass}
 use Rattle.geo_jobs.specs.declared.crew.Crew.{Crew}
 use Rattle.geo_jobs.specs.Started.{AreStarted, IsFirst, MeshYard}

@@ -9,8 +9,8 @@ use Rattle.geo_model.specs.FixedOrder.{FoundFull, HasFinished, IsOfItsJob, WasId
 use Rattle.geo_model.specs.Passes.{entries_of_seat}
 use Rattle.geo_serve.specs.Drives.{DriveView}
 use Rattle.geo_lock.specs.Yard.{IsPassOf}
-use Rattle.geo_jobs.specs.Turn.{Turn}
-use Rattle.geo_jobs.specs.Turn.TheVariants as turns
+use Rattle.geo_jobs.specs.declared.turn.Turn.{Turn}
+use Rattle.geo_jobs.specs.declared.turn.Turn.TheVariants as turns
 use Rattle.geo_jobs.specs.Passes.{MeshPass, opened_by}
 use Rattle.geo_jobs.specs.Drives.{disks_of}
 use Rattle.geo_jobs.specs.Served.{HasServed, IsOfDisks}

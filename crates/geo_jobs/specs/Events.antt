@@ -7,11 +7,11 @@ use Rattle.geo_model.specs.declared.step.Step.{Step}
 use Rattle.geo_model.specs.World.{World}
 use Rattle.geo_model.specs.FixedOrder.{FoundFull, WasIdle}
 use Rattle.geo_model.specs.Passes.{entries_of_seat}
-use Rattle.geo_jobs.specs.Lanes.{Lanes}
-use Rattle.geo_jobs.specs.Tried.{Tried}
-use Rattle.geo_jobs.specs.Tried.TheVariants as tries
-use Rattle.geo_jobs.specs.Turn.{Turn}
-use Rattle.geo_jobs.specs.Turn.TheVariants as turns
+use Rattle.geo_jobs.specs.declared.lanes.Lanes.{Lanes}
+use Rattle.geo_jobs.specs.declared.tried.Tried.{Tried}
+use Rattle.geo_jobs.specs.declared.tried.Tried.TheVariants as tries
+use Rattle.geo_jobs.specs.declared.turn.Turn.{Turn}
+use Rattle.geo_jobs.specs.declared.turn.Turn.TheVariants as turns
 use Rattle.geo_jobs.specs.Passes.{Goes, MeshPass}
 use Rattle.geo_jobs.specs.Putting.{PutsAll}
 use Rattle.geo_jobs.specs.declared.events.EventJob.{EventJob}

@@ -5,8 +5,8 @@ use Rattle.geo_model.specs.declared.step.Step.{Step}
 use Rattle.geo_model.specs.World.{World}
 use Rattle.geo_serve.specs.Drives.{DriveView}
 use Rattle.geo_lock.specs.Yard.{IsPassOf, YardView}
-use Rattle.geo_jobs.specs.Lanes.{Lanes}
-use Rattle.geo_jobs.specs.Turn.{Turn}
+use Rattle.geo_jobs.specs.declared.lanes.Lanes.{Lanes}
+use Rattle.geo_jobs.specs.declared.turn.Turn.{Turn}
 use Rattle.geo_jobs.specs.Passes.{MeshPass, opened_by}
 use Rattle.geo_jobs.specs.Ends.{PublisherView}
 use Rattle.geo_jobs.specs.DriveList.{DriveListView}

@@ -2,7 +2,7 @@
 use Rattle.std.specs.Prelude.{◌≡◌, ℕ, []}
 use Rattle.atomic_table.specs.Seated.{TableId}
 use Rattle.geo_lane.specs.LanePass.{LanePassView, first_pass}
-use Rattle.geo_jobs.specs.Lanes.{Lanes}
+use Rattle.geo_jobs.specs.declared.lanes.Lanes.{Lanes}
 use Rattle.geo_jobs.specs.declared.passes.Passes.{Passes}
 use Rattle.geo_jobs.specs.declared.passes.Takers.{Takers}
 

@@ -9,7 +9,7 @@ use Rattle.geo_model.specs.Log.{Legal, owed, replay}
 use Rattle.geo_headline.specs.Endings.{JobWasFull}
 use Rattle.geo_serve.specs.Drives.{DriveView}
 use Rattle.geo_serve.specs.Served.{AreServed}
-use Rattle.geo_jobs.specs.Mesh.{IsHistory, MeshView, opened, world_of}
+use Rattle.geo_core.specs.Mesh.{IsHistory, MeshView, opened, world_of}
 use Rattle.geo_jobs.specs.declared.left.JobsEnd.{JobsEnd}
 use Rattle.geo_jobs.specs.declared.left.JobsEnd.TheVariants as ends
 

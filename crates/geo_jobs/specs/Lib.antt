@@ -2,48 +2,16 @@ pub mod Passes
 pub mod Making
 pub mod Taking
 pub mod Putting
--- handed on to the crates above: the words of the laws of what disks do
-pub use Rattle.geo_laws_disks.specs.DriveLaws
--- and the mesh as contracts see it
-pub use Rattle.geo_core.specs.Mesh
-pub use Rattle.geo_core.specs.Logged
-pub use Rattle.geo_core.specs.declared.logged.MeshStart
 pub mod Ends
 pub mod Kept
 pub mod Listings
 pub mod Replies
 pub mod Views
--- handed on to the crates above: the steps under the lock
-pub use Rattle.geo_jobs.specs.Passes
-pub use Rattle.geo_jobs.specs.Making
-pub use Rattle.geo_jobs.specs.Taking
-pub use Rattle.geo_jobs.specs.Putting
-pub use Rattle.geo_jobs.specs.DriveLaws
-pub use Rattle.geo_jobs.specs.Mesh
-pub use Rattle.geo_jobs.specs.Logged
-pub use Rattle.geo_jobs.specs.MeshStart
-pub use Rattle.geo_jobs.specs.declared.lanes.Lanes
-pub use Rattle.geo_jobs.specs.declared.turn.Turn
-pub use Rattle.geo_jobs.specs.declared.tried.Tried
 pub mod DriveList
 pub mod Drives
 pub mod Turns
 pub mod Served
 pub mod Ran
--- handed on to the crate above, whose jobs make steps and put tickets too
-pub use Rattle.geo_jobs.specs.Passes
-pub use Rattle.geo_jobs.specs.Making
-pub use Rattle.geo_jobs.specs.Putting
-pub use Rattle.geo_jobs.specs.Lanes
-pub use Rattle.geo_jobs.specs.Tried
-pub use Rattle.geo_jobs.specs.Turn
-pub use Rattle.geo_jobs.specs.Mesh
-pub use Rattle.geo_jobs.specs.Logged
-pub use Rattle.geo_jobs.specs.MeshStart
--- and the view that a client shows
-pub use Rattle.geo_jobs.specs.Ends
-pub use Rattle.geo_jobs.specs.Listings
-pub use Rattle.geo_jobs.specs.Views
 pub mod Hints
 pub mod Kinds
 pub mod LanePasses
@@ -55,22 +23,6 @@ pub mod Jobs
 pub mod Causes
 pub mod Runs
 pub mod Workers
--- handed on to the crate above, which starts the jobs
-pub use Rattle.geo_jobs.specs.Passes
-pub use Rattle.geo_jobs.specs.Putting
-pub use Rattle.geo_jobs.specs.Lanes
-pub use Rattle.geo_jobs.specs.Turn
-pub use Rattle.geo_jobs.specs.Mesh
-pub use Rattle.geo_jobs.specs.Logged
-pub use Rattle.geo_jobs.specs.MeshStart
-pub use Rattle.geo_jobs.specs.Drives
-pub use Rattle.geo_jobs.specs.DriveList
-pub use Rattle.geo_jobs.specs.Served
-pub use Rattle.geo_jobs.specs.Turns
-pub use Rattle.geo_jobs.specs.Ran
-pub use Rattle.geo_jobs.specs.Ends
-pub use Rattle.geo_jobs.specs.Listings
-pub use Rattle.geo_jobs.specs.Views
 pub mod Deal
 pub mod Lanes
 pub mod Rooms
@@ -80,3 +32,7 @@ pub mod Closing
 pub mod Left
 pub mod Viewed
 pub mod Crews
+-- handed on to the crates above: the mesh as contracts see it
+pub use Rattle.geo_core.specs.Mesh
+pub use Rattle.geo_core.specs.Logged
+pub use Rattle.geo_core.specs.declared.logged.MeshStart

@@ -5,7 +5,7 @@ use Rattle.geo_model.specs.declared.step.Entry.{Entry}
 use Rattle.geo_model.specs.World.{World}
 use Rattle.geo_serve.specs.Drives.{DriveView}
 use Rattle.geo_lock.specs.Yard.{IsPassOf, YardView}
-use Rattle.geo_jobs.specs.Turn.{Turn}
+use Rattle.geo_jobs.specs.declared.turn.Turn.{Turn}
 use Rattle.geo_jobs.specs.Passes.{Goes, IsGoodPass, MeshPass}
 use Rattle.geo_jobs.specs.declared.disk_job.DiskJob.{DiskJob}
 use Rattle.geo_jobs.specs.Drives.{HasDrives, disks_of}

@@ -1,6 +1,6 @@
 -- The memory of a run.
 use Rattle.std.specs.Prelude.{◌≡◌, ℕ, ◌+◌, ◌≤◌, [], vec_capacity}
-use Rattle.geo_jobs.specs.Lanes.{Lanes}
+use Rattle.geo_jobs.specs.declared.lanes.Lanes.{Lanes}
 use Rattle.geo_jobs.specs.declared.room.HomeRoom.{HomeRoom}
 use Rattle.geo_jobs.specs.declared.room.Room.{Room}
 use Rattle.geo_jobs.specs.declared.room.StartRoom.{StartRoom}

@@ -4,8 +4,8 @@ use Rattle.geo_disk.specs.declared.drive.Drive.{Drive}
 use Rattle.geo_model.specs.declared.step.Entry.{Entry}
 use Rattle.geo_model.specs.World.{World}
 use Rattle.geo_serve.specs.Drives.{DriveView}
-use Rattle.geo_jobs.specs.Turn.{Turn}
-use Rattle.geo_jobs.specs.Turn.TheVariants as turns
+use Rattle.geo_jobs.specs.declared.turn.Turn.{Turn}
+use Rattle.geo_jobs.specs.declared.turn.Turn.TheVariants as turns
 use Rattle.geo_jobs.specs.Passes.{Goes, MeshPass}
 use Rattle.geo_jobs.specs.Served.{HasServed}
 use Rattle.geo_jobs.specs.declared.job.Job.{Job}

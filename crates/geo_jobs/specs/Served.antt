@@ -8,7 +8,7 @@ use Rattle.geo_model.specs.declared.step.Step.TheVariants as steps
 use Rattle.geo_model.specs.Results.{device_answer_of, request_of}
 use Rattle.geo_serve.specs.Drives.{DriveView}
 use Rattle.geo_serve.specs.Served.{IsServed}
-use Rattle.geo_jobs.specs.DriveLaws.{AreTaken}
+use Rattle.geo_laws_disks.specs.DriveLaws.{AreTaken}
 
 -- a disk worker takes bios for its disks, and delivers what these answer
 abbrev pub IsOfDisks : List ℕ → Step → Type 0

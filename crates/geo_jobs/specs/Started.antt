@@ -3,9 +3,9 @@ use Rattle.std.specs.Prelude.{◌≡◌, ℕ, ◌+◌, ◌<◌, ◌≤◌, List,
 use Rattle.geo_disk.specs.declared.drive.Drive.{Drive}
 use Rattle.geo_serve.specs.Drives.{DriveView}
 use Rattle.geo_lock.specs.Yard.{IsPassOf, YardView}
-use Rattle.geo_jobs.specs.MeshStart.{MeshStart}
-use Rattle.geo_jobs.specs.Lanes.{Lanes}
-use Rattle.geo_jobs.specs.Turn.TheVariants as turns
+use Rattle.geo_core.specs.declared.logged.MeshStart.{MeshStart}
+use Rattle.geo_jobs.specs.declared.lanes.Lanes.{Lanes}
+use Rattle.geo_jobs.specs.declared.turn.Turn.TheVariants as turns
 use Rattle.geo_jobs.specs.Passes.{MeshPass}
 use Rattle.geo_jobs.specs.DriveList.{DriveListView}
 use Rattle.geo_jobs.specs.declared.job.Role.{Role}

@@ -13,9 +13,9 @@ use Rattle.geo_lane.specs.declared.ticket.TicketStep.{TicketStep}
 use Rattle.geo_lane.specs.declared.ticket.TicketStep.TheVariants as hints
 use Rattle.geo_lane.specs.Delivery.{Tells}
 use Rattle.geo_lane.specs.LanePass.{LanePassView, view_of}
-use Rattle.geo_jobs.specs.Lanes.{Lanes}
-use Rattle.geo_jobs.specs.Turn.{Turn}
-use Rattle.geo_jobs.specs.Turn.TheVariants as turns
+use Rattle.geo_jobs.specs.declared.lanes.Lanes.{Lanes}
+use Rattle.geo_jobs.specs.declared.turn.Turn.{Turn}
+use Rattle.geo_jobs.specs.declared.turn.Turn.TheVariants as turns
 use Rattle.geo_jobs.specs.Passes.{Goes, MeshPass}
 use Rattle.geo_jobs.specs.Putting.{IsWithin, PutsOne}
 use Rattle.geo_jobs.specs.declared.disk_job.DiskJob.{DiskJob}

@@ -8,9 +8,9 @@ use Rattle.geo_model.specs.FixedOrder.{FoundFull, WasIdle}
 use Rattle.geo_lane.specs.declared.ticket.Ticket.{Ticket}
 use Rattle.geo_lane.specs.declared.ticket.TicketStep.{TicketStep}
 use Rattle.geo_lane.specs.declared.ticket.TicketStep.TheVariants as hints
-use Rattle.geo_jobs.specs.Lanes.{Lanes}
-use Rattle.geo_jobs.specs.Turn.{Turn}
-use Rattle.geo_jobs.specs.Turn.TheVariants as turns
+use Rattle.geo_jobs.specs.declared.lanes.Lanes.{Lanes}
+use Rattle.geo_jobs.specs.declared.turn.Turn.{Turn}
+use Rattle.geo_jobs.specs.declared.turn.Turn.TheVariants as turns
 use Rattle.geo_jobs.specs.Passes.{MeshPass}
 use Rattle.geo_jobs.specs.Putting.{PutsAll}
 use Rattle.geo_jobs.specs.declared.up.UpJob.{UpJob}

@@ -3,8 +3,8 @@ use Rattle.std.specs.Prelude.{◌≡◌}
 use Rattle.geo_disk.specs.declared.drive.Drive.{Drive}
 use Rattle.geo_serve.specs.Drives.{DriveView}
 use Rattle.geo_lock.specs.Yard.{YardView}
-use Rattle.geo_jobs.specs.Lanes.{Lanes}
-use Rattle.geo_jobs.specs.Turn.TheVariants as turns
+use Rattle.geo_jobs.specs.declared.lanes.Lanes.{Lanes}
+use Rattle.geo_jobs.specs.declared.turn.Turn.TheVariants as turns
 use Rattle.geo_jobs.specs.Passes.{IsGoodPass, opened_by}
 use Rattle.geo_jobs.specs.declared.run.Worker.{Worker}
 use Rattle.geo_jobs.specs.Jobs.{HasItsDrives, IsJobOf}

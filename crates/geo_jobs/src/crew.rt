@@ -3,7 +3,7 @@ ghost use Rattle.std.specs.Prelude.{◌≡◌, ◌≤◌, [], None, IfErr, IfOk,
 ghost use Rattle.geo_base.specs.declared.limits.TheConstants.{MAX_ACTORS, MAX_DISKS};
 ghost use Rattle.geo_serve.specs.Drives.{drive_view};
 ghost use Rattle.geo_jobs.specs.Listings.{listing_seen};
-ghost use Rattle.geo_jobs.specs.Logged.{mesh_of};
+ghost use Rattle.geo_core.specs.Logged.{mesh_of};
 ghost use Rattle.geo_jobs.specs.Crews.{Begins};
 ghost use Rattle.geo_jobs.specs.Left.{DrivesFit};
 ghost use Rattle.geo_jobs.specs.Rooms.{CanStart};

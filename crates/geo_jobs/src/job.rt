@@ -3,7 +3,7 @@ ghost use Rattle.std.specs.Prelude.{◌≡◌, false};
 ghost use Rattle.geo_lock.specs.Yard.{IsPassOf};
 ghost use Rattle.geo_serve.specs.Drives.{drive_view};
 ghost use Rattle.geo_jobs.specs.Passes.{IsGoodPass, opened_by};
-ghost use Rattle.geo_jobs.specs.Turn.TheVariants as turns;
+ghost use Rattle.geo_jobs.specs.declared.turn.Turn.TheVariants as turns;
 ghost use Rattle.geo_jobs.specs.declared.job.Role.TheVariants as roles;
 ghost use Rattle.geo_jobs.specs.Jobs.{DidTurn, HasItsDrives, IsJobOf, IsRoleOf, drives_of, is_in_vain, publisher_of};
 ghost use Rattle.geo_jobs.specs.Runs.{EndedBy, JobRan, RestedFor};

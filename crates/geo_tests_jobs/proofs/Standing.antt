@@ -7,9 +7,9 @@ use Rattle.std.proofs.Math.ListN.{drop_of_length-le}
 use Rattle.geo_disk.specs.Memory.{Memory}
 use Rattle.geo_lock.specs.Yard.{IsPassOf, IsWhole, YardView, first_pass}
 use Rattle.geo_jobs.specs.MeshStart.{MeshStart}
-use Rattle.geo_jobs.specs.Lanes.{Lanes}
+use Rattle.geo_jobs.specs.declared.lanes.Lanes.{Lanes}
 use Rattle.geo_jobs.specs.Passes.{MeshPass}
-use Rattle.geo_jobs.specs.Turn.{Turn}
+use Rattle.geo_jobs.specs.declared.turn.Turn.{Turn}
 use Rattle.geo_jobs.specs.declared.job.Role.{Role}
 use Rattle.geo_jobs.specs.declared.run.Worker.{Worker}
 use Rattle.geo_jobs.specs.Jobs.{HasItsDrives}

@@ -5,7 +5,7 @@ use Rattle.geo_disk.specs.Memory.{Memory, memory_view}
 use Rattle.geo_disk.specs.declared.drive.Drive.{Drive}
 use Rattle.geo_serve.specs.Drives.{DriveView, drive_view}
 use Rattle.geo_lane.specs.LanePass.{LanePassView}
-use Rattle.geo_jobs.specs.Lanes.{Lanes}
+use Rattle.geo_jobs.specs.declared.lanes.Lanes.{Lanes}
 use Rattle.geo_jobs.specs.Drives.{HasDrives}
 use Rattle.geo_tests_jobs.specs.declared.rooms.Room.{Room}
 use Rattle.geo_tests_jobs.specs.declared.rooms.Takers.{Takers}

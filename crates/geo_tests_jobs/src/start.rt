@@ -3,7 +3,7 @@ ghost use Rattle.std.specs.Prelude.{◌≡◌, ℕ, ◌+◌, ◌<◌, ◌≤◌,
 ghost use Rattle.geo_jobs.specs.Drives.{HasDrives};
 ghost use Rattle.geo_jobs.specs.Jobs.{HasItsDrives};
 ghost use Rattle.geo_jobs.specs.Turns.{lane_of};
-ghost use Rattle.geo_jobs.specs.Lanes.{Lanes as LanesValue};
+ghost use Rattle.geo_jobs.specs.declared.lanes.Lanes.{Lanes as LanesValue};
 ghost use Rattle.geo_tests_jobs.specs.Benches.{AreTakers, IsPutter, IsTaker, seen_drive};
 ghost use Rattle.geo_tests_jobs.specs.Standing.{AreStanding, IsFirst, IsNewRole};
 

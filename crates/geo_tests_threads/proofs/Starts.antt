@@ -17,8 +17,8 @@ use Rattle.geo_model.specs.Opening.{opening}
 use Rattle.geo_jobs.specs.MeshStart.{MeshStart}
 use Rattle.geo_jobs.specs.Logged.{mesh_start}
 use Rattle.geo_jobs.specs.Mesh.{MeshView, world_of}
-use Rattle.geo_jobs.specs.Tried.{Tried}
-use Rattle.geo_jobs.specs.Tried.TheVariants as tries
+use Rattle.geo_jobs.specs.declared.tried.Tried.{Tried}
+use Rattle.geo_jobs.specs.declared.tried.Tried.TheVariants as tries
 use Rattle.geo_jobs.specs.Passes.{MeshPass}
 use Rattle.geo_jobs.specs.Making.{DidTry, MakesStep}
 use Rattle.geo_jobs.specs.Listings.{listing_after, listing_seen}

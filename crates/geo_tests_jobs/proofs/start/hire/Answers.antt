@@ -1,5 +1,5 @@
 use Rattle.std.proofs.Common.{subst, sym}
-use Rattle.geo_jobs.specs.Turn.TheVariants as turns
+use Rattle.geo_jobs.specs.declared.turn.Turn.TheVariants as turns
 use Rattle.geo_tests_jobs.specs.Standing.{AreStanding}
 use Rattle.geo_tests_jobs.proofs.Standing.{new_worker, standing_push}
 use Rattle.geo_tests_jobs.proofs.start.hire.Goals as goal

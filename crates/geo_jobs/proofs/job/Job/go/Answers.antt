@@ -1,6 +1,6 @@
 use Rattle.std.proofs.Common.{arith, subst}
 use Rattle.geo_serve.specs.Drives.{drive_view}
-use Rattle.geo_jobs.specs.Turn.TheVariants as turns
+use Rattle.geo_jobs.specs.declared.turn.Turn.TheVariants as turns
 use Rattle.geo_jobs.specs.Passes.{opened_by}
 use Rattle.geo_jobs.specs.Runs.{RestedFor}
 use Rattle.geo_jobs.proofs.Ending.{job_ends, rest_more, rest_none}
