@@ -6,7 +6,7 @@ use Rattle.std.proofs.Crossing.{crosses}
 use Rattle.geo_lane.proofs.lane_pass.LanePass.TheSendSync as lane_pass
 use Rattle.geo_jobs.proofs.disk_job.DiskJob.TheSendSync as disk_job
 use Rattle.geo_jobs.proofs.PassSending.{pass_send}
-pub use Rattle.geo_jobs.proofs.Sending.{publisher_send, watcher_send}
+use Rattle.geo_jobs.proofs.ViewSending.{publisher_send}
 use Rattle.geo_jobs.proofs.down.DownJob.TheSendSync as down_job
 use Rattle.geo_jobs.proofs.events.EventJob.TheSendSync as event_job
 use Rattle.geo_jobs.proofs.up.UpJob.TheSendSync as up_job
@@ -30,7 +30,8 @@ role_send D d =
     ) depth 20
 
 job_send : (D : RattleType) → IsSend D → IsSend (job.the_field D).row
-job_send D d = struct_send (shape (job.the_type D)) (pass_send, (role_send D d, tt))
+job_send D d =
+    struct_send (shape (job.the_type D)) (pass_send, (role_send D d, (search (sendable, crosses) depth 20, tt)))
 
 pub worker_send : (D : RattleType) → IsSend D → IsSend (worker.the_row D)
 worker_send D d =

@@ -1,6 +1,6 @@
 -- Who looks may go to another thread.
 use denote.Param.Send.{sendable}
-use Rattle.geo_jobs.proofs.Sending.{watcher_send}
+use Rattle.geo_jobs.proofs.ViewSending.{watcher_send}
 use Rattle.geo_jobs.proofs.threads.run_watched.Goals as goal
 
 pub join-watcher-requires-send-F : goal.join-watcher-requires-send-F
