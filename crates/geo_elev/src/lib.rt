@@ -14,7 +14,8 @@
 //! nothing is known, as with an empty log (`forgot`). [`Heads::next_take`] is the Take of the first disk in header
 //! order for which something waits, the next one there by the elevator order (`next`).
 //!
-//! [`pick_sweep`] is the step that is due (`picked`), none exactly at rest. [`sweep_to_rest`] is geo_drain's
+//! [`pick_sweep`] is the step that is due (`picked`), none exactly at rest. It is enabled and lowers the measure
+//! (`falls`). [`sweep_to_rest`] is geo_drain's
 //! `run_to_rest` in this order (`sweep_order`), with all that that call says. That the order comes to rest, and
 //! passes no FLUSH, are laws of geo_laws_sweep.
 //!

@@ -1,5 +1,5 @@
 //! The elevator order, and the run to rest in it.
-ghost use Rattle.std.specs.Prelude.{◌≡◌, ◌↔◌, List, IsErrOf, IsNone, OnErr, OnOk, map};
+ghost use Rattle.std.specs.Prelude.{◌≡◌, ◌↔◌, List, IfSome, IsErrOf, IsNone, OnErr, OnOk, map};
 ghost use Rattle.geo_model.specs.declared.step.Entry.{Entry as EntryValue};
 ghost use Rattle.geo_model.specs.Laws.{NoneBusy};
 ghost use Rattle.geo_model.specs.Log.{IsPrefixOf};
@@ -8,7 +8,7 @@ ghost use Rattle.geo_headline.specs.Sweep.{pick_sweep, sweep_order};
 ghost use Rattle.geo_laws_sweep.proofs.Sweeping.{sweep_goes_on};
 ghost use Rattle.geo_laws_sweep.proofs.SweepRest.{sweep_ends};
 ghost use Rattle.geo_serve.specs.Drives.{drive_view};
-ghost use Rattle.geo_drain.specs.Drain.{DrivesFit, RanFull, Runs};
+ghost use Rattle.geo_drain.specs.Drain.{DrivesFit, Falls, RanFull, Runs};
 ghost use Rattle.geo_drain.specs.Meshes.{IsHistory, opened, world_of};
 ghost use Rattle.geo_elev.specs.Due.{before_takes, behind_takes};
 ghost use Rattle.geo_elev.specs.Heads.{AreHeads};
@@ -22,12 +22,14 @@ use std::alloc::Global;
 
 /// The step that is due in the elevator order, where no bio is Busy and the heads are those of the mesh: the first
 /// enabled of Up and Start of the smallest bio, Judge, Event, the Go of the actor whose next line is the smallest, the
-/// Take of what is next at the first disk for which something waits, Reap and Wash. None exactly at rest.
+/// Take of what is next at the first disk for which something waits, Reap and Wash. None exactly at rest. It lowers the
+/// measure, a Take together with its Deliver.
 pub fn pick_sweep(mesh: &Mesh, heads: &Heads) -> Option<Step>
     requires none_busy { NoneBusy (world_of mesh.now) }
     requires heads { AreHeads (opened mesh.now) mesh.now.log heads.now }
     ensures picked { result ≡ pick_sweep (world_of mesh.now) mesh.now.log }
     ensures rest { IsNone result ↔ Rest (world_of mesh.now) }
+    ensures falls { IfSome result (Falls (world_of mesh.now)) }
     ensures history { IsHistory mesh.now }
 {
     if mesh.at_rest() {

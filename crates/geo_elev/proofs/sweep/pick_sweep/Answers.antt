@@ -3,6 +3,7 @@ use Rattle.geo_headline.specs.Sweep.{sweep_order}
 use Rattle.geo_laws_sweep.proofs.Sweeping.{sweep_goes_on}
 use Rattle.geo_laws_sweep.proofs.SweepRest.{sweep_ends}
 use Rattle.geo_drain.specs.Meshes.{world_of}
+use Rattle.geo_drain.proofs.Falling.{due_falls}
 use Rattle.geo_drain.proofs.Full.{none_at_rest}
 use Rattle.geo_elev.proofs.Nexts.{next_given, due_before, due_take, due_behind}
 use Rattle.geo_elev.proofs.sweep.pick_sweep.Goals as goal
@@ -46,4 +47,20 @@ returns-in-Some-next_take-clause-rest c =
 pub returns-clause-rest : goal.returns-clause-rest
 returns-clause-rest c =
     none_at_rest sweep_order c.args.mesh.now sweep_goes_on sweep_ends c.at_rest.ensures.history c.requires.none_busy
+    c.behind_takes.result (returns-clause-picked c)
+
+-- for each: the step that is due lowers the measure
+pub returns-in-Some-clause-falls : goal.returns-in-Some-clause-falls
+returns-in-Some-clause-falls c =
+    due_falls sweep_order c.args.mesh.now sweep_goes_on sweep_ends c.at_rest.ensures.history c.requires.none_busy
+    (Some c.in-Some.step) (returns-in-Some-clause-picked c)
+
+pub returns-in-Some-next_take-clause-falls : goal.returns-in-Some-next_take-clause-falls
+returns-in-Some-next_take-clause-falls c =
+    due_falls sweep_order c.args.mesh.now sweep_goes_on sweep_ends c.at_rest.ensures.history c.requires.none_busy
+    (Some c.in-Some-next_take.step) (returns-in-Some-next_take-clause-picked c)
+
+pub returns-clause-falls : goal.returns-clause-falls
+returns-clause-falls c =
+    due_falls sweep_order c.args.mesh.now sweep_goes_on sweep_ends c.at_rest.ensures.history c.requires.none_busy
     c.behind_takes.result (returns-clause-picked c)
