@@ -11,7 +11,9 @@ use crate::bench::putter;
 use crate::rooms::Takers;
 use geo_core::Mesh;
 use geo_disk::MemDisk;
-use geo_jobs::{ClientJob, DiskJob, DownJob, DriveList, EventJob, Job, Lanes, Role, Turn, UpJob, Worker};
+use geo_jobs::{
+    ClientJob, DiskJob, DownJob, DriveList, EventJob, Job, Lanes, Role, Turn, UpJob, Worker,
+};
 use geo_lane::LanePass;
 use geo_lock::{Pass, Yard};
 
