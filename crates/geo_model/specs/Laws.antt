@@ -26,7 +26,7 @@ use Rattle.geo_model.specs.Place.{place, pieces, slice_at, part_at, disk_of, Pie
 use Rattle.geo_model.specs.Bios.{piece_targets, error_of_result, is_fitting, start, start_by, way_of}
 use Rattle.geo_model.specs.Freeing.{wash_work}
 use Rattle.geo_model.specs.Opening.{opening}
-use Rattle.geo_model.specs.Plans.{IsPlan, FactsFit}
+use Rattle.geo_model.specs.Plans.{MayBegin, FactsFit}
 use Rattle.geo_model.specs.Step.{step, is_enabled}
 use Rattle.geo_model.specs.Log.{Legal, Moment, replay, world_after, after_entry, owed, is_full}
 use Rattle.geo_model.specs.Results.{result_of}
@@ -38,10 +38,10 @@ use Rattle.geo_model.specs.Passes.{entries_of_seat}
 use Rattle.geo_model.specs.FixedOrder.{StepOrder, fixed_order}
 use Rattle.geo_model.specs.History.{KeepsHistory, EndsAtRest, RequestsAreComplete, AtEachEntry, next_command}
 
--- a fact about each legal log from an opening
+-- a fact about each legal log from an opening, by whatever plan a mesh can begin with
 abbrev pub OfEachLegalLog : (World → List Entry → Type 0) → Type 0
 OfEachLegalLog P =
-    (plan : Plan) (facts : List (ℕ × ℕ)) → IsPlan plan → FactsFit plan facts
+    (plan : Plan) (facts : List (ℕ × ℕ)) → MayBegin plan → FactsFit plan facts
     → (log : List Entry) → Legal (opening plan facts) log → P (opening plan facts) log
 
 -- by any seats in any order: the mesh stays sound, opens are answered, requests complete once, only what is idle goes

@@ -86,12 +86,15 @@ IsCommand (commands.MarkStripe h name id place count stripe) = IsShortName h × 
     × IsMark id place count × IsStripe stripe
 IsCommand commands.Mesh = ⊤
 
--- a command line of one of so many actors
-pub record IsCommandLine (actors : ℕ) (c : LineCommand) : Type 0 where
-  pub some_line : 1 ≤ c.line
-  pub line : c.line ≤ MAX_SCRIPT_LINES
+-- a command of one of so many actors
+pub record IsCommandOf (actors : ℕ) (c : LineCommand) : Type 0 where
   pub actor : c.actor < actors
   pub command : IsCommand c.command
+
+-- the number of a line of a script
+pub record IsLineNumber (line : ℕ) : Type 0 where
+  pub some : 1 ≤ line
+  pub few : line ≤ MAX_SCRIPT_LINES
 
 -- the sectors of a disk as the header gives them
 abbrev pub HasSectors : DiskKind → ℕ → ℕ → Type 0
@@ -111,15 +114,21 @@ pub record IsActor (name : List ℕ) : Type 0 where
 abbrev pub Differ : List ℕ → List ℕ → Type 0
 Differ a b = IsTrue (not (same_name a b))
 
--- what the header and the lines of each script keep
-pub record IsPlan (plan : Plan) : Type 0 where
+-- a mesh can begin with the plan: its disks, actors and commands have their forms, however many commands there are and
+-- whatever their lines
+pub record MayBegin (plan : Plan) : Type 0 where
   pub few_disks : length plan.disks ≤ MAX_DISKS
   pub disks : All IsDiskDecl plan.disks
   pub disk_names : AllPairs Differ (map (λ d. d.name) plan.disks)
   pub few_actors : length plan.actors ≤ MAX_ACTORS
   pub actors : All IsActor plan.actors
   pub actor_names : AllPairs Differ plan.actors
-  pub commands : All (IsCommandLine (length plan.actors)) plan.commands
+  pub commands : All (IsCommandOf (length plan.actors)) plan.commands
+
+-- what the header and the lines of each script keep: a mesh can begin with it, and its lines rise up to the limit
+pub record IsPlan (plan : Plan) : Type 0 where
+  pub begins : MayBegin plan
+  pub numbered : All IsLineNumber (map (λ c. c.line) plan.commands)
   pub lines : IsStrictlyIncreasing (map (λ c. c.line) plan.commands)
 
 -- a memory disk has the plan's sectors
