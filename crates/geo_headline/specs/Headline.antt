@@ -90,6 +90,7 @@ abbrev pub IsAnswerAt : Ending → TakeAnswer → Type 0
 IsAnswerAt (ShelfFault name) answer = answer ≡ answers.Failed
 IsAnswerAt (NoDisk name) answer = answer ≡ answers.Missing
 IsAnswerAt (BadSize name) answer = answer ≡ answers.BadSize
+IsAnswerAt OutOfMemory answer = answer ≡ answers.NoMemory
 IsAnswerAt ending answer = answer ≢ answers.Disk
 
 -- the calls of the shelf: takes of its disks in header order, up to one that couldn't be had, and of all where a mesh
