@@ -34,7 +34,7 @@ impl GeomId {
 }
 
 /// The number of a provider, which contracts see as itself.
-#[derive(Clone, Copy, Debug, PartialEq, Eq, PartialOrd, Ord)]
+#[derive(Clone, Copy, Debug, Default, PartialEq, Eq, PartialOrd, Ord)]
 pub struct ProvId {
     number: u64,
 }
@@ -64,7 +64,7 @@ impl ProvId {
 }
 
 /// The number of a consumer, which contracts see as itself.
-#[derive(Clone, Copy, Debug, PartialEq, Eq, PartialOrd, Ord)]
+#[derive(Clone, Copy, Debug, Default, PartialEq, Eq, PartialOrd, Ord)]
 pub struct ConsId {
     number: u64,
 }

@@ -2,36 +2,35 @@
 ghost use Rattle.std.specs.Prelude.{◌≡◌, ◌-◌, ◌≤◌, [], ◌∷◌, ◌++◌, IsOk, OnOk};
 
 use geo_model::{ConsId, NoMemory, ProvId};
+use smallvec::SmallVec;
 use std::alloc::Global;
 use std::marker::Model;
 
-/// For each piece of a request the consumer through which it goes down and the provider to which, and the room that
-/// is reserved for more. Contracts see the list of the pairs and the spare number.
+/// For each piece of a request the consumer through which it goes down and the provider to which, and the room for
+/// more. One pair takes no memory. Contracts see the list of the pairs and how many more have room.
 #[derive(Debug, Drop)]
 pub struct Targets {
-    pairs: Vec<(ConsId, ProvId)>,
-    spare: u64,
+    pairs: SmallVec<(ConsId, ProvId), 1>,
 }
 
 impl Model for Targets {
-    ghost use Rattle.std.specs.Prelude.{◌+◌, ◌≤◌, vec_len, vec_capacity};
+    ghost use Rattle.std.specs.Prelude.{◌-◌, ◌≤◌, length};
     ghost use Rattle.geo_bio.specs.Targets.{TargetsView};
 
     ghost Value = { TargetsView };
 
-    ghost view = { λ list. record { items = list.pairs.items; spare = list.spare } };
+    ghost view = { λ list. record { items = list.pairs.items; spare = list.pairs.capacity - length list.pairs.items } };
 
-    ghost invariant = { λ list. vec_len list.pairs + list.spare ≤ vec_capacity list.pairs };
+    ghost invariant = { λ list. length list.pairs.items ≤ list.pairs.capacity };
 }
 
 impl Targets {
-    /// No target, and no room. It takes no memory yet.
+    /// No target, and room for one. It takes no memory yet.
     pub fn new(alloc: Global) -> Targets
-        ensures { result ≡ record { items = []; spare = 0 } }
+        ensures { result ≡ record { items = []; spare = 1 } }
     {
         Targets {
-            pairs: Vec::new(alloc),
-            spare: 0,
+            pairs: SmallVec::new(alloc),
         }
     }
 
@@ -43,11 +42,7 @@ impl Targets {
         ensures room { OnOk result (count ≤ self.new.spare) }
         ensures had_room { count ≤ self.old.spare → IsOk result }
     {
-        if count <= self.spare {
-            return Ok(());
-        }
         self.pairs.reserve(count as usize)?;
-        self.spare = count;
         Ok(())
     }
 
@@ -56,11 +51,7 @@ impl Targets {
         requires { 1 ≤ self.old.spare }
         ensures { self.new ≡ record { items = self.old.items ++ target ∷ []; spare = self.old.spare - 1 } }
     {
-        self.spare -= 1;
-        match self.pairs.push(target) {
-            Ok(()) => {}
-            Err(_) => unreachable!(),
-        }
+        self.pairs.push_reserved(target);
     }
 
     /// The targets, in order.

@@ -4,35 +4,35 @@ ghost use Rattle.std.specs.Option.{option_to_list};
 ghost use Rattle.geo_model.specs.Place.{piece_in};
 
 use geo_model::{NoMemory, Piece, Span, Stretch};
+use smallvec::SmallVec;
 use std::alloc::Global;
 use std::marker::Model;
 
-/// Pieces, and the room that is reserved for more. Contracts see the list of the pieces and the spare number.
+/// Pieces, and the room for more. Most requests have one piece, which takes no memory. Contracts see the list of the
+/// pieces and how many more have room.
 #[derive(Debug, Drop)]
 pub struct PieceList {
-    pieces: Vec<Piece>,
-    spare: u64,
+    pieces: SmallVec<Piece, 1>,
 }
 
 impl Model for PieceList {
-    ghost use Rattle.std.specs.Prelude.{◌+◌, ◌≤◌, vec_len, vec_capacity};
+    ghost use Rattle.std.specs.Prelude.{◌-◌, ◌≤◌, length};
     ghost use Rattle.geo_class.specs.PieceList.{PieceListView};
 
     ghost Value = { PieceListView };
 
-    ghost view = { λ list. record { items = list.pieces.items; spare = list.spare } };
+    ghost view = { λ list. record { items = list.pieces.items; spare = list.pieces.capacity - length list.pieces.items } };
 
-    ghost invariant = { λ list. vec_len list.pieces + list.spare ≤ vec_capacity list.pieces };
+    ghost invariant = { λ list. length list.pieces.items ≤ list.pieces.capacity };
 }
 
 impl PieceList {
-    /// No piece, and no room. It takes no memory yet.
+    /// No piece, and room for one. It takes no memory yet.
     pub fn new(alloc: Global) -> PieceList
-        ensures { result ≡ record { items = []; spare = 0 } }
+        ensures { result ≡ record { items = []; spare = 1 } }
     {
         PieceList {
-            pieces: Vec::new(alloc),
-            spare: 0,
+            pieces: SmallVec::new(alloc),
         }
     }
 
@@ -44,11 +44,7 @@ impl PieceList {
         ensures room { OnOk result (count ≤ self.new.spare) }
         ensures had_room { count ≤ self.old.spare → IsOk result }
     {
-        if count <= self.spare {
-            return Ok(());
-        }
         self.pieces.reserve(count as usize)?;
-        self.spare = count;
         Ok(())
     }
 
@@ -57,11 +53,7 @@ impl PieceList {
         requires { 1 ≤ self.old.spare }
         ensures { self.new ≡ record { items = self.old.items ++ piece ∷ []; spare = self.old.spare - 1 } }
     {
-        self.spare -= 1;
-        match self.pieces.push(piece) {
-            Ok(()) => {}
-            Err(_) => unreachable!(),
-        }
+        self.pieces.push_reserved(piece);
     }
 
     /// Adds the part of a range that lies in a stretch, if there is any, in the room that was reserved.

@@ -21,6 +21,7 @@ use crate::nop::NopMap;
 use crate::piece_list::PieceList;
 use crate::stripe::StripeMap;
 use geo_model::{ConsId, EbrPart, MAX_LINKS, MAX_MEDIA_BYTES, Name, NoMemory, Piece, Slice, Span};
+use smallvec::SmallVec;
 use std::alloc::Global;
 
 /// As many as no table has places.
@@ -34,7 +35,7 @@ const EMPTY: Piece = Piece {
 };
 
 /// Adds the consumer, if there is one.
-fn push_some(consumers: &mut Vec<ConsId>, found: Option<ConsId>) -> Result<(), NoMemory>
+fn push_some(consumers: &mut SmallVec<ConsId, 1>, found: Option<ConsId>) -> Result<(), NoMemory>
     ensures { OnOk result (consumers.new.items ≡ consumers.old.items ++ option_to_list found) }
 {
     if let Some(consumer) = found {
@@ -229,11 +230,16 @@ impl Config {
         Ok(list)
     }
 
-    /// The consumers of these pieces, in their order; a piece at a place that no consumer fills is passed over.
-    pub fn consumers(&self, alloc: Global, pieces: &[Piece]) -> Result<Vec<ConsId>, NoMemory>
+    /// The consumers of these pieces, in their order; a piece at a place that no consumer fills is passed over. One
+    /// takes no memory.
+    pub fn consumers(
+        &self,
+        alloc: Global,
+        pieces: &[Piece],
+    ) -> Result<SmallVec<ConsId, 1>, NoMemory>
         ensures { IfOk result (λ consumers. consumers.items ≡ consumers_for self.now pieces.now) }
     {
-        let mut consumers = Vec::new(alloc);
+        let mut consumers = SmallVec::new(alloc);
         for piece in pieces {
             push_some(&mut consumers, self.component(piece.child))?;
         }

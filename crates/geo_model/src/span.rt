@@ -1,7 +1,7 @@
 //! Ranges of providers, and pieces of requests.
 
 /// A range of a provider, in bytes.
-#[derive(Clone, Copy, Debug, PartialEq, Eq)]
+#[derive(Clone, Copy, Debug, Default, PartialEq, Eq)]
 pub struct Span {
     pub offset: u64,
     pub len: u64,
@@ -17,7 +17,7 @@ pub struct Stretch {
 }
 
 /// A piece of a request: its component, its range there, and its place in the request.
-#[derive(Clone, Copy, Debug, PartialEq, Eq)]
+#[derive(Clone, Copy, Debug, Default, PartialEq, Eq)]
 pub struct Piece {
     pub child: u32,
     pub span: Span,

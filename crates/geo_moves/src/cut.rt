@@ -77,7 +77,7 @@ fn cut_range(
     };
     let pieces = config.split(alloc, &media, bio.span)?;
     let consumers = config.consumers(alloc, pieces.items())?;
-    let targets = targets_of(alloc, topo, &consumers)?;
+    let targets = targets_of(alloc, topo, consumers.as_slice())?;
     Ok(Cut { pieces, targets })
 }
 

@@ -1,9 +1,9 @@
 //! The text of some bytes.
-ghost use Rattle.std.specs.Prelude.{◌≡◌, ◌≤◌, ◌++◌, ◌∷◌, [], length, replicate, bytes_eq, get_or, OnOk};
+ghost use Rattle.std.specs.Prelude.{◌≡◌, ◌<◌, ◌≤◌, ◌++◌, ◌∷◌, [], length, replicate, bytes_eq, get_or, OnOk};
 ghost use Rattle.geo_base.specs.Runs.{run_text, runs_text};
 
 use geo_base::NoMemory;
-use geo_text::Text;
+use geo_text::{Text, hex_digit};
 
 /// A byte, and how many times it stands.
 fn add_run(text: &mut Text, byte: u8, times: u64) -> Result<(), NoMemory>
@@ -13,12 +13,25 @@ fn add_run(text: &mut Text, byte: u8, times: u64) -> Result<(), NoMemory>
     text.add_labelled(b"*", times)
 }
 
-/// A run that others follow.
+/// A run that others follow. One of fewer than ten bytes, of which noise is made, is written at once.
 fn add_run_before(text: &mut Text, byte: u8, times: u64) -> Result<(), NoMemory>
     ensures { OnOk result (text.new ≡ text.old ++ run_text (record { byte = byte; times = times }) ++ 32 ∷ []) }
 {
+    if times < 10 {
+        return add_short_run_before(text, byte, times as u8);
+    }
     add_run(text, byte, times)?;
     text.add(b" ")
+}
+
+/// A run of fewer than ten bytes that others follow.
+fn add_short_run_before(text: &mut Text, byte: u8, times: u8) -> Result<(), NoMemory>
+    requires { times < 10 }
+    ensures { OnOk result (text.new ≡ text.old ++ run_text (record { byte = byte; times = times }) ++ 32 ∷ []) }
+{
+    let high = hex_digit(byte / 16);
+    let low = hex_digit(byte % 16);
+    text.add(&[high, low, b'*', b'0' + times, b' '])
 }
 
 fn add_some_runs(text: &mut Text, bytes: &[u8]) -> Result<(), NoMemory>
