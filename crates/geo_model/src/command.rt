@@ -70,27 +70,103 @@ impl NameList {
 }
 
 /// A command of an actor, with its words that aren't fixed, in their order. Offsets, lengths and sizes are in bytes.
+/// A `handle` is a name that the actor gave one of its own handles by an open.
 #[derive(Debug, Drop)]
 pub enum Command {
-    Open(Name, Name, Counts),
+    /// Opens a provider with these counts, as a handle of this name (g_access(9)).
+    Open {
+        handle: Name,
+        provider: Name,
+        grant: Counts,
+    },
+    /// Closes the handle, if none of its requests is out (g_access(9)).
     Close(Name),
-    Read(Name, u64, u64),
-    Write(Name, u64, SharedBytes),
-    Delete(Name, u64, u64),
+    /// Reads `len` bytes through the handle, from `offset` of its provider on (g_bio(9)).
+    Read {
+        handle: Name,
+        offset: u64,
+        len: u64,
+    },
+    /// Writes the bytes through the handle, from `offset` of its provider on (g_bio(9)).
+    Write {
+        handle: Name,
+        offset: u64,
+        bytes: SharedBytes,
+    },
+    /// Deletes `len` bytes through the handle, from `offset` of its provider on (g_bio(9)): they read as zeros then.
+    Delete {
+        handle: Name,
+        offset: u64,
+        len: u64,
+    },
+    /// Has the handle's provider keep what was written (g_bio(9)).
     Flush(Name),
+    /// Waits until none of the actor's own requests is out.
     Sync,
+    /// Waits until no event, no taste, no request, no reap and no wash is due.
     Settle,
+    /// Lets a disk of the header stand (disk(9)).
     Insert(Name),
+    /// Takes a disk that stands away (disk(9)): its geom withers (g_wither_geom(9)).
     Pull(Name),
-    Nop(Name, u64, u64, u64),
-    Concat(Name, NameList),
-    Stripe(Name, u64, NameList),
-    Append(Name, Name),
-    Destroy(Kind, Name),
-    Label(Name, Name),
-    Relabel(Name, Name),
-    MarkConcat(Name, Name, u64, u64, u64),
-    MarkStripe(Name, Name, u64, u64, u64, u64),
+    /// Makes a window of the provider, `size` bytes from `offset` on (gnop(8)). Every `fail`th request through it
+    /// fails, and none if `fail` is 0.
+    Nop {
+        provider: Name,
+        offset: u64,
+        size: u64,
+        fail: u64,
+    },
+    /// Makes a concat of this name: the providers one behind the other (gconcat(8)).
+    Concat {
+        name: Name,
+        providers: NameList,
+    },
+    /// Makes a stripe of this name: the providers in turn, strip by strip of `stripe` bytes (gstripe(8)).
+    Stripe {
+        name: Name,
+        stripe: u64,
+        providers: NameList,
+    },
+    /// Lets the concat of this name grow by the provider, behind its others (gconcat(8), g_resize_provider(9)).
+    Append {
+        name: Name,
+        provider: Name,
+    },
+    /// Lets the geom of this class and name wither, if none of its providers is open (g_wither_geom(9)).
+    Destroy {
+        kind: Kind,
+        name: Name,
+    },
+    /// Writes a label of this name, of the first version, into the last sector of the handle's provider (glabel(8)).
+    Label {
+        handle: Name,
+        name: Name,
+    },
+    /// Writes a label of this name, of the second version, which says the provider's size in bytes too (glabel(8)).
+    Relabel {
+        handle: Name,
+        name: Name,
+    },
+    /// Writes the record of a component of a concat into the last sector of the handle's provider (gconcat(8)): the
+    /// concat's name and number, the component's place in it, counted from 0, and how many components it has.
+    MarkConcat {
+        handle: Name,
+        name: Name,
+        id: u64,
+        place: u64,
+        count: u64,
+    },
+    /// Writes the record of a component of a stripe, as of a concat, and the length of a strip in bytes (gstripe(8)).
+    MarkStripe {
+        handle: Name,
+        name: Name,
+        id: u64,
+        place: u64,
+        count: u64,
+        stripe: u64,
+    },
+    /// Lists the mesh as it is at this moment.
     Mesh,
 }
 
