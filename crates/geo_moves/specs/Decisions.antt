@@ -59,3 +59,11 @@ is_on_geoms commands.Sync = false
 is_on_geoms commands.Settle = false
 is_on_geoms commands.Mesh = false
 is_on_geoms _ = true
+
+-- whether a command writes a record
+abbrev pub writes_record : Command → Bool
+writes_record (commands.Label name label) = true
+writes_record (commands.Relabel name label) = true
+writes_record (commands.MarkConcat name label id place count) = true
+writes_record (commands.MarkStripe name label id place count stripe) = true
+writes_record _ = false

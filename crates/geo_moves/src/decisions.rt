@@ -49,9 +49,11 @@ pub fn decide<L: Ledger>(
     ensures bound { steps.new ≤ steps.old + deciding_steps state.old command.now }
 {
     match command {
-        Command::Open(name, prov, grant) => {
-            Decision::Opens(open_refusal(state, actor, name, prov, *grant, steps))
-        }
+        Command::Open {
+            handle,
+            provider,
+            grant,
+        } => { Decision::Opens(open_refusal(state, actor, handle, provider, *grant, steps)) }
         Command::Close(name) => close_decision(state, actor, name),
         _ => Decision::Other,
     }

@@ -13,7 +13,7 @@ ghost use Rattle.geo_state.specs.Holds.{Holds};
 ghost use Rattle.geo_state.specs.Steps.{Does, SameWorld, Stands};
 ghost use Rattle.geo_state.specs.World.{HasBytes};
 ghost use Rattle.geo_moves.specs.declared.decisions.Decision.TheVariants as decisions;
-ghost use Rattle.geo_moves.specs.Decisions.{IsDecided, is_on_geoms};
+ghost use Rattle.geo_moves.specs.Decisions.{IsDecided, is_on_geoms, writes_record};
 
 use crate::appends::append;
 use crate::asked::{ask, write};
@@ -59,34 +59,42 @@ pub fn do_command<L: Ledger>(
     ensures no_memory { decision ≡ decisions.Closes → IsOk result }
 {
     match command {
-        Command::Open(name, prov, grant) => {
-            open_decided(state, line, actor, name, prov, *grant, decision, steps)
-        }
+        Command::Open {
+            handle: name,
+            provider,
+            grant,
+        } => { open_decided(state, line, actor, name, provider, *grant, decision, steps) }
         Command::Close(name) => Ok(close(state, line, actor, name, steps)),
-        Command::Read(name, offset, len) => {
-            ask(alloc, state, line, actor, name, BioCmd::Read, *offset, *len)
-        }
-        Command::Write(name, offset, bytes) => {
-            write(alloc, state, line, actor, name, *offset, bytes)
-        }
-        Command::Delete(name, from, len) => {
-            ask(alloc, state, line, actor, name, BioCmd::Delete, *from, *len)
-        }
+        Command::Read {
+            handle: name,
+            offset: from,
+            len,
+        } => { ask(alloc, state, line, actor, name, BioCmd::Read, *from, *len) }
+        Command::Write {
+            handle: name,
+            offset: from,
+            bytes,
+        } => { write(alloc, state, line, actor, name, *from, bytes) }
+        Command::Delete {
+            handle: name,
+            offset: from,
+            len,
+        } => { ask(alloc, state, line, actor, name, BioCmd::Delete, *from, *len) }
         Command::Flush(name) => ask(alloc, state, line, actor, name, BioCmd::Flush, 0, 0),
         Command::Sync => Ok(done(line)),
         Command::Settle => Ok(done(line)),
         Command::Mesh => list(alloc, state, line),
         Command::Insert(..)
         | Command::Pull(..)
-        | Command::Nop(..)
-        | Command::Concat(..)
-        | Command::Stripe(..)
-        | Command::Append(..)
-        | Command::Destroy(..)
-        | Command::Label(..)
-        | Command::Relabel(..)
-        | Command::MarkConcat(..)
-        | Command::MarkStripe(..) => on_geoms(alloc, state, line, actor, command, steps),
+        | Command::Nop { .. }
+        | Command::Concat { .. }
+        | Command::Stripe { .. }
+        | Command::Append { .. }
+        | Command::Destroy { .. }
+        | Command::Label { .. }
+        | Command::Relabel { .. }
+        | Command::MarkConcat { .. }
+        | Command::MarkStripe { .. } => on_geoms(alloc, state, line, actor, command, steps),
     }
 }
 
@@ -112,36 +120,83 @@ fn on_geoms<L: Ledger>(
     match command {
         Command::Insert(disk) => insert(state, line, disk),
         Command::Pull(disk) => Ok(pull(state, line, disk)),
-        Command::Nop(prov, offset, size, fail) => { nop(state, line, prov, *offset, *size, *fail) }
-        Command::Concat(name, provs) => concat(alloc, state, line, name, provs.items()),
-        Command::Stripe(name, strip, provs) => {
-            stripe(alloc, state, line, name, *strip, provs.items())
-        }
-        Command::Append(name, prov) => append(alloc, state, line, name, prov, steps),
-        Command::Destroy(kind, name) => Ok(destroy(state, line, *kind, name)),
-        Command::Label(name, label) => {
-            write_record(alloc, state, line, actor, name, &Mark::Label(*label))
-        }
-        Command::Relabel(name, label) => {
-            write_record(alloc, state, line, actor, name, &Mark::Relabel(*label))
-        }
-        Command::MarkConcat(name, label, id, place, count) => {
-            let part = concat_record(label, *id, *place, *count);
-            write_record(alloc, state, line, actor, name, &Mark::Concat(part))
-        }
-        Command::MarkStripe(name, label, id, place, count, strip) => {
-            let part = stripe_record(label, *id, *place, *count, *strip);
-            write_record(alloc, state, line, actor, name, &Mark::Stripe(part))
-        }
-        Command::Open(..)
+        Command::Nop {
+            provider,
+            offset,
+            size,
+            fail,
+        } => { nop(state, line, provider, *offset, *size, *fail) }
+        Command::Concat { name, providers } => concat(alloc, state, line, name, providers.items()),
+        Command::Stripe {
+            name,
+            stripe: strip,
+            providers,
+        } => { stripe(alloc, state, line, name, *strip, providers.items()) }
+        Command::Append { name, provider } => append(alloc, state, line, name, provider, steps),
+        Command::Destroy { kind, name } => Ok(destroy(state, line, *kind, name)),
+        Command::Label { .. }
+        | Command::Relabel { .. }
+        | Command::MarkConcat { .. }
+        | Command::MarkStripe { .. } => on_records(alloc, state, line, actor, command),
+        Command::Open { .. }
         | Command::Close(..)
-        | Command::Read(..)
-        | Command::Write(..)
-        | Command::Delete(..)
+        | Command::Read { .. }
+        | Command::Write { .. }
+        | Command::Delete { .. }
         | Command::Flush(..)
         | Command::Sync
         | Command::Settle
         | Command::Mesh => unreachable!(),
+    }
+}
+
+// What a command does that writes a record.
+fn on_records(
+    alloc: Global,
+    state: &mut State,
+    line: u32,
+    actor: u32,
+    command: &Command,
+) -> Result<Outcome, NoMemory>
+    requires stands { Stands state.old }
+    requires named { HaveNames state.old.topo.topology }
+    requires is_command { IsCommand command.now }
+    requires records { writes_record command.now ≡ true }
+    ensures does { (log : List Entry) → IfOk result (λ o.
+        Does (λ w. do_command w line actor command.now) log state.old state.new o) }
+    ensures kept { Holds state.new }
+    ensures same { OnErr result (SameWorld state.old state.new) }
+    ensures logged { (log : List Entry) → HasBytes log state.old → HasBytes log state.new }
+{
+    match command {
+        Command::Label { handle, name } => {
+            write_record(alloc, state, line, actor, handle, &Mark::Label(*name))
+        }
+        Command::Relabel { handle, name } => {
+            write_record(alloc, state, line, actor, handle, &Mark::Relabel(*name))
+        }
+        Command::MarkConcat {
+            handle,
+            name,
+            id,
+            place,
+            count,
+        } => {
+            let part = concat_record(name, *id, *place, *count);
+            write_record(alloc, state, line, actor, handle, &Mark::Concat(part))
+        }
+        Command::MarkStripe {
+            handle,
+            name,
+            id,
+            place,
+            count,
+            stripe,
+        } => {
+            let part = stripe_record(name, *id, *place, *count, *stripe);
+            write_record(alloc, state, line, actor, handle, &Mark::Stripe(part))
+        }
+        _ => unreachable!(),
     }
 }
 

@@ -131,9 +131,15 @@ impl Draft {
         ensures { LineLeaves result self.new (add_command self.old line actor command) }
     {
         let command = match command {
-            Command::Write(handle, offset, bytes) => {
-                Command::Write(handle, offset, self.written.once(bytes))
-            }
+            Command::Write {
+                handle,
+                offset,
+                bytes,
+            } => Command::Write {
+                handle,
+                offset,
+                bytes: self.written.once(bytes),
+            },
             other => other,
         };
         self.commands.push(LineCommand {

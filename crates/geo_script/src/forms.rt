@@ -78,8 +78,15 @@ pub fn open(words: Words<'_>) -> Result<Command, Cause>
 {
     let (handle, words) = short_name(words)?;
     let (provider, words) = long_name(words)?;
-    let (counts, words) = counts_word(words)?;
-    at_end(Command::Open(handle, provider, counts), words)
+    let (grant, words) = counts_word(words)?;
+    at_end(
+        Command::Open {
+            handle,
+            provider,
+            grant,
+        },
+        words,
+    )
 }
 
 /// `close H`.
@@ -97,7 +104,14 @@ pub fn read(words: Words<'_>) -> Result<Command, Cause>
     let (handle, words) = short_name(words)?;
     let (offset, words) = any_number(words)?;
     let (len, words) = any_number(words)?;
-    at_end(Command::Read(handle, offset, len), words)
+    at_end(
+        Command::Read {
+            handle,
+            offset,
+            len,
+        },
+        words,
+    )
 }
 
 /// `delete H OFFSET LEN`.
@@ -107,7 +121,14 @@ pub fn delete(words: Words<'_>) -> Result<Command, Cause>
     let (handle, words) = short_name(words)?;
     let (offset, words) = any_number(words)?;
     let (len, words) = any_number(words)?;
-    at_end(Command::Delete(handle, offset, len), words)
+    at_end(
+        Command::Delete {
+            handle,
+            offset,
+            len,
+        },
+        words,
+    )
 }
 
 /// `flush H`.
@@ -142,7 +163,15 @@ pub fn nop(words: Words<'_>) -> Result<Command, Cause>
     let (offset, words) = any_number(words)?;
     let (size, words) = any_number(words)?;
     let (fail, words) = any_number(words)?;
-    at_end(Command::Nop(provider, offset, size, fail), words)
+    at_end(
+        Command::Nop {
+            provider,
+            offset,
+            size,
+            fail,
+        },
+        words,
+    )
 }
 
 /// `append NAME PROV`.
@@ -151,16 +180,16 @@ pub fn append(words: Words<'_>) -> Result<Command, Cause>
 {
     let (name, words) = short_name(words)?;
     let (provider, words) = long_name(words)?;
-    at_end(Command::Append(name, provider), words)
+    at_end(Command::Append { name, provider }, words)
 }
 
 /// `destroy CLASS GEOM`.
 pub fn destroy(words: Words<'_>) -> Result<Command, Cause>
     ensures { result ≡ destroy_words words.entry }
 {
-    let (class, words) = class_word(words)?;
-    let (geom, words) = long_name(words)?;
-    at_end(Command::Destroy(class, geom), words)
+    let (kind, words) = class_word(words)?;
+    let (name, words) = long_name(words)?;
+    at_end(Command::Destroy { kind, name }, words)
 }
 
 /// `label H NAME`.
@@ -169,7 +198,7 @@ pub fn label(words: Words<'_>) -> Result<Command, Cause>
 {
     let (handle, words) = short_name(words)?;
     let (name, words) = short_name(words)?;
-    at_end(Command::Label(handle, name), words)
+    at_end(Command::Label { handle, name }, words)
 }
 
 /// `relabel H NAME`.
@@ -178,7 +207,7 @@ pub fn relabel(words: Words<'_>) -> Result<Command, Cause>
 {
     let (handle, words) = short_name(words)?;
     let (name, words) = short_name(words)?;
-    at_end(Command::Relabel(handle, name), words)
+    at_end(Command::Relabel { handle, name }, words)
 }
 
 /// `mark H concat NAME ID PLACE COUNT`, behind `concat`.
@@ -189,7 +218,16 @@ fn mark_concat(handle: Name, words: Words<'_>) -> Result<Command, Cause>
     let (id, words) = record_id(words)?;
     let (place, words) = record_place(words)?;
     let (count, words) = record_count(words)?;
-    at_end(Command::MarkConcat(handle, name, id, place, count), words)
+    at_end(
+        Command::MarkConcat {
+            handle,
+            name,
+            id,
+            place,
+            count,
+        },
+        words,
+    )
 }
 
 /// `mark H stripe NAME ID PLACE COUNT S`, behind `stripe`.
@@ -202,7 +240,14 @@ fn mark_stripe(handle: Name, words: Words<'_>) -> Result<Command, Cause>
     let (count, words) = record_count(words)?;
     let (stripe, words) = stripe_size(words)?;
     at_end(
-        Command::MarkStripe(handle, name, id, place, count, stripe),
+        Command::MarkStripe {
+            handle,
+            name,
+            id,
+            place,
+            count,
+            stripe,
+        },
         words,
     )
 }
@@ -238,7 +283,11 @@ pub fn write(alloc: Global, words: Words<'_>) -> Result<Command, LineRefusal>
     let (handle, words) = short_name(words)?;
     let (offset, words) = any_number(words)?;
     let bytes = runs(alloc, words)?;
-    Ok(Command::Write(handle, offset, bytes))
+    Ok(Command::Write {
+        handle,
+        offset,
+        bytes,
+    })
 }
 
 /// `concat NAME PROV..`.
@@ -247,7 +296,7 @@ pub fn concat(alloc: Global, words: Words<'_>) -> Result<Command, LineRefusal>
 {
     let (name, words) = short_name(words)?;
     let providers = long_names(alloc, words)?;
-    Ok(Command::Concat(name, providers))
+    Ok(Command::Concat { name, providers })
 }
 
 /// `stripe NAME S PROV..`.
@@ -257,5 +306,9 @@ pub fn stripe(alloc: Global, words: Words<'_>) -> Result<Command, LineRefusal>
     let (name, words) = short_name(words)?;
     let (stripe, words) = stripe_size(words)?;
     let providers = long_names(alloc, words)?;
-    Ok(Command::Stripe(name, stripe, providers))
+    Ok(Command::Stripe {
+        name,
+        stripe,
+        providers,
+    })
 }

@@ -376,15 +376,20 @@ fn assert_commands(rt: &impl Abort, plan: &Plan) {
         (write.line, write.actor, concat.line, concat.actor),
         (7, 1, 8, 0),
     );
-    let Command::Write(handle, 7, bytes) = &write.command else {
+    let Command::Write {
+        handle,
+        offset: 7,
+        bytes,
+    } = &write.command
+    else {
         panic!(rt; "a write")
     };
     assert_same(rt, handle.bytes(), b"h".as_slice());
     assert_same(rt, bytes.bytes(), [10, 10, 255].as_slice());
-    let Command::Concat(_, names) = &concat.command else {
+    let Command::Concat { providers, .. } = &concat.command else {
         panic!(rt; "a concat")
     };
-    assert_same(rt, names.items().len(), 2);
+    assert_same(rt, providers.items().len(), 2);
 }
 
 #[test]
