@@ -3,3 +3,8 @@ pub mod Commands
 pub mod Lists
 pub mod Steps
 pub mod Logs
+pub mod Actors
+pub mod Nones
+pub mod Histories
+pub mod Starting
+pub mod Answered

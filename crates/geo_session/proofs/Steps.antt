@@ -27,6 +27,11 @@ use Rattle.geo_session.proofs.Others.{Lists, other, other_made, other_answer, ch
 use Rattle.geo_session.proofs.Commands.{command_other}
 use Rattle.geo_session.proofs.Lists.{get_more, set_more}
 
+-- whether a step is a Go
+abbrev pub is_go : Step → Bool
+is_go (steps.Go actor) = true
+is_go s = false
+
 module _ (f : Lists → Lists) where
   -- a choice between answers
   chosen_answer : (b : Bool) (x y : Answer)
@@ -123,6 +128,20 @@ module _ (f : Lists → Lists) where
   same_wait w actor (commands.MarkStripe name label id place count stripe) = refl
   same_wait w actor commands.Mesh = refl
 
+  -- each step but a Go
+  pub step_other : (w : World) (seat : ℕ) (s : Step) → is_go s ≡ false
+      → step (other f w) seat s ≡ other_answer f (step w seat s)
+  unfolding step
+  step_other w seat (steps.Go actor) e = absurd (let no : ⊥ = cc in no)
+  step_other w seat steps.Event e = event_step w
+  step_other w seat steps.Judge e = judge_made w
+  step_other w seat steps.Reap e = reap_step w
+  step_other w seat steps.Wash e = wash_step w
+  step_other w seat (steps.Start b) e = starts w (bio_at w b)
+  step_other w seat (steps.Take disk b) e = takes w seat disk (bio_at w b)
+  step_other w seat (steps.Deliver b got) e = delivers w seat got (bio_at w b)
+  step_other w seat (steps.Up b) e = ups w (bio_at w b)
+
 -- the actor's next command
 module _ (c : LineCommand) (w : World) (actor : ℕ) {after : World} {o : Outcome} where
   go_by : (x : LineCommand) (rest : List LineCommand) → slice_get w.actors actor ≡ Some (x ∷ rest)
@@ -155,19 +174,5 @@ pub step_more : (c : LineCommand) (w : World) (seat : ℕ) (s : Step) (after : W
     → step w seat s ≡ Ok (after, o) → step (with_command c w) seat s ≡ Ok (with_command c after, o)
 unfolding step
 step_more c w seat (steps.Go actor) after o does = go_more c w actor does
-step_more c w seat steps.Event after o does =
-    event_step (more_left c) w ∙ ap (λ a. other_answer (more_left c) a) does
-step_more c w seat steps.Judge after o does =
-    judge_made (more_left c) w ∙ ap (λ a. other_answer (more_left c) a) does
-step_more c w seat steps.Reap after o does =
-    reap_step (more_left c) w ∙ ap (λ a. other_answer (more_left c) a) does
-step_more c w seat steps.Wash after o does =
-    wash_step (more_left c) w ∙ ap (λ a. other_answer (more_left c) a) does
-step_more c w seat (steps.Start b) after o does =
-    starts (more_left c) w (bio_at w b) ∙ ap (λ a. other_answer (more_left c) a) does
-step_more c w seat (steps.Take disk b) after o does =
-    takes (more_left c) w seat disk (bio_at w b) ∙ ap (λ a. other_answer (more_left c) a) does
-step_more c w seat (steps.Deliver b got) after o does =
-    delivers (more_left c) w seat got (bio_at w b) ∙ ap (λ a. other_answer (more_left c) a) does
-step_more c w seat (steps.Up b) after o does =
-    ups (more_left c) w (bio_at w b) ∙ ap (λ a. other_answer (more_left c) a) does
+step_more c w seat s after o does =
+    step_other (more_left c) w seat s refl ∙ ap (λ a. other_answer (more_left c) a) does

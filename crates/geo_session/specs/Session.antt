@@ -1,5 +1,6 @@
 -- A live mesh: the world that it is, and the history that led there.
 use Rattle.std.specs.Prelude.{◌≡◌, ℕ, ◌+◌, ◌%◌, ◌^◌, List, [], Result, Ok, Err, IsOk, All, length, map}
+use Rattle.std.specs.List.{range_with_len}
 use Rattle.geo_model.specs.declared.command.LineCommand.{LineCommand}
 use Rattle.geo_model.specs.declared.step.Entry.{Entry}
 use Rattle.geo_model.specs.declared.step.Outcome.{Outcome}
@@ -23,9 +24,9 @@ pub record SessionView : Type 0 where
 abbrev pub without_commands : Plan → Plan
 without_commands plan = record plan { commands = [] }
 
--- no actor has a command left: each is made when it is given
-abbrev pub none_left : {A : Type 0} → List A → List (List LineCommand)
-none_left actors = map (λ actor. []) actors
+-- so many actors, none of whom has a command left: each is made when it is given
+abbrev pub none_left : ℕ → List (List LineCommand)
+none_left actors = map (λ actor. []) (range_with_len 0 actors)
 
 -- a history of a mesh: a plan with which it can have begun, on disks that fit it, and a legal log that leads to its
 -- world, with an entry for each step
