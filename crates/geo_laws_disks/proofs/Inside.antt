@@ -13,7 +13,7 @@ use Rattle.geo_model.specs.Fitting.{Firm}
 use Rattle.geo_model.specs.Log.{Legal, after_entry, replay}
 use Rattle.geo_model.specs.Opening.{opening}
 use Rattle.geo_model.specs.Place.{disk_of}
-use Rattle.geo_model.specs.Plans.{IsPlan, FactsFit}
+use Rattle.geo_model.specs.Plans.{MayBegin, FactsFit}
 use Rattle.geo_model.specs.Sound.{HasDiskSizes}
 use Rattle.geo_model.specs.SoundBios.{IsBioInOrder, IsRangeInside}
 use Rattle.geo_model.specs.Step.{step}
@@ -202,7 +202,7 @@ bare_along w (e ∷ log) firm legal bare =
     (steps_origins w (after_entry w e) e.seat e.step e.outcome firm (entry_made w e legal.0)) bare)
 
 -- from an opening
-bare_opened : (plan : Plan) (facts : List (ℕ × ℕ)) → IsPlan plan → FactsFit plan facts → (log : List Entry)
+bare_opened : (plan : Plan) (facts : List (ℕ × ℕ)) → MayBegin plan → FactsFit plan facts → (log : List Entry)
     → Legal (opening plan facts) log → All IsBare (replay (opening plan facts) log).bios
 bare_opened plan facts is fit log legal =
     bare_along (opening plan facts) log (opened_firm plan facts is fit) legal

@@ -15,7 +15,7 @@ use Rattle.geo_model.specs.Contents.{after_answer, after_step, contents, AreTrue
 use Rattle.geo_model.specs.FixedOrder.{delivered_in}
 use Rattle.geo_model.specs.Log.{IsSplitBy, Legal, moments, replay}
 use Rattle.geo_model.specs.Opening.{opening}
-use Rattle.geo_model.specs.Plans.{IsPlan, FactsFit}
+use Rattle.geo_model.specs.Plans.{MayBegin, FactsFit}
 use Rattle.geo_model.specs.Results.{request_of, device_answer_of, device_answer_in, entries_of, is_deliver_of, is_take_of, request_in}
 use Rattle.geo_model.specs.World.{Plan}
 use Rattle.geo_model.proofs.LogLemmas.{Legal-front}
@@ -353,7 +353,7 @@ module _ (table : ℕ → Option Request) (size disk : ℕ) (held : List (List �
 -- Along legal logs
 
 -- in a legal log each bio that was answered was taken
-answered_taken : (plan : Plan) (facts : List (ℕ × ℕ)) → IsPlan plan → FactsFit plan facts → (log : List Entry)
+answered_taken : (plan : Plan) (facts : List (ℕ × ℕ)) → MayBegin plan → FactsFit plan facts → (log : List Entry)
     → Legal (opening plan facts) log → (b : ℕ) → IsSome (device_answer_of log b) → IsSome (request_of log b)
 answered_taken plan facts is fit log legal b some =
     let ledger : Ledger (moments (opening plan facts) log) (replay (opening plan facts) log) =
@@ -397,7 +397,7 @@ delivers_follow plan facts is fit log legal earlier e b got split step =
     (answer_there b got earlier e [] step))
 
 -- each Deliver of a legal log has its request before it
-pub log_in_order : (plan : Plan) (facts : List (ℕ × ℕ)) → IsPlan plan → FactsFit plan facts → (log : List Entry)
+pub log_in_order : (plan : Plan) (facts : List (ℕ × ℕ)) → MayBegin plan → FactsFit plan facts → (log : List Entry)
     → Legal (opening plan facts) log → InOrder (request_of log) log
 log_in_order plan facts is fit log legal earlier e b got split step =
     let some = delivers_follow plan facts is fit log legal earlier e b got split step in

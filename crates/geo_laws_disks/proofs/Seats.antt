@@ -16,7 +16,7 @@ use Rattle.geo_model.specs.FixedOrder.{delivered_in}
 use Rattle.geo_model.specs.Log.{IsSplitBy, Legal}
 use Rattle.geo_model.specs.Opening.{opening}
 use Rattle.geo_model.specs.Passes.{entries_of_seat}
-use Rattle.geo_model.specs.Plans.{FactsFit, IsPlan}
+use Rattle.geo_model.specs.Plans.{FactsFit, MayBegin}
 use Rattle.geo_model.specs.Results.{is_take_of, request_in, request_of}
 use Rattle.geo_model.specs.World.{Plan}
 use Rattle.geo_laws_graph.proofs.Members.{Contains-filter, Contains-here, at_contained, filter-Contains, find-Contains, All-from_contained, Contains-cases, nothing_in}
@@ -226,7 +226,7 @@ order_within test log once order taken earlier e b got split is =
         (Contains-filter test so.front its.take its.here
         (subst (λ (y : Entry). test y ≡ true) one mine.1))
 
-module _ (plan : Plan) (facts : List (ℕ × ℕ)) (is : IsPlan plan) (fit : FactsFit plan facts) (log : List Entry)
+module _ (plan : Plan) (facts : List (ℕ × ℕ)) (is : MayBegin plan) (fit : FactsFit plan facts) (log : List Entry)
     (legal : Legal (opening plan facts) log) where
   -- each bio is taken once
   pub taken_once : (b : ℕ) → count_by (λ (e : Entry). is_take_of b e.step) log ≤ 1
@@ -263,7 +263,7 @@ passing_deliver table disk test (e ∷ es) none =
     by true is none rest = rw is (ap (λ ds. cons_option (delivery_in table disk e.step) ds) rest)
     by false is none rest = rw (is, none is) rest
 
-module _ (plan : Plan) (facts : List (ℕ × ℕ)) (is : IsPlan plan) (fit : FactsFit plan facts) (log : List Entry)
+module _ (plan : Plan) (facts : List (ℕ × ℕ)) (is : MayBegin plan) (fit : FactsFit plan facts) (log : List Entry)
     (legal : Legal (opening plan facts) log) (seat_of_disk : ℕ → ℕ) (disk : ℕ) (seats : AreBySeats seat_of_disk log)
   where
     abbrev is_own : Entry → Bool
@@ -339,7 +339,7 @@ seats_deliver plan facts is fit log legal seat_of_disk disk seats =
 -- Parts
 
 -- the second part is in order
-pub later_in_order : (plan : Plan) (facts : List (ℕ × ℕ)) → IsPlan plan → FactsFit plan facts
+pub later_in_order : (plan : Plan) (facts : List (ℕ × ℕ)) → MayBegin plan → FactsFit plan facts
     → (earlier later : List Entry) → Legal (opening plan facts) (earlier ++ later) → AreTaken later later
     → InOrder (request_of (earlier ++ later)) later
 later_in_order plan facts is fit earlier later legal taken =

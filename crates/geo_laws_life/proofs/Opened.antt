@@ -18,7 +18,7 @@ use Rattle.geo_model.proofs.DemandLemmas.{all_weaker, kept_by, map_all}
 use Rattle.geo_model.specs.TheConstants.{MAX_ACCESS_COUNT}
 use Rattle.geo_model.specs.Names.{dev_name, taste_name}
 use Rattle.geo_model.specs.Demand.{have, stand_together}
-use Rattle.geo_model.specs.Plans.{IsPlan, FactsFit, IsFact, IsDiskDecl, IsCommand, IsCommandLine}
+use Rattle.geo_model.specs.Plans.{MayBegin, FactsFit, IsFact, IsDiskDecl, IsCommand, IsCommandOf}
 use Rattle.geo_model.specs.Graph.{AreNumbers}
 use Rattle.geo_model.specs.Steady.{Steady, HasItsComponents, WaitsForPlaces}
 use Rattle.geo_model.specs.Sectors.{IsSectorSize}
@@ -486,7 +486,7 @@ module _ (plan : Plan) (facts : List (ℕ × ℕ)) (xs : List Stander) where
     }
 
 -- the opening of each plan is sound
-pub opening-sound : (plan : Plan) (facts : List (ℕ × ℕ)) → IsPlan plan → FactsFit plan facts
+pub opening-sound : (plan : Plan) (facts : List (ℕ × ℕ)) → MayBegin plan → FactsFit plan facts
     → Sound (opening plan facts)
 opening-sound plan facts is fits =
     subst Sound (sym (opening-stood plan facts))
@@ -494,7 +494,7 @@ opening-sound plan facts is fits =
     (standers-apart plan facts is fits))
 
 -- and steady
-pub opening-steady : (plan : Plan) (facts : List (ℕ × ℕ)) → IsPlan plan → FactsFit plan facts
+pub opening-steady : (plan : Plan) (facts : List (ℕ × ℕ)) → MayBegin plan → FactsFit plan facts
     → Steady (opening plan facts)
 opening-steady plan facts is fits =
     subst Steady (sym (opening-stood plan facts))
@@ -521,17 +521,17 @@ header_disks (d ∷ ds) (fact ∷ facts) decls fits = (
 )
 
 -- the commands of each actor are commands of the plan
-actor_commands : (plan : Plan) → IsPlan plan → (actors : List ℕ)
+actor_commands : (plan : Plan) → MayBegin plan → (actors : List ℕ)
     → All (All (λ c. IsCommand c.command)) (map (commands_of plan) actors)
 actor_commands plan is actors =
     All-from_recursion (All (λ c. IsCommand c.command)) (map (commands_of plan) actors)
     (map_all (All (λ c. IsCommand c.command)) (commands_of plan)
     (λ actor.
     All-from_recursion (λ (c : LineCommand). IsCommand c.command) (commands_of plan actor)
-    (kept_by (IsCommandLine (length plan.actors)) (λ (c : LineCommand). IsCommand c.command)
+    (kept_by (IsCommandOf (length plan.actors)) (λ (c : LineCommand). IsCommand c.command)
     (λ (c : LineCommand). c.actor == actor)
     (λ c e line. line.command) plan.commands
-    (recursion_from_All (IsCommandLine (length plan.actors)) plan.commands is.commands)))
+    (recursion_from_All (IsCommandOf (length plan.actors)) plan.commands is.commands)))
     actors)
 
 -- what is asked of a geom that has no places and is neither a concat nor a stripe
@@ -560,7 +560,7 @@ bare_disk disks t g is =
     (λ same. let bad : kinds.Disk ≡ kinds.Concat = sym is.kind ∙ same in cc)
     (λ same. let bad : kinds.Disk ≡ kinds.Stripe = sym is.kind ∙ same in cc)
 
-module _ (plan : Plan) (facts : List (ℕ × ℕ)) (is : IsPlan plan) (fits : FactsFit plan facts) where
+module _ (plan : Plan) (facts : List (ℕ × ℕ)) (is : MayBegin plan) (fits : FactsFit plan facts) where
   -- the disks that stand
   abbrev xs : List Stander
   xs = standers plan facts
@@ -615,6 +615,6 @@ module _ (plan : Plan) (facts : List (ℕ × ℕ)) (is : IsPlan plan) (fits : Fa
   }
 
 -- the opening of each plan is fitting
-pub opening-fitting : (plan : Plan) (facts : List (ℕ × ℕ)) → IsPlan plan → FactsFit plan facts
+pub opening-fitting : (plan : Plan) (facts : List (ℕ × ℕ)) → MayBegin plan → FactsFit plan facts
     → Fitting (opening plan facts)
 opening-fitting plan facts is fits = subst Fitting (sym (opening-stood plan facts)) (stood-fitting plan facts is fits)

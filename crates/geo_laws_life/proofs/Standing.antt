@@ -17,7 +17,7 @@ use Rattle.std.proofs.lemmas.List.Kept.{AllPairs-cons, AllPairs-filter}
 use Rattle.std.proofs.Math.Nat.{mul-mod_right}
 use Rattle.geo_model.proofs.AllLists.{pairs_head, pairs_tail}
 use Rattle.geo_model.specs.TheConstants.{MAX_IMAGE_BYTES}
-use Rattle.geo_model.specs.Plans.{IsPlan, FactsFit, IsFact, IsDiskDecl, Differ}
+use Rattle.geo_model.specs.Plans.{MayBegin, FactsFit, IsFact, IsDiskDecl, Differ}
 use Rattle.geo_model.specs.Sound.{IsMediaSize}
 use Rattle.geo_model.proofs.DemandLemmas.{kept_by}
 
@@ -217,7 +217,7 @@ apart_all : (n : ℕ) (zs : List (DiskDecl × (ℕ × ℕ)))
 apart_all n [] apart = tt
 apart_all n (z ∷ zs) apart = (apart_from n (n + 1) z zs (omega arith) apart.0, apart_all (n + 1) zs apart.1)
 
-module _ (plan : Plan) (facts : List (ℕ × ℕ)) (is : IsPlan plan) (fits : FactsFit plan facts) where
+module _ (plan : Plan) (facts : List (ℕ × ℕ)) (is : MayBegin plan) (fits : FactsFit plan facts) where
   -- the disks of a plan that stand have their places in the header and sizes of media
   pub standers-stand : AllByRecursion (IsStander (map disk_in_size (zip plan.disks facts))) (standers plan facts)
   standers-stand =

@@ -11,7 +11,7 @@ use Rattle.geo_model.specs.declared.step.Entry.{Entry}
 use Rattle.geo_model.specs.declared.step.Outcome.{Outcome}
 use Rattle.geo_model.specs.World.{World, Plan, Bio, commands_of}
 use Rattle.geo_model.specs.Opening.{bare_world, disk_in_size, opening}
-use Rattle.geo_model.specs.Plans.{IsPlan, IsCommandLine}
+use Rattle.geo_model.specs.Plans.{MayBegin, IsCommandOf}
 use Rattle.geo_model.specs.Step.{Answer, step}
 use Rattle.geo_model.specs.Log.{Legal, IsMade, after_entry, replay, world_after}
 use Rattle.geo_model.specs.Order.{Rest, is_at_rest}
@@ -109,7 +109,7 @@ module _ (line : ℕ) where
       )
 
   -- at the opening the line is unanswered as often as the plan has a command there
-  opening_has : (plan : Plan) (facts : List (ℕ × ℕ)) → IsPlan plan
+  opening_has : (plan : Plan) (facts : List (ℕ × ℕ)) → MayBegin plan
       → unanswered line (opening plan facts) ≡ commands_at line plan
   unfolding opening
   opening_has plan facts is =
@@ -117,17 +117,17 @@ module _ (line : ℕ) where
       (filter (λ item. not item.1.0.later) (enumerate_from 0 (zip plan.disks facts))) (bare_world plan facts) in
       let begins = begins_with plan (range_with_len 0 (length plan.actors)) in
       let low : AllByRecursion (λ (c : LineCommand). c.actor < length plan.actors) plan.commands =
-      lower plan.commands (recursion_from_All (IsCommandLine (length plan.actors)) plan.commands is.commands) in
+      lower plan.commands (recursion_from_All (IsCommandOf (length plan.actors)) plan.commands is.commands) in
       let have = actors_have line (length plan.actors) plan.commands low in
       omega (arith, stands, begins, have)
     where
-      lower : (cs : List LineCommand) → AllByRecursion (IsCommandLine (length plan.actors)) cs
+      lower : (cs : List LineCommand) → AllByRecursion (IsCommandOf (length plan.actors)) cs
           → AllByRecursion (λ (c : LineCommand). c.actor < length plan.actors) cs
       lower [] lines = tt
       lower (c ∷ cs) lines = (lines.0.actor, lower cs lines.1)
 
   -- so at rest the line has as many replies as commands
-  pub as_many : (plan : Plan) (facts : List (ℕ × ℕ)) → IsPlan plan → Firm (opening plan facts)
+  pub as_many : (plan : Plan) (facts : List (ℕ × ℕ)) → MayBegin plan → Firm (opening plan facts)
       → (log : List Entry) → Legal (opening plan facts) log → Rest (replay (opening plan facts) log)
       → replies_for line log ≡ commands_at line plan
   as_many plan facts is firm log legal rests =
@@ -187,12 +187,12 @@ one_each (c ∷ cs) rise = (first, behind cs (one_each cs (others_rise c.line li
 -- each command has its reply
 pub rest_answers_each_command : RestAnswersEachCommand
 rest_answers_each_command plan facts is fit log legal rests =
-    let firm : Firm (opening plan facts) = firm_after plan facts is fit [] in
+    let firm : Firm (opening plan facts) = firm_after plan facts is.begins fit [] in
     record {
       once = All-from_recursion (λ c. replies_for c.line log ≡ 1) plan.commands
           (answered plan.commands
           (one_each plan.commands (AllPairs-from_increasing (map (λ c. c.line) plan.commands) is.lines)));
-      no_other = λ line. as_many line plan facts is firm log legal rests;
+      no_other = λ line. as_many line plan facts is.begins firm log legal rests;
     }
   where
     answered : (cs : List LineCommand)
@@ -200,4 +200,5 @@ rest_answers_each_command plan facts is fit log legal rests =
         → AllByRecursion (λ (c : LineCommand). replies_for c.line log ≡ 1) cs
     answered [] ones = tt
     answered (c ∷ cs) ones =
-        (as_many c.line plan facts is (firm_after plan facts is fit []) log legal rests ∙ ones.0, answered cs ones.1)
+        let firm : Firm (opening plan facts) = firm_after plan facts is.begins fit [] in
+        (as_many c.line plan facts is.begins firm log legal rests ∙ ones.0, answered cs ones.1)

@@ -16,7 +16,7 @@ use Rattle.geo_model.specs.declared.step.Step.TheVariants as steps
 use Rattle.geo_model.specs.World.{World, Bio, Plan, bio_at}
 use Rattle.geo_model.specs.Step.{step}
 use Rattle.geo_model.specs.Fitting.{Firm}
-use Rattle.geo_model.specs.Plans.{IsPlan, FactsFit}
+use Rattle.geo_model.specs.Plans.{MayBegin, FactsFit}
 use Rattle.geo_model.specs.Opening.{opening}
 use Rattle.geo_model.specs.Order.{Rest, is_at_rest}
 use Rattle.geo_model.specs.Log.{IsMade, Legal, Moment, after_entry, moments, replay}
@@ -43,7 +43,7 @@ use Rattle.geo_laws_requests.proofs.Along.{entry_made, ledger_after, ledger_alon
 use Rattle.geo_laws_requests.proofs.Opened.{opened_ledger}
 
 -- the ledger after a legal log of a plan
-ledger_of : (plan : Plan) (facts : List (ℕ × ℕ)) → IsPlan plan → FactsFit plan facts → (log : List Entry)
+ledger_of : (plan : Plan) (facts : List (ℕ × ℕ)) → MayBegin plan → FactsFit plan facts → (log : List Entry)
     → Legal (opening plan facts) log → Ledger (moments (opening plan facts) log) (replay (opening plan facts) log)
 ledger_of plan facts is fit log legal =
     ledger_along [] (opening plan facts) log (opened_ledger plan facts) (opened_firm plan facts is fit) legal

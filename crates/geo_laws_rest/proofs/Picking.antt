@@ -37,7 +37,7 @@ use Rattle.geo_model.specs.Step.{own_bio, is_unsettled, waits_for, go, event_of,
 use Rattle.geo_model.specs.Opening.{opening}
 use Rattle.geo_model.specs.Log.{replay, Legal}
 use Rattle.geo_model.specs.declared.step.Entry.{Entry}
-use Rattle.geo_model.specs.Plans.{IsPlan, FactsFit}
+use Rattle.geo_model.specs.Plans.{MayBegin, FactsFit}
 use Rattle.geo_model.specs.FixedOrder.{StepOrder, taken_in}
 use Rattle.geo_model.proofs.LogLemmas.{Legal-append, replay-append}
 use Rattle.geo_model.proofs.RestLemmas.{pick-rest}
@@ -667,7 +667,7 @@ leads_on w (steps.Take disk b) added (got, taken, given, is) legal =
 leads_on w s added adds legal = ap (replay w) adds.1
 
 module _ (order : StepOrder) (goes_on : OrderGoesOn order) (ends : OrderEnds order) (plan : Plan)
-    (facts : List (ℕ × ℕ)) (is_plan : IsPlan plan) (fit : FactsFit plan facts) where
+    (facts : List (ℕ × ℕ)) (begins : MayBegin plan) (fit : FactsFit plan facts) where
   -- the mesh after a log
   abbrev opened : World
   opened = opening plan facts
@@ -687,7 +687,7 @@ module _ (order : StepOrder) (goes_on : OrderGoesOn order) (ends : OrderEnds ord
   due_good : (log : List Entry) → Fine log → (s : Step) → order (after log) log ≡ Some s → IsGood (after log) s
   due_good log fine s due =
       subst (λ (o : Option Step). IsSomeAnd o (IsGood (after log))) due
-      (goes_on plan facts is_plan fit log fine.0
+      (goes_on plan facts begins fit log fine.0
       (All-from_recursion (λ (x : Bio). is_busy x.phase ≡ false) (after log).bios fine.1) (unrest log s due))
 
   -- a round
@@ -695,7 +695,7 @@ module _ (order : StepOrder) (goes_on : OrderGoesOn order) (ends : OrderEnds ord
       → Round (after earlier) (after later)
   turns earlier later fine round =
       subst (Round (after earlier)) (sym (ap after round.is ∙ replay-append opened earlier round.added))
-      (round_by (after earlier) (firm_after plan facts is_plan fit earlier) fine.1 round.step
+      (round_by (after earlier) (firm_after plan facts begins fit earlier) fine.1 round.step
       (replay (after earlier) round.added) (due_good earlier fine round.step round.due).1
       (leads_on (after earlier) round.step round.added round.adds round.legal))
 

@@ -7,7 +7,7 @@ use Rattle.geo_model.specs.declared.step.Step.{Step}
 use Rattle.geo_model.specs.declared.step.Step.TheVariants as steps
 use Rattle.geo_model.specs.World.{World, Plan}
 use Rattle.geo_model.specs.Opening.{opening}
-use Rattle.geo_model.specs.Plans.{IsPlan, FactsFit}
+use Rattle.geo_model.specs.Plans.{MayBegin, FactsFit}
 use Rattle.geo_model.specs.Step.{is_enabled}
 use Rattle.geo_model.specs.Log.{Legal, replay}
 use Rattle.geo_model.specs.Order.{pick, measure, IsLess}
@@ -56,7 +56,7 @@ pub record IsRoundOf (order : StepOrder) (opened : World) (earlier later : List 
 abbrev pub OrdersEnd : Type 0
 OrdersEnd =
     (order : StepOrder) → OrderGoesOn order → OrderEnds order
-    → (plan : Plan) (facts : List (ℕ × ℕ)) → IsPlan plan → FactsFit plan facts
+    → (plan : Plan) (facts : List (ℕ × ℕ)) → MayBegin plan → FactsFit plan facts
     → (run : ℕ → List Entry)
     → Legal (opening plan facts) (run 0) → NoneBusy (replay (opening plan facts) (run 0))
     → ((n : ℕ) → IsRoundOf order (opening plan facts) (run n) (run (n + 1))) → ⊥

@@ -2,7 +2,7 @@
 use Rattle.std.specs.Prelude.{ℕ, List, [], ◌∷◌}
 use Rattle.geo_model.specs.declared.step.Entry.{Entry}
 use Rattle.geo_model.specs.World.{World, Plan}
-use Rattle.geo_model.specs.Plans.{IsPlan, FactsFit}
+use Rattle.geo_model.specs.Plans.{MayBegin, FactsFit}
 use Rattle.geo_model.specs.Opening.{opening}
 use Rattle.geo_model.specs.Log.{replay, after_entry}
 use Rattle.geo_model.specs.Fitting.{Firm}
@@ -14,7 +14,7 @@ use Rattle.geo_laws_life.proofs.Fits.{opening-fitting}
 use Rattle.geo_laws_steps.proofs.Stepped.{steps_stay_firm}
 
 -- the world with which a plan begins is firm
-pub opened_firm : (plan : Plan) (facts : List (ℕ × ℕ)) → IsPlan plan → FactsFit plan facts → Firm (opening plan facts)
+pub opened_firm : (plan : Plan) (facts : List (ℕ × ℕ)) → MayBegin plan → FactsFit plan facts → Firm (opening plan facts)
 opened_firm plan facts is fit =
     firm_of (opening plan facts) (opening-sound plan facts is fit) (opening-steady plan facts is fit)
     (opening-fitting plan facts is fit)
@@ -25,7 +25,7 @@ stays_firm w [] firm = firm
 stays_firm w (e ∷ log) firm = stays_firm (after_entry w e) log (steps_stay_firm w e.seat e.step firm)
 
 -- after a log of a plan
-pub firm_after : (plan : Plan) (facts : List (ℕ × ℕ)) → IsPlan plan → FactsFit plan facts → (log : List Entry)
+pub firm_after : (plan : Plan) (facts : List (ℕ × ℕ)) → MayBegin plan → FactsFit plan facts → (log : List Entry)
     → Firm (replay (opening plan facts) log)
 firm_after plan facts is fit log = stays_firm (opening plan facts) log (opened_firm plan facts is fit)
 

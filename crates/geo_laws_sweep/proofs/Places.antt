@@ -15,7 +15,7 @@ use Rattle.geo_model.specs.Words.{is_flush}
 use Rattle.geo_model.specs.Graph.{AreNumbers}
 use Rattle.geo_model.specs.World.{World, Bio, Plan, is_up, is_down}
 use Rattle.geo_model.specs.Opening.{opening}
-use Rattle.geo_model.specs.Plans.{IsPlan, FactsFit}
+use Rattle.geo_model.specs.Plans.{MayBegin, FactsFit}
 use Rattle.geo_model.specs.Step.{step, is_enabled}
 use Rattle.geo_model.specs.Log.{Legal, replay, after_entry, IsSplitBy}
 use Rattle.geo_model.specs.Fitting.{Firm}
@@ -293,7 +293,7 @@ module _ (w : World) (firm : Firm w) (log : List Entry) (e : Entry) (disk : ℕ)
 
 -- Along a log
 
-module _ (plan : Plan) (facts : List (ℕ × ℕ)) (is_plan : IsPlan plan) (fit : FactsFit plan facts)
+module _ (plan : Plan) (facts : List (ℕ × ℕ)) (begins : MayBegin plan) (fit : FactsFit plan facts)
     (first_part log : List Entry) (legal : Legal (opening plan facts) (first_part ++ log))
     (follows : FollowsOrder sweep_order (opening plan facts) first_part log) where
   -- the mesh before all
@@ -310,7 +310,7 @@ module _ (plan : Plan) (facts : List (ℕ × ℕ)) (is_plan : IsPlan plan) (fit 
 
   -- it is firm
   firm_at : (earlier : List Entry) → Firm (world_at earlier)
-  firm_at earlier = firm_after plan facts is_plan fit (so_far earlier)
+  firm_at earlier = firm_after plan facts begins fit (so_far earlier)
 
   module _ (earlier : List Entry) (e : Entry) (split : IsSplitBy log earlier e) where
     -- the bio of a Take is next

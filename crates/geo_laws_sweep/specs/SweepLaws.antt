@@ -8,7 +8,7 @@ use Rattle.geo_model.specs.declared.step.Step.TheVariants as steps
 use Rattle.geo_model.specs.Words.{is_flush}
 use Rattle.geo_model.specs.World.{World, Plan}
 use Rattle.geo_model.specs.Opening.{opening}
-use Rattle.geo_model.specs.Plans.{IsPlan, FactsFit}
+use Rattle.geo_model.specs.Plans.{MayBegin, FactsFit}
 use Rattle.geo_model.specs.Step.{step}
 use Rattle.geo_model.specs.Log.{Legal, replay}
 use Rattle.geo_model.specs.Fitting.{Firm}
@@ -116,7 +116,7 @@ pub record KeepsPlaces (began : World) (log : List Entry) : Type 0 where
 -- so in each legal log, for what comes in this order after a first part
 abbrev pub SweepsKeepPlaces : Type 0
 SweepsKeepPlaces =
-    (plan : Plan) (facts : List (ℕ × ℕ)) → IsPlan plan → FactsFit plan facts
+    (plan : Plan) (facts : List (ℕ × ℕ)) → MayBegin plan → FactsFit plan facts
     → (first_part log : List Entry) → Legal (opening plan facts) (first_part ++ log)
     → FollowsOrder sweep_order (opening plan facts) first_part log
     → KeepsPlaces (replay (opening plan facts) first_part) log

@@ -8,7 +8,7 @@ use Rattle.geo_model.specs.declared.command.DiskDecl.{DiskDecl}
 use Rattle.geo_model.specs.declared.command.LineCommand.{LineCommand}
 use Rattle.geo_model.specs.declared.step.Entry.{Entry}
 use Rattle.geo_model.specs.World.{World, Plan, commands_of}
-use Rattle.geo_model.specs.Plans.{IsPlan, IsDiskDecl, IsCommand, IsCommandLine}
+use Rattle.geo_model.specs.Plans.{MayBegin, IsDiskDecl, IsCommand, IsCommandOf}
 use Rattle.geo_model.specs.GeomCommands.{stand}
 use Rattle.geo_model.specs.Opening.{disk_in_size, bare_world, opening}
 use Rattle.geo_model.specs.Log.{replay, after_entry}
@@ -25,7 +25,7 @@ use Rattle.geo_laws_texts.proofs.Stepped.{step_keeps}
 abbrev HasName : DiskDecl → Type 0
 HasName d = is_name d.name ≡ true
 
-module _ (plan : Plan) (facts : List (ℕ × ℕ)) (is : IsPlan plan) where
+module _ (plan : Plan) (facts : List (ℕ × ℕ)) (is : MayBegin plan) where
   -- the disks of the plan
   decls : AllByRecursion HasName plan.disks
   decls = all_weaker IsDiskDecl HasName (λ d of. short_name d.name of.name) plan.disks
@@ -36,8 +36,8 @@ module _ (plan : Plan) (facts : List (ℕ × ℕ)) (is : IsPlan plan) where
 
   -- the commands of the plan
   commands : AllByRecursion (λ (c : LineCommand). IsCommand c.command) plan.commands
-  commands = all_weaker (IsCommandLine (length plan.actors)) (λ c. IsCommand c.command) (λ c of. of.command)
-      plan.commands (recursion_from_All (IsCommandLine (length plan.actors)) plan.commands is.commands)
+  commands = all_weaker (IsCommandOf (length plan.actors)) (λ c. IsCommand c.command) (λ c of. of.command)
+      plan.commands (recursion_from_All (IsCommandOf (length plan.actors)) plan.commands is.commands)
 
   -- before any disk stands
   bare_keeps : KeepsNames (bare_world plan facts)
