@@ -1,8 +1,8 @@
 -- What is found against a step and a command, and what they lead to.
-use Rattle.std.specs.Prelude.{◌≡◌, ℕ, ◌+◌, ◌<◌, ◌≤◌, ◌==◌, ◌%◌, ◌^◌, ◌⊎◌, inl, inr, filter, true, false, Bool, List, [], ◌∷◌, Option, Some, None, Result, Ok, Err, IsOk, IsErrAnd, IfOk, slice_get, slice_set, All, if◌then◌else◌, option_and_then}
+use Rattle.std.specs.Prelude.{◌≡◌, ℕ, ◌+◌, ◌<◌, ◌≤◌, ◌==◌, ◌%◌, ◌^◌, ◌⊎◌, filter, true, false, Bool, List, [], ◌∷◌, Option, Some, None, Result, Ok, Err, IsOk, IsErrAnd, IfOk, slice_get, slice_set, All, if◌then◌else◌, option_and_then}
 use Rattle.std.specs.List.{AllByRecursion}
 use Rattle.std.specs.Option.{option_map_or}
-use Rattle.std.proofs.Common.{refl, ap, sym, subst, ◌∙◌, arith}
+use Rattle.std.proofs.Common.{refl, ap, sym, subst, ◌∙◌, arith, inl, inr}
 use Rattle.std.proofs.Math.Logic.{∥∥₁_elim, ∥∥₁_map}
 use Rattle.std.proofs.lemmas.List.Elements.{All-append, All-from_recursion, All-nil, All-push, recursion_from_All}
 use Rattle.geo_base.specs.declared.block.NoMemory.{NoMemory}

@@ -1,7 +1,7 @@
 -- Actors of whom none has a command left, but one that is given one.
-use Rattle.std.specs.Prelude.{◌≡◌, ℕ, zero, suc, ◌+◌, ◌<◌, ◌≤◌, ◌==◌, ◌⊎◌, inl, inr, true, List, [], ◌∷◌, ◌++◌, map, filter, length, Option, Some, None, slice_get, slice_set, if◌then◌else◌}
+use Rattle.std.specs.Prelude.{◌≡◌, ℕ, zero, suc, ◌+◌, ◌<◌, ◌≤◌, ◌==◌, ◌⊎◌, true, List, [], ◌∷◌, ◌++◌, map, filter, length, Option, Some, None, slice_get, slice_set, if◌then◌else◌}
 use Rattle.std.specs.List.{enumerate_from, range_with_len, list_all}
-use Rattle.std.proofs.Common.{refl, ap, ◌∙◌, arith, ⊎_elim}
+use Rattle.std.proofs.Common.{refl, ap, ◌∙◌, arith, inl, inr, ⊎_elim}
 use Rattle.std.proofs.lemmas.Bool.{eq-eqb, ne_eqb}
 use Rattle.geo_model.specs.declared.command.LineCommand.{LineCommand}
 use Rattle.geo_session.specs.Growth.{more_for, more_left}

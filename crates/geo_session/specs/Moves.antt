@@ -1,6 +1,7 @@
 -- What is found against a step where no actor has a command left, and which step is never refused.
-use Rattle.std.specs.Prelude.{◌≡◌, ℕ, List, [], Option, IsOk, ⊥}
+use Rattle.std.specs.Prelude.{◌≡◌, ℕ, List, [], Option, Ok, IsOk}
 use Rattle.geo_model.specs.declared.step.Found.{Found}
+use Rattle.geo_model.specs.declared.step.Outcome.{Outcome}
 use Rattle.geo_model.specs.declared.step.Step.{Step}
 use Rattle.geo_model.specs.declared.step.Step.TheVariants as steps
 use Rattle.geo_model.specs.World.{World}
@@ -20,3 +21,7 @@ IsFound actors s seat st found = IsAgainst (λ w. step w seat st) s found
 abbrev pub IsEnabledDeliver : World → ℕ → Step → Type 0
 IsEnabledDeliver w seat (steps.Deliver bio got) = IsOk (step w seat (steps.Deliver bio got))
 IsEnabledDeliver w seat st = ⊥
+
+-- the step leads from one world to the other, with this outcome
+abbrev pub Leads : World → ℕ → Step → World → Outcome → Type 0
+Leads w seat st after outcome = step w seat st ≡ Ok (after, outcome)

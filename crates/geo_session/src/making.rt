@@ -1,15 +1,13 @@
 //! A step is made, and a command.
-ghost use Rattle.std.specs.Prelude.{◌≡◌, [], None, Ok, IfOk, IsOk, OnErr};
-ghost use Rattle.geo_model.specs.declared.step.Step.{Step as StepValue};
+ghost use Rattle.std.specs.Prelude.{◌≡◌, [], None, IfOk, IsOk, OnErr};
 ghost use Rattle.geo_model.specs.Laws.{ClosesOk};
 ghost use Rattle.geo_model.specs.Plans.{IsCommand};
-ghost use Rattle.geo_model.specs.Step.{step};
 ghost use Rattle.geo_state.specs.Holds.{Holds};
 ghost use Rattle.geo_state.specs.Steps.{SameWorld, Stands};
 ghost use Rattle.geo_state.specs.World.{world, HasBytes};
 ghost use Rattle.geo_session.specs.Growth.{with_command};
 ghost use Rattle.geo_session.specs.Live.{seen, IsSession};
-ghost use Rattle.geo_session.specs.Moves.{IsFound, IsEnabledDeliver};
+ghost use Rattle.geo_session.specs.Moves.{IsFound, IsEnabledDeliver, Leads};
 ghost use Rattle.geo_session.specs.Session.{none_left, Answers, Commands};
 
 use crate::found::found_against;
@@ -73,8 +71,8 @@ fn turn<L: Ledger>(
     requires bytes { HasBytes [] state.old }
     requires empty { none.now.items ≡ [] }
     requires found { IsFound actors state.old seat step None }
-    ensures made { IfOk result (λ o. step (world (none_left actors) [] state.old) seat step
-        ≡ Ok (world (none_left actors) [] state.new, o)) }
+    ensures made { IfOk result (λ o.
+        Leads (world (none_left actors) [] state.old) seat step (world (none_left actors) [] state.new) o) }
     ensures kept { Holds state.new }
     ensures same { OnErr result (SameWorld state.old state.new) }
     ensures bytes { HasBytes [] state.new }
