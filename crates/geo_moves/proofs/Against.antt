@@ -17,14 +17,14 @@ use Rattle.geo_model.specs.declared.step.Phase.TheVariants as phases
 use Rattle.geo_model.specs.Topology.{Geom, Provider, geom_at, provider_at}
 use Rattle.geo_model.specs.World.{World, Bio, BioOf, Config, bio_at, is_down, is_sent, is_busy, is_up, bio_among, change_number}
 use Rattle.geo_model.specs.Place.{disk_of}
-use Rattle.geo_model.specs.Bios.{take_bio, deliver, disk_at, busy_bio, disk_of_bio, sector_at, fits_bio, device_request, request_of_bio, result_of_device}
+use Rattle.geo_model.specs.Bios.{take_bio, deliver, disk_at, busy_bio, disk_of_bio, sector_at, fits_bio, device_request, request_of_bio, result_of_device, up_with}
 use Rattle.geo_model.specs.Fitting.{Firm}
 use Rattle.geo_model.specs.Sound.{HasDiskSizes}
 use Rattle.geo_model.specs.Step.{unless_found, start_of, take_of, deliver_of, up_of, take_found, disk_found, deliver_found}
 use Rattle.geo_laws_graph.proofs.Members.{find-Contains, Contains-cases, at_contained}
 use Rattle.geo_bio.specs.declared.bio.Held.{Held}
 use Rattle.geo_log.specs.Places.{delivered_at}
-use Rattle.geo_state.specs.Shown.{shown_bio, shown_bios, errno_of, AreLogged}
+use Rattle.geo_state.specs.Shown.{shown_bio, shown_bios, errno_of, held_of, AreLogged}
 use Rattle.geo_state.proofs.ShownLemmas.{shown_are_found}
 use Rattle.geo_state.proofs.StepLemmas.{world_shows_bios, deliveries_are_shown, place_is_answer}
 use Rattle.geo_state.specs.declared.state.State.{State}
@@ -613,3 +613,50 @@ module _ (s new : State) (firm : IsFirm s) (b seat disk place : ℕ) (errno : Op
   pub delivery_logged : (e : Entry) → HasBytes (log ++ e ∷ []) new
   delivery_logged =
       logged_delivered s new b seat delivering.bio delivering.found got log logged only bios_are next_stays
+
+-- A Deliver of which the bio holds the answer itself
+
+module _ (s new : State) (firm : IsFirm s) (b seat : ℕ) (got : DeviceResult)
+    (none : IsAgainst (λ v. deliver_of v seat got (bio_at v b)) s None) (h : Held) (holds : h ≡ held_of got)
+    (only : OnlyBios s new)
+    (is : new.traffic ≡ record s.traffic { bios = change_number b (up_with h) s.traffic.bios }) where
+  -- the bios then
+  bios_kept : new.traffic.bios ≡ change_number b (up_with (held_of got)) s.traffic.bios
+  bios_kept =
+      ap (λ (v : BioTableView). v.bios) is ∙ ap (λ (g : Held). change_number b (up_with g) s.traffic.bios) holds
+
+  -- the step is the world's, whatever a log has
+  pub makes_kept : (log : List Entry)
+      → Makes (λ w. deliver_of w seat got (bio_at w b)) log s new outcomes.Delivered
+  makes_kept log actors =
+      let v : World = world actors log s in
+      let l : ℕ → Option (List ℕ) = delivered_at log in
+      let x : BioOf Held = (delivered_bio s firm b seat got none).bio in
+      let found : bio_among s.traffic.bios b ≡ Some x = (delivered_bio s firm b seat got none).found in
+      let y : Bio = shown_bio l x in
+      let at_bio : bio_at v b ≡ Some y = there actors log s b ∙ ap (option_map (shown_bio l)) found in
+      let free : deliver_found v seat y got y.phase ≡ None =
+      sym (against_unless (deliver_found v seat y got y.phase) (deliver v y got))
+      ∙ ap (λ o. against (deliver_of v seat got o)) (sym at_bio) ∙ none actors log in
+      let number : x.number ≡ b = number_found (λ (z : BioOf Held). z.number) s.traffic.bios b x found in
+      let after : (record v {
+        bios = shown_bios l (change_number x.number (up_with (held_of got)) s.traffic.bios);
+      }) ≡ world actors log new =
+      (λ i. let u : World = record v {
+        bios = shown_bios l
+            ((ap (λ n. change_number n (up_with (held_of got)) s.traffic.bios) number ∙ sym bios_kept) i);
+        next_bio = s.traffic.next;
+      } in u) ∙ (λ i. let u : World = record v {
+        bios = shown_bios l new.traffic.bios;
+        next_bio = sym (ap (λ (t : BioTableView). t.next) is) i;
+      } in u) ∙ sym (world_moved s new only actors log) in
+      ap (deliver_of v seat got) at_bio
+      ∙ ap (λ o. unless_found o (deliver v y got)) free
+      ∙ ap Ok ((world_shows_bios l s.traffic.bios v refl).delivers x got)
+      ∙ ap (λ u. Ok (u, outcomes.Delivered)) after
+
+  -- and the bytes that bios name are in the log, where they were
+  pub logged_kept : (log : List Entry) → HasBytes log s → HasBytes log new
+  logged_kept log logged =
+      subst (AreLogged (length log)) (sym bios_kept)
+      ((places_stay_logged (length log) s.traffic.bios logged).ends b (result_of_device got))

@@ -3,9 +3,10 @@
 //!
 //! All is said of geo_state's `State`: each call is the model's step, or command, of the world that the state stands
 //! for (`made`, `does`), in a firm world, and keeps `Holds` (`kept`). Where memory is wanting the world stays the same
-//! (`same`). What is against a step is told by a call of its own, which changes nothing: `open_refusal`,
-//! [`wait_found`], [`start_found`], [`take_found`], [`deliver_found`], [`up_found`], [`event_found`], [`judge_found`],
-//! [`wash_found`], [`reap_found`].
+//! (`same`). After each step the places that bios name are in the log, where they were (`logged`), so a mesh may as
+//! well keep no log: it steps over the log without entries. What is against a step is told by a call of its own, which
+//! changes nothing: `open_refusal`, [`wait_found`], [`start_found`], [`take_found`], [`deliver_found`], [`up_found`],
+//! [`event_found`], [`judge_found`], [`wash_found`], [`reap_found`].
 //!
 //! - **Commands** (`dispatch.rt`, one arm a command): [`do_command`] is the model's command of the line. [`decide`]
 //!   tells what refuses an open, and whether a close is answered ok; such a close takes no memory (`no_memory`).
@@ -17,8 +18,9 @@
 //!   exactly as the definitions say, in their order, and else becomes one bio. At a [`start`] it goes exactly the way
 //!   that the graph tells: back with an error, counted and failed at a NOP, to its disk, or in pieces of which none is
 //!   lost. At a [`take`] a seat asks the disk for it. A [`deliver`] takes no memory and is never refused; a READ's
-//!   bytes are those of the log's entry that comes. At an [`up`] a child counts in its parent, which goes up with its
-//!   last one; the root of a line is the reply to its line, and the read of a taste is handed to the taste.
+//!   bytes are those of the log's entry that comes. [`deliver_kept`] is a Deliver where no log is kept: the bio holds
+//!   its bytes itself. At an [`up`] a child counts in its parent, which goes up with its last one; the root of a line
+//!   is the reply to its line, and the read of a taste is handed to the taste.
 //! - **Geoms made and ended** (`stands.rt`, `inserts.rt`, `destroys.rt`, `nops.rt`, `assemblies.rt`, `appends.rt`;
 //!   disk(9), gnop(8), gconcat(8), gstripe(8), g_wither_geom(9), g_resize_provider(9)): each is refused exactly as the
 //!   model has it. A pull and a destroy take no memory. An append ticks at most one step for each consumer below the
@@ -91,7 +93,7 @@ pub use founds::{event_found, judge_found, wash_found};
 pub use geoms::listing;
 pub use judges::judge;
 pub use reaps::{reap, reap_found};
-pub use serve::{deliver, take};
+pub use serve::{deliver, deliver_kept, take};
 pub use stands::stand;
 pub use starts::start;
 pub use ups::up;

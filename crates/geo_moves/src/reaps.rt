@@ -7,7 +7,7 @@ ghost use Rattle.geo_model.specs.Freeing.{reap_work, reap};
 ghost use Rattle.geo_model.specs.Step.{reap_next};
 ghost use Rattle.geo_handles.specs.Handles.{first_ready, handle_at};
 ghost use Rattle.geo_access.specs.Access.{consumers_below, place_of};
-ghost use Rattle.geo_state.specs.World.{world};
+ghost use Rattle.geo_state.specs.World.{HasBytes, world};
 ghost use Rattle.geo_state.specs.Holds.{Holds};
 ghost use Rattle.geo_state.specs.Steps.{Stands, IsAgainst, Makes};
 ghost use Rattle.geo_moves.specs.Handles.{IsIdle, counts_computed};
@@ -40,6 +40,7 @@ pub fn reap<L: Ledger>(state: &mut State, steps: &mut Steps<L>)
     ensures made { (log : List Entry) → Makes reap_next log state.old state.new outcomes.Ran }
     ensures kept { Holds state.new }
     ensures traffic { state.new.traffic ≡ state.old.traffic }
+    ensures logged { (log : List Entry) → HasBytes log state.old → HasBytes log state.new }
     ensures bound { (actors : List (List LineCommand)) (log : List Entry)
         → steps.new ≤ steps.old + counts_computed state.old (reap_work (world actors log state.old)) }
 {

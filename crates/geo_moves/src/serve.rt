@@ -8,13 +8,13 @@ ghost use Rattle.geo_model.specs.Step.{take_of, deliver_of};
 ghost use Rattle.geo_state.specs.Holds.{Holds};
 ghost use Rattle.geo_state.specs.World.{HasBytes, world};
 ghost use Rattle.geo_state.specs.Steps.{Stands, IsAgainst, Makes, SameWorld};
-ghost use Rattle.geo_state.specs.Shown.{errno_of};
+ghost use Rattle.geo_state.specs.Shown.{errno_of, held_of};
 
 use crate::disk::{disk_of, request_of};
 use geo_base::{BioId, Errno, NoMemory};
 use geo_log::Log;
 use geo_model::{DeviceResult, Outcome};
-use geo_state::State;
+use geo_state::{Held, State};
 use std::alloc::Global;
 
 /// A seat takes a bio for its disk, against which nothing is, and learns what is asked. Where memory is wanting all
@@ -55,6 +55,33 @@ pub fn deliver(state: &mut State, log: &Log, seat: u32, bio: BioId, got: &Device
     match disk_of(&state.topo, &state.traffic, bio) {
         Some(disk) => geo_state::deliver(state, disk, bio, log.len(), errno_of(got)),
         None => {}
+    }
+}
+
+/// A seat delivers what the disk answered, against which nothing is, where no log keeps it: the bio goes up, and holds
+/// a READ's bytes itself, which are moved. It takes no memory and is never refused.
+pub fn deliver_kept(state: &mut State, seat: u32, bio: BioId, got: DeviceResult)
+    requires stands { Stands state.old }
+    requires enabled { IsAgainst (λ w. deliver_of w seat got (bio_at w bio)) state.old None }
+    ensures made { (log : List Entry)
+        → Makes (λ w. deliver_of w seat got (bio_at w bio)) log state.old state.new Outcome.Delivered }
+    ensures kept { Holds state.new }
+    ensures logged { (log : List Entry) → HasBytes log state.old → HasBytes log state.new }
+{
+    match disk_of(&state.topo, &state.traffic, bio) {
+        Some(disk) => geo_state::end(state, disk, bio, held_of(got)),
+        None => {}
+    }
+}
+
+// What a bio holds of a disk's answer.
+fn held_of(got: DeviceResult) -> Held
+    ensures { result ≡ held_of got }
+{
+    match got {
+        DeviceResult::Bytes(bytes) => Held::Bytes(bytes),
+        DeviceResult::Done => Held::Done,
+        DeviceResult::Failed { .. } => Held::Failed(Errno::EIO),
     }
 }
 

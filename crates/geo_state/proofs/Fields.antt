@@ -437,10 +437,19 @@ taken-seen : (seat : ℕ) (x : BioOf Held) → is_sent x.phase ≡ true
     → trip_of (with_phase (phases.Busy seat) x) ≡ (let z : Trip = record (trip_of x) { busy = true } in z)
 taken-seen seat x sent = search rules
 
--- a bio that is answered
-answered-seen : (place : ℕ) (errno : Option Errno) (x : BioOf Held) → is_busy x.phase ≡ true
-    → trip_of (delivered place errno x) ≡ (let z : Trip = record (trip_of x) { busy = false } in z)
-answered-seen place errno x busy = search rules
+-- the bio that it is once it is answered
+abbrev pub Answers : (BioOf Held → BioOf Held) → Type 0
+Answers f =
+    (x : BioOf Held) → is_busy x.phase ≡ true
+    → trip_of (f x) ≡ (let z : Trip = record (trip_of x) { busy = false } in z)
+
+-- a bio that is answered by what stands at a place of the log
+pub delivered-seen : (place : ℕ) (errno : Option Errno) → Answers (delivered place errno)
+delivered-seen place errno x busy = search rules
+
+-- and one that holds the answer itself
+pub ended-seen : (held : Held) → Answers (up_with held)
+ended-seen held x busy = search rules
 
 module _ (s new : State) (v : BioTableView) (next b disk : ℕ)
     (are : AreNumbers (map (λ (x : BioOf Held). x.number) s.traffic.bios) next)
@@ -490,19 +499,19 @@ module _ (s new : State) (v : BioTableView) (next b disk : ℕ)
       nothing (Some seat) e idle = search rules
 
   -- its disk has answered
-  pub holds-answered : (place : ℕ) (errno : Option Errno) → IsTrue (has_phase is_busy s.traffic.bios b)
-      → IsAloneAt s b disk → v ≡ record s.traffic { bios = change_number b (delivered place errno) s.traffic.bios }
+  pub holds-answered : (f : BioOf Held → BioOf Held) → Answers f → IsTrue (has_phase is_busy s.traffic.bios b)
+      → IsAloneAt s b disk → v ≡ record s.traffic { bios = change_number b f s.traffic.bios }
       → new.disks.items ≡ with_busy_at s.disks.items disk None → Holds new
-  holds-answered place errno busy alone turned disks =
+  holds-answered f answers busy alone turned disks =
       let at : InPhase is_busy s.traffic.bios b = in-phase is_busy s.traffic.bios next b are busy in
       let xs : List Trip = trips s.traffic.bios in
       let ys : List Trip = change_where (λ (z : Trip). z.number == b) (λ z. record z { busy = false }) xs in
       let seen : trips new.traffic.bios ≡ ys =
       ap (λ (w : BioTableView). trips w.bios) (from_table ∙ turned)
-      ∙ trips-changed b (delivered place errno) (λ z. record z { busy = false }) s.traffic.bios
+      ∙ trips-changed b f (λ z. record z { busy = false }) s.traffic.bios
       (around-all (λ (x : BioOf Held). x.number) b at.bio s.traffic.bios at.alone
-      (λ x. trip_of (delivered place errno x) ≡ (let z : Trip = record (trip_of x) { busy = false } in z))
-      (answered-seen place errno at.bio at.passes)) in
+      (λ x. trip_of (f x) ≡ (let z : Trip = record (trip_of x) { busy = false } in z))
+      (answers at.bio at.passes)) in
       holds-unseen s new is
       (rw seen
       (reads-changed (λ (z : Trip). z.number == b) (λ z. record z { busy = false }) (λ z. refl) (λ z. refl)

@@ -131,6 +131,7 @@ module _ (places : ℕ) where
           search (rules, All-append Fits, change_logged, All-from_recursion Fits, split_logged);
       delivers =
           search (rules, change_logged, delivered_below places);
+      ends = λ b r. change_logged b (up_with (held_as r)) (λ y below. held_below places r) bios logged;
       rises = up_logged;
     }
 

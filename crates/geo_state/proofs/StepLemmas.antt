@@ -10,6 +10,7 @@ use Rattle.geo_base.proofs.FindLists.{find-map}
 use Rattle.geo_base.proofs.FilterLists.{filter-map}
 use Rattle.geo_model.specs.declared.step.BioResult.{BioResult}
 use Rattle.geo_model.specs.declared.step.BioResult.TheVariants as results
+use Rattle.geo_model.specs.declared.step.DeviceResult.{DeviceResult}
 use Rattle.geo_model.specs.declared.step.DeviceResult.TheVariants as devices
 use Rattle.geo_model.specs.declared.step.Outcome.{Outcome}
 use Rattle.geo_model.specs.declared.step.Outcome.TheVariants as outcomes
@@ -28,7 +29,7 @@ use Rattle.geo_bio.specs.Up.{resolved, held_as, gathered, are_in, completed, aft
 use Rattle.geo_model.proofs.DemandLemmas.{find_passes}
 use Rattle.geo_laws_graph.proofs.Numbered.{unique}
 use Rattle.geo_log.proofs.PlaceLemmas.{delivered_is_result}
-use Rattle.geo_state.specs.Shown.{shown_bios, shown_bio, errno_of}
+use Rattle.geo_state.specs.Shown.{shown_bios, shown_bio, errno_of, held_of}
 use Rattle.geo_state.specs.ShownLaws.{BiosAreOfWorld, WorldShowsBios, DeliveriesAreShown, PlaceIsAnswer}
 use Rattle.geo_state.proofs.ShownLemmas.{length-of_map, changed-map, change_shown}
 
@@ -181,6 +182,18 @@ module _ (log : ℕ → Option (List ℕ)) (bios : List (BioOf Held)) (w : World
       ap (λ xs. (record w { bios = xs }, outcomes.Asked (request_of_bio w disk (shown_bio log x))))
       (changed x.number (with_phase (phases.Busy seat)) (with_phase (phases.Busy seat)) (λ y. refl))
 
+  deliver_is : (x : BioOf Held) (got : DeviceResult)
+      → deliver w (shown_bio log x) got
+      ≡ (
+        record w { bios = shown_bios log (change_number x.number (up_with (held_of got)) bios) },
+        outcomes.Delivered,
+      )
+  unfolding deliver
+  deliver_is x got =
+      ap (λ xs. (record w { bios = xs }, outcomes.Delivered))
+      (changed x.number (up_with (held_of got)) (up_with (result_of_device got))
+      (λ y. ap (λ r. up_with r (shown_bio log y)) (resolved_as log (result_of_device got))))
+
   child_is : (x : BioOf Held) (parent index : ℕ)
       → up_to w (shown_bio log x) (owners.Child parent index)
       ≡ (
@@ -205,6 +218,7 @@ module _ (log : ℕ → Option (List ℕ)) (bios : List (BioOf Held)) (w : World
         search (rules, changed);
     splits = split_is;
     takes = take_is;
+    delivers = deliver_is;
     rises_to_line =
         search (rules, without_shown);
     rises_to_taste =

@@ -6,9 +6,10 @@ use Rattle.geo_base.specs.declared.errno.Errno.TheVariants.{EIO}
 use Rattle.geo_model.specs.declared.step.DeviceResult.{DeviceResult}
 use Rattle.geo_model.specs.declared.step.DeviceResult.TheVariants as devices
 use Rattle.geo_model.specs.World.{BioOf, Bio}
+use Rattle.geo_model.specs.Bios.{result_of_device}
 use Rattle.geo_bio.specs.declared.bio.Held.{Held}
 use Rattle.geo_bio.specs.declared.bio.Held.TheVariants as held
-use Rattle.geo_bio.specs.Up.{resolved}
+use Rattle.geo_bio.specs.Up.{resolved, held_as}
 
 -- a bio as the mesh's definitions have it, where `log` tells the bytes of a place
 abbrev pub shown_bio : (ℕ → Option (List ℕ)) → BioOf Held → Bio
@@ -42,3 +43,7 @@ AreLogged places bios = All (λ x. IsBelow places x.result) bios
 abbrev pub errno_of : DeviceResult → Option Errno
 errno_of (devices.Failed done) = Some EIO
 errno_of _ = None
+
+-- what a bio holds of a disk's answer, where no log keeps it
+abbrev pub held_of : DeviceResult → Held
+held_of got = held_as (result_of_device got)

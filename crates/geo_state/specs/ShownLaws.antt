@@ -4,6 +4,7 @@ use Rattle.std.specs.List.{list_any, list_all}
 use Rattle.std.specs.Option.{option_map}
 use Rattle.geo_base.specs.declared.request.BioCmd.{BioCmd}
 use Rattle.geo_base.specs.declared.errno.Errno.{Errno}
+use Rattle.geo_model.specs.declared.step.BioResult.{BioResult}
 use Rattle.geo_model.specs.declared.step.DeviceResult.{DeviceResult}
 use Rattle.geo_model.specs.declared.step.Entry.{Entry}
 use Rattle.geo_model.specs.declared.step.Outcome.TheVariants as outcomes
@@ -21,10 +22,10 @@ use Rattle.geo_bio.specs.declared.bio.Held.TheVariants as held
 use Rattle.geo_bio.specs.BioTable.{with_phase, delivered, delivered_result}
 use Rattle.geo_bio.specs.PieceLaws.{target_in}
 use Rattle.geo_bio.specs.Split.{split_into}
-use Rattle.geo_bio.specs.Up.{resolved, are_in, after_up}
+use Rattle.geo_bio.specs.Up.{resolved, held_as, are_in, after_up}
 use Rattle.geo_log.specs.Places.{delivered_at}
 use Rattle.geo_state.specs.Traffic.{first_in, count_in}
-use Rattle.geo_state.specs.Shown.{shown_bios, shown_bio, errno_of, AreLogged}
+use Rattle.geo_state.specs.Shown.{shown_bios, shown_bio, errno_of, held_of, AreLogged}
 
 -- searches, selections and counts of the world's bios are those of the table's; a test that reads no result is the
 -- same test of the table's bio, by computation
@@ -54,7 +55,7 @@ pub record ShownChanges (log : ℕ → Option (List ℕ)) (bios : List (BioOf He
       → shown_bios log (change_number b f bios) ≡ change_number b g (shown_bios log bios)
 
 -- a world that has the shown bios finds among them what the table finds, and its steps of bios make of them what
--- the table's calls make; x is a bio of the table
+-- the table's calls make, where what a disk answered is held by the bio itself; x is a bio of the table
 pub record BiosAreOfWorld (log : ℕ → Option (List ℕ)) (bios : List (BioOf Held)) (w : World) : Type 0 where
   pub finds : (b : ℕ) → bio_at w b ≡ option_map (shown_bio log) (bio_among bios b)
   pub children : (b : ℕ) → children_of w b ≡ shown_bios log (children_among bios b)
@@ -91,6 +92,12 @@ pub record BiosAreOfWorld (log : ℕ → Option (List ℕ)) (bios : List (BioOf 
       ≡ (
         record w { bios = shown_bios log (change_number x.number (with_phase (phases.Busy seat)) bios) },
         outcomes.Asked (request_of_bio w disk (shown_bio log x)),
+      )
+  pub delivers : (x : BioOf Held) (got : DeviceResult)
+      → deliver w (shown_bio log x) got
+      ≡ (
+        record w { bios = shown_bios log (change_number x.number (up_with (held_of got)) bios) },
+        outcomes.Delivered,
       )
   pub rises_to_line : (x : BioOf Held) (handle line : ℕ)
       → up_to w (shown_bio log x) (owners.Line handle line)
@@ -147,7 +154,7 @@ GrownLogShowsTheSame =
     (entries more : List Entry) (bios : List (BioOf Held)) → AreLogged (length entries) bios
     → shown_bios (delivered_at (entries ++ more)) bios ≡ shown_bios (delivered_at entries) bios
 
--- each call leaves only places that the log has; a delivery names its own
+-- each call leaves only places that the log has; a delivery names its own, and a bio that holds its result none
 pub record LoggedStay (places : ℕ) (bios : List (BioOf Held)) : Type 0 where
   pub more : (n : ℕ) → places ≤ n → AreLogged n bios
   pub submits : (number : ℕ) (cmd : BioCmd) (offset len : ℕ) (bytes : List ℕ) (source target : ℕ) (owner : Owner)
@@ -158,6 +165,7 @@ pub record LoggedStay (places : ℕ) (bios : List (BioOf Held)) : Type 0 where
       → AreLogged places (change_number b (with_phase phases.Waiting) bios ++ split_into first x 0 pieces targets)
   pub delivers : (b place : ℕ) (errno : Option Errno) → place < places
       → AreLogged places (change_number b (delivered place errno) bios)
+  pub ends : (b : ℕ) (r : BioResult) → AreLogged places (change_number b (up_with (held_as r)) bios)
   pub rises : (log : ℕ → Option (List ℕ)) (x : BioOf Held) (owner : Owner)
       → AreLogged places (after_up log bios x owner)
 

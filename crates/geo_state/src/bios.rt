@@ -13,6 +13,7 @@ ghost use Rattle.geo_mesh.specs.Topo.{with_active};
 ghost use Rattle.geo_state.specs.Holds.{Holds};
 ghost use Rattle.geo_state.specs.Bios.{OnlyBios, GoesTo, IsFree, IsAloneAt, IsAsking, IsNoHandles};
 
+use crate::Held;
 use crate::own::enter;
 use crate::seats::set_busy;
 use crate::state::{OwnBios, State};
@@ -154,6 +155,23 @@ pub fn deliver(state: &mut State, disk: u32, bio: BioId, place: u64, errno: Opti
     ensures kept { Holds state.new }
 {
     state.traffic.deliver(bio, place, errno);
+    set_busy(state, disk, None);
+}
+
+/// A bio's disk has answered: it goes up with this, which it holds itself.
+pub fn end(state: &mut State, disk: u32, bio: BioId, held: Held)
+    requires kept { Holds state.old }
+    requires busy { IsTrue (has_phase is_busy state.old.traffic.bios bio) }
+    requires goes { GoesTo state.old bio disk }
+    requires seat { disk < length state.old.disks.items }
+    requires alone { IsAloneAt state.old bio disk }
+    ensures ended { state.new.traffic ≡ record state.old.traffic {
+      bios = change_number bio (up_with held) state.old.traffic.bios;
+    } }
+    ensures only { OnlyBios state.old state.new }
+    ensures kept { Holds state.new }
+{
+    state.traffic.end(bio, held);
     set_busy(state, disk, None);
 }
 

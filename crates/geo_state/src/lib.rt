@@ -6,7 +6,8 @@
 //! taste's read and how many providers there are. And the queue has a place for each event that may not fail.
 //!
 //! Requests are submitted, bounced, sent, split, taken, delivered and go up ([`submit_line`], [`bounce`], [`send`],
-//! [`split`], [`take`], [`deliver`], [`up`]). Each call keeps `Holds` and changes these parts alone (`OnlyBios`);
+//! [`split`], [`take`], [`deliver`], [`up`]); [`end`] is a delivery of which the bio holds the bytes itself, where no
+//! log keeps them. Each call keeps `Holds` and changes these parts alone (`OnlyBios`);
 //! after want of memory they are as before. [`empty`] is the state before any disk stands. [`reserve_events`] makes
 //! room for a step's events, [`reserve_bio`] for one more request. [`own_bio`] is the request for which a sync waits.
 //!
@@ -45,7 +46,7 @@ mod state;
 mod traffic;
 mod ups;
 
-pub use bios::{NewBio, bounce, deliver, send, submit_line, submit_read, take};
+pub use bios::{NewBio, bounce, deliver, end, send, submit_line, submit_read, take};
 pub use geo_bio::{Bio, BioResult, Held, LogBytes, Owner, Phase, Risen, Span, Targets};
 pub use geo_class::Config;
 pub use handles::kill;

@@ -255,6 +255,17 @@ impl Traffic {
         self.up = with_one(self.up, bio.number());
     }
 
+    /// A bio's disk has answered: it goes up with this.
+    pub fn end(&mut self, bio: BioId, held: Held)
+        requires { IsTrue (has_phase is_busy self.old.bios bio) }
+        ensures ended { self.new ≡ record self.old { bios = change_number bio (up_with held) self.old.bios } }
+        ensures in_order { AreInOrder self.old }
+    {
+        self.bios.end(bio, held);
+        self.busy -= 1;
+        self.up = with_one(self.up, bio.number());
+    }
+
     /// A bio goes up to its owner (g_io_deliver). A child counts in its parent; the last one gives it the first
     /// error in the order of the pieces, else the bytes joined in this order, and the children are gone. A root is
     /// gone, and its result is handed on.
