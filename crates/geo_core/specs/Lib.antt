@@ -3,7 +3,6 @@ pub mod Mesh
 pub mod Running
 pub mod Moves
 pub mod Twins
-pub mod Openings
 pub mod Goes
 pub mod Logged
 pub mod Sent

@@ -38,7 +38,6 @@ mod found;
 mod left;
 mod logged;
 mod mesh;
-mod opening;
 mod owed;
 mod refusal;
 mod rest;

@@ -37,4 +37,4 @@ pub mod Reaching
 pub mod Appending
 pub mod Lengthened
 pub mod Owed
-pub mod Opening
+pub mod Openings

@@ -25,3 +25,4 @@ pub mod Appends
 pub mod Assemblies
 pub mod Lines
 pub mod Owed
+pub mod Openings

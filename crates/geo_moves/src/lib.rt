@@ -39,6 +39,7 @@ mod above;
 mod appends;
 mod asked;
 mod assemblies;
+mod begins;
 mod below;
 mod closes;
 mod cut;
@@ -82,6 +83,7 @@ mod washes;
 mod way;
 mod withered;
 
+pub use begins::opening;
 pub use decisions::{Decision, decide, owed_after, places_owed};
 pub use disk::{disk_at, sector_at};
 pub use dispatch::do_command;

@@ -1,6 +1,6 @@
 use Rattle.std.proofs.Common.{◌*◌, None, arith, get_or, refl}
-use Rattle.geo_core.proofs.Openings.{fact_inside, seat_shows, seats_push, seats_all, size_fits}
-use Rattle.geo_core.proofs.opening.seats_of.Goals as goal
+use Rattle.geo_moves.proofs.Openings.{fact_inside, seat_shows, seats_push, seats_all, size_fits}
+use Rattle.geo_moves.proofs.begins.seats_of.Goals as goal
 
 pub bounds-facts-place : goal.bounds-facts-place
 bounds-facts-place c =

@@ -6,12 +6,12 @@ ghost use Rattle.geo_model.specs.Plans.{IsPlan, IsFact, FactsFit};
 ghost use Rattle.geo_state.specs.declared.state.OwnBios.{OwnBios as OwnBiosValue};
 ghost use Rattle.geo_state.specs.Opening.{IsFreeSeat};
 ghost use Rattle.geo_state.specs.World.{disk_of_seat};
-ghost use Rattle.geo_core.specs.Openings.{IsOpened, stood};
+ghost use Rattle.geo_moves.specs.Openings.{IsOpened, stood};
 
+use crate::stands::stand;
 use geo_base::NoMemory;
 use geo_log::DiskFacts;
 use geo_model::DiskDecl;
-use geo_moves::stand;
 use geo_script::Plan;
 use geo_state::{DiskSeat, OwnBios, State, empty};
 use std::alloc::Global;

@@ -1,6 +1,6 @@
 use Rattle.std.proofs.Common.{ap, length, arith}
-use Rattle.geo_core.proofs.Openings.{opened_end}
-use Rattle.geo_core.proofs.opening.stand_all.Goals as goal
+use Rattle.geo_moves.proofs.Openings.{opened_end}
+use Rattle.geo_moves.proofs.begins.stand_all.Goals as goal
 
 -- all disks of the header were met, so those stand that stand at the opening
 pub returns : goal.returns

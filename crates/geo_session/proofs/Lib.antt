@@ -1,0 +1,10 @@
+pub mod Others
+pub mod Commands
+pub mod Lists
+pub mod Steps
+pub mod Logs
+pub mod Actors
+pub mod Nones
+pub mod Histories
+pub mod Starting
+pub mod Answered

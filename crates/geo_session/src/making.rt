@@ -1,0 +1,143 @@
+//! A step is made, and a command.
+ghost use Rattle.std.specs.Prelude.{◌≡◌, [], None, IfOk, IsOk, OnErr};
+ghost use Rattle.geo_model.specs.Laws.{ClosesOk};
+ghost use Rattle.geo_model.specs.Plans.{IsCommand};
+ghost use Rattle.geo_state.specs.Holds.{Holds};
+ghost use Rattle.geo_state.specs.Steps.{SameWorld, Stands};
+ghost use Rattle.geo_state.specs.World.{world, HasBytes};
+ghost use Rattle.geo_session.specs.Growth.{with_command};
+ghost use Rattle.geo_session.specs.Live.{seen, IsSession};
+ghost use Rattle.geo_session.specs.Moves.{IsFound, IsEnabledDeliver, Leads};
+ghost use Rattle.geo_session.specs.Session.{none_left, Answers, Commands};
+
+use crate::found::found_against;
+use crate::live::Live;
+use crate::refusal::SessionRefusal;
+use geo_access::Steps;
+use geo_base::NoMemory;
+use geo_log::Log;
+use geo_model::{Found, LineCommand, Outcome, Step};
+use geo_moves::{
+    decide, deliver_kept, do_command, event, judge, reap, start, take, up, wait_found, wash,
+};
+use geo_state::State;
+use std::alloc::Global;
+use std::sync::ledger::{Blank, Ledger};
+
+/// Makes a step of a seat, unless something is against it. What it calls counts steps: here no one looks at the count.
+pub fn make<L: Ledger>(
+    alloc: Global,
+    live: &mut Live,
+    seat: u32,
+    step: Step,
+    blank: Blank,
+) -> Result<Outcome, SessionRefusal>
+    requires session { IsSession live.old }
+    requires name { blank.name ≡ L.name }
+    requires parts { blank.parts ≡ L.parts }
+    requires some { L.parts ≡ 1 }
+    ensures session { IsSession live.new }
+    ensures answer { Answers result (seen live.old) (seen live.new) seat step }
+    ensures sure { IsEnabledDeliver (seen live.old).world seat step → IsOk result }
+{
+    if let Some(found) = found_against(live.actors, &live.state, seat, &step) {
+        return Err(SessionRefusal::NotEnabled { found });
+    }
+    let mut steps: Steps<L> = Steps::new(blank);
+    let outcome = turn(
+        alloc,
+        live.actors,
+        &mut live.state,
+        &live.none,
+        seat,
+        step,
+        &mut steps,
+    )?;
+    live.steps = live.steps.wrapping_add(1);
+    Ok(outcome)
+}
+
+// Makes a step, against which nothing is. Where memory is wanting all stays; a Deliver takes none.
+fn turn<L: Ledger>(
+    alloc: Global,
+    actors: u32,
+    state: &mut State,
+    none: &Log,
+    seat: u32,
+    step: Step,
+    steps: &mut Steps<L>,
+) -> Result<Outcome, NoMemory>
+    requires stands { Stands state.old }
+    requires bytes { HasBytes [] state.old }
+    requires empty { none.now.items ≡ [] }
+    requires found { IsFound actors state.old seat step None }
+    ensures made { IfOk result (λ o.
+        Leads (world (none_left actors) [] state.old) seat step (world (none_left actors) [] state.new) o) }
+    ensures kept { Holds state.new }
+    ensures same { OnErr result (SameWorld state.old state.new) }
+    ensures bytes { HasBytes [] state.new }
+    ensures sure { IsEnabledDeliver (world (none_left actors) [] state.old) seat step → IsOk result }
+{
+    match step {
+        Step::Go { .. } => unreachable!(),
+        Step::Event => {
+            event(state)?;
+            Ok(Outcome::Ran)
+        }
+        Step::Judge => judge(alloc, state, steps),
+        Step::Reap => {
+            reap(state, steps);
+            Ok(Outcome::Ran)
+        }
+        Step::Wash => {
+            wash(state);
+            Ok(Outcome::Ran)
+        }
+        Step::Start { bio } => start(alloc, state, bio),
+        Step::Take { disk, bio } => take(alloc, state, seat, disk, bio),
+        Step::Deliver { bio, got } => {
+            deliver_kept(state, seat, bio, got);
+            Ok(Outcome::Delivered)
+        }
+        Step::Up { bio } => up(alloc, state, none, bio, steps),
+    }
+}
+
+/// Makes the command of a line at once, unless its actor isn't there or something is against it.
+pub fn command<L: Ledger>(
+    alloc: Global,
+    live: &mut Live,
+    line: &LineCommand,
+    blank: Blank,
+) -> Result<Outcome, SessionRefusal>
+    requires session { IsSession live.old }
+    requires is_command { IsCommand line.now.command }
+    requires name { blank.name ≡ L.name }
+    requires parts { blank.parts ≡ L.parts }
+    requires some { L.parts ≡ 1 }
+    ensures session { IsSession live.new }
+    ensures answer { Commands result (seen live.old) (seen live.new) line.now }
+    ensures sure { ClosesOk (with_command line.now (seen live.old).world) 0 line.now.actor → IsOk result }
+{
+    if line.actor >= live.actors {
+        return Err(SessionRefusal::NotEnabled {
+            found: Found::NoSuchActor,
+        });
+    }
+    if let Some(found) = wait_found(&live.state, line.actor, &line.command) {
+        return Err(SessionRefusal::NotEnabled { found });
+    }
+    let mut steps: Steps<L> = Steps::new(blank);
+    let decision = decide(&mut live.state, line.actor, &line.command, &mut steps);
+    let outcome = do_command(
+        alloc,
+        &mut live.state,
+        line.line,
+        line.actor,
+        &line.command,
+        decision,
+        &mut steps,
+    )?;
+    live.steps = live.steps.wrapping_add(1);
+    Ok(outcome)
+}
