@@ -15,7 +15,7 @@ use Rattle.geo_model.specs.declared.command.DiskDecl.{DiskDecl}
 use Rattle.geo_model.specs.World.{World, Plan, HeaderDisk, commands_of, Config, BioOf}
 use Rattle.geo_model.specs.Fitting.{Firm}
 use Rattle.geo_model.specs.Opening.{bare_world, disk_in_size, opening, first_topology}
-use Rattle.geo_model.specs.Plans.{IsPlan, IsDiskDecl, IsFact, FactsFit, Differ}
+use Rattle.geo_model.specs.Plans.{IsPlan, MayBegin, IsDiskDecl, IsFact, FactsFit, Differ}
 use Rattle.geo_moves.proofs.Opening.{IsNumbered, stand-firm}
 use Rattle.geo_laws_life.proofs.Standing.{Stander, disk_geoms, disk_providers, standers, stand-all}
 use Rattle.geo_laws_requests.proofs.Legal.{opened_firm}
@@ -91,7 +91,7 @@ none_stand k [] facts = refl
 none_stand k (d ∷ ds) [] = refl
 none_stand k (d ∷ ds) (fact ∷ facts) = none_stand (k + 1) ds facts
 
-later_plan : (plan : Plan) → IsPlan plan → IsPlan (all_later plan)
+later_plan : (plan : Plan) → MayBegin plan → MayBegin (all_later plan)
 later_plan plan is = record {
   few_disks = let same = length-map plan.disks put_off in let few = is.few_disks in omega (arith, same, few);
   disks = All-map IsDiskDecl put_off plan.disks (each is.disks);
@@ -100,7 +100,6 @@ later_plan plan is = record {
   actors = is.actors;
   actor_names = is.actor_names;
   commands = is.commands;
-  lines = is.lines;
 } where
   each : All IsDiskDecl plan.disks → All (λ (d : DiskDecl). IsDiskDecl (put_off d)) plan.disks
   each all =
@@ -108,7 +107,8 @@ later_plan plan is = record {
       (λ d one. record { name = one.name; sector = one.sector; sectors = one.sectors }) plan.disks all
 
 -- the world before any disk stands is firm
-pub bare_firm : (plan : Plan) (facts : List (ℕ × ℕ)) → IsPlan plan → FactsFit plan facts → Firm (bare_world plan facts)
+pub bare_firm : (plan : Plan) (facts : List (ℕ × ℕ)) → MayBegin plan → FactsFit plan facts
+    → Firm (bare_world plan facts)
 unfolding opening
 bare_firm plan facts is fit =
     let firm : Firm (opening (all_later plan) facts) =
@@ -213,7 +213,7 @@ other_names name n g [] apart = refl
 other_names name n g (x ∷ xs) apart =
     rw (not-true (same_name x.1.0.name name) apart.0, other_names name (n + 1) (g + 1) xs apart.1) refl
 
-module _ (plan : Plan) (facts : List (ℕ × ℕ)) (k : ℕ) (x : DiskDecl × (ℕ × ℕ)) (is : IsPlan plan)
+module _ (plan : Plan) (facts : List (ℕ × ℕ)) (k : ℕ) (x : DiskDecl × (ℕ × ℕ)) (is : MayBegin plan)
     (fit : FactsFit plan facts) (at : slice_get (zip plan.disks facts) k ≡ Some x) (now : x.0.later ≡ false) where
   abbrev numbered : List Stander
   numbered = enumerate_from 0 (zip plan.disks facts)
@@ -305,7 +305,7 @@ pub record StandsOne (old : State) (disk : ℕ) (new : State) : Type 0 where
   pub kept : Holds new
   pub traffic : new.traffic ≡ old.traffic
 
-module _ (plan : Plan) (facts : List (ℕ × ℕ)) (k : ℕ) (d : DiskDecl) (is : IsPlan plan) (fit : FactsFit plan facts)
+module _ (plan : Plan) (facts : List (ℕ × ℕ)) (k : ℕ) (d : DiskDecl) (is : MayBegin plan) (fit : FactsFit plan facts)
     (at : slice_get plan.disks k ≡ Some d) (s : State) (opened : IsOpened (stood plan facts k) s) where
   abbrev w : World
   w = stood plan facts k
@@ -386,7 +386,7 @@ module _ (k : ℕ) (b : Bool) {ds es : List DiskDecl} (are : ds ≡ es)
   later_told = subst (λ (xs : List DiskDecl). IfSome (slice_get xs k) (λ d. b ≡ d.later)) are told
 
 -- the next disk, by whether it comes later
-module _ (plan : Plan) (facts : List (ℕ × ℕ)) (k : ℕ) (b : Bool) (is : IsPlan plan) (fit : FactsFit plan facts)
+module _ (plan : Plan) (facts : List (ℕ × ℕ)) (k : ℕ) (b : Bool) (is : MayBegin plan) (fit : FactsFit plan facts)
     (there : k < length plan.disks) (is_later : IfSome (slice_get plan.disks k) (λ d. b ≡ d.later))
     (s : State) (opened : IsOpened (stood plan facts k) s) where
   next_disk : (d : DiskDecl) × (slice_get plan.disks k ≡ Some d)
@@ -505,7 +505,7 @@ module _ (disks : List DiskDecl) (facts : List (ℕ × ℕ)) (k : ℕ) (d : Disk
 -- the state before any disk stands
 
 module _ (plan : Plan) (facts : List (ℕ × ℕ)) (s : State) (seats : List DiskSeat) (own : List OwnBios)
-    (is : IsPlan plan) (fit : FactsFit plan facts) (empty : IsEmpty s seats own) (holds : Holds s)
+    (is : MayBegin plan) (fit : FactsFit plan facts) (empty : IsEmpty s seats own) (holds : Holds s)
     (sizes : map disk_of_seat seats ≡ map disk_in_size (zip plan.disks facts)) where
   graph : s.topo.topology ≡ first_topology
   graph = ap (λ (t : TopoView Config). t.topology) empty.topo
@@ -528,7 +528,7 @@ module _ (plan : Plan) (facts : List (ℕ × ℕ)) (s : State) (seats : List Dis
   }
 
 pub empty_result : (plan : Plan) (facts : List (ℕ × ℕ)) (seats : List DiskSeat) (own : List OwnBios)
-    (result : Result State NoMemory) → IsPlan plan → FactsFit plan facts → IfOk result (λ s. IsEmpty s seats own)
+    (result : Result State NoMemory) → MayBegin plan → FactsFit plan facts → IfOk result (λ s. IsEmpty s seats own)
     → IfOk result (λ s. Holds s) → map disk_of_seat seats ≡ map disk_in_size (zip plan.disks facts)
     → IfOk result (λ s. IsOpened (stood plan facts 0) s)
 empty_result plan facts seats own (Ok s) is fit empty holds sizes =

@@ -10,7 +10,7 @@ pub returns : goal.returns
 returns c =
     let opened =
     empty_result c.args.plan.now c.args.disks.now.items c.in_ok-seats.seats.items c.in_ok-own.own.items c.empty.result
-    c.disks.ensures.plan c.requires c.empty.ensures.empty c.empty.ensures.kept
+    c.disks.ensures.plan.begins c.requires c.empty.ensures.empty c.empty.ensures.kept
     (c.in_ok-seats.ensures.disks
     ∙ ap (λ (ds : List DiskDecl). map disk_in_size (zip ds c.items.result.now)) c.disks.ensures.disks
     ∙ ap (λ (fs : List (ℕ × ℕ)). map disk_in_size (zip c.args.plan.now.disks fs)) c.items.ensures) in
