@@ -2,17 +2,13 @@
 use Rattle.std.specs.Prelude.{◌≡◌, ℕ, ◌+◌, ◌^◌, ◌<◌, ◌≤◌, ◌==◌, Bool, true, false, not, ◌&&◌, List, [], ◌∷◌, ◌++◌, if◌then◌else◌, ◌*◌, ◌%◌, nat_le, ◌||◌, Option, Some, None, ◌/◌, nat_lt}
 use Rattle.std.specs.List.{list_any, AllByRecursion, list_all}
 use Rattle.std.specs.Option.{option_map, option_or}
-use Rattle.std.specs.Ordering.{nat_cmp}
-use Rattle.std.specs.BTreeMap.{is_at}
-use Rattle.std.specs.BTreeSet.{insert_key}
-use Rattle.std.specs.Set.{remove_key}
-use Rattle.std.specs.declared.cmp.Ordering.TheVariants.{Equal}
-use Rattle.std.proofs.Common.{inl, inr, refl, sym, ◌∙◌, ap, arith, rules}
-use Rattle.std.proofs.lemmas.Bool.{cases_Bool, eqb-true, ne_eqb, eq-eqb, leb-true, leb-false, le-leb, and_parts, lt-ltb, ltb-true}
+use Rattle.std.proofs.Common.{inl, inr, refl, sym, ◌∙◌, ap, subst, arith, rules}
+use Rattle.std.proofs.lemmas.Bool.{cases_Bool, eqb-true, ne_eqb, eq-eqb, leb-true, leb-false, le-leb, and_parts, or_parts, lt-ltb, ltb-true}
 use Rattle.std.proofs.lemmas.Nat.{mod-mul-add, div-add-mod', div-mul-add}
 use Rattle.std.proofs.lemmas.Bool.Decides.{nat_tests}
 use Rattle.geo_headline.specs.Sweep.{Waiting, before_flush, candidates, least_place, ahead_of, next_of}
-use Rattle.geo_elev.specs.Lists.{Rises, has_no_flush, is_none_of, joins, without, HasKeys, IsNextKey, has_key, key_of, are_below, at_key, is_kept, listed, with_waiting}
+use Rattle.geo_elev.specs.Front.{IsNextKey, is_none_of, with_key}
+use Rattle.geo_elev.specs.Lists.{Rises, has_no_flush, joins, without, HasKeys, has_key, key_of, are_below, at_key, listed, with_waiting}
 
 -- whether the bio is among them
 abbrev pub has_bio : ℕ → List Waiting → Bool
@@ -268,15 +264,6 @@ module _ (keys : List ℕ) (head low : ℕ) (xs : List Waiting) (rise : Rises lo
       ∙ ap (λ ys. option_map (λ x. x.bio) (least_place ys)) (sym (all_ahead xs))
       ∙ ahead_is keys 0 low xs rise has o first
 
--- One that has a key
-
-module _ (y : Waiting) (small : y.bio < 2 ^ 64) where
-  -- one that has its key is its bio
-  pub key_is_bio : (low : ℕ) (xs : List Waiting) → Rises low xs → has_key (key_of y) xs ≡ true
-      → has_bio y.bio xs ≡ true
-  key_is_bio low [] rise has = absurd (let bad : ⊥ = cc in bad)
-  key_is_bio low (x ∷ xs) rise has = search (rules, key_is_bio (x.bio + 1) xs rise.2)
-
 -- What may be taken next, as it is listed by its keys: one more, and one less.
 
 -- Keys
@@ -291,14 +278,6 @@ at_own x small =
 -- and has it
 pub key_at : (flush : Bool) (key : ℕ) → key_of (at_key flush key) ≡ key
 key_at flush key = div-add-mod' key (2 ^ 64)
-
--- what a key is found by
-finds : (key n : ℕ) → is_at (nat_cmp key) n ≡ (n == key)
-finds key n = grind (arith, nat_tests)
-
--- equal keys are the same
-is_equal : (key n : ℕ) → nat_cmp key n ≡ Equal → n ≡ key
-is_equal key n e = search rules
 
 -- With one more
 
@@ -376,18 +355,11 @@ without_with low x (y ∷ ys) rise =
       without_with (y.bio + 1) x ys,
     )
 
--- another may go before it comes
-with_without : (b low : ℕ) (x : Waiting) (ys : List Waiting) → Rises low ys → (x.bio == b) ≡ false
-    → with_waiting x (without b ys) ≡ without b (with_waiting x ys)
-with_without b low x [] rise other = sym (kept b x [] other)
-with_without b low x (y ∷ ys) rise other =
-    search (
-      rules,
-      with_without b (y.bio + 1) x ys rise.2 other,
-      absent_stays b (y.bio + 1) ys rise.2,
-      gone b y ys,
-      goes_first x (y.bio + 1) ys rise.2,
-    )
+-- of two that are other bios it is the same which comes first
+with_both : (x y : Waiting) (zs : List Waiting) → (x.bio == y.bio) ≡ false
+    → with_waiting x (with_waiting y zs) ≡ with_waiting y (with_waiting x zs)
+with_both x y [] other = grind (arith, nat_tests, other)
+with_both x y (z ∷ zs) other = grind (arith, nat_tests, other, with_both x y zs other)
 
 -- Lists by keys
 
@@ -417,7 +389,7 @@ module _ (flush : Bool) where
 
   -- one more, with a greater number than all
   pub listed_more : (k : ℕ) (keys : List ℕ) → are_below (k % 2 ^ 64) (listed flush keys) ≡ true
-      → listed flush (insert_key nat_cmp keys k) ≡ listed flush keys ++ at_key flush k ∷ []
+      → listed flush (with_key k keys) ≡ listed flush keys ++ at_key flush k ∷ []
   listed_more k [] below = refl
   listed_more k (j ∷ js) below =
       search (
@@ -428,40 +400,52 @@ module _ (flush : Bool) where
         all_with (λ y. nat_lt y.bio (k % 2 ^ 64)) (at_key flush j) (listed flush js),
         ltb-true (j % 2 ^ 64) (k % 2 ^ 64),
         goes_last (at_key flush k) (listed flush (j ∷ js)) below,
-        is_equal k j,
         goes_before (at_key flush j) (at_key flush k) (listed flush js),
       )
 
-  -- there is one then
-  pub some_more : (k : ℕ) (keys : List ℕ) → is_none_of (insert_key nat_cmp keys k) ≡ false
-  some_more k [] = refl
-  some_more k (j ∷ js) = search rules
+  module _ (k low : ℕ) where
+    -- one more stands by its number
+    listed_with : (keys : List ℕ) → Rises low (listed flush (with_key k keys))
+        → listed flush (with_key k keys) ≡ with_waiting (at_key flush k) (listed flush keys)
+    listed_with [] rise = refl
+    listed_with (j ∷ js) rise = by (nat_le k j) refl (listed_with js)
+      where
+        y : Waiting
+        y = at_key flush j
 
-  module _ (k : ℕ) where
-    -- one that has the key is among those that are listed
-    pub among_listed : (low : ℕ) (keys : List ℕ) → Rises low (listed flush keys) → is_kept k keys ≡ true
-        → has_bio (k % 2 ^ 64) (listed flush keys) ≡ true
-    among_listed low keys rise is =
-        key_is_bio (at_key flush k) (omega arith) low (listed flush keys) rise
-        (ap (λ (n : ℕ). has_key n (listed flush keys)) (key_at flush k) ∙ sym (listed_keys keys k) ∙ is)
+        all : Bool → List ℕ
+        all c = if c then k ∷ j ∷ js else j ∷ with_key k js
 
-    -- one less
-    pub listed_less : (low : ℕ) (keys : List ℕ) → Rises low (listed flush keys) → is_kept k keys ≡ true
-        → listed flush (remove_key (is_at (nat_cmp k)) keys) ≡ without (k % 2 ^ 64) (listed flush keys)
-    listed_less low [] rise is = absurd (let bad : ⊥ = cc in bad)
-    listed_less low (j ∷ js) rise is =
-        search (
-          rules,
-          listed_less low js (rises_with low (at_key flush j) (listed flush js) rise),
-          eqb-true j k,
-          without_with low (at_key flush j) (listed flush js) rise,
-          rises_with low (at_key flush j) (listed flush js) rise,
-          among_listed low js,
-          j % 2 ^ 64,
-          ne_eqb (j % 2 ^ 64) (k % 2 ^ 64),
-          none_same low (at_key flush j) (listed flush js) rise,
-          with_without (k % 2 ^ 64) low (at_key flush j) (listed flush js),
-        )
+        by : (b : Bool) → nat_le k j ≡ b
+            → (Rises low (listed flush (with_key k js))
+            → listed flush (with_key k js) ≡ with_waiting (at_key flush k) (listed flush js))
+            → listed flush (with_key k (j ∷ js)) ≡ with_waiting (at_key flush k) (listed flush (j ∷ js))
+        by true e rest = ap (λ (c : Bool). listed flush (all c)) e
+        by false e rest =
+            let up : Rises low (with_waiting y (listed flush (with_key k js))) =
+            subst (λ (c : Bool). Rises low (listed flush (all c))) e rise in
+            let is = rest (rises_with low y (listed flush (with_key k js)) up) in
+            let other : (k % 2 ^ 64 == j % 2 ^ 64) ≡ false =
+            (or_parts (k % 2 ^ 64 == j % 2 ^ 64) (has_bio (j % 2 ^ 64) (listed flush js))
+            (sym (ap (has_bio (j % 2 ^ 64)) is
+            ∙ any_with (λ x. x.bio == j % 2 ^ 64) (at_key flush k) (listed flush js))
+            ∙ none_same low y (listed flush (with_key k js)) up)).0 in
+            ap (λ (c : Bool). listed flush (all c)) e ∙ ap (with_waiting y) is
+            ∙ sym (with_both (at_key flush k) y (listed flush js) other)
+
+    module _ (keys : List ℕ) (rise : Rises low (listed flush (with_key k keys))) where
+      -- it is among them
+      pub among_listed : has_bio (k % 2 ^ 64) (listed flush (with_key k keys)) ≡ true
+      among_listed =
+          ap (has_bio (k % 2 ^ 64)) (listed_with keys rise)
+          ∙ any_with (λ x. x.bio == k % 2 ^ 64) (at_key flush k) (listed flush keys)
+          ∙ ap (λ (c : Bool). c || has_bio (k % 2 ^ 64) (listed flush keys)) (eq-eqb (k % 2 ^ 64) (k % 2 ^ 64) refl)
+
+      -- without it the others are left
+      pub listed_less : listed flush keys ≡ without (k % 2 ^ 64) (listed flush (with_key k keys))
+      listed_less =
+          sym (ap (without (k % 2 ^ 64)) (listed_with keys rise)
+          ∙ without_with low (at_key flush k) (listed flush keys) (subst (Rises low) (listed_with keys rise) rise))
 
 -- no FLUSH is among them
 pub listed_open : (keys : List ℕ) → has_no_flush (listed false keys) ≡ true

@@ -1,10 +1,6 @@
 -- What the lists keep, as one more waits and as one less does.
 use Rattle.std.specs.Prelude.{◌≡◌, ℕ, ◌+◌, ◌*◌, ◌%◌, ◌^◌, ◌<◌, ◌≤◌, ◌==◌, nat_lt, Bool, true, false, not, ◌&&◌, ◌||◌, List, [], ◌∷◌, ◌++◌, Option, Some, None, option_map, Result, Ok, Err, OnOk}
 use Rattle.std.specs.List.{list_all}
-use Rattle.std.specs.Ordering.{nat_cmp}
-use Rattle.std.specs.BTreeMap.{is_at}
-use Rattle.std.specs.BTreeSet.{insert_key}
-use Rattle.std.specs.Set.{remove_key}
 use Rattle.std.proofs.Common.{append-nil, append_assoc, length-append, refl, sym, ◌∙◌, ap, subst, arith, inl, inr, rules}
 use Rattle.std.proofs.lemmas.Bool.{eqb-true, cases_Bool}
 use Rattle.std.proofs.lemmas.List.Elements.{filter-append}
@@ -12,7 +8,8 @@ use Rattle.std.proofs.lemmas.List.Folds.{list_all-append}
 use Rattle.std.proofs.lemmas.Nat.{mod-mul-add}
 use Rattle.geo_headline.specs.Sweep.{Waiting, before_flush, candidates, next_of}
 use Rattle.geo_elev.specs.declared.lists.Place.{Place}
-use Rattle.geo_elev.specs.Lists.{AreLists, HasKeys, IsNextKey, Rises, all_waiting, are_below, has_no_flush, is_kept, is_none_of, joins, key_of, listed, waiting_at, waiting_in, without}
+use Rattle.geo_elev.specs.Front.{IsNextKey, is_none_of, with_key}
+use Rattle.geo_elev.specs.Lists.{AreLists, HasKeys, Rises, all_waiting, are_below, has_no_flush, joins, key_of, listed, waiting_at, waiting_in, without}
 use Rattle.geo_elev.proofs.Candidates.{absent_stays, candidates_joined, has_bio, joined, one_less, wider, without_rises, next_ahead, next_least, among_listed, at_own, listed_below, listed_keys, listed_less, listed_more, listed_open, none_listed, open_listed}
 
 -- What went well
@@ -167,11 +164,11 @@ lists_put keys more flush now later es last y are small below put next =
 pub put_next : (keys : List ℕ) (flush : Bool) (later : List (ℕ × Place)) (last : ℕ) (y : Waiting)
     → AreLists keys flush later last → y.bio < 2 ^ 64 → are_below y.bio (all_waiting keys flush later) ≡ true
     → joins (all_waiting keys flush later) y.flush ≡ true
-    → Put keys (insert_key nat_cmp keys (key_of y)) flush y.flush later later y
+    → Put keys (with_key (key_of y) keys) flush y.flush later later y
 put_next keys flush (e ∷ later) last y are small below is_next =
     search (rules, joins_later keys flush (e ∷ later) last y.flush are)
 put_next keys flush [] last y are small below is_next =
-    lists_put keys (insert_key nat_cmp keys (key_of y)) flush y.flush [] [] last y are small below put
+    lists_put keys (with_key (key_of y) keys) flush y.flush [] [] last y are small below put
     (ap (λ (b : Bool). joined b (listed flush keys) y) is_next ∙ sym more)
   where
     -- both are FLUSHes, or neither is, or nothing waits
@@ -190,13 +187,13 @@ put_next keys flush [] last y are small below is_next =
     under : are_below (key_of y % 2 ^ 64) (listed y.flush keys) ≡ true
     under = search (rules, ap (are_below y.bio) (same keys is_next ∙ sym (append-nil (listed flush keys))))
 
-    more : listed y.flush (insert_key nat_cmp keys (key_of y)) ≡ listed flush keys ++ y ∷ []
+    more : listed y.flush (with_key (key_of y) keys) ≡ listed flush keys ++ y ∷ []
     more =
         listed_more y.flush (key_of y) keys under
         ∙ ap (λ (x : Waiting). listed y.flush keys ++ x ∷ []) (at_own y small)
         ∙ ap (λ (xs : List Waiting). xs ++ y ∷ []) (same keys is_next)
 
-    put : all_waiting (insert_key nat_cmp keys (key_of y)) y.flush [] ≡ all_waiting keys flush [] ++ y ∷ []
+    put : all_waiting (with_key (key_of y) keys) y.flush [] ≡ all_waiting keys flush [] ++ y ∷ []
     put = search (rules, more)
 
 -- one that comes behind
@@ -215,7 +212,7 @@ put_later keys flush later es last y are small below not_next is =
 -- the first moves
 pub moved_on : (keys : List ℕ) (e : ℕ × Place) (es : List (ℕ × Place)) → Rises 0 (all_waiting keys false (e ∷ es))
     → e.1.flush ≡ false
-    → all_waiting (insert_key nat_cmp keys (e.1.first * 2 ^ 64 + e.0)) false es ≡ all_waiting keys false (e ∷ es)
+    → all_waiting (with_key (e.1.first * 2 ^ 64 + e.0) keys) false es ≡ all_waiting keys false (e ∷ es)
 moved_on keys e es rise still =
     search (
       rules,
@@ -244,18 +241,26 @@ no_keys (k ∷ ks) none = absurd (let bad : ⊥ = cc in bad)
 -- a key that was there was taken
 module _ (keys new : List ℕ) (flush : Bool) (later : List (ℕ × Place)) (last bio first : ℕ)
     (are : AreLists keys flush later last) (small : bio < 2 ^ 64) {n : ℕ} (key : n ≡ first * 2 ^ 64 + bio)
-    (took : new ≡ remove_key (is_at (nat_cmp n)) keys) {b : Bool} (was : b ≡ is_kept n keys) (yes : b ≡ true) where
+    (took : keys ≡ with_key n new) where
   number : n % 2 ^ 64 ≡ bio
   number = ap (λ (k : ℕ). k % 2 ^ 64) key ∙ mod-mul-add first (2 ^ 64) bio small
 
   rise : Rises 0 (listed flush keys)
   rise = rises_front 0 (listed flush keys) (waiting_in later) are.rises
 
+  again : Rises 0 (listed flush (with_key n new))
+  again = subst (λ (ks : List ℕ). Rises 0 (listed flush ks)) took rise
+
   has : has_bio bio (listed flush keys) ≡ true
-  has = search (rules, among_listed flush n 0 keys rise (sym was ∙ yes))
+  has =
+      ap (λ (ks : List ℕ). has_bio bio (listed flush ks)) took
+      ∙ ap (λ (m : ℕ). has_bio m (listed flush (with_key n new))) (sym number) ∙ among_listed flush n 0 new again
 
   less : listed flush new ≡ without bio (listed flush keys)
-  less = search (rules, listed_less flush n 0 keys rise (sym was ∙ yes))
+  less =
+      listed_less flush n 0 new again
+      ∙ ap (λ (m : ℕ). without m (listed flush (with_key n new))) number
+      ∙ ap (λ (ks : List ℕ). without bio (listed flush ks)) (sym took)
 
   -- the others wait
   pub take_waits : all_waiting new flush later ≡ without bio (all_waiting keys flush later)

@@ -1,3 +1,4 @@
+pub mod Fronts
 pub mod Candidates
 pub mod Kept
 pub mod Following

@@ -1,3 +1,4 @@
+pub mod Front
 pub mod Lists
 pub mod Disks
 pub mod Heads

@@ -1,9 +1,8 @@
 -- What waits for a disk, as it is kept: by places what may be taken next, and by numbers what comes behind that.
-use Rattle.std.specs.Prelude.{◌≡◌, ℕ, ◌+◌, ◌*◌, ◌/◌, ◌%◌, ◌^◌, ◌<◌, ◌≤◌, ◌==◌, nat_lt, Bool, true, false, not, ◌&&◌, List, [], ◌∷◌, ◌++◌, Option, Some, None, filter, map, IsTrue, ⊤, if◌then◌else◌}
+use Rattle.std.specs.Prelude.{◌≡◌, ℕ, ◌+◌, ◌*◌, ◌/◌, ◌%◌, ◌^◌, ◌<◌, ◌≤◌, ◌==◌, nat_lt, Bool, true, not, ◌&&◌, List, [], ◌∷◌, ◌++◌, filter, map, ⊤, if◌then◌else◌}
 use Rattle.std.specs.List.{list_all, list_any}
-use Rattle.std.specs.Ordering.{nat_cmp}
-use Rattle.std.specs.BTreeMap.{is_at}
 use Rattle.geo_headline.specs.Sweep.{Waiting, candidates}
+use Rattle.geo_elev.specs.Front.{is_kept}
 use Rattle.geo_elev.specs.declared.lists.Place.{Place}
 
 -- a bio that waits, by its number and its place
@@ -44,10 +43,6 @@ all_waiting keys flush later = listed flush keys ++ waiting_in later
 abbrev pub has_key : ℕ → List Waiting → Bool
 has_key key xs = list_any (λ x. key_of x == key) xs
 
--- whether it is among the keys of a set
-abbrev pub is_kept : ℕ → List ℕ → Bool
-is_kept key keys = list_any (is_at (nat_cmp key)) keys
-
 -- no FLUSH waits
 abbrev pub has_no_flush : List Waiting → Bool
 has_no_flush xs = list_all (λ x. not x.flush) xs
@@ -56,11 +51,6 @@ has_no_flush xs = list_all (λ x. not x.flush) xs
 abbrev pub joins : List Waiting → Bool → Bool
 joins [] flush = true
 joins (x ∷ xs) flush = has_no_flush (x ∷ xs) && not flush
-
--- there are none
-abbrev pub is_none_of : {X : Type 0} → List X → Bool
-is_none_of [] = true
-is_none_of (x ∷ xs) = false
 
 -- those that are another bio
 abbrev pub without : ℕ → List Waiting → List Waiting
@@ -79,15 +69,9 @@ abbrev pub Rises : ℕ → List Waiting → Type 0
 Rises low [] = ⊤
 Rises low (x ∷ xs) = (low ≤ x.bio) × (x.bio < 2 ^ 64) × Rises (x.bio + 1) xs
 
--- the set has the keys of these
+-- they are the keys of these
 abbrev pub HasKeys : List ℕ → List Waiting → Type 0
 HasKeys keys xs = (key : ℕ) → is_kept key keys ≡ has_key key xs
-
--- the least key from one on
-abbrev pub IsNextKey : List ℕ → ℕ → Option ℕ → Type 0
-IsNextKey keys low (Some k) =
-    IsTrue (is_kept k keys) × (low ≤ k) × ((key : ℕ) → IsTrue (is_kept key keys) → low ≤ key → k ≤ key)
-IsNextKey keys low None = (key : ℕ) → low ≤ key → is_kept key keys ≡ false
 
 -- the numbers rise, what has these keys may be taken next, and no number is greater than the last
 pub record AreLists (keys : List ℕ) (flush : Bool) (later : List (ℕ × Place)) (last : ℕ) : Type 0 where

@@ -59,6 +59,7 @@ fn move_to(disk: &mut DiskHead, request: &Request)
 {
     if request.cmd != BioCmd::Flush {
         disk.head = request.first;
+        disk.waiting.turn(request.first);
     }
 }
 

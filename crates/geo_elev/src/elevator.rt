@@ -50,7 +50,7 @@ impl Heads {
     }
 
     /// Notes what a mesh did since, entry by entry where requests come in order of their numbers, each is noted before
-    /// the next one comes, and each disk takes one that may be next; else all is gathered anew. No clause says which.
+    /// the next one comes, and each disk takes the one that is next; else all is gathered anew. No clause says which.
     /// On `NoMemory` nothing is known, as before the first entry.
     pub fn note(&mut self, mesh: &Mesh) -> Result<(), NoMemory>
         requires earlier { (seen : List EntryValue)

@@ -1,17 +1,14 @@
 //! What waits for a disk, in two lists: by places what may be taken next, and by numbers what comes behind that.
-ghost use Rattle.std.specs.Prelude.{◌≡◌, ◌+◌, ◌*◌, ◌%◌, ◌^◌, [], ◌∷◌, ◌++◌, ◌||◌, false, not, drop, IfOk, IsTrue, MatchOption, OnErr, OnOk, nat_lt};
-ghost use Rattle.std.specs.BTreeMap.{is_at};
-ghost use Rattle.std.specs.BTreeSet.{insert_key};
-ghost use Rattle.std.specs.List.{list_all};
+ghost use Rattle.std.specs.Prelude.{◌≡◌, ◌+◌, [], ◌∷◌, ◌++◌, ◌||◌, false, not, drop, IfOk, IsTrue, MatchOption, OnErr, OnOk};
 ghost use Rattle.std.specs.Option.{option_map};
-ghost use Rattle.std.specs.Ordering.{nat_cmp};
-ghost use Rattle.std.specs.Set.{remove_key};
 ghost use Rattle.geo_headline.specs.Sweep.{before_flush, candidates, next_of};
-ghost use Rattle.geo_elev.specs.Lists.{AreLists, IsNextKey, Rises, all_waiting, are_below, is_kept, is_none_of, joins, listed, one_at, taken_if, waiting_in};
+ghost use Rattle.geo_elev.specs.Front.{is_none_of};
+ghost use Rattle.geo_elev.specs.Lists.{AreLists, Rises, all_waiting, are_below, joins, listed, one_at, taken_if, waiting_in};
 
+use crate::front::{Front, bio_in, key};
 use geo_base::NoMemory;
 use std::alloc::Global;
-use std::collections::{BTreeSet, VecDeque};
+use std::collections::VecDeque;
 
 /// What a disk is asked for: whether that is a FLUSH, and the sector at which it begins.
 #[derive(Clone, Copy, Debug, PartialEq, Eq)]
@@ -26,33 +23,19 @@ pub struct Place {
 /// comes behind it, in order of numbers. `last`: no number is greater.
 #[derive(Drop)]
 pub struct Lists {
-    pub front: BTreeSet<u128>,
+    pub front: Front,
     pub flush: bool,
     pub later: VecDeque<(u64, Place)>,
     pub last: u64,
 }
 
-// The key of a bio whose place begins at a sector.
-fn key(bio: u64, first: u64) -> u128
-    ensures { result ≡ first * 2 ^ 64 + bio }
-{
-    u128::from(first) * 18_446_744_073_709_551_616 + u128::from(bio)
-}
-
-// The number of the bio with this key.
-fn bio_in(key: u128) -> u64
-    ensures { result ≡ key % 2 ^ 64 }
-{
-    (key % 18_446_744_073_709_551_616) as u64
-}
-
 /// Lists in which nothing waits.
 pub fn none(alloc: Global) -> Lists
-    ensures lists { AreLists result.front.keys result.flush result.later.items result.last }
-    ensures none { all_waiting result.front.keys result.flush result.later.items ≡ [] }
+    ensures lists { AreLists result.front result.flush result.later.items result.last }
+    ensures none { all_waiting result.front result.flush result.later.items ≡ [] }
 {
     Lists {
-        front: BTreeSet::new(alloc),
+        front: Front::new(alloc),
         flush: false,
         later: VecDeque::new(alloc),
         last: 0,
@@ -61,8 +44,8 @@ pub fn none(alloc: Global) -> Lists
 
 /// Empties the lists.
 pub fn clear(lists: &mut Lists)
-    ensures lists { AreLists lists.new.front.keys lists.new.flush lists.new.later.items lists.new.last }
-    ensures none { all_waiting lists.new.front.keys lists.new.flush lists.new.later.items ≡ [] }
+    ensures lists { AreLists lists.new.front lists.new.flush lists.new.later.items lists.new.last }
+    ensures none { all_waiting lists.new.front lists.new.flush lists.new.later.items ≡ [] }
 {
     lists.front.clear();
     lists.flush = false;
@@ -70,40 +53,30 @@ pub fn clear(lists: &mut Lists)
     lists.last = 0;
 }
 
-// The least key from one on.
-fn next_key(front: &BTreeSet<u128>, low: u128) -> Option<u128>
-    ensures { IsNextKey front.now.keys low result }
+/// The disk's head stands at a sector. It is noted where nothing may be taken next.
+pub fn turn(lists: &mut Lists, head: u64)
+    requires { AreLists lists.old.front lists.old.flush lists.old.later.items lists.old.last }
+    ensures lists { AreLists lists.new.front lists.new.flush lists.new.later.items lists.new.last }
+    ensures same { all_waiting lists.new.front lists.new.flush lists.new.later.items
+        ≡ all_waiting lists.old.front lists.old.flush lists.old.later.items }
 {
-    let first = front.range(low..).next()?;
-    Some(*first)
+    lists.front.turn(head);
 }
 
 /// The number of the bio that the disk takes next, with its head at a sector: of those that aren't behind the head the
 /// one with the smallest place, or where all are, of all.
 pub fn next(lists: &Lists, head: u64) -> Option<u64>
-    requires { AreLists lists.now.front.keys lists.now.flush lists.now.later.items lists.now.last }
+    requires { AreLists lists.now.front lists.now.flush lists.now.later.items lists.now.last }
     ensures { result ≡ option_map (λ x. x.bio) (next_of head (candidates
-        (all_waiting lists.now.front.keys lists.now.flush lists.now.later.items))) }
+        (all_waiting lists.now.front lists.now.flush lists.now.later.items))) }
 {
-    if let Some(key) = next_key(&lists.front, u128::from(head) * 18_446_744_073_709_551_616) {
+    if let Some(key) = lists.front.least_ahead(head) {
         return Some(bio_in(key));
     }
-    match next_key(&lists.front, 0) {
+    match lists.front.least() {
         Some(key) => Some(bio_in(key)),
         None => None,
     }
-}
-
-// Whether all that has these keys has smaller numbers.
-fn keys_below(front: &BTreeSet<u128>, bio: u64) -> bool
-    ensures { result ≡ list_all (λ k. nat_lt (k % 2 ^ 64) bio) front.now.keys }
-{
-    for key in front {
-        if bio_in(*key) >= bio {
-            return false;
-        }
-    }
-    true
 }
 
 // Whether all that comes behind has smaller numbers.
@@ -122,43 +95,17 @@ fn later_below(later: &VecDeque<(u64, Place)>, bio: u64) -> bool
 
 /// Whether all that waits has smaller numbers.
 pub fn are_below(lists: &Lists, bio: u64) -> bool
-    requires { AreLists lists.now.front.keys lists.now.flush lists.now.later.items lists.now.last }
-    ensures { result ≡ are_below bio (all_waiting lists.now.front.keys lists.now.flush lists.now.later.items) }
+    requires { AreLists lists.now.front lists.now.flush lists.now.later.items lists.now.last }
+    ensures { result ≡ are_below bio (all_waiting lists.now.front lists.now.flush lists.now.later.items) }
 {
     if lists.last < bio {
         return true;
     }
-    if keys_below(&lists.front, bio) {
+    if lists.front.are_below(bio) {
         later_below(&lists.later, bio)
     } else {
         false
     }
-}
-
-// One key more.
-fn add_key(front: &mut BTreeSet<u128>, key: u128) -> Result<(), NoMemory>
-    ensures { OnOk result (front.new.keys ≡ insert_key nat_cmp front.old.keys key) }
-{
-    match front.insert(key) {
-        Ok(_) => Ok(()),
-        Err(_) => Err(NoMemory),
-    }
-}
-
-// One key less, and whether it was there.
-fn take_key(front: &mut BTreeSet<u128>, key: u128) -> bool
-    ensures was { result ≡ is_kept key front.old.keys }
-    ensures left { front.new.keys ≡ remove_key (is_at (nat_cmp key)) front.old.keys }
-    ensures same { result ≡ false → front.new.keys ≡ front.old.keys }
-{
-    front.remove(&key)
-}
-
-// Whether there is no key.
-fn no_key(front: &BTreeSet<u128>) -> bool
-    ensures { result ≡ is_none_of front.now.keys }
-{
-    front.is_empty()
 }
 
 // Whether nothing comes behind.
@@ -177,13 +124,13 @@ fn neither(one: bool, other: bool) -> bool
 
 // Whether one more at the end may be taken next.
 fn joins(lists: &Lists, flush: bool) -> bool
-    requires { AreLists lists.now.front.keys lists.now.flush lists.now.later.items lists.now.last }
-    ensures { result ≡ joins (all_waiting lists.now.front.keys lists.now.flush lists.now.later.items) flush }
+    requires { AreLists lists.now.front lists.now.flush lists.now.later.items lists.now.last }
+    ensures { result ≡ joins (all_waiting lists.now.front lists.now.flush lists.now.later.items) flush }
 {
     if !none_later(&lists.later) {
         return false;
     }
-    if no_key(&lists.front) {
+    if lists.front.is_empty() {
         return true;
     }
     neither(lists.flush, flush)
@@ -191,16 +138,16 @@ fn joins(lists: &Lists, flush: bool) -> bool
 
 // One more that may be taken next.
 fn add_next(lists: &mut Lists, bio: u64, place: Place) -> Result<(), NoMemory>
-    requires lists { AreLists lists.old.front.keys lists.old.flush lists.old.later.items lists.old.last }
+    requires lists { AreLists lists.old.front lists.old.flush lists.old.later.items lists.old.last }
     requires below { IsTrue (are_below bio
-        (all_waiting lists.old.front.keys lists.old.flush lists.old.later.items)) }
+        (all_waiting lists.old.front lists.old.flush lists.old.later.items)) }
     requires joins { IsTrue (joins
-        (all_waiting lists.old.front.keys lists.old.flush lists.old.later.items) place.flush) }
-    ensures lists { OnOk result (AreLists lists.new.front.keys lists.new.flush lists.new.later.items bio) }
-    ensures put { OnOk result (all_waiting lists.new.front.keys lists.new.flush lists.new.later.items
-        ≡ all_waiting lists.old.front.keys lists.old.flush lists.old.later.items ++ one_at bio place ∷ []) }
+        (all_waiting lists.old.front lists.old.flush lists.old.later.items) place.flush) }
+    ensures lists { OnOk result (AreLists lists.new.front lists.new.flush lists.new.later.items bio) }
+    ensures put { OnOk result (all_waiting lists.new.front lists.new.flush lists.new.later.items
+        ≡ all_waiting lists.old.front lists.old.flush lists.old.later.items ++ one_at bio place ∷ []) }
 {
-    add_key(&mut lists.front, key(bio, place.first))?;
+    lists.front.add(key(bio, place.first))?;
     lists.flush = place.flush;
     Ok(())
 }
@@ -217,12 +164,12 @@ fn add_later(later: &mut VecDeque<(u64, Place)>, bio: u64, place: Place) -> Resu
 
 // One more waits.
 fn add(lists: &mut Lists, bio: u64, place: Place) -> Result<(), NoMemory>
-    requires lists { AreLists lists.old.front.keys lists.old.flush lists.old.later.items lists.old.last }
+    requires lists { AreLists lists.old.front lists.old.flush lists.old.later.items lists.old.last }
     requires below { IsTrue (are_below bio
-        (all_waiting lists.old.front.keys lists.old.flush lists.old.later.items)) }
-    ensures lists { OnOk result (AreLists lists.new.front.keys lists.new.flush lists.new.later.items bio) }
-    ensures put { OnOk result (all_waiting lists.new.front.keys lists.new.flush lists.new.later.items
-        ≡ all_waiting lists.old.front.keys lists.old.flush lists.old.later.items ++ one_at bio place ∷ []) }
+        (all_waiting lists.old.front lists.old.flush lists.old.later.items)) }
+    ensures lists { OnOk result (AreLists lists.new.front lists.new.flush lists.new.later.items bio) }
+    ensures put { OnOk result (all_waiting lists.new.front lists.new.flush lists.new.later.items
+        ≡ all_waiting lists.old.front lists.old.flush lists.old.later.items ++ one_at bio place ∷ []) }
 {
     if joins(lists, place.flush) {
         add_next(lists, bio, place)
@@ -233,13 +180,13 @@ fn add(lists: &mut Lists, bio: u64, place: Place) -> Result<(), NoMemory>
 
 /// One more waits, with a greater number than all. Where memory is wanting nothing is left.
 pub fn put(lists: &mut Lists, bio: u64, place: Place) -> Result<(), NoMemory>
-    requires lists { AreLists lists.old.front.keys lists.old.flush lists.old.later.items lists.old.last }
+    requires lists { AreLists lists.old.front lists.old.flush lists.old.later.items lists.old.last }
     requires below { IsTrue (are_below bio
-        (all_waiting lists.old.front.keys lists.old.flush lists.old.later.items)) }
-    ensures lists { AreLists lists.new.front.keys lists.new.flush lists.new.later.items lists.new.last }
-    ensures put { OnOk result (all_waiting lists.new.front.keys lists.new.flush lists.new.later.items
-        ≡ all_waiting lists.old.front.keys lists.old.flush lists.old.later.items ++ one_at bio place ∷ []) }
-    ensures lost { OnErr result (all_waiting lists.new.front.keys lists.new.flush lists.new.later.items ≡ []) }
+        (all_waiting lists.old.front lists.old.flush lists.old.later.items)) }
+    ensures lists { AreLists lists.new.front lists.new.flush lists.new.later.items lists.new.last }
+    ensures put { OnOk result (all_waiting lists.new.front lists.new.flush lists.new.later.items
+        ≡ all_waiting lists.old.front lists.old.flush lists.old.later.items ++ one_at bio place ∷ []) }
+    ensures lost { OnErr result (all_waiting lists.new.front lists.new.flush lists.new.later.items ≡ []) }
 {
     match add(lists, bio, place) {
         Ok(()) => {
@@ -265,16 +212,16 @@ fn first_later(later: &VecDeque<(u64, Place)>) -> Option<(u64, Place)>
 }
 
 // All that stands before the first FLUSH may be taken next too.
-fn fill_on(front: &mut BTreeSet<u128>, later: &mut VecDeque<(u64, Place)>) -> Result<(), NoMemory>
-    requires rises { Rises 0 (all_waiting front.old.keys false later.old.items) }
-    requires some { is_none_of front.old.keys ≡ false }
-    ensures same { OnOk result (all_waiting front.new.keys false later.new.items
-        ≡ all_waiting front.old.keys false later.old.items) }
-    ensures some { OnOk result (is_none_of front.new.keys ≡ false) }
+fn fill_on(front: &mut Front, later: &mut VecDeque<(u64, Place)>) -> Result<(), NoMemory>
+    requires rises { Rises 0 (all_waiting front.old false later.old.items) }
+    requires some { is_none_of front.old ≡ false }
+    ensures same { OnOk result (all_waiting front.new false later.new.items
+        ≡ all_waiting front.old false later.old.items) }
+    ensures some { OnOk result (is_none_of front.new ≡ false) }
     ensures end { OnOk result (before_flush (waiting_in later.new.items) ≡ []) }
 {
     while let Some((bio, place)) = first_later(later) {
-        add_key(front, key(bio, place.first))?;
+        front.add(key(bio, place.first))?;
         let _ = later.pop_front();
     }
     Ok(())
@@ -283,19 +230,19 @@ fn fill_on(front: &mut BTreeSet<u128>, later: &mut VecDeque<(u64, Place)>) -> Re
 // Where none has a key, what may be taken next of what comes behind: a FLUSH that stands in front, alone; else what
 // stands before the first one.
 fn fill(lists: &mut Lists) -> Result<(), NoMemory>
-    requires none { lists.old.front.keys ≡ [] }
+    requires none { lists.old.front ≡ [] }
     requires rises { Rises 0 (waiting_in lists.old.later.items) }
     ensures next { OnOk result (candidates
-        (all_waiting lists.new.front.keys lists.new.flush lists.new.later.items)
-        ≡ listed lists.new.flush lists.new.front.keys) }
-    ensures same { OnOk result (all_waiting lists.new.front.keys lists.new.flush lists.new.later.items
+        (all_waiting lists.new.front lists.new.flush lists.new.later.items)
+        ≡ listed lists.new.flush lists.new.front) }
+    ensures same { OnOk result (all_waiting lists.new.front lists.new.flush lists.new.later.items
         ≡ waiting_in lists.old.later.items) }
     ensures last { lists.new.last ≡ lists.old.last }
 {
     let Some((bio, place)) = lists.later.pop_front() else {
         return Ok(());
     };
-    add_key(&mut lists.front, key(bio, place.first))?;
+    lists.front.add(key(bio, place.first))?;
     lists.flush = place.flush;
     if place.flush {
         return Ok(());
@@ -305,13 +252,13 @@ fn fill(lists: &mut Lists) -> Result<(), NoMemory>
 
 // The same; where memory is wanting nothing is left.
 fn refill(lists: &mut Lists) -> Result<(), NoMemory>
-    requires none { lists.old.front.keys ≡ [] }
+    requires none { lists.old.front ≡ [] }
     requires rises { Rises 0 (waiting_in lists.old.later.items) }
     requires below { IsTrue (are_below (lists.old.last + 1) (waiting_in lists.old.later.items)) }
-    ensures lists { AreLists lists.new.front.keys lists.new.flush lists.new.later.items lists.new.last }
-    ensures same { OnOk result (all_waiting lists.new.front.keys lists.new.flush lists.new.later.items
+    ensures lists { AreLists lists.new.front lists.new.flush lists.new.later.items lists.new.last }
+    ensures same { OnOk result (all_waiting lists.new.front lists.new.flush lists.new.later.items
         ≡ waiting_in lists.old.later.items) }
-    ensures lost { OnErr result (all_waiting lists.new.front.keys lists.new.flush lists.new.later.items ≡ []) }
+    ensures lost { OnErr result (all_waiting lists.new.front lists.new.flush lists.new.later.items ≡ []) }
 {
     match fill(lists) {
         Ok(()) => Ok(()),
@@ -322,19 +269,20 @@ fn refill(lists: &mut Lists) -> Result<(), NoMemory>
     }
 }
 
-/// A bio whose place begins at a sector waits no longer, and true; false, where it isn't one of those that may be taken
-/// next: then all waits as before. Where memory is wanting nothing is left.
+/// The bio that the disk takes next waits no longer, if it is this one, whose place begins at a sector, and true; else
+/// false, and all waits as before. The head goes to that sector, but for a FLUSH. Where memory is wanting nothing is
+/// left.
 pub fn take(lists: &mut Lists, bio: u64, first: u64) -> Result<bool, NoMemory>
-    requires { AreLists lists.old.front.keys lists.old.flush lists.old.later.items lists.old.last }
-    ensures lists { AreLists lists.new.front.keys lists.new.flush lists.new.later.items lists.new.last }
-    ensures taken { IfOk result (λ b. all_waiting lists.new.front.keys lists.new.flush lists.new.later.items
-        ≡ taken_if b bio (all_waiting lists.old.front.keys lists.old.flush lists.old.later.items)) }
-    ensures lost { OnErr result (all_waiting lists.new.front.keys lists.new.flush lists.new.later.items ≡ []) }
+    requires { AreLists lists.old.front lists.old.flush lists.old.later.items lists.old.last }
+    ensures lists { AreLists lists.new.front lists.new.flush lists.new.later.items lists.new.last }
+    ensures taken { IfOk result (λ b. all_waiting lists.new.front lists.new.flush lists.new.later.items
+        ≡ taken_if b bio (all_waiting lists.old.front lists.old.flush lists.old.later.items)) }
+    ensures lost { OnErr result (all_waiting lists.new.front lists.new.flush lists.new.later.items ≡ []) }
 {
-    if !take_key(&mut lists.front, key(bio, first)) {
+    if !lists.front.take(key(bio, first), !lists.flush) {
         return Ok(false);
     }
-    if no_key(&lists.front) {
+    if lists.front.is_empty() {
         refill(lists)?;
     }
     Ok(true)

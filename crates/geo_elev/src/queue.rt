@@ -4,13 +4,14 @@ ghost use Rattle.std.specs.Option.{option_map};
 ghost use Rattle.geo_headline.specs.Sweep.{candidates, next_of};
 ghost use Rattle.geo_elev.specs.Lists.{are_below, one_at, taken_if};
 
-use crate::lists::{Lists, Place, are_below, clear, next, none, put, take};
+use crate::lists::{Lists, Place, are_below, clear, next, none, put, take, turn};
 use geo_base::{BioId, NoMemory};
 use std::alloc::Global;
 use std::marker::Model;
 
-/// What waits for a disk. Contracts see it in order of the bios' numbers. What is next is found, and a bio is put in or
-/// taken out that may be next, by the logarithm of how many wait.
+/// What waits for a disk. Contracts see it in order of the bios' numbers. A bio is put in, and the next one taken out,
+/// by the logarithm of how many wait. What is next is found at once, if the queue was told where the head stands before
+/// anything waited.
 #[derive(Drop)]
 pub struct Queue {
     lists: Lists,
@@ -23,9 +24,9 @@ impl Model for Queue {
 
     ghost Value = { List Waiting };
 
-    ghost view = { λ q. all_waiting q.lists.front.keys q.lists.flush q.lists.later.items };
+    ghost view = { λ q. all_waiting q.lists.front q.lists.flush q.lists.later.items };
 
-    ghost invariant = { λ q. AreLists q.lists.front.keys q.lists.flush q.lists.later.items q.lists.last };
+    ghost invariant = { λ q. AreLists q.lists.front q.lists.flush q.lists.later.items q.lists.last };
 }
 
 impl Queue {
@@ -52,8 +53,8 @@ impl Queue {
         put(&mut self.lists, bio.number(), place)
     }
 
-    /// Takes out a bio that may be next, whose place begins at a sector: true; false, where there is no such one, and
-    /// all stays. On `NoMemory` nothing is left.
+    /// Takes out the bio that is next, if it is this one, whose place begins at a sector, and true; else false, and all
+    /// stays. The head goes to that sector, but for a FLUSH. On `NoMemory` nothing is left.
     pub fn take(&mut self, bio: BioId, first: u64) -> Result<bool, NoMemory>
         ensures taken { IfOk result (λ b. self.new ≡ taken_if b bio self.old) }
         ensures lost { OnErr result (self.new ≡ []) }
@@ -61,7 +62,14 @@ impl Queue {
         take(&mut self.lists, bio.number(), first)
     }
 
-    /// Takes out all.
+    /// The head stands at a sector. It is noted where nothing may be taken next.
+    pub fn turn(&mut self, head: u64)
+        ensures { self.new ≡ self.old }
+    {
+        turn(&mut self.lists, head);
+    }
+
+    /// Takes out all, and the head stands at sector 0.
     pub fn clear(&mut self)
         ensures { self.new ≡ [] }
     {

@@ -1,6 +1,5 @@
 use Rattle.std.proofs.Common.{ℕ, List, ap, sym, subst, ◌∙◌}
-use Rattle.std.specs.BTreeSet.{insert_key}
-use Rattle.std.specs.Ordering.{nat_cmp}
+use Rattle.geo_elev.specs.Front.{with_key}
 use Rattle.geo_elev.specs.Lists.{AreLists, all_waiting, one_at}
 use Rattle.geo_elev.proofs.Kept.{put_next}
 use Rattle.geo_elev.proofs.lists.add_next.Goals as goal
@@ -10,14 +9,14 @@ pub returns-clause-lists : goal.returns-clause-lists
 returns-clause-lists c =
     let m = c.args.lists.now in
     subst (λ (ks : List ℕ). AreLists ks c.args.place.flush m.later.items c.args.bio)
-    (sym (c.in_ok-add_key.ensures ∙ ap (λ (n : ℕ). insert_key nat_cmp m.front.keys n) c.key.ensures))
-    (put_next m.front.keys m.flush m.later.items m.last (one_at c.args.bio c.args.place) c.requires.lists
+    (sym (c.in_ok-add.ensures ∙ ap (λ (n : ℕ). with_key n m.front) c.key.ensures))
+    (put_next m.front m.flush m.later.items m.last (one_at c.args.bio c.args.place) c.requires.lists
     c.ranges.bio.fits c.requires.below c.requires.joins).lists
 
 pub returns-clause-put : goal.returns-clause-put
 returns-clause-put c =
     let m = c.args.lists.now in
     ap (λ (ks : List ℕ). all_waiting ks c.args.place.flush m.later.items)
-    (c.in_ok-add_key.ensures ∙ ap (λ (n : ℕ). insert_key nat_cmp m.front.keys n) c.key.ensures)
-    ∙ (put_next m.front.keys m.flush m.later.items m.last (one_at c.args.bio c.args.place) c.requires.lists
+    (c.in_ok-add.ensures ∙ ap (λ (n : ℕ). with_key n m.front) c.key.ensures)
+    ∙ (put_next m.front m.flush m.later.items m.last (one_at c.args.bio c.args.place) c.requires.lists
     c.ranges.bio.fits c.requires.below c.requires.joins).put

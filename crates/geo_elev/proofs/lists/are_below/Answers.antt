@@ -7,20 +7,20 @@ use Rattle.geo_elev.proofs.lists.are_below.Goals as goal
 pub returns-then-lists-bio : goal.returns-then-lists-bio
 returns-then-lists-bio c =
     let m = c.args.lists.now in
-    last_below m.front.keys m.flush m.later.items m.last c.args.bio c.requires c.if-lists-bio.true
+    last_below m.front m.flush m.later.items m.last c.args.bio c.requires c.if-lists-bio.true
 
 -- Else: all that may be taken next, and all behind it, are asked
-pub returns-then-keys_below : goal.returns-then-keys_below
-returns-then-keys_below c =
+pub returns-then-are_below : goal.returns-then-are_below
+returns-then-are_below c =
     let m = c.args.lists.now in
     c.later_below.ensures
-    ∙ sym (both_below m.front.keys m.flush m.later.items c.args.bio
+    ∙ sym (both_below m.front m.flush m.later.items c.args.bio
     ∙ ap (λ (b : Bool). b && are_below c.args.bio (waiting_in m.later.items))
-    (sym c.keys_below.ensures ∙ c.if-keys_below.true))
+    (sym c.are_below.ensures ∙ c.if-are_below.true))
 
-pub returns-else-keys_below : goal.returns-else-keys_below
-returns-else-keys_below c =
+pub returns-else-are_below : goal.returns-else-are_below
+returns-else-are_below c =
     let m = c.args.lists.now in
-    sym (both_below m.front.keys m.flush m.later.items c.args.bio
+    sym (both_below m.front m.flush m.later.items c.args.bio
     ∙ ap (λ (b : Bool). b && are_below c.args.bio (waiting_in m.later.items))
-    (sym c.keys_below.ensures ∙ c.if-keys_below.false))
+    (sym c.are_below.ensures ∙ c.if-are_below.false))

@@ -7,7 +7,7 @@ use Rattle.geo_elev.proofs.lists.fill.Goals as goal
 -- a FLUSH or nothing comes next behind, so what has a key is all that may be taken next
 pub returns-clause-next : goal.returns-clause-next
 returns-clause-next c =
-    let keys = c.fill_on.new.front.keys in
+    let keys = c.fill_on.new.front in
     let items = c.fill_on.new.later.items in
     both_ok c.fill_on.result c.fill_on.ensures.some c.fill_on.ensures.end (λ some end.
     subst (λ (b : Bool). candidates (all_waiting keys b items) ≡ listed b keys) (sym c.if-place.false)

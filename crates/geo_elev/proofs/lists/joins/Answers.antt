@@ -6,7 +6,7 @@ use Rattle.geo_elev.proofs.lists.joins.Goals as goal
 pub returns-then-not-none_later : goal.returns-then-not-none_later
 returns-then-not-none_later c =
     let m = c.args.lists.now in
-    joins_later m.front.keys m.flush m.later.items m.last c.args.flush c.requires
+    joins_later m.front m.flush m.later.items m.last c.args.flush c.requires
     (sym c.none_later.ensures ∙ c.if-not-none_later.true)
 
 -- nothing comes behind: one more may be taken next where neither it nor what waits is a FLUSH
@@ -14,5 +14,5 @@ pub returns : goal.returns
 returns c =
     let m = c.args.lists.now in
     c.neither.ensures
-    ∙ joins_front m.front.keys m.flush m.later.items c.args.flush (sym c.none_later.ensures ∙ c.if-not-none_later.false)
-    (sym c.no_key.ensures ∙ c.if-no_key.false)
+    ∙ joins_front m.front m.flush m.later.items c.args.flush (sym c.none_later.ensures ∙ c.if-not-none_later.false)
+    (sym c.is_empty.ensures ∙ c.if-is_empty.false)
