@@ -15,7 +15,7 @@ pub due_falls : (order : StepOrder) (m : MeshView) → OrderGoesOn order → Ord
 due_falls order m goes_on ends history none_busy None is = tt
 due_falls order m goes_on ends history none_busy (Some s) is =
     let due : IsSomeAnd (order (world_of m) m.log) Good =
-    goes_on m.plan m.facts history.plan history.facts m.log history.lawful.0 none_busy not_rest in
+    goes_on m.plan m.facts history.plan.begins history.facts m.log history.lawful.0 none_busy not_rest in
     let falls : IsSomeAnd (Some s) Good = subst (λ o. IsSomeAnd o Good) (sym is) due in
     record { enabled = falls.0; lowers = falls.1 }
   where

@@ -26,7 +26,8 @@ pub ran_full : (order : StepOrder) (m : MeshView) (s : Step) → IsHistory m →
     → IsTrue (is_full m.log (world_of m) 0 s) → RanFull order m
 ran_full order m s history due full = record {
   due = subst (λ o. IsSomeAnd o (λ t. IsTrue (is_full m.log (world_of m) 0 t))) (sym due) full;
-  nearly = full_logs_are_long m.log (world_of m) 0 s (firm_after m.plan m.facts history.plan history.facts m.log) full;
+  nearly = full_logs_are_long m.log (world_of m) 0 s
+      (firm_after m.plan m.facts history.plan.begins history.facts m.log) full;
 }
 
 -- where none is due all is at rest
@@ -41,7 +42,7 @@ none_due order m goes_on history none_busy none = by (is_at_rest (world_of m)) r
     by true is = is
     by false is =
         let some : IsSomeAnd (order (world_of m) m.log) Good =
-        goes_on m.plan m.facts history.plan history.facts m.log history.lawful.0 none_busy
+        goes_on m.plan m.facts history.plan.begins history.facts m.log history.lawful.0 none_busy
         (λ rest. both_ways (is_at_rest (world_of m)) is rest) in
         let bad : IsSomeAnd None Good = subst (λ o. IsSomeAnd o Good) none some in
         absurd bad

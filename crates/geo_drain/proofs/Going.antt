@@ -212,8 +212,8 @@ take_turn order old new next before after later disk b run due history turn = re
     asked : request_of one b ≡ Some turn.request
     asked =
         request_last old.log run.runs.added t b turn.request
-        (legal_logs_complete_requests.taken old.plan old.facts old_history.plan old_history.facts (old.log ++ one)
-        legal_one b)
+        (legal_logs_complete_requests.taken old.plan old.facts old_history.plan.begins old_history.facts
+        (old.log ++ one) legal_one b)
         (eq-eqb b b refl) refl
 
     world_one : world_of turn.taken ≡ world_by (world_of new) 0 (steps.Take disk b)

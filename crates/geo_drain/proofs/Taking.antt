@@ -59,7 +59,7 @@ takes_request old taken drives disk bio o history after fit made =
 
     asks : AsksInside (opened old) disk o
     asks =
-        disks_are_asked.inside old.plan old.facts history.plan history.facts (old.log ++ e ∷ []) legal old.log e
+        disks_are_asked.inside old.plan old.facts history.plan.begins history.facts (old.log ++ e ∷ []) legal old.log e
         ([], refl) disk bio refl
 
     of_header : (header : HeaderDisk) → slice_get (opened old).disks disk ≡ Some header → LiesInside asks.request header
@@ -71,10 +71,11 @@ takes_request old taken drives disk bio o history after fit made =
         (subst (λ ds. slice_get ds disk ≡ Some header) (opening_disks old.plan old.facts) here)) in
         let now : slice_get (world_of old).disks disk ≡ Some header =
         subst (λ ds. slice_get ds disk ≡ Some header)
-        (sym (disks_are_asked.disks old.plan old.facts history.plan history.facts old.log history.lawful.0)) here in
+        (sym (disks_are_asked.disks old.plan old.facts history.plan.begins history.facts old.log history.lawful.0))
+        here in
         let servable : IsServable (world_of old) (world_of taken) 0 bio asks.request header =
         takes_are_servable (world_of old) (world_of taken) 0 disk bio asks.request header
-        (firm_after old.plan old.facts history.plan history.facts old.log)
+        (firm_after old.plan old.facts history.plan.begins history.facts old.log)
         (subst (λ (x : Outcome). step (world_of old) 0 (steps.Take disk bio) ≡ Ok (world_of taken, x)) asks.is
         made.does)
         now lies in (

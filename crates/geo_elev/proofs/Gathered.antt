@@ -189,7 +189,7 @@ module _ (m : MeshView) (history : IsHistory m) where
   w = world_of m
 
   firm : Firm w
-  firm = firm_after m.plan m.facts history.plan history.facts m.log
+  firm = firm_after m.plan m.facts history.plan.begins history.facts m.log
 
   rising : Rise 0 (map (λ (x : Bio). x.number) w.bios) w.next_bio
   rising = rise-from w.next_bio (map (λ (x : Bio). x.number) w.bios) firm.bios.numbers

@@ -42,7 +42,7 @@ module _ (m : MeshView) (history : IsHistory m) (seen : List Entry) (e : Entry) 
   w = replay (opened m) seen
 
   firm : Firm w
-  firm = firm_after m.plan m.facts history.plan history.facts seen
+  firm = firm_after m.plan m.facts history.plan.begins history.facts seen
 
   made : step w e.seat e.step ≡ Ok (after_entry w e, e.outcome)
   made =

@@ -34,7 +34,7 @@ first_is m history h are =
     ap (λ (ds : List DiskHead). first_some (map take_by (enumerate_from 0 ds))) are.disks
     ∙ ap first_some (takes_same (world_of m) m.log 0 (length (opened m).disks))
     ∙ ap (λ (ds : List HeaderDisk). first_some (map (next_take (world_of m) m.log) (range_with_len 0 (length ds))))
-    (sym (disks_are_asked.disks m.plan m.facts history.plan history.facts m.log history.lawful.0))
+    (sym (disks_are_asked.disks m.plan m.facts history.plan.begins history.facts m.log history.lawful.0))
 
 -- Where no bio is Busy
 
@@ -66,7 +66,7 @@ first_given m history idle =
         (next_of (head_of m.log disk) (candidates (waiting_for w disk))) (λ (s : Step). is_enabled w 0 s ≡ true)
         (λ y found. next_holds (λ (z : Waiting). is_enabled w 0 (steps.Take disk z.bio) ≡ true) (head_of m.log disk)
         (waiting_for w disk) y
-        (waiting_can_be_taken w (firm_after m.plan m.facts history.plan history.facts m.log) idle disk) found)
+        (waiting_can_be_taken w (firm_after m.plan m.facts history.plan.begins history.facts m.log) idle disk) found)
 
 -- so what is first in the elevator order by what is kept is what is given of the mesh
 pub next_given : (m : MeshView) → IsHistory m → NoneBusy (world_of m) → (h : HeadsView) → AreHeads (opened m) m.log h

@@ -110,8 +110,8 @@ asked_at s log earlier later e disk bio q history split takes asks = record {
   where
     asked : AsksInside (opened_by s) disk e.outcome
     asked =
-        disks_are_asked.inside s.plan s.facts history.plan history.facts log history.lawful.0 earlier e (later, split)
-        disk bio takes
+        disks_are_asked.inside s.plan s.facts history.plan.begins history.facts log history.lawful.0 earlier e
+        (later, split) disk bio takes
 
     its : asked.request ≡ q
     its = let same : outcomes.Asked q ≡ outcomes.Asked asked.request = sym asks ∙ asked.is in cc
@@ -169,12 +169,12 @@ asked_of y p q disk bio request of good made = record {
         (subst (λ (l : List Entry). Legal (opened_by s) l) made.ends history.lawful.0)
 
     firm : Firm w
-    firm = firm_after s.plan s.facts history.plan history.facts made.before
+    firm = firm_after s.plan s.facts history.plan.begins history.facts made.before
 
     header_then : slice_get w.disks disk ≡ Some asked.header
     header_then =
         ap (λ (ds : List HeaderDisk). slice_get ds disk)
-        (disks_are_asked.disks s.plan s.facts history.plan history.facts made.before front)
+        (disks_are_asked.disks s.plan s.facts history.plan.begins history.facts made.before front)
         ∙ asked.at
 
     servable : IsServable w made.after p.number bio request asked.header

@@ -170,8 +170,8 @@ enabled_now : (y : YardView MeshStart) (p q : MeshPass) (bio : ℕ) (got : Devic
     → CanDeliver y.start p bio got → Goes p q [] → IsGoodPass q
     → IsTrue (is_enabled (replay (opened_by y.start) q.seen) p.number (steps.Deliver bio got))
 enabled_now y p q bio got of can goes good =
-    taken_can_be_answered s.plan s.facts history.plan history.facts q.seen history.lawful.0 last.earlier last.later e
-    can.disk bio can.request asked.header got last.split refl refl
+    taken_can_be_answered s.plan s.facts history.plan.begins history.facts q.seen history.lawful.0 last.earlier
+    last.later e can.disk bio can.request asked.header got last.split refl refl
     (All-from_recursion (λ (x : Entry). x.seat ≢ p.number) last.later last.others) asked.at fits
   where
     s : MeshStart

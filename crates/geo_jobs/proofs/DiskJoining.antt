@@ -97,7 +97,7 @@ module _ {D : Type 0} (y : YardView _) (facts : List (ℕ × ℕ)) (seen : Drive
       of_log es among here =
           let history = history_of y q (still_of y p q with_both of goes_all) good in
           request_among q.seen
-          (taken_once y.start.plan y.start.facts history.plan history.facts q.seen history.lawful.0) es
+          (taken_once y.start.plan y.start.facts history.plan.begins history.facts q.seen history.lawful.0) es
           (λ z there. within z (among z there)) bio
           (record { take = taking; here = here; takes = eq-eqb bio bio refl })
 

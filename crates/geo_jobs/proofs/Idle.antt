@@ -14,7 +14,7 @@ use Rattle.geo_model.specs.World.{Plan, World, commands_of}
 use Rattle.geo_model.specs.Fitting.{Firm}
 use Rattle.geo_model.specs.Log.{owed, replay, IsMade, Legal}
 use Rattle.geo_model.specs.Opening.{opening}
-use Rattle.geo_model.specs.Plans.{FactsFit, IsPlan}
+use Rattle.geo_model.specs.Plans.{FactsFit, MayBegin}
 use Rattle.geo_laws_graph.proofs.Members.{All-from_contained, Contains-filter, Contains-map, Contains-there, nothing_in}
 use Rattle.geo_laws_owed.proofs.Full.{full_logs_are_long, owed_never_falls}
 use Rattle.geo_laws_disks.proofs.Legal.{firm_after}
@@ -49,7 +49,7 @@ use Rattle.geo_model.specs.declared.step.Step.TheVariants as steps
 use Rattle.geo_jobs.specs.declared.turn.Turn.TheVariants as turns
 use Rattle.geo_jobs.specs.declared.job.Role.TheVariants as roles
 
-pub found_full : (plan : Plan) (facts : List (ℕ × ℕ)) → IsPlan plan → FactsFit plan facts → (log : List Entry)
+pub found_full : (plan : Plan) (facts : List (ℕ × ℕ)) → MayBegin plan → FactsFit plan facts → (log : List Entry)
     → All (λ (e : Entry). e.seat ≢ 0) log → (q : MeshPass) → IsPrefix q.seen log
     → WasFull (opening plan facts) plan q → FoundFullByJob plan (opening plan facts) log
 found_full plan facts is fit log jobs q begins full =

@@ -162,7 +162,8 @@ serve_log seen plan facts log own worker law seats is (x ∷ xs) [] of zip = abs
 serve_log seen plan facts log own worker law seats is (x ∷ xs) (y ∷ ys) of zip =
     search (
       rules,
-      seats_serve plan facts law.plan law.facts log law.lawful.0 (disk_seat plan) x.0 (seen x.1) (seen y.1) seats,
+      seats_serve plan facts law.plan.begins law.facts log law.lawful.0 (disk_seat plan) x.0 (seen x.1) (seen y.1)
+          seats,
       serve_log seen plan facts log own worker law seats is xs ys of.1 zip.1,
     )
 
@@ -199,7 +200,7 @@ module _ {D : Type 0} (y : MeshYard) (seen : Drive D → DriveView) (drives : Li
       let its = ended_of y seen count_of_yard drives 1 ws w ended here in
       let full : WasFull (opened_by y.start) plan_of_yard w.job.pass =
       subst (λ a. EndedAs (opened_by y.start) plan_of_yard w.job.pass w.job.role a) is.1.4 its.1.ended in
-      found_full plan_of_yard y.start.facts law.plan law.facts log
+      found_full plan_of_yard y.start.facts law.plan.begins law.facts log
       (All-weaker (λ (x : Entry). (x.seat ≢ 0) × IsOfItsJob plan_of_yard x.seat x.step) (λ (x : Entry). x.seat ≢ 0)
       (λ x job. job.0) log (are_of_kind plan_of_yard log mine)) w.job.pass
       (good_pass y seen drives log first ws ended many good mine w here).seen full
@@ -215,7 +216,7 @@ module _ {D : Type 0} (y : MeshYard) (seen : Drive D → DriveView) (drives : Li
         list_served 0,
         list_served 1,
         are_of_kind plan_of_yard log mine,
-        none_is_busy plan_of_yard log mine y.start.facts law.plan law.facts law.lawful.0,
+        none_is_busy plan_of_yard log mine y.start.facts law.plan.begins law.facts law.lawful.0,
         are_served seen log drives,
         sizes_kept seen log drives,
         tells_end e how,
@@ -270,7 +271,7 @@ few_drives y seen drives law fit =
     let two = length-map (map seen drives) size_of in
     let facts = ap (λ (l : List (ℕ × ℕ)). length l) fit in
     let disks = AllZip-long IsFact y.start.plan.disks y.start.facts law.facts in
-    let few = law.plan.few_disks in
+    let few = law.plan.begins.few_disks in
     omega (arith, one, two, facts, disks, few)
 
 -- the mesh as it is printed before the first step is what the pass 0 of a new yard has seen

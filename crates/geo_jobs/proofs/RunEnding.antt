@@ -33,7 +33,7 @@ use Rattle.geo_model.specs.Laws.{NoneBusy}
 use Rattle.geo_model.specs.Log.{Legal, replay}
 use Rattle.geo_model.specs.Opening.{opening}
 use Rattle.geo_model.specs.Passes.{entries_of_seat}
-use Rattle.geo_model.specs.Plans.{FactsFit, IsPlan}
+use Rattle.geo_model.specs.Plans.{FactsFit, MayBegin}
 use Rattle.geo_model.specs.Results.{device_answer_in, device_answer_of, is_deliver_of, is_take_of, request_in, request_of}
 use Rattle.geo_laws_disks.proofs.AllDelivered.{all_delivered_none_busy}
 use Rattle.geo_laws_disks.specs.DriveLaws.{IsTaken}
@@ -385,6 +385,6 @@ module _ (plan : Plan) (log : List Entry)
           answer_in_all b (λ (x : Entry). x.seat == e.seat) log (answered b (subst (λ o. IsSome o) asked some))
 
   -- so no bio is at a disk
-  pub none_is_busy : (facts : List (ℕ × ℕ)) → IsPlan plan → FactsFit plan facts → Legal (opening plan facts) log
+  pub none_is_busy : (facts : List (ℕ × ℕ)) → MayBegin plan → FactsFit plan facts → Legal (opening plan facts) log
       → NoneBusy (replay (opening plan facts) log)
   none_is_busy facts is fit legal = all_delivered_none_busy plan facts is fit log legal all_delivered

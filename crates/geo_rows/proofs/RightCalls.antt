@@ -9,7 +9,7 @@ use Rattle.geo_model.specs.World.{Plan, World}
 use Rattle.geo_model.specs.Script.{script, IsScript, Fault, empty_plan}
 use Rattle.geo_headline.specs.Modes.{Mode, StepMode, Accepts, words_for}
 use Rattle.geo_model.specs.Opening.{opening}
-use Rattle.geo_model.specs.Plans.{IsPlan, FactsFit, IsDiskDecl}
+use Rattle.geo_model.specs.Plans.{MayBegin, FactsFit, IsDiskDecl}
 use Rattle.geo_model.specs.Sound.{Sound}
 use Rattle.geo_model.specs.Order.{is_at_rest}
 use Rattle.geo_model.specs.Freeing.{wash_work}
@@ -48,8 +48,8 @@ one P x p = All-cons P x [] p (All-nil P)
 decl : IsDiskDecl later_disk
 decl = record { name = refl; sector = inl refl; sectors = refl }
 
-is-plan : IsPlan later_plan
-is-plan = record {
+may-begin : MayBegin later_plan
+may-begin = record {
   few_disks = omega arith;
   disks = one IsDiskDecl later_disk decl;
   disk_names = λ i j d less short. absurd (omega (arith, less, short));
@@ -57,14 +57,13 @@ is-plan = record {
   actors = All-nil _;
   actor_names = λ i j d less short. absurd (omega (arith, less, short));
   commands = All-nil _;
-  lines = λ k less. absurd (omega (arith, less));
 }
 
 facts-fit : FactsFit later_plan ((512, 1000) ∷ [])
 facts-fit = (record { sector = refl; sectors = tt; some = omega arith; limited = omega arith }, tt)
 
 sound : Sound (opening later_plan ((512, 1000) ∷ []))
-sound = opening-sound later_plan ((512, 1000) ∷ []) is-plan facts-fit
+sound = opening-sound later_plan ((512, 1000) ∷ []) may-begin facts-fit
 
 no-more : {A : Type 0} (xs : List Entry) (e : Entry) → IsSplitBy [] xs e → A
 no-more [] e s = absurd (let x : [] ≡ e ∷ s.0 = s.1 in let no : ⊥ = cc in no)

@@ -41,7 +41,8 @@ pub ran_to_rest : {E : Type 0} (r : Result (Unit {0}) E) (m : MeshView) → IsHi
     → OnOk r (RanToItsEnd (opened m) m.log)
 ran_to_rest (Ok u) m history rest = record {
   rest = rest;
-  complete = legal_logs_complete_requests.rest m.plan m.facts history.plan history.facts m.log history.lawful.0 rest;
+  complete =
+      legal_logs_complete_requests.rest m.plan m.facts history.plan.begins history.facts m.log history.lawful.0 rest;
 }
 ran_to_rest (Err e) m history rest = tt
 

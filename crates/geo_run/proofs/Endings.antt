@@ -39,10 +39,10 @@ use Rattle.geo_run.proofs.Untaken.{images_stand_same, images_stay_same, lent_sti
 -- The parts of a course
 
 decls_of : (plan : Plan) → IsPlan plan → AllByRecursion IsDiskDecl plan.disks
-decls_of plan is = recursion_from_All IsDiskDecl plan.disks is.disks
+decls_of plan is = recursion_from_All IsDiskDecl plan.disks is.begins.disks
 
 pub apart_of : (plan : Plan) → IsPlan plan → AreApart (names_of plan.disks)
-apart_of plan is = apart_from (names_of plan.disks) is.disk_names
+apart_of plan is = apart_from (names_of plan.disks) is.begins.disk_names
 
 -- after all takes the gives
 taken_course : (a m b : ShelfView) (ds : List DiskDecl) (xs ys : List DriveView) (kept : List (List ℕ))

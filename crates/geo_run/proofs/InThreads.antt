@@ -32,7 +32,7 @@ use Rattle.geo_run.proofs.Asked.{ran_to_rest, served_all}
 parts_served : (m : MeshView) (added : List Entry) (xs zs ys : List DriveView) → IsHistory (with_entries m added)
     → AreTaken added added → AreServed m.log xs zs → AreServed added zs ys → AreServed (m.log ++ added) xs ys
 parts_served m added xs zs ys h taken first second disk =
-    search (rules, parts_serve m.plan m.facts h.plan h.facts (m.log ++ added) h.lawful.0 m.log added disk)
+    search (rules, parts_serve m.plan m.facts h.plan.begins h.facts (m.log ++ added) h.lawful.0 m.log added disk)
 
 -- no step was made after the threads
 none_after : (m : MeshView) → FollowsOrder fixed_order (opened m) m.log []

@@ -18,7 +18,7 @@ names_apart plan ds is e = subst (λ (es : List DiskDecl). AreApart (names_of es
 
 -- each is a declaration
 pub decls_all : (plan : Plan) (ds : List DiskDecl) → IsPlan plan → ds ≡ plan.disks → All IsDiskDecl ds
-decls_all plan ds is e = subst (λ (es : List DiskDecl). All IsDiskDecl es) (sym e) is.disks
+decls_all plan ds is e = subst (λ (es : List DiskDecl). All IsDiskDecl es) (sym e) is.begins.disks
 
 -- the sizes of the drives fit the plan
 pub sizes_fit : (plan : Plan) (ds : List DiskDecl) (xs : List DriveView) (a m : ShelfView) → IsPlan plan
@@ -26,7 +26,7 @@ pub sizes_fit : (plan : Plan) (ds : List DiskDecl) (xs : List DriveView) (a m : 
     → OpensDrives a ds xs m → FactsFit plan (map size_of xs)
 sizes_fit plan ds xs a m is e opens =
     let moved : OpensDrives a plan.disks xs m = subst (λ (es : List DiskDecl). OpensDrives a es xs m) e opens in
-    facts_had a m plan.disks xs (recursion_from_All IsDiskDecl plan.disks is.disks)
+    facts_had a m plan.disks xs (recursion_from_All IsDiskDecl plan.disks is.begins.disks)
     (each_had a m plan.disks xs (apart_of plan is) moved)
 
 -- drives that were taken are out

@@ -105,6 +105,7 @@ none_answered : (ending : Ending) → IsMissedAt ending [] → IsAnswerAt ending
 none_answered (ShelfFault name) h = absurd (let bad : [] ≡ name ∷ [] = h in cc)
 none_answered (NoDisk name) h = absurd (let bad : [] ≡ name ∷ [] = h in cc)
 none_answered (BadSize name) h = absurd (let bad : [] ≡ name ∷ [] = h in cc)
+none_answered OutOfMemory h = refl
 none_answered _ h = none_had
 
 -- the answer of the take that stopped is the one that the ending tells
@@ -112,6 +113,7 @@ answered : (stop : Stop) → IsAnswerAt (ending_of stop) (answer_at stop)
 answered (stops.ShelfFault name) = refl
 answered (stops.NoDisk name) = refl
 answered (stops.BadSize name) = refl
+answered stops.NoMemory = refl
 answered _ = none_had
 
 -- all disks were had, and given back

@@ -33,8 +33,9 @@ pub never_full : (m : MeshView) (seat : ℕ) (s : Step) → IsHistory m → leng
 unfolding is_full
 never_full m seat s history few =
     let w : World = world_of m in
-    let firm : Firm w = firm_after m.plan m.facts history.plan history.facts m.log in
-    let all : owed w ≤ length m.log = owes_few m.plan m.facts history.plan history.facts m.log history.lawful.0 in
+    let firm : Firm w = firm_after m.plan m.facts history.plan.begins history.facts m.log in
+    let all : owed w ≤ length m.log =
+    owes_few m.plan m.facts history.plan.begins history.facts m.log history.lawful.0 in
     let one : owed (world_after w (step w seat s)) ≤ owed w + 1 = owes_one_more w seat s firm in
     room_by (length m.log) w (step w seat s) (omega (arith, few, all, one))
 

@@ -10,7 +10,7 @@ use Rattle.geo_jobs.proofs.threads.run_in_yard.Goals as goal
 -- a plan has few actors, and a mesh few disks, each with one drive
 pub start_all-requires-clause-few : goal.start_all-requires-clause-few
 start_all-requires-clause-few g c =
-    let few = c.requires.history.plan.few_actors in
+    let few = c.requires.history.plan.begins.few_actors in
     let is = c.requires.actors in
     omega (arith, few, is)
 

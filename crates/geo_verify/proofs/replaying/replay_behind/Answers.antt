@@ -14,7 +14,7 @@ replay_steps-requires c =
     let read = rw c.disks-2.ensures.disks at c.in_ok-steps.ensures.read in
     record {
       fit = sizes_fit c.args.plan c.args.place _
-          (recursion_from_All IsDiskDecl c.args.plan.disks c.disks-2.ensures.plan.disks)
+          (recursion_from_All IsDiskDecl c.args.plan.disks c.disks-2.ensures.plan.begins.disks)
           read;
       few = omega (arith, c.requires, c.in_ok-steps.ensures.behind);
     }

@@ -20,7 +20,7 @@ pub returns-clause-trace : goal.returns-clause-trace
 returns-clause-trace c =
     let t = trace_of c.args.plan.now c.args.facts.now.items c.args.log.now.items c.args.report.now in
     let few = delivers_are_short c.args.plan.now c.args.facts.now.items
-    (scripts-are-plans c.args.script.now c.args.plan.now c.requires.script) c.requires.facts c.args.log.now.items
+    (scripts-are-plans c.args.script.now c.args.plan.now c.requires.script).begins c.requires.facts c.args.log.now.items
     c.requires.legal in
     subst (λ (b : List ℕ). IsTrace b t) (sym (returns-clause-text c))
     (written_is_read c.args.script.now t c.requires.script c.requires.facts (c.in_ok-add_trace.ensures.fits few))
