@@ -38,3 +38,4 @@ pub mod Appending
 pub mod Lengthened
 pub mod Owed
 pub mod Openings
+pub mod Phased
