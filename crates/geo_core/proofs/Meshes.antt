@@ -37,7 +37,7 @@ use Rattle.geo_core.specs.Running.{seen, world_now, IsMesh}
 
 -- the world of a mesh's log is firm
 pub seen_firm : (r : Running) → IsMesh r → Firm (world_of (seen r))
-seen_firm r is = firm_after r.plan r.facts.items is.plan is.facts r.log.items
+seen_firm r is = firm_after r.plan r.facts.items is.plan.begins is.facts r.log.items
 
 -- and so is the world for which the mesh stands
 pub mesh_firm : (r : Running) → IsMesh r → Firm (world_now r)
@@ -54,7 +54,7 @@ mesh_stands r is = record {
 pub mesh_names : (r : Running) → IsMesh r → HaveNames r.state.topo.topology
 mesh_names r is =
     subst (λ (w : World). HaveNames w.topology) (sym is.world)
-    (legal_logs_have_names r.plan r.facts.items is.plan is.facts r.log.items is.lawful.0)
+    (legal_logs_have_names r.plan r.facts.items is.plan.begins is.facts r.log.items is.lawful.0)
 
 -- the commands that are left are commands
 pub mesh_commands : (r : Running) → IsMesh r
@@ -67,7 +67,7 @@ mesh_history r is = record {
   plan = is.plan;
   facts = is.facts;
   lawful = is.lawful;
-  keeps = legal_logs_complete_requests.all r.plan r.facts.items is.plan is.facts r.log.items is.lawful.0;
+  keeps = legal_logs_complete_requests.all r.plan r.facts.items is.plan.begins is.facts r.log.items is.lawful.0;
 }
 
 -- so does one that is kept elsewhere

@@ -2,7 +2,7 @@
 use Rattle.std.specs.Prelude.{◌≡◌, ℕ, ◌+◌, ◌-◌, ◌<◌, ◌≤◌, ◌==◌, ◌&&◌, nat_lt, Bool, true, false, not, List, [], ◌∷◌, ◌++◌, length, fold, position, slice_get, codes, Option, Some, None, Result, Ok, Err, All, AllPairs, if◌then◌else◌, ⊤}
 use Rattle.std.specs.List.{AllByRecursion, enumerate_from}
 use Rattle.std.specs.Option.{option_map_or}
-use Rattle.std.proofs.Common.{refl, sym, ◌∙◌, ap, arith, inl, inr, subst}
+use Rattle.std.proofs.Common.{refl, sym, ◌∙◌, ap, arith, inl, inr, map, subst}
 use Rattle.std.proofs.lemmas.Bool.{ltb-false, ltb-true, ne_eqb, or_parts}
 use Rattle.std.proofs.lemmas.List.Elements.{All-from_recursion, recursion_from_All}
 use Rattle.std.proofs.lemmas.Slice.Eq.{bytes_eq-Decides}
@@ -14,7 +14,7 @@ use Rattle.geo_model.specs.declared.command.Command.TheVariants as commands
 use Rattle.geo_model.specs.declared.command.DiskDecl.{DiskDecl}
 use Rattle.geo_model.specs.declared.command.LineCommand.{LineCommand}
 use Rattle.geo_model.specs.Generator.{entry_at}
-use Rattle.geo_model.specs.Plans.{Differ, IsActor, IsCommandLine, IsPlan}
+use Rattle.geo_model.specs.Plans.{Differ, IsActor, IsCommandOf, IsLineNumber, MayBegin}
 use Rattle.geo_model.specs.Words.{first_error, same_name, unless}
 use Rattle.geo_model.specs.World.{Plan}
 use Rattle.geo_model.specs.Script.{◌>>=◌, Fault, Words, actor_line, add_command, at_line, beside, by_word, command_table, header_table, is_long, is_skipped, line_by, line_tests, next_line, plan_with_line, words_line, words_of}
@@ -112,7 +112,7 @@ command_fits plan next n name c is are read =
 -- The lines of commands
 
 -- a command that can be written, as its line is read
-written : (plan next : Plan) (n : ℕ) (c : LineCommand) → All IsActor plan.actors → IsCommandLine (length plan.actors) c
+written : (plan next : Plan) (n : ℕ) (c : LineCommand) → All IsActor plan.actors → IsCommandOf (length plan.actors) c
     → next_line (Ok plan) (n, command_line plan.actors c) ≡ Ok next → IsWritable plan.actors c
 written plan next n c are is read = record {
   is = is;
@@ -134,12 +134,13 @@ reads (Err fault) items found e =
 
 -- each line that rises has room
 lines_fit : (disks : List DiskDecl) (actors : List (List ℕ)) (done rest : List LineCommand) (n : ℕ) (found : Plan)
-    → All IsActor actors → AllPairs Differ actors → AllByRecursion (IsCommandLine (length actors)) rest → Rising n rest
+    → All IsActor actors → AllPairs Differ actors → AllByRecursion (IsCommandOf (length actors)) rest
+    → AllByRecursion IsLineNumber (map (λ c. c.line) rest) → Rising n rest
     → fold next_line (Ok (record { disks = disks; actors = actors; commands = done }))
     (enumerate_from n (command_lines actors n rest)) ≡ Ok found
     → AllByRecursion (λ c. LineHasRoom c.command (length (command_line actors c))) rest
-lines_fit disks actors done [] n found are apart all up e = tt
-lines_fit disks actors done (c ∷ cs) n found are apart all up e =
+lines_fit disks actors done [] n found are apart all numbered up e = tt
+lines_fit disks actors done (c ∷ cs) n found are apart all numbered up e =
     let plan : Plan = record { disks = disks; actors = actors; commands = done } in
     let first = up.0 in
     let reached : n + (c.line - n) ≡ c.line = omega (arith, first) in
@@ -151,9 +152,9 @@ lines_fit disks actors done (c ∷ cs) n found are apart all up e =
     let are_read = reads (next_line (Ok plan) (c.line, command_line actors c))
     (enumerate_from (c.line + 1) (command_lines actors (c.line + 1) cs)) found whole in
     let is = written plan are_read.next c.line c are all.0 are_read.first in
-    let step = step_read plan c.line c all.0.line are apart is in (
+    let step = step_read plan c.line c numbered.0.few are apart is in (
       is.fits,
-      lines_fit disks actors (done ++ c ∷ []) cs (c.line + 1) found are apart all.1 up.1
+      lines_fit disks actors (done ++ c ∷ []) cs (c.line + 1) found are apart all.1 numbered.1 up.1
           (ap (λ r. fold next_line r (enumerate_from (c.line + 1) (command_lines actors (c.line + 1) cs))) (sym step)
           ∙ whole),
     )
@@ -224,7 +225,7 @@ lines_begin n r [] begins = begins
 lines_begin n r (item ∷ items) begins = lines_begin n (next_line r item) items (line_begins n r item begins)
 
 -- a first command that stands no further than its header is read at the line behind it
-stands_behind : (plan : Plan) → IsPlan plan → (c : LineCommand) (cs : List LineCommand) → plan.commands ≡ c ∷ cs
+stands_behind : (plan : Plan) → MayBegin plan → (c : LineCommand) (cs : List LineCommand) → plan.commands ≡ c ∷ cs
     → fold next_line (Ok (of_header plan.disks plan.actors))
     (enumerate_from (first_line plan) (command_lines plan.actors (first_line plan) (c ∷ cs))) ≡ Ok plan
     → length plan.disks + length plan.actors < c.line
@@ -239,10 +240,10 @@ stands_behind plan is c cs same e = by (nat_lt (length plan.disks + length plan.
     items : List (ℕ × List ℕ)
     items = enumerate_from (first_line plan + 1) (command_lines plan.actors (c.line + 1) cs)
 
-    line : IsCommandLine (length plan.actors) c
+    line : IsCommandOf (length plan.actors) c
     line =
-        (subst (λ (xs : List LineCommand). AllByRecursion (IsCommandLine (length plan.actors)) xs) same
-        (recursion_from_All (IsCommandLine (length plan.actors)) plan.commands is.commands)).0
+        (subst (λ (xs : List LineCommand). AllByRecursion (IsCommandOf (length plan.actors)) xs) same
+        (recursion_from_All (IsCommandOf (length plan.actors)) plan.commands is.commands)).0
 
     by : (t : Bool) → nat_lt (length plan.disks + length plan.actors) c.line ≡ t
         → length plan.disks + length plan.actors < c.line
@@ -270,7 +271,7 @@ stands_behind plan is c cs same e = by (nat_lt (length plan.disks + length plan.
 -- Plans
 
 -- the commands stand behind the header
-header_fits : (plan : Plan) → IsPlan plan → (cs : List LineCommand) → plan.commands ≡ cs
+header_fits : (plan : Plan) → MayBegin plan → (cs : List LineCommand) → plan.commands ≡ cs
     → fold next_line (Ok (of_header plan.disks plan.actors))
     (enumerate_from (first_line plan) (command_lines plan.actors (first_line plan) cs)) ≡ Ok plan
     → StandsBehind (length plan.disks + length plan.actors) cs
@@ -279,11 +280,13 @@ header_fits plan is (c ∷ cs) same e = stands_behind plan is c cs same e
 
 pub read_plans_have_room : ReadPlansHaveRoom
 read_plans_have_room plan is e =
-    let whole = sym (header_read plan is) ∙ e in
-    let header : HeaderFits plan = header_fits plan is plan.commands refl whole in (
+    let whole = sym (header_read plan is.begins) ∙ e in
+    let header : HeaderFits plan = header_fits plan is.begins plan.commands refl whole in (
       header,
       All-from_recursion (λ c. LineHasRoom c.command (length (command_line plan.actors c))) plan.commands
-          (lines_fit plan.disks plan.actors [] plan.commands (first_line plan) plan is.actors is.actor_names
-          (recursion_from_All (IsCommandLine (length plan.actors)) plan.commands is.commands)
+          (lines_fit plan.disks plan.actors [] plan.commands (first_line plan) plan is.begins.actors
+          is.begins.actor_names
+          (recursion_from_All (IsCommandOf (length plan.actors)) plan.commands is.begins.commands)
+          (recursion_from_All IsLineNumber (map (λ c. c.line) plan.commands) is.numbered)
           (behind (length plan.disks + length plan.actors) plan.commands header is.lines) whole),
     )

@@ -17,7 +17,7 @@ use Rattle.geo_base.specs.declared.limits.TheConstants.{MAX_ACTORS, MAX_DISKS, M
 use Rattle.geo_model.specs.declared.command.DiskDecl.{DiskDecl}
 use Rattle.geo_model.specs.declared.command.LineCommand.{LineCommand}
 use Rattle.geo_model.specs.Generator.{entry_at, line}
-use Rattle.geo_model.specs.Plans.{Differ, IsActor, IsCommandLine, IsDiskDecl, IsPlan}
+use Rattle.geo_model.specs.Plans.{Differ, IsActor, IsCommandOf, IsDiskDecl, IsLineNumber, MayBegin}
 use Rattle.geo_model.specs.Words.{same_name}
 use Rattle.geo_model.specs.World.{Plan}
 use Rattle.geo_model.specs.Script.{add_actor, add_disk, drop_empty_end, empty_plan, header_words, lines_of, next_line, script}
@@ -178,7 +178,7 @@ blank plan (suc k) n more =
 
 -- a command that can be written for the actors
 pub record IsWritable (actors : List (List ℕ)) (c : LineCommand) : Type 0 where
-  pub is : IsCommandLine (length actors) c
+  pub is : IsCommandOf (length actors) c
   pub fits : LineHasRoom c.command (length (command_line actors c))
 
 -- lines that rise from a number on
@@ -222,25 +222,26 @@ step_read plan n c few are apart is =
 
 -- the lines of commands add them
 commands_read : (disks : List DiskDecl) (actors : List (List ℕ)) (done rest : List LineCommand) (n : ℕ)
-    → All IsActor actors → AllPairs Differ actors → AllByRecursion (IsWritable actors) rest → Rising n rest
+    → All IsActor actors → AllPairs Differ actors → AllByRecursion (IsWritable actors) rest
+    → AllByRecursion IsLineNumber (map (λ c. c.line) rest) → Rising n rest
     → fold next_line (Ok (record { disks = disks; actors = actors; commands = done }))
     (enumerate_from n (command_lines actors n rest))
     ≡ Ok (record { disks = disks; actors = actors; commands = done ++ rest })
-commands_read disks actors done [] n are apart all up =
+commands_read disks actors done [] n are apart all numbered up =
     ap (λ cs. Ok (record { disks = disks; actors = actors; commands = cs })) (sym (append-nil done))
-commands_read disks actors done (c ∷ cs) n are apart all up =
+commands_read disks actors done (c ∷ cs) n are apart all numbered up =
     let plan : Plan = record { disks = disks; actors = actors; commands = done } in
     let first = up.0 in
     let whole : (done ++ c ∷ []) ++ cs ≡ done ++ c ∷ cs = append_assoc done (c ∷ []) cs in
     let reached : n + (c.line - n) ≡ c.line = omega (arith, first) in
     let step : next_line (Ok plan) (c.line, command_line actors c)
     ≡ Ok (record { disks = disks; actors = actors; commands = done ++ c ∷ [] }) =
-    step_read plan c.line c all.0.is.line are apart all.0 in
+    step_read plan c.line c numbered.0.few are apart all.0 in
     blank plan (c.line - n) n (command_line actors c ∷ command_lines actors (c.line + 1) cs)
     ∙ ap (λ k. fold next_line (Ok plan)
     (enumerate_from k (command_line actors c ∷ command_lines actors (c.line + 1) cs))) reached
     ∙ ap (λ r. fold next_line r (enumerate_from (c.line + 1) (command_lines actors (c.line + 1) cs))) step
-    ∙ commands_read disks actors (done ++ c ∷ []) cs (c.line + 1) are apart all.1 up.1
+    ∙ commands_read disks actors (done ++ c ∷ []) cs (c.line + 1) are apart all.1 numbered.1 up.1
     ∙ ap (λ xs. Ok (record { disks = disks; actors = actors; commands = xs })) whole
 
 -- Line feeds
@@ -263,7 +264,7 @@ blanks_unended (suc k) = (All-nil (λ b. (b == 10) ≡ false), blanks_unended k)
 
 -- nor lines of commands
 commands_unended : (actors : List (List ℕ)) (n : ℕ) (cs : List LineCommand) → All IsActor actors
-    → AllByRecursion (IsCommandLine (length actors)) cs → AllByRecursion IsUnended (command_lines actors n cs)
+    → AllByRecursion (IsCommandOf (length actors)) cs → AllByRecursion IsUnended (command_lines actors n cs)
 commands_unended actors n [] are all = tt
 commands_unended actors n (c ∷ cs) are all =
     all_appended IsUnended (replicate (c.line - n) []) (command_line actors c ∷ command_lines actors (c.line + 1) cs)
@@ -276,7 +277,7 @@ commands_unended actors n (c ∷ cs) are all =
 -- Plans
 
 -- the commands of a plan can be written
-writable : (plan : Plan) → IsPlan plan → LinesFit plan → AllByRecursion (IsWritable plan.actors) plan.commands
+writable : (plan : Plan) → MayBegin plan → LinesFit plan → AllByRecursion (IsWritable plan.actors) plan.commands
 writable plan is fits =
     recursion_from_All (IsWritable plan.actors) plan.commands
     (λ k d inside. record { is = is.commands k d inside; fits = fits k d inside })
@@ -295,7 +296,7 @@ abbrev pub first_line : Plan → ℕ
 first_line plan = length plan.disks + length plan.actors + 1
 
 -- what a plan's text says is what the lines of its commands say behind its header
-pub header_read : (plan : Plan) → IsPlan plan
+pub header_read : (plan : Plan) → MayBegin plan
     → script (plan_text plan)
     ≡ fold next_line (Ok (of_header plan.disks plan.actors))
     (enumerate_from (first_line plan) (command_lines plan.actors (first_line plan) plan.commands))
@@ -303,7 +304,7 @@ unfolding script plan_text
 header_read plan is =
     let disks = recursion_from_All IsDiskDecl plan.disks is.disks in
     let actors = recursion_from_All IsActor plan.actors is.actors in
-    let commands = recursion_from_All (IsCommandLine (length plan.actors)) plan.commands is.commands in
+    let commands = recursion_from_All (IsCommandOf (length plan.actors)) plan.commands is.commands in
     let few_disks = is.few_disks in
     let few_actors = is.few_actors in
     let last : List (List ℕ) = command_lines plan.actors (first_line plan) plan.commands in
@@ -325,6 +326,7 @@ header_read plan is =
 
 pub plans_are_read : PlansAreRead
 plans_are_read plan is header fits =
-    header_read plan is
-    ∙ commands_read plan.disks plan.actors [] plan.commands (first_line plan) is.actors is.actor_names
-    (writable plan is fits) (behind (length plan.disks + length plan.actors) plan.commands header is.lines)
+    header_read plan is.begins
+    ∙ commands_read plan.disks plan.actors [] plan.commands (first_line plan) is.begins.actors is.begins.actor_names
+    (writable plan is.begins fits) (recursion_from_All IsLineNumber (map (λ c. c.line) plan.commands) is.numbered)
+    (behind (length plan.disks + length plan.actors) plan.commands header is.lines)

@@ -12,7 +12,7 @@ use Rattle.geo_base.specs.Name.{is_short_name, is_word_byte}
 use Rattle.geo_model.specs.declared.command.Cause.{Cause}
 use Rattle.geo_model.specs.declared.command.Cause.TheVariants as causes
 use Rattle.geo_model.specs.Script.{lines_of, drop_empty_end, ◌>>=◌, Words, Fault, actor_line, line_tests, words_line, words_of, empty_plan, next_line, at_line, script, IsScript}
-use Rattle.geo_model.specs.Plans.{IsPlan}
+use Rattle.geo_model.specs.Plans.{MayBegin}
 use Rattle.geo_model.specs.Words.{same_name, unless, first_error}
 use Rattle.geo_model.specs.World.{Plan}
 use Rattle.geo_script.proofs.PlanLaw.{scripts-are-plans}
@@ -197,7 +197,7 @@ no_short_name word e =
     false≢true ((and_parts _ (list_all is_word_byte (37 ∷ word)) e).1)
 
 -- so no actor has such a name
-no_actor : (plan : Plan) (word : List ℕ) → IsPlan plan → position (same_name (37 ∷ word)) plan.actors ≡ None
+no_actor : (plan : Plan) (word : List ℕ) → MayBegin plan → position (same_name (37 ∷ word)) plan.actors ≡ None
 no_actor plan word is = by (position (same_name (37 ∷ word)) plan.actors) refl
   where
     by : (o : Option ℕ) → position (same_name (37 ∷ word)) plan.actors ≡ o → o ≡ None
@@ -212,7 +212,7 @@ no_actor plan word is = by (position (same_name (37 ∷ word)) plan.actors) refl
 -- A line
 
 -- a first word that begins with the mark is read by nothing
-first_refused : (plan : Plan) (n : ℕ) (parts : Words) → IsPlan plan
+first_refused : (plan : Plan) (n : ℕ) (parts : Words) → MayBegin plan
     → words_line plan n (onto_first 37 parts) ≡ Err causes.Actor
 first_refused plan n [] is = ap (λ o. actor_line plan n o []) (no_actor plan [] is)
 first_refused plan n (word ∷ words) is = ap (λ o. actor_line plan n o words) (no_actor plan word is)
@@ -222,7 +222,7 @@ record IsRefused (r : Result Plan Fault) : Type 0 where
   fault : Fault
   is : r ≡ Err fault
 
-line_refused : (plan : Plan) (n : ℕ) (line : List ℕ) → IsPlan plan → IsRefused (next_line (Ok plan) (n, 37 ∷ line))
+line_refused : (plan : Plan) (n : ℕ) (line : List ℕ) → MayBegin plan → IsRefused (next_line (Ok plan) (n, 37 ∷ line))
 line_refused plan n line is =
     by (first_error (line_tests n (37 ∷ line)))
   where
@@ -255,11 +255,11 @@ begins_marked text = by (slice_split (λ b. b == 10) text)
 
 -- what was read before the marked line is a plan, so that the line has a fault
 lines_refused : (lines : List (List ℕ)) → BeginsMarked lines → (n : ℕ) (r : Result Plan Fault)
-    → ((plan : Plan) → r ≡ Ok plan → IsPlan plan) → IsRefused (fold next_line r (enumerate_from n lines))
+    → ((plan : Plan) → r ≡ Ok plan → MayBegin plan) → IsRefused (fold next_line r (enumerate_from n lines))
 lines_refused lines begins n r plans =
     subst (λ (ls : List (List ℕ)). IsRefused (fold next_line r (enumerate_from n ls))) (sym begins.is) (by r plans)
   where
-    by : (r : Result Plan Fault) → ((plan : Plan) → r ≡ Ok plan → IsPlan plan)
+    by : (r : Result Plan Fault) → ((plan : Plan) → r ≡ Ok plan → MayBegin plan)
         → IsRefused (fold next_line (next_line r (n, 37 ∷ begins.line)) (enumerate_from (n + 1) begins.more))
     by (Err fault) plans = record { fault = fault; is = fault_stays fault (enumerate_from (n + 1) begins.more) }
     by (Ok plan) plans =
@@ -276,7 +276,7 @@ text_refused : (front rest : List ℕ) → IsEnded front → IsRefused (script (
 unfolding script
 text_refused front rest is_ended =
     let refused = lines_refused (lines_of (37 ∷ rest)) (begins_marked rest) (1 + length (lines_of front)) (script front)
-    (λ plan is. scripts-are-plans front plan is) in
+    (λ plan is. (scripts-are-plans front plan is).begins) in
     record {
       fault = refused.fault;
       is =

@@ -123,7 +123,7 @@ after_tells text r (Err fault) is e = absurd (let bad : ⊥ = cc in bad)
 after_tells text r (Ok plan) is e =
     let behind =
     behind_tells (1 + length (lines_of (script_part text))) plan (parts_of (marked_part text)) r
-    (recursion_from_All IsDiskDecl plan.disks (scripts-are-plans (script_part text) plan is).disks)
+    (recursion_from_All IsDiskDecl plan.disks (scripts-are-plans (script_part text) plan is).begins.disks)
     (some_part (marked_part text))
     (told_tells (read_behind (1 + length (lines_of (script_part text))) plan (parts_of (marked_part text))) r e) in
     record {

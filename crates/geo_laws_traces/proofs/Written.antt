@@ -175,5 +175,5 @@ written_is_read text t is fit fits =
     let plan = scripts-are-plans text t.plan is in
     cut_read front (trace_text text t) begins.rest t whole begins.is
     (ap script_part whole ∙ kept.0) (ap marked_part whole ∙ kept.1)
-    read (recursion_from_All IsDiskDecl t.plan.disks plan.disks) fit
+    read (recursion_from_All IsDiskDecl t.plan.disks plan.begins.disks) fit
     (recursion_from_All IsWritableItem t.steps fits)

@@ -15,7 +15,7 @@ use Rattle.geo_model.specs.declared.command.Command.{Command}
 use Rattle.geo_model.specs.declared.command.DiskDecl.{DiskDecl}
 use Rattle.geo_model.specs.declared.command.LineCommand.{LineCommand}
 use Rattle.geo_model.specs.FormatLaws.{ScriptsArePlans}
-use Rattle.geo_model.specs.Plans.{IsPlan, IsDiskDecl, IsActor, IsCommand, IsCommandLine, IsShortName, Differ}
+use Rattle.geo_model.specs.Plans.{IsPlan, IsDiskDecl, IsActor, IsCommand, IsCommandOf, IsLineNumber, IsShortName, Differ}
 use Rattle.geo_model.specs.Words.{same_name, unless, first_error}
 use Rattle.geo_model.specs.World.{Plan}
 use Rattle.geo_model.specs.Script.{◌>>=◌, Words, Fault, beside, by_word, command_table, ram_words, disk_words, actor_words, header_words, empty_plan, add_disk, add_actor, add_command, before_commands, actor_line, header_table, line_by, words_line, words_of, plan_with_line, is_skipped, is_long, lines_of, at_line, next_line, script}
@@ -75,19 +75,22 @@ with_disk : (n : ℕ) (plan : Plan) (d : DiskDecl) → Upto n plan → IsDiskDec
     Upto n (record plan { disks = plan.disks ++ d ∷ [] })
 with_disk n plan d is disk other few =
     let names : AllPairs Differ (map (λ x. x.name) plan.disks ++ d.name ∷ []) =
-    names_push (map (λ x. x.name) plan.disks) d.name is.plan.disk_names
+    names_push (map (λ x. x.name) plan.disks) d.name is.plan.begins.disk_names
     (All-map (λ x. Differ x d.name) (λ x. x.name) plan.disks
     (All-weaker (λ x. same_name x.name d.name ≡ false) (λ x. Differ x.name d.name) (λ x e. differ x.name d.name e)
     plan.disks (none_passes (λ x. same_name x.name d.name) plan.disks other))) in
     record {
       plan = record {
-        few_disks = few-push MAX_DISKS plan.disks d few;
-        disks = All-push IsDiskDecl plan.disks d is.plan.disks disk;
-        disk_names = subst (AllPairs Differ) (sym (map_push (λ (x : DiskDecl). x.name) plan.disks d)) names;
-        few_actors = is.plan.few_actors;
-        actors = is.plan.actors;
-        actor_names = is.plan.actor_names;
-        commands = is.plan.commands;
+        begins = record {
+          few_disks = few-push MAX_DISKS plan.disks d few;
+          disks = All-push IsDiskDecl plan.disks d is.plan.begins.disks disk;
+          disk_names = subst (AllPairs Differ) (sym (map_push (λ (x : DiskDecl). x.name) plan.disks d)) names;
+          few_actors = is.plan.begins.few_actors;
+          actors = is.plan.begins.actors;
+          actor_names = is.plan.begins.actor_names;
+          commands = is.plan.begins.commands;
+        };
+        numbered = is.plan.numbered;
         lines = is.plan.lines;
       };
       below = is.below;
@@ -115,30 +118,32 @@ with_actor : (n : ℕ) (plan : Plan) (name : List ℕ) → Upto n plan → IsSho
 with_actor n plan name is short other no_word few =
     record {
       plan = record {
-        few_disks = is.plan.few_disks;
-        disks = is.plan.disks;
-        disk_names = is.plan.disk_names;
-        few_actors = few-push MAX_ACTORS plan.actors name few;
-        actors = All-push IsActor plan.actors name is.plan.actors (record {
-          short = short;
-          no_header_word =
-              ap not no_word;
-        });
-        actor_names = names_push plan.actors name is.plan.actor_names
-            (All-weaker (λ x. same_name name x ≡ false) (λ x. Differ x name) (λ x e. differ_back x name e)
-            plan.actors (none_passes (same_name name) plan.actors other));
-        commands = All-weaker (IsCommandLine (length plan.actors))
-            (IsCommandLine (length (plan.actors ++ name ∷ []))) (λ c h. more c h) plan.commands is.plan.commands;
+        begins = record {
+          few_disks = is.plan.begins.few_disks;
+          disks = is.plan.begins.disks;
+          disk_names = is.plan.begins.disk_names;
+          few_actors = few-push MAX_ACTORS plan.actors name few;
+          actors = All-push IsActor plan.actors name is.plan.begins.actors (record {
+            short = short;
+            no_header_word =
+                ap not no_word;
+          });
+          actor_names = names_push plan.actors name is.plan.begins.actor_names
+              (All-weaker (λ x. same_name name x ≡ false) (λ x. Differ x name) (λ x e. differ_back x name e)
+              plan.actors (none_passes (same_name name) plan.actors other));
+          commands = All-weaker (IsCommandOf (length plan.actors))
+              (IsCommandOf (length (plan.actors ++ name ∷ []))) (λ c h. more c h) plan.commands
+              is.plan.begins.commands;
+        };
+        numbered = is.plan.numbered;
         lines = is.plan.lines;
       };
       below = is.below;
     }
   where
-    more : (c : LineCommand) → IsCommandLine (length plan.actors) c
-        → IsCommandLine (length (plan.actors ++ name ∷ [])) c
+    more : (c : LineCommand) → IsCommandOf (length plan.actors) c
+        → IsCommandOf (length (plan.actors ++ name ∷ [])) c
     more c h = record {
-      some_line = h.some_line;
-      line = h.line;
       actor =
           up c.actor (length plan.actors) _ (length_push plan.actors name) h.actor;
       command = h.command;
@@ -204,14 +209,20 @@ add_command-keeps n plan actor c some few is inside command =
     (All-map (λ x. x < n) (λ (x : LineCommand). x.line) plan.commands is.below) in
     record {
       plan = record {
-        few_disks = is.plan.few_disks;
-        disks = is.plan.disks;
-        disk_names = is.plan.disk_names;
-        few_actors = is.plan.few_actors;
-        actors = is.plan.actors;
-        actor_names = is.plan.actor_names;
-        commands = All-push (IsCommandLine (length plan.actors)) plan.commands (line_command n actor c)
-            is.plan.commands (record { some_line = some; line = few; actor = inside; command = command });
+        begins = record {
+          few_disks = is.plan.begins.few_disks;
+          disks = is.plan.begins.disks;
+          disk_names = is.plan.begins.disk_names;
+          few_actors = is.plan.begins.few_actors;
+          actors = is.plan.begins.actors;
+          actor_names = is.plan.begins.actor_names;
+          commands = All-push (IsCommandOf (length plan.actors)) plan.commands (line_command n actor c)
+              is.plan.begins.commands (record { actor = inside; command = command });
+        };
+        numbered = subst (All IsLineNumber)
+            (sym (map_push (λ (x : LineCommand). x.line) plan.commands (line_command n actor c)))
+            (All-push IsLineNumber (map (λ (x : LineCommand). x.line) plan.commands) n is.plan.numbered
+            (record { some = some; few = few }));
         lines = subst IsStrictlyIncreasing
             (sym (map_push (λ (x : LineCommand). x.line) plan.commands (line_command n actor c))) lines;
       };
@@ -344,13 +355,16 @@ lines-keep (line ∷ lines) n r some h =
 nothing_yet : Upto 1 empty_plan
 nothing_yet = record {
   plan = record {
-    few_disks = omega arith;
-    disks = All-nil IsDiskDecl;
-    disk_names = λ i j d lt inside. absurd (omega arith);
-    few_actors = omega arith;
-    actors = All-nil IsActor;
-    actor_names = λ i j d lt inside. absurd (omega arith);
-    commands = All-nil (IsCommandLine 0);
+    begins = record {
+      few_disks = omega arith;
+      disks = All-nil IsDiskDecl;
+      disk_names = λ i j d lt inside. absurd (omega arith);
+      few_actors = omega arith;
+      actors = All-nil IsActor;
+      actor_names = λ i j d lt inside. absurd (omega arith);
+      commands = All-nil (IsCommandOf 0);
+    };
+    numbered = All-nil IsLineNumber;
     lines = λ k inside. absurd (omega arith);
   };
   below = All-nil (λ (c : LineCommand). c.line < 1);
