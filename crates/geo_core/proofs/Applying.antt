@@ -12,6 +12,7 @@ use Rattle.geo_model.specs.World.{World}
 use Rattle.geo_model.specs.History.{next_command}
 use Rattle.geo_model.specs.Step.{Answer, step}
 use Rattle.geo_model.specs.Log.{owed, is_full}
+use Rattle.geo_moves.proofs.Told.{enabled_by}
 use Rattle.geo_moves.specs.Owed.{is_answered_ok, is_close, is_open}
 use Rattle.geo_moves.proofs.Owed.{owed_changes}
 use Rattle.geo_state.specs.Steps.{against}
@@ -196,10 +197,6 @@ last_is mid new seat st o told made tells =
     subst (λ (x : Outcome). Made (seen mid) (seen new) seat st x) (sym same) made
 
 -- What is told of a mesh
-
-enabled_by : (a : Answer) (f : Option Found) → against a ≡ f → is_none f ≡ is_ok a
-enabled_by (Ok made) f e = rw (← e) refl
-enabled_by (Err found) f e = rw (← e) refl
 
 -- a step is enabled where nothing is against it
 pub enabled_is : {r : Running} {v : MeshView} → Reads r v → (seat : ℕ) (st : Step) (f : Option Found)

@@ -1,10 +1,10 @@
 -- What a mesh has that is read: what is due next, whether all is at rest, how many bytes a bio reads and where it goes.
-use Rattle.std.specs.Prelude.{◌≡◌, ℕ, suc, ◌==◌, nat_le, Bool, true, false, not, ◌&&◌, ◌||◌, List, [], ◌∷◌, length, find, Option, Some, None, is_some, is_none, IsSome, IfSome, IsTrue, Contains, Ok, Err, slice_get, ◌≤◌, IsSomeAnd}
+use Rattle.std.specs.Prelude.{◌≡◌, ℕ, suc, ◌==◌, nat_le, Bool, true, false, not, ◌&&◌, ◌||◌, List, [], ◌∷◌, length, find, Option, Some, None, is_some, is_none, IsSome, IfSome, IsTrue, Contains, slice_get, ◌≤◌}
 use Rattle.std.specs.List.{AllByRecursion, list_all}
 use Rattle.std.specs.Option.{option_map, option_map_or, option_and_then}
 use Rattle.std.proofs.Common.{refl, sym, ◌∙◌, ap, subst, arith}
 use Rattle.std.proofs.lemmas.Bool.{ne_eqb}
-use Rattle.std.proofs.lemmas.List.Elements.{recursion_from_All, All-contains}
+use Rattle.std.proofs.lemmas.List.Elements.{recursion_from_All}
 use Rattle.geo_base.proofs.Options.{none-mapped}
 use Rattle.geo_base.proofs.FindLists.{find_agree}
 use Rattle.geo_base.proofs.AllLists.{all_weaker}
@@ -12,11 +12,10 @@ use Rattle.geo_model.specs.declared.command.LineCommand.{LineCommand}
 use Rattle.geo_model.specs.declared.step.Found.{Found}
 use Rattle.geo_model.specs.declared.step.Phase.{Phase}
 use Rattle.geo_model.specs.declared.step.Step.{Step}
-use Rattle.geo_model.specs.declared.step.WashWork.{WashWork}
-use Rattle.geo_model.specs.World.{World, Bio, BioOf, Handle, is_busy, is_sent, bio_among, bio_at, granted_in}
+use Rattle.geo_model.specs.World.{World, Bio, BioOf, is_busy, is_sent, bio_among}
 use Rattle.geo_model.specs.Bios.{busy_bio, disk_of_bio, disk_at}
 use Rattle.geo_model.specs.Fitting.{Firm}
-use Rattle.geo_model.specs.Freeing.{reap_work, reap, wash_work, wash}
+use Rattle.geo_model.specs.Freeing.{reap_work, wash_work}
 use Rattle.geo_model.specs.Laws.{NoneBusy}
 use Rattle.geo_model.specs.Order.{is_at_rest, first_bio, is_to_take, take_step}
 use Rattle.geo_model.specs.Step.{reap_next, wash_next}
@@ -25,8 +24,7 @@ use Rattle.geo_bio.specs.BioTable.{AreInOrder}
 use Rattle.geo_log.specs.Places.{delivered_at}
 use Rattle.geo_state.specs.Traffic.{first_in}
 use Rattle.geo_state.specs.Shown.{shown_bio}
-use Rattle.geo_state.proofs.ShownLemmas.{shown_are_found}
-use Rattle.geo_state.specs.Steps.{against, IsAgainst}
+use Rattle.geo_state.specs.Steps.{IsAgainst}
 use Rattle.geo_core.specs.declared.running.Running.{Running}
 use Rattle.geo_core.specs.Left.{left_of}
 use Rattle.geo_core.specs.Mesh.{MeshView, world_of, bytes_read, bytes_read_by}
@@ -35,29 +33,14 @@ use Rattle.geo_laws_graph.proofs.Lists.{found_itself}
 use Rattle.geo_laws_graph.proofs.Members.{find-Contains}
 use Rattle.geo_state.proofs.Lists.{find-none}
 use Rattle.geo_core.proofs.Meshes.{Reads, mesh_firm}
-use Rattle.geo_model.proofs.BioLemmas.{read_moves}
 use Rattle.geo_base.specs.declared.limits.TheConstants.{MAX_REQUEST_BYTES}
-use Rattle.geo_model.specs.Words.{is_flush, is_read}
-use Rattle.geo_model.specs.Topology.{Provider, provider_at}
-use Rattle.geo_model.specs.SoundBios.{IsBioInOrder, IsRangeInside}
+use Rattle.geo_model.specs.Words.{is_read}
 use Rattle.geo_core.specs.Sent.{spot_in, spot_of}
-use Rattle.geo_model.specs.declared.step.Found.TheVariants as found
-use Rattle.geo_model.specs.declared.step.Outcome.TheVariants as outcomes
 use Rattle.geo_model.specs.declared.step.Step.TheVariants as steps
+use Rattle.geo_moves.proofs.Told as told
+pub use Rattle.geo_moves.proofs.Told.{none_told}
 
 -- What is first
-
--- what is shown of a bio has its number
-numbered : (make : ℕ → Step) (log : ℕ → Option (List ℕ)) (o : Option (BioOf Held))
-    → option_map (λ (x : Bio). make x.number) (option_map (shown_bio log) o)
-    ≡ option_map make (option_map (λ (x : BioOf Held). x.number) o)
-numbered make log None = refl
-numbered make log (Some x) = refl
-
-least : (log : ℕ → Option (List ℕ)) (o : Option (BioOf Held))
-    → option_map (λ (x : Bio). x.number) (option_map (shown_bio log) o) ≡ option_map (λ (x : BioOf Held). x.number) o
-least log None = refl
-least log (Some x) = refl
 
 -- a Take, where no bio is Busy
 
@@ -102,36 +85,10 @@ some_first : (o : Option (BioOf Held)) (bio : ℕ) → option_map (λ (x : BioOf
 some_first None bio e = absurd (let no : ⊥ = cc in no)
 some_first (Some x) bio e = (x, refl, let same : x.number ≡ bio = cc in same)
 
--- a reap or a wash is possible just where nothing is against it
-
-no_work : {X : Type 0} (f : X → World) (none : Found) (o : Option X) (b : Option Found)
-    → against (option_map_or (λ x. Ok (f x, outcomes.Ran)) o (Err none)) ≡ b → is_some b ≡ is_none o
-no_work f none None b e = rw (← e) refl
-no_work f none (Some x) b e = rw (← e) refl
-
 -- whether nothing is in a list
 pub no_items : {X : Type 0} (xs : List X) → is_none (slice_get xs 0) ≡ (length xs == 0)
 no_items [] = refl
 no_items (x ∷ xs) = sym (ne_eqb (suc (length xs)) 0 (λ same. omega (arith, same)))
-
--- what isn't some is none
-pub none_told : {X : Type 0} (o : Option X) (b : Bool) → is_some o ≡ not b → b ≡ is_none o
-none_told None true told = refl
-none_told None false told = absurd (cc)
-none_told (Some x) true told = absurd (cc)
-none_told (Some x) false told = refl
-
--- a READ of a firm mesh is no longer than the longest request
-read_is_short : (w : World) → Firm w → (x : Bio) → Contains w.bios x → is_read x.cmd ≡ true → x.len ≤ MAX_REQUEST_BYTES
-read_is_short w firm x here reads = by (provider_at w.topology x.target) order.target
-  where
-    order : IsBioInOrder (granted_in w) w.topology x
-    order = All-contains (IsBioInOrder (granted_in w) w.topology) w.bios x firm.bios.order here
-
-    by : (o : Option Provider) → IsSomeAnd o (λ p. is_flush x.cmd ≡ false → IsRangeInside x p)
-        → x.len ≤ MAX_REQUEST_BYTES
-    by None at = absurd at
-    by (Some p) at = (at (read_moves x.cmd reads)).not_long
 
 -- What a mesh that is read has
 
@@ -151,31 +108,24 @@ module _ {r : Running} {v : MeshView} (it : Reads r v) where
   firm_now : Firm w
   firm_now = subst Firm shows (mesh_firm r it.is)
 
-  -- what is found among the bios of the world is found among those of the state
-  finds : (test : Bio → Bool) → find test w.bios ≡ option_map (shown_bio log) (find (λ x. test (shown_bio log x)) bios)
-  finds test = ap (λ (u : World). find test u.bios) (sym shows) ∙ (shown_are_found log bios).finds test
-
   -- the first bio that passes, as a step by its number
   pub first_step : (test : Phase → Bool) (make : ℕ → Step) (o : Option ℕ) → o ≡ first_in test bios
       → option_map make o ≡ first_bio w (λ x. test x.phase) (λ x. make x.number)
-  first_step test make o is =
-      ap (option_map make) is
-      ∙ sym (ap (option_map (λ (x : Bio). make x.number)) (finds (λ x. test x.phase))
-      ∙ numbered make log (find (λ (x : BioOf Held). test x.phase) bios))
+  first_step = told.first_step (left_of r.plan.commands r.left) r.log.items r.state shows
 
   -- the first one from a number on
   pub next_shown : (from : ℕ)
       → option_map (λ (x : BioOf Held). x.number) (find (λ (x : BioOf Held). nat_le from x.number) bios)
       ≡ option_map (λ (x : Bio). x.number) (find (λ (x : Bio). nat_le from x.number) w.bios)
-  next_shown from =
-      sym (ap (option_map (λ (x : Bio). x.number)) (finds (λ x. nat_le from x.number))
-      ∙ least log (find (λ (x : BioOf Held). nat_le from x.number) bios))
+  next_shown = told.next_shown (left_of r.plan.commands r.left) r.log.items r.state shows
 
   module _ (none : NoneBusy w) where
     -- the first that can be taken is the first that is Sent
     first_of : find (is_to_take w) w.bios
         ≡ option_map (shown_bio log) (find (λ (x : BioOf Held). is_sent x.phase) bios)
-    first_of = first_taken w firm_now none ∙ finds (λ x. is_sent x.phase)
+    first_of =
+        first_taken w firm_now none
+        ∙ told.finds (left_of r.plan.commands r.left) r.log.items r.state shows (λ x. is_sent x.phase)
 
     pub take_none : first_in is_sent bios ≡ None → None ≡ first_bio w (is_to_take w) (take_step w)
     take_none e =
@@ -200,45 +150,28 @@ module _ {r : Running} {v : MeshView} (it : Reads r v) where
         sym (ap (option_map (take_step w)) (first_of ∙ ap (option_map (shown_bio log)) first.1)
         ∙ ap (λ d. P d x.number) (sym graph) ∙ ap (P disk) first.2)
 
-  -- the bio of a number, as it was looked up
-  at_number : (bio : ℕ) (o : Option (BioOf Held)) → o ≡ bio_among bios bio → bio_at w bio ≡ option_map (shown_bio log) o
-  at_number bio o is = finds (λ x. x.number == bio) ∙ ap (option_map (shown_bio log)) (sym is)
-
-  -- how many bytes it reads
+  -- how many bytes a bio reads
   pub bytes_shown : (bio : ℕ) (o : Option (BioOf Held)) → o ≡ bio_among bios bio
       → option_map_or (λ (x : Bio). bytes_read x.cmd x.len) (option_map (shown_bio log) o) 0 ≡ bytes_read_by w bio
-  bytes_shown bio o is =
-      sym (ap (λ (p : Option Bio). option_map_or (λ x. bytes_read x.cmd x.len) p 0) (at_number bio o is))
+  bytes_shown = told.bytes_shown (left_of r.plan.commands r.left) r.log.items r.state shows
 
   -- a READ is short
   pub held_is_short : (bio : ℕ) (x : BioOf Held) → Some x ≡ bio_among bios bio → is_read x.cmd ≡ true
       → x.len ≤ MAX_REQUEST_BYTES
-  held_is_short bio x there reads =
-      read_is_short w firm_now (shown_bio log x)
-      (find-Contains (λ (y : Bio). y.number == bio) w.bios (shown_bio log x) (at_number bio (Some x) there)) reads
+  held_is_short = told.held_is_short (left_of r.plan.commands r.left) r.log.items r.state shows firm_now
 
   -- where it goes if it waits for its disk
   pub spot_shown : (bio : ℕ) (o : Option (BioOf Held)) → o ≡ bio_among bios bio
       → option_and_then (spot_in r.state.topo.topology) (option_map (shown_bio log) o) ≡ spot_of w bio
-  spot_shown bio o is =
-      ap (λ (u : World). option_and_then (spot_in u.topology) (option_map (shown_bio log) o)) shows
-      ∙ ap (option_and_then (spot_in w.topology)) (sym (at_number bio o is))
+  spot_shown = told.spot_shown (left_of r.plan.commands r.left) r.log.items r.state shows
 
   -- nothing can be reaped where that is what is found
   pub unreaped : (reaps : Option Found) → IsAgainst reap_next r.state reaps → is_some reaps ≡ is_none (reap_work w)
-  unfolding reap_next
-  unreaped reaps none =
-      subst (λ (u : World). is_some reaps ≡ is_none (reap_work u)) shows
-      (no_work (λ (h : Handle). reap (world_now r) h) found.NothingToReap (reap_work (world_now r)) reaps
-      (none (left_of r.plan.commands r.left) r.log.items))
+  unreaped = told.unreaped (left_of r.plan.commands r.left) r.log.items r.state shows
 
   -- nor washed
   pub unwashed : (washes : Option Found) → IsAgainst wash_next r.state washes → is_some washes ≡ is_none (wash_work w)
-  unfolding wash_next
-  unwashed washes none =
-      subst (λ (u : World). is_some washes ≡ is_none (wash_work u)) shows
-      (no_work (λ (work : WashWork). wash (world_now r) work) found.NothingToWash (wash_work (world_now r)) washes
-      (none (left_of r.plan.commands r.left) r.log.items))
+  unwashed = told.unwashed (left_of r.plan.commands r.left) r.log.items r.state shows
 
   -- all is at rest where each test holds
   pub rested : (idle no_reap no_wash : Bool) → idle ≡ is_idle (world_of (seen r)) → no_reap ≡ is_none (reap_work w)

@@ -1,19 +1,18 @@
 -- A mesh: what it began with, and its log.
-use Rattle.std.specs.Prelude.{◌≡◌, ℕ, List, [], ◌∷◌, ◌++◌, false, Result, Ok, Err, IsOk, IsTrue, if◌then◌else◌}
-use Rattle.std.specs.Option.{option_map_or}
-use Rattle.geo_base.specs.declared.request.BioCmd.{BioCmd}
+use Rattle.std.specs.Prelude.{◌≡◌, ℕ, List, [], ◌∷◌, ◌++◌, false, Result, Ok, Err, IsOk, IsTrue}
 use Rattle.geo_model.specs.declared.step.Entry.{Entry}
 use Rattle.geo_model.specs.declared.step.Outcome.{Outcome}
 use Rattle.geo_model.specs.declared.step.Step.{Step}
 use Rattle.geo_model.specs.declared.step.Step.TheVariants as steps
-use Rattle.geo_model.specs.World.{World, Plan, bio_at}
-use Rattle.geo_model.specs.Words.{is_read}
+use Rattle.geo_model.specs.World.{World, Plan}
 use Rattle.geo_model.specs.Opening.{opening}
 use Rattle.geo_model.specs.Step.{step}
 use Rattle.geo_model.specs.Log.{replay, is_full, IsLawful}
 use Rattle.geo_model.specs.History.{KeepsHistory}
 use Rattle.geo_model.specs.Laws.{ClosesOk}
 use Rattle.geo_model.specs.Plans.{IsPlan, FactsFit}
+-- handed on to the crates above
+pub use Rattle.geo_moves.specs.Spots.{bytes_read, bytes_read_by}
 use Rattle.geo_core.specs.declared.refusal.ApplyRefusal.{ApplyRefusal}
 use Rattle.geo_core.specs.declared.refusal.ApplyRefusal.TheVariants as refusals
 
@@ -30,14 +29,6 @@ opened m = opening m.plan m.facts
 -- the world of a mesh: that to which its log leads
 abbrev pub world_of : MeshView → World
 world_of m = replay (opened m) m.log
-
--- how many bytes a request of such a length reads
-abbrev pub bytes_read : BioCmd → ℕ → ℕ
-bytes_read cmd len = if is_read cmd then len else 0
-
--- how many bytes the bio of a number reads; 0 if there is no such bio
-abbrev pub bytes_read_by : World → ℕ → ℕ
-bytes_read_by w bio = option_map_or (λ x. bytes_read x.cmd x.len) (bio_at w bio) 0
 
 -- the log is one that the mesh can have, by which it keeps all that a history does
 pub record IsHistory (m : MeshView) : Type 0 where

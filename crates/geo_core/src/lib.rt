@@ -46,7 +46,7 @@ mod sent;
 mod twin;
 
 pub use geo_log::{DiskFacts, Log};
+pub use geo_moves::Spot;
 pub use logged::{MeshStart, answers_tell, delivers_are_sure, made_is_answered, passes_are_good};
 pub use mesh::Mesh;
 pub use refusal::ApplyRefusal;
-pub use sent::Spot;

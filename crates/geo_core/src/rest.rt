@@ -1,16 +1,14 @@
-//! Whether nothing is left but reaps and washes, to which disk a bio goes, and how many bytes it gives.
-ghost use Rattle.std.specs.Prelude.{◌≡◌, ◌<◌, ◌^◌, IfSome, IsTrue};
+//! Whether nothing is left but reaps and washes, and to which disk a bio goes.
+ghost use Rattle.std.specs.Prelude.{◌≡◌, IfSome};
 ghost use Rattle.std.specs.Option.{option_map_or};
-ghost use Rattle.geo_model.specs.Words.{is_read};
 ghost use Rattle.geo_model.specs.World.{bio_among};
 ghost use Rattle.geo_model.specs.Bios.{disk_at};
 ghost use Rattle.geo_bio.specs.BioTable.{AreInOrder};
-ghost use Rattle.geo_core.specs.Mesh.{bytes_read, world_of};
+ghost use Rattle.geo_core.specs.Mesh.{world_of};
 ghost use Rattle.geo_core.specs.Running.{seen, is_idle, is_none_left, IsMesh};
 
 use crate::running::Running;
-use geo_base::{BioCmd, BioId};
-use geo_bio::Bio;
+use geo_base::BioId;
 use geo_moves::disk_at;
 use geo_state::State;
 
@@ -39,16 +37,5 @@ pub fn disk_of(running: &Running, bio: BioId) -> u32
     match running.state.traffic.get(bio) {
         Some(found) => disk_at(&running.state.topo, found.to).unwrap_or(0),
         None => 0,
-    }
-}
-
-/// How many bytes a bio gives if it is a READ, else 0.
-pub fn bytes_read(bio: &Bio) -> u32
-    requires { IsTrue (is_read bio.now.cmd) → bio.now.span.len < 2 ^ 32 }
-    ensures { result ≡ bytes_read bio.now.cmd bio.now.span.len }
-{
-    match bio.cmd {
-        BioCmd::Read => bio.span.len as u32,
-        _ => 0,
     }
 }

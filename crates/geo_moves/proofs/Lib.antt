@@ -39,3 +39,4 @@ pub mod Lengthened
 pub mod Owed
 pub mod Openings
 pub mod Phased
+pub mod Told

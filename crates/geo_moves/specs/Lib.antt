@@ -26,3 +26,4 @@ pub mod Assemblies
 pub mod Lines
 pub mod Owed
 pub mod Openings
+pub mod Spots

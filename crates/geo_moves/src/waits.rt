@@ -51,8 +51,8 @@ fn settle_found(state: &State) -> Option<Found>
     }
 }
 
-// Whether an event, a taste, a request, a reap or a wash is due.
-fn is_unsettled(state: &State) -> bool
+/// Whether an event, a taste, a request, a reap or a wash is due.
+pub fn is_unsettled(state: &State) -> bool
     requires stands { Stands state.now }
     ensures { (actors : List (List LineCommand)) (log : List Entry)
         → result ≡ is_unsettled (world actors log state.now) }

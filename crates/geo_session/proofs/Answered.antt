@@ -34,18 +34,48 @@ use Rattle.geo_moves.specs.declared.decisions.Decision.TheVariants as decisions
 use Rattle.geo_moves.specs.Decisions.{IsDecided, decision_of, is_closed}
 use Rattle.geo_state.specs.declared.state.State.{State}
 use Rattle.geo_state.specs.Holds.{Holds}
-use Rattle.geo_state.specs.Steps.{against, Does, SameWorld, Stands}
+use Rattle.geo_state.specs.Steps.{against, Does, Makes, SameWorld, Stands}
 use Rattle.geo_state.specs.World.{world, HasBytes}
 use Rattle.geo_session.specs.declared.live.Live.{Live}
 use Rattle.geo_session.specs.declared.refusal.SessionRefusal.{SessionRefusal}
 use Rattle.geo_session.specs.declared.refusal.SessionRefusal.TheVariants as refusals
 use Rattle.geo_session.specs.Growth.{more_for, more_left, with_command}
 use Rattle.geo_session.specs.Live.{seen, IsSession}
-use Rattle.geo_session.specs.Moves.{IsFound}
+use Rattle.geo_session.specs.Moves.{IsFound, IsEnabledDeliver, Leads}
 use Rattle.geo_session.specs.Session.{SessionView, HistoryOf, AnswersFrom, Made, Refuses, none_left}
 use Rattle.geo_session.proofs.Histories.{commands_go_on, history_names, names_prop, steps_go_on}
 use Rattle.geo_session.proofs.Lists.{get_more, more_from}
 use Rattle.geo_session.proofs.Nones.{given, gone, none_at, none_beyond, none_given, none_or_less}
+
+-- With a command that one actor has left a firm world is firm
+
+module _ (c : LineCommand) (is : IsCommand c.command) where
+  abbrev IsOne : LineCommand → Type 0
+  IsOne x = IsCommand x.command
+
+  one : (k : ℕ) (b : Bool) → (c.actor == k) ≡ b → All IsOne (filter (λ x. x.actor == k) (c ∷ []))
+  one k true e = rw e (All-push IsOne [] c (All-nil IsOne) is)
+  one k false e = rw e (All-nil IsOne)
+
+  each : (k : ℕ) (lists : List (List LineCommand)) → AllByRecursion (All IsOne) lists
+      → AllByRecursion (All IsOne) (more_from c k lists)
+  each k [] all = tt
+  each k (l ∷ lists) all = (
+    All-append IsOne l (filter (λ x. x.actor == k) (c ∷ [])) all.0 (one k (c.actor == k) refl),
+    each (k + 1) lists all.1,
+  )
+
+  pub firm_with : (w : World) → Firm w → Firm (with_command c w)
+  firm_with w firm = record {
+    graph = firm.graph;
+    demand = firm.demand;
+    sizes = firm.sizes;
+    handles = firm.handles;
+    taste = firm.taste;
+    bios = firm.bios;
+    commands = All-from_recursion (All IsOne) (more_left c w.actors)
+        (each 0 w.actors (recursion_from_All (All IsOne) w.actors firm.commands));
+  }
 
 -- A live mesh
 
@@ -70,10 +100,42 @@ module _ (l : Live) (s : State) (count : ℕ) (is : IsSession l) (before : World
   next_session goes_on = record {
     holds = holds;
     bytes = bytes;
-    empty = is.empty;
     firm = subst Firm (ap (λ (a : Answer). world_after before a) does) (steps_stay_firm before seat st firm);
     history = ∥∥₁_map is.history goes_on;
   }
+
+-- so it is after a step
+module _ (l : Live) (s : State) (count : ℕ) (is : IsSession l) (seat : ℕ) (st : Step) (o : Outcome) (holds : Holds s)
+    (bytes : HasBytes [] s)
+    (does : step (seen l).world seat st ≡ Ok (world (none_left l.actors) [] s, o))
+    (counted : count ≡ (l.steps + 1) % 2 ^ 64) where
+  pub step_session : IsSession (record l { state = s; steps = count })
+  step_session =
+      next_session l s count is (seen l).world is.firm seat st o holds bytes does counted
+      (λ h. (steps_go_on seat st o
+      (next_made l s count is (seen l).world is.firm seat st o holds bytes does counted) h).next)
+
+  pub step_made : Made (seen l).world (seen l) (seen (record l { state = s; steps = count })) seat st o
+  step_made = next_made l s count is (seen l).world is.firm seat st o holds bytes does counted
+
+-- and after a command
+module _ (l : Live) (s : State) (count : ℕ) (is : IsSession l) (c : LineCommand) (is_command : IsCommand c.command)
+    (o : Outcome) (holds : Holds s) (bytes : HasBytes [] s)
+    (does : step (with_command c (seen l).world) 0 (steps.Go c.actor) ≡ Ok (world (none_left l.actors) [] s, o))
+    (counted : count ≡ (l.steps + 1) % 2 ^ 64) where
+  abbrev given_world : World
+  given_world = with_command c (seen l).world
+
+  given_firm : Firm given_world
+  given_firm = firm_with c is_command (seen l).world is.firm
+
+  pub command_made : Made given_world (seen l) (seen (record l { state = s; steps = count })) 0 (steps.Go c.actor) o
+  command_made = next_made l s count is given_world given_firm 0 (steps.Go c.actor) o holds bytes does counted
+
+  pub command_session : IsSession (record l { state = s; steps = count })
+  command_session =
+      next_session l s count is given_world given_firm 0 (steps.Go c.actor) o holds bytes does counted
+      (λ h. (commands_go_on c o is_command command_made h).next)
 
 -- where memory was wanting it is the one that it was
 module _ (l : Live) (s : State) (is : IsSession l) (same : SameWorld l.state s) where
@@ -86,10 +148,35 @@ module _ (l : Live) (s : State) (is : IsSession l) (same : SameWorld l.state s) 
   same_session holds bytes = record {
     holds = holds;
     bytes = bytes;
-    empty = is.empty;
     firm = subst (λ (v : SessionView). Firm v.world) (sym same_seen) is.firm;
     history = subst (λ (v : SessionView). ∥ HistoryOf v ∥₁) (sym same_seen) is.history;
   }
+
+-- What is answered
+
+-- what a call that was refused so answers
+pub answers_refusal : (result : Result Outcome SessionRefusal) (refusal : SessionRefusal) (before : World)
+    (old new : SessionView) (seat : ℕ) (st : Step)
+    → IsErrAnd result (λ x. x ≡ refusal) → Refuses refusal before old new seat st
+    → AnswersFrom before result old new seat st
+answers_refusal (Ok o) refusal before old new seat st is refuses = absurd is
+answers_refusal (Err x) refusal before old new seat st is refuses =
+    subst (λ (y : SessionRefusal). Refuses y before old new seat st) (sym is) refuses
+
+-- what ended with an error isn't ok
+pub not_ok : {A E : Type 0} (r : Result A E) (e : E) → r ≡ Err e → IsOk r → ⊥
+not_ok (Ok a) e was ok = let no : ⊥ = cc was in no
+not_ok (Err d) e was ok = let no : ⊥ = cc ok in no
+
+-- a Deliver that is enabled isn't refused
+pub never_refused : (w : World) (seat : ℕ) (st : Step) (f : Found) → step w seat st ≡ Err f
+    → IsEnabledDeliver w seat st → ⊥
+never_refused w seat (steps.Deliver b got) f is ok = not_ok (step w seat (steps.Deliver b got)) f is ok
+never_refused w seat st f is ok = ok
+
+-- nor a close that is answered ok
+pub closes_enabled : (w : World) (actor : ℕ) (f : Found) → step w 0 (steps.Go actor) ≡ Err f → ClosesOk w 0 actor → ⊥
+closes_enabled w actor f is closes = let e = closes.is_ok in let no : ⊥ = cc (e, is) in no
 
 -- What was found
 
@@ -154,36 +241,6 @@ closed_ok w line (Some h) after e = by (option_map_or (is_active w) h.consumer f
   by true busy =
       let refused : (close_handle w line (Some h)).1 ≡ outcomes.Replied line (replies.Refused EBUSY) = rw busy refl in
       absurd (let no : ⊥ = cc (ap (λ (made : World × Outcome). made.1) e, refused) in no)
-
--- With a command that one actor has left a firm world is firm
-
-module _ (c : LineCommand) (is : IsCommand c.command) where
-  abbrev IsOne : LineCommand → Type 0
-  IsOne x = IsCommand x.command
-
-  one : (k : ℕ) (b : Bool) → (c.actor == k) ≡ b → All IsOne (filter (λ x. x.actor == k) (c ∷ []))
-  one k true e = rw e (All-push IsOne [] c (All-nil IsOne) is)
-  one k false e = rw e (All-nil IsOne)
-
-  each : (k : ℕ) (lists : List (List LineCommand)) → AllByRecursion (All IsOne) lists
-      → AllByRecursion (All IsOne) (more_from c k lists)
-  each k [] all = tt
-  each k (l ∷ lists) all = (
-    All-append IsOne l (filter (λ x. x.actor == k) (c ∷ [])) all.0 (one k (c.actor == k) refl),
-    each (k + 1) lists all.1,
-  )
-
-  pub firm_with : (w : World) → Firm w → Firm (with_command c w)
-  firm_with w firm = record {
-    graph = firm.graph;
-    demand = firm.demand;
-    sizes = firm.sizes;
-    handles = firm.handles;
-    taste = firm.taste;
-    bios = firm.bios;
-    commands = All-from_recursion (All IsOne) (more_left c w.actors)
-        (each 0 w.actors (recursion_from_All (All IsOne) w.actors firm.commands));
-  }
 
 -- A command, given to an actor that is there
 
@@ -254,3 +311,32 @@ module _ (actors : ℕ) (s : State) (c : LineCommand) where
           let ok = closed_ok gone_world c.line (handle_of gone_world c.actor is.name) is.after close in
           decided gone_world.actors [] ∙ ap (decision_of gone_world c.actor) named
           ∙ (let choose : Bool → Decision = λ b. if b then decisions.Closes else decisions.Other in ap choose ok)
+
+-- A step, by its kind
+
+module _ (actors : ℕ) (old new : State) (seat : ℕ) {st it : Step} (is : st ≡ it) where
+  -- where nothing is against it, nothing is against the one that a match shows it to be
+  pub none_by : IsFound actors old seat st None → IsFound actors old seat it None
+  none_by none = subst (λ (x : Step). IsFound actors old seat x None) is none
+
+  -- what is against that one, is against it
+  pub found_by : (f : Option Found) → IsFound actors old seat it f → IsFound actors old seat st f
+  found_by f is_found = subst (λ (x : Step). IsFound actors old seat x f) (sym is) is_found
+
+  -- and it leads where that one does
+  pub made_by : (o : Outcome) → Makes (λ w. step w seat it) [] old new o
+      → Leads (world (none_left actors) [] old) seat st (world (none_left actors) [] new) o
+  made_by o makes =
+      subst (λ (x : Step). Leads (world (none_left actors) [] old) seat x (world (none_left actors) [] new) o) (sym is)
+      (makes (none_left actors))
+
+  -- by what comes of a call
+  pub turned : (result : Result Outcome NoMemory) → IfOk result (λ o. Makes (λ w. step w seat it) [] old new o)
+      → IfOk result (λ o. Leads (world (none_left actors) [] old) seat st (world (none_left actors) [] new) o)
+  turned (Ok o) makes = made_by o makes
+  turned (Err e) makes = tt
+
+  -- it isn't a Deliver where that one is none
+  pub no_deliver_by : (IsEnabledDeliver (world (none_left actors) [] old) seat it → ⊥)
+      → IsEnabledDeliver (world (none_left actors) [] old) seat st → ⊥
+  no_deliver_by never sure = never (subst (λ (x : Step). IsEnabledDeliver (world (none_left actors) [] old) seat x) is sure)

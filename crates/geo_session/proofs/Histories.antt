@@ -62,6 +62,7 @@ module _ (plan : Plan) (facts : List (ℕ × ℕ)) (begins : MayBegin plan) (fit
 -- a step goes on with the same plan
 pub steps_go_on : {old new : SessionView} (seat : ℕ) (s : Step) (o : Outcome) → Made old.world old new seat s o
     → (h : HistoryOf old) → GoesOn h h.plan (entry_of seat s o) new
+unfolding longer
 steps_go_on {old} {new} seat s o made h = record {
   next = longer h.plan h.facts h.begins h.fit h.log h.legal h.leads h.counts seat s o made;
   plan_is = refl;
@@ -118,6 +119,7 @@ module _ {old new : SessionView} (c : LineCommand) (o : Outcome) (is : IsCommand
 
   -- a command with the plan that has it
   pub commands_go_on : GoesOn h (plan_with h.plan c) (entry_of 0 (steps.Go c.actor) o) new
+  unfolding longer
   commands_go_on = record {
     next = longer (plan_with h.plan c) h.facts begins h.fit h.log legal leads h.counts 0 (steps.Go c.actor) o made;
     plan_is = refl;

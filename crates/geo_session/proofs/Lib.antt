@@ -8,3 +8,5 @@ pub mod Nones
 pub mod Histories
 pub mod Starting
 pub mod Answered
+pub mod Reading
+pub mod FirstTaken

@@ -13,7 +13,6 @@ use Rattle.geo_model.specs.Opening.{bare_world, disk_in_size, opening}
 use Rattle.geo_model.specs.Plans.{MayBegin, IsPlan, FactsFit, IsCommandOf}
 use Rattle.geo_laws_requests.proofs.Legal.{opened_firm}
 use Rattle.geo_bio.specs.declared.bio.Held.{Held}
-use Rattle.geo_log.specs.Room.{Room}
 use Rattle.geo_state.specs.declared.state.State.{State}
 use Rattle.geo_state.specs.Shown.{AreLogged}
 use Rattle.geo_state.specs.World.{world, HasBytes}
@@ -60,11 +59,10 @@ no_bytes s none =
     subst (λ (xs : List (BioOf Held)). AreLogged (length no_entry) xs) (sym none)
     (λ k d less. absurd (omega (arith, less)))
 
-module _ (plan : Plan) (facts : List (ℕ × ℕ)) (s : State) (actors : ℕ) (none : Room Entry) (is : IsPlan plan)
-    (fit : FactsFit plan facts) (opens : IsOpened (opening plan facts) s) (each : actors ≡ length plan.actors)
-    (empty : none.items ≡ []) where
+module _ (plan : Plan) (facts : List (ℕ × ℕ)) (s : State) (actors : ℕ) (is : IsPlan plan)
+    (fit : FactsFit plan facts) (opens : IsOpened (opening plan facts) s) (each : actors ≡ length plan.actors) where
   abbrev first : Live
-  first = record { state = s; actors = actors; steps = 0; none = none }
+  first = record { state = s; actors = actors; steps = 0 }
 
   first_world : world (none_left actors) [] s ≡ opening (without_commands plan) facts
   first_world =
@@ -91,7 +89,6 @@ module _ (plan : Plan) (facts : List (ℕ × ℕ)) (s : State) (actors : ℕ) (n
   first_session = record {
     holds = opens.holds;
     bytes = no_bytes s opens.bios;
-    empty = empty;
     firm = subst Firm (sym first_world)
         (opened_firm (without_commands plan) facts (without_begins plan is.begins) fit);
     history = ∣ first_history ∣₁;

@@ -1,5 +1,5 @@
 -- What a live mesh holds, and what holds of it.
-use Rattle.std.specs.Prelude.{◌≡◌, []}
+use Rattle.std.specs.Prelude.{[]}
 use Rattle.geo_model.specs.Fitting.{Firm}
 use Rattle.geo_state.specs.Holds.{Holds}
 use Rattle.geo_state.specs.World.{world, HasBytes}
@@ -15,6 +15,5 @@ seen l = record { world = world (none_left l.actors) [] l.state; steps = l.steps
 pub record IsSession (l : Live) : Type 0 where
   pub holds : Holds l.state
   pub bytes : HasBytes [] l.state
-  pub empty : l.none.items ≡ []
   pub firm : Firm (seen l).world
   pub history : ∥ HistoryOf (seen l) ∥₁

@@ -7,6 +7,7 @@ use Rattle.geo_model.specs.declared.step.Outcome.{Outcome}
 use Rattle.geo_model.specs.declared.step.Step.{Step}
 use Rattle.geo_model.specs.declared.step.Step.TheVariants as steps
 use Rattle.geo_model.specs.World.{World, Plan}
+use Rattle.geo_model.specs.History.{KeepsHistory}
 use Rattle.geo_model.specs.Opening.{opening}
 use Rattle.geo_model.specs.Plans.{MayBegin, FactsFit}
 use Rattle.geo_model.specs.Step.{step}
@@ -39,6 +40,10 @@ pub record HistoryOf (v : SessionView) : Type 0 where
   pub legal : Legal (opening plan facts) log
   pub leads : replay (opening plan facts) log ≡ v.world
   pub counts : length log % 2 ^ 64 ≡ v.steps
+
+-- there is a history of it, and by it the mesh keeps all that a history does
+abbrev pub HasHistory : SessionView → Type 0
+HasHistory v = ∥ (h : HistoryOf v) × KeepsHistory (opening h.plan h.facts) h.log ∥₁
 
 -- a step was made: it is the definitions' step, and one more is counted
 pub record Made (before : World) (old new : SessionView) (seat : ℕ) (s : Step) (outcome : Outcome) : Type 0 where

@@ -10,8 +10,10 @@ mod making;
 mod opened;
 mod refusal;
 mod session;
+mod takes;
 
 pub use geo_log::DiskFacts;
+pub use geo_moves::Spot;
 pub use refusal::SessionRefusal;
 pub use session::Session;
 

@@ -1,6 +1,5 @@
 //! What a live mesh holds.
 
-use geo_log::Log;
 use geo_state::State;
 
 /// What a live mesh holds. Its fields are open: what holds of them together is `IsSession`.
@@ -11,6 +10,4 @@ pub struct Live {
     pub actors: u32,
     /// How many steps were made, counted up to 2^64 and then from 0 again.
     pub steps: u64,
-    /// A log without entries: no bio names a place in it.
-    pub none: Log,
 }

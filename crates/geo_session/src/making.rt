@@ -1,9 +1,12 @@
 //! A step is made, and a command.
-ghost use Rattle.std.specs.Prelude.{◌≡◌, [], None, IfOk, IsOk, OnErr};
+ghost use Rattle.std.specs.Prelude.{◌≡◌, [], None, IfOk, IsOk, IsTrue, OnErr};
+ghost use Rattle.geo_bio.specs.BioTable.{has_phase};
 ghost use Rattle.geo_model.specs.Laws.{ClosesOk};
 ghost use Rattle.geo_model.specs.Plans.{IsCommand};
+ghost use Rattle.geo_model.specs.Step.{up_of};
+ghost use Rattle.geo_model.specs.World.{bio_at, is_up};
 ghost use Rattle.geo_state.specs.Holds.{Holds};
-ghost use Rattle.geo_state.specs.Steps.{SameWorld, Stands};
+ghost use Rattle.geo_state.specs.Steps.{Makes, SameWorld, Stands};
 ghost use Rattle.geo_state.specs.World.{world, HasBytes};
 ghost use Rattle.geo_session.specs.Growth.{with_command};
 ghost use Rattle.geo_session.specs.Live.{seen, IsSession};
@@ -14,7 +17,7 @@ use crate::found::found_against;
 use crate::live::Live;
 use crate::refusal::SessionRefusal;
 use geo_access::Steps;
-use geo_base::NoMemory;
+use geo_base::{BioId, NoMemory};
 use geo_log::Log;
 use geo_model::{Found, LineCommand, Outcome, Step};
 use geo_moves::{
@@ -48,7 +51,6 @@ pub fn make<L: Ledger>(
         alloc,
         live.actors,
         &mut live.state,
-        &live.none,
         seat,
         step,
         &mut steps,
@@ -62,14 +64,12 @@ fn turn<L: Ledger>(
     alloc: Global,
     actors: u32,
     state: &mut State,
-    none: &Log,
     seat: u32,
     step: Step,
     steps: &mut Steps<L>,
 ) -> Result<Outcome, NoMemory>
     requires stands { Stands state.old }
     requires bytes { HasBytes [] state.old }
-    requires empty { none.now.items ≡ [] }
     requires found { IsFound actors state.old seat step None }
     ensures made { IfOk result (λ o.
         Leads (world (none_left actors) [] state.old) seat step (world (none_left actors) [] state.new) o) }
@@ -99,8 +99,26 @@ fn turn<L: Ledger>(
             deliver_kept(state, seat, bio, got);
             Ok(Outcome::Delivered)
         }
-        Step::Up { bio } => up(alloc, state, none, bio, steps),
+        Step::Up { bio } => rise(alloc, state, bio, steps),
     }
+}
+
+// A bio goes up. No bytes are sought in a log: the log has none.
+fn rise<L: Ledger>(
+    alloc: Global,
+    state: &mut State,
+    bio: BioId,
+    steps: &mut Steps<L>,
+) -> Result<Outcome, NoMemory>
+    requires stands { Stands state.old }
+    requires up { IsTrue (has_phase is_up state.old.traffic.bios bio) }
+    ensures made { IfOk result (λ o. Makes (λ w. up_of w (bio_at w bio)) [] state.old state.new o) }
+    ensures kept { Holds state.new }
+    ensures same { OnErr result (SameWorld state.old state.new) }
+    ensures bytes { HasBytes [] state.old → HasBytes [] state.new }
+{
+    let none = Log::new(alloc);
+    up(alloc, state, &none, bio, steps)
 }
 
 /// Makes the command of a line at once, unless its actor isn't there or something is against it.

@@ -7,7 +7,7 @@ ghost use Rattle.geo_session.specs.Session.{without_commands};
 
 use crate::live::Live;
 use geo_base::NoMemory;
-use geo_log::{DiskFacts, Log};
+use geo_log::DiskFacts;
 use geo_moves::opening;
 use geo_script::Plan;
 use std::alloc::Global;
@@ -24,6 +24,5 @@ pub fn begin(alloc: Global, plan: &Plan, disks: &DiskFacts) -> Result<Live, NoMe
         state,
         actors: plan.actors().len() as u32,
         steps: 0,
-        none: Log::new(alloc),
     })
 }
