@@ -21,8 +21,13 @@
 //!   `Err` memory was wanting before the first job, and the drives come back as they were.
 //! - **The view** (`publisher.rt`, `watcher.rt`, `keeping.rt`): one publisher shows the mesh as it is printed, and one
 //!   watcher looks. A look gives the listing of the world after a beginning of the log, which begins with all that this
-//!   watcher saw before and was told of (`list`, `later`, `moment`). Neither takes a handle of the runtime, so neither
-//!   can wait. The view is three slots, and a publish and a look change slots by one swap.
+//!   watcher saw before and was told of (`list`, `later`, `moment`). A look takes no handle of the runtime, and a
+//!   publish one for memory alone, so neither can wait. The view is three slots, and a publish and a look change slots
+//!   by one swap.
+//!
+//! Why so: a shown list carries a snapshot of its pass, so a watcher learns from its type of which log it is the
+//! listing. A disk worker makes room for the longest READ ahead of its Take, since nothing may fail behind that. A bio
+//! whose number fits no ticket gets none.
 //!
 //! docs/PROVED.md tells each answer, and what no clause says; docs/ARCHITECTURE.md who has which pass, lane and drive.
 //! Tests stand in geo_tests_jobs and geo_tests_threads. geo_run calls it for the words `run`, `watch` and `trace`, and

@@ -15,6 +15,10 @@
 //! and `src/script_run.rt` gives the disks back and says what is due. What each layer keeps of the headline stands in
 //! `specs/Calls.antt`, `Ends.antt`, `Runners.antt` and `Lending.antt`.
 //!
+//! Why so: a word that isn't UTF-8 is none of the program's. The log isn't taken apart at the end, since its memory
+//! goes with the process. A `ram` disk is made where its line stands among the `disk` lines, so want of memory for it
+//! is told in that order.
+//!
 //! geo_tests_program and `tests/` test it; docs/PROVED.md says what only they show. geomrun calls it. Read
 //! `src/top.rt` first.
 #![tactic(auto)]
