@@ -27,9 +27,9 @@ def hasty(lines):
 
 
 if __name__ == '__main__':
-    print(ram_disk.verify(ram_disk.trace(ram_disk.history(LyingDisk()))))
+    ram_disk.tell(ram_disk.verify(ram_disk.trace(ram_disk.history(LyingDisk()))))
     text = ram_disk.trace(hasty(ram_disk.history(ram_disk.RamDisk())))
     said = ram_disk.verify(text)
-    print(said)
+    ram_disk.tell(said)
     if said.startswith('no: line '):
-        print(text.splitlines()[int(said.split()[-1]) - 1])
+        ram_disk.tell(text.splitlines()[int(said.split()[-1]) - 1])

@@ -5,7 +5,7 @@ A disk of this program's own serves a small script: it is a driver under test, i
 is written down as it is made. That is a trace, and `geomrun verify` says whether it is a legal history of the script
 that ends at rest and has this report. So it prints `yes`.
 """
-import itertools, pathlib, subprocess, sys
+import itertools, os, pathlib, subprocess, sys
 
 # The one of the repository, or else one that is installed.
 GEOMRUN = pathlib.Path(__file__).resolve().parent.parent / 'geomrun'
@@ -101,8 +101,20 @@ def trace(lines):
 def verify(text):
     """What geomrun says of a trace."""
     program = sys.argv[1] if len(sys.argv) > 1 else GEOMRUN
-    return subprocess.run([program, 'verify'], input=text.encode(), stdout=subprocess.PIPE).stdout.decode().strip()
+    try:
+        said = subprocess.run([program, 'verify'], input=text.encode(), stdout=subprocess.PIPE).stdout
+    except OSError as error:
+        sys.exit(f'{program}: {error.strerror}')
+    return said.decode().strip()
+
+
+def tell(text):
+    """Prints a line, or ends with a message where standard output can't be written."""
+    try:
+        os.write(1, text.encode() + b'\n')
+    except OSError as error:
+        sys.exit(f'standard output: {error.strerror}')
 
 
 if __name__ == '__main__':
-    print(verify(trace(history(RamDisk()))))
+    tell(verify(trace(history(RamDisk()))))
