@@ -23,7 +23,7 @@ zshdir = $(sharedir)/zsh/site-functions
 
 # What is installed of a folder, as find is asked for it.
 FILES = -type f ! -name '.*' ! -name '*.pyc' ! -name '*.img'
-DOCUMENTS = README.md CHANGELOG.md LICENSE NOTICE SECURITY.md docs/PROFILE.md docs/TOOLS.md
+DOCUMENTS = README.md CHANGELOG.md LICENSE NOTICE SECURITY.md docs/PROFILE.md docs/TOOLS.md docs/RECIPES.md docs/view.png
 
 .PHONY: all install uninstall deb clean fits $(PARTS:%=install-%) $(PARTS:%=deb-%)
 
