@@ -25,7 +25,7 @@ use std::sync::Wait;
 use std::test::Fail;
 use std::thread::Threads;
 
-// Lets a job make one turn, and then go until it ends.
+// Lets a job go until it ends.
 fn go_one<R: Wait + AllocGlobal>(
     rt: &R,
     yard: &Yard<Mesh>,
@@ -36,10 +36,7 @@ fn go_one<R: Wait + AllocGlobal>(
     ensures ready { IsReady yard.now lanes.now seen_drive worker.new }
     ensures number { worker.new.job.pass.number ≡ worker.old.job.pass.number }
 {
-    worker.answer = worker.job.turn(rt, yard, lanes, &OpenGate);
-    if let Turn::Worked | Turn::Idle = worker.answer {
-        worker.answer = worker.job.go(rt, yard, lanes, &OpenGate);
-    }
+    worker.answer = worker.job.go(rt, yard, lanes, &OpenGate);
 }
 
 // Lets each job go, one after another.

@@ -119,17 +119,12 @@ fn run_words(rt: &impl Abort, alloc: Global, words: &[String], outside: &mut Out
     )
 }
 
-// The run of a word that starts no thread, or none where there is no memory for the words.
-fn run_word(rt: &impl Abort, alloc: Global, word: &str, outside: &mut Outside) -> Option<Ended> {
-    let words = words_of(alloc, word)?;
+/// The run of the script, or none where there is no memory for the words. What it answers is dropped by a call.
+pub fn run(rt: &impl Abort, alloc: Global, outside: &mut Outside) -> Option<Ended> {
+    let words = words_of(alloc, "step")?;
     let ended = run_words(rt, alloc, words.as_slice(), outside);
     drop(words);
     Some(ended)
-}
-
-/// The run of the script, or none where there is no memory for the words. What it answers is dropped by a call.
-pub fn run(rt: &impl Abort, alloc: Global, outside: &mut Outside) -> Option<Ended> {
-    run_word(rt, alloc, "step", outside)
 }
 
 // The run of the word in threads that the gate may hold, or none where there is no memory for the words.
@@ -177,19 +172,6 @@ fn end_of(ended: Ended) -> End {
     };
     drop(ended);
     end
-}
-
-/// The end of the run of a word, or none where there is no memory for the words.
-pub fn run_word_to_end(
-    rt: &impl Abort,
-    alloc: Global,
-    word: &str,
-    outside: &mut Outside,
-) -> Option<End> {
-    match run_word(rt, alloc, word, outside) {
-        Some(ended) => Some(end_of(ended)),
-        None => None,
-    }
 }
 
 /// The end of the run of the script, or none where there is no memory for the words.

@@ -1,2 +1,0 @@
-mod Disks
-mod Idle
