@@ -18,5 +18,5 @@ returns c =
     pieces
     (c.in_ok-targets.ensures
     ∙ ap (map (through c.args.topo.now.topology))
-    (c.deref.ensures.value ∙ c.in_ok-consumers.ensures
+    (c.as_slice.ensures ∙ c.in_ok-consumers.ensures
     ∙ ap (consumers_for c.args.config.now) (c.items.ensures ∙ pieces)))
