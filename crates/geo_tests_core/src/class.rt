@@ -149,7 +149,11 @@ fn assert_split(rt: &impl Abort, alloc: Global, config: &Config) -> Result<(), F
     };
     assert_same(rt, (second.child, second.span.len), (1, 1536));
     let consumers = config.consumers(alloc, items)?;
-    assert_same(rt, consumers.as_slice().get(1).copied(), Some(ConsId::new(4)));
+    assert_same(
+        rt,
+        consumers.as_slice().get(1).copied(),
+        Some(ConsId::new(4)),
+    );
     Ok(())
 }
 
