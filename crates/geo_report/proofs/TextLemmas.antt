@@ -1,5 +1,11 @@
--- The report and the summary of the model, by the listing.
-use Rattle.std.proofs.Common.{◌≡◌, ℕ, List, ◌++◌, length, ap, ◌∙◌, flat_map}
+-- The report and the summary of the model, by the listing; and that each line of a plan has a number within the limit.
+use Rattle.std.specs.Prelude.{[], ◌∷◌, ◌≤◌, All, map}
+use Rattle.std.specs.List.{AllByRecursion}
+use Rattle.std.proofs.Common.{◌≡◌, ℕ, List, ◌++◌, length, ap, ◌∙◌, flat_map, subst, sym}
+use Rattle.std.proofs.lemmas.List.Elements.{All-from_recursion, recursion_from_All}
+use Rattle.geo_base.specs.declared.limits.TheConstants.{MAX_SCRIPT_LINES}
+use Rattle.geo_model.specs.declared.command.LineCommand.{LineCommand}
+use Rattle.geo_model.specs.Plans.{IsPlan, IsLineNumber}
 use Rattle.geo_model.specs.declared.listing.GeomLine.{GeomLine}
 use Rattle.geo_model.specs.declared.step.Entry.{Entry}
 use Rattle.geo_model.specs.World.{Plan}
@@ -45,3 +51,18 @@ summary_is plan log lines t is =
     ∙ regroup first (count_line (codes "ok") (count_by is_ok_reply (all_replies plan log)))
     (flat_map (λ e. count_line (errno_text e) (count_by (is_refusal e) (all_replies plan log))) all_errnos)
     (count_line (codes "bytes") (sum_by reply_len (all_replies plan log))) last
+
+-- the lines of numbered commands are within the limit
+few_each : (cs : List LineCommand) → AllByRecursion IsLineNumber (map (λ (c : LineCommand). c.line) cs)
+    → AllByRecursion (λ (c : LineCommand). c.line ≤ MAX_SCRIPT_LINES) cs
+few_each [] are = tt
+few_each (c ∷ cs) are = (are.0.few, few_each cs are.1)
+
+-- so are those of a plan
+pub few_lines : (plan : Plan) → IsPlan plan → (commands : List LineCommand) → commands ≡ plan.commands
+    → All (λ (c : LineCommand). c.line ≤ MAX_SCRIPT_LINES) commands
+few_lines plan is commands same =
+    subst (λ (cs : List LineCommand). All (λ (c : LineCommand). c.line ≤ MAX_SCRIPT_LINES) cs) (sym same)
+    (All-from_recursion (λ (c : LineCommand). c.line ≤ MAX_SCRIPT_LINES) plan.commands
+    (few_each plan.commands
+    (recursion_from_All IsLineNumber (map (λ (c : LineCommand). c.line) plan.commands) is.numbered)))
