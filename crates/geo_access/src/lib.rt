@@ -21,6 +21,11 @@
 //! attached in between or not, leaves nothing but a number that is used up, and all counts are kept. One of DEV or
 //! TASTE that joined only was attached ([`refused_consumers_go`] says both).
 //!
+//! Why so: others hold an exclusive count beside a writer just where its provider would have more of them than the
+//! writer has, so counts tell a refusal, and no list of writers is kept. What is tried are gains, which stop at the
+//! greatest number of their type; the limit is far below, so a gain that stops is refused. A join attaches, and
+//! detaches again where the counts refuse it, since a loop and too great a rank are told first.
+//!
 //! Only tested, in geo_tests_core: that meshes can be built so far that the calls decide something. geo_life,
 //! geo_taste and geo_moves call it. Read `src/access.rt` and `specs/Access.antt` first.
 #![tactic(auto)]

@@ -17,6 +17,9 @@
 //! knows where its children stand, how many they are and how many are Done (`family`), and the parent of a child
 //! waits (`parent`).
 //!
+//! Why so: a WRITE's bytes are shared with its children, and an only child's with its parent, as bios share their data
+//! in g_bio(9); only several pieces are joined by a copy. `up` asks for nothing but the phase.
+//!
 //! geo_state keeps the table beside what finds the next bio that is due; geo_log keeps the bytes. Tests stand in
 //! geo_tests_bios. Read `src/table.rt` and `specs/BioTable.antt` first.
 #![tactic(auto)]

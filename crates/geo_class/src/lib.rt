@@ -28,6 +28,10 @@
 //! nothing is found it leaves the taste that the model's step leaves ([`laws::tastes_follow`]). After `NoMemory`
 //! nothing is changed.
 //!
+//! Why so: EBR's partitions stand in a box, since each geom has a configuration. A taste answers what is found and not
+//! the verdict, which is as large as the largest shape. Decoders ask only for the bytes that they read, and no map for
+//! whole sectors.
+//!
 //! geo_bio keeps lists of pieces, geo_taste and geo_moves make geoms by it, geo_moves splits requests and writes
 //! records by it, and geo_state keeps the taste under way. Tests stand in geo_tests_low, class by class, and in
 //! geo_tests_core. Read `src/address_map.rt`, `src/config.rt` and `src/verdict.rt` first.

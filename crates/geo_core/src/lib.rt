@@ -27,6 +27,9 @@
 //! takes no memory ([`delivers_are_sure`]), nor does a close that is answered ok. A pass that is good for the lock is
 //! one of the model ([`passes_are_good`]).
 //!
+//! Why so: a step is decided first, and what its outcome will have is copied or shared ahead of it, since nothing may
+//! fail behind it. What is left of an actor's commands is a place in the plan, so none is copied.
+//!
 //! Tested by lists of steps (geo_tests_program) and by two threads (geo_tests_threads). geo_drain and geo_verify
 //! drive it on one thread, geo_jobs under the lock. Read `src/mesh.rt` and `specs/Mesh.antt` first.
 #![tactic(auto)]

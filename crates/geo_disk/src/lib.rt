@@ -15,6 +15,10 @@
 //! [`MemShelf`] fail exactly at the calls that they are told to (`fails`), but that a take may say that memory ran
 //! out; a memory drive without failing calls has no fault. They copy no disk.
 //!
+//! Why so: [`Disk::read`] takes a slice, each of whose bytes is there, so the room of a READ holds zeros first. A count
+//! of faults stands still at the end of its type. A disk in memory under a name of a shelf is one disk over its
+//! takings.
+//!
 //! geo_file has disks that are images; geo_serve, geo_drain, geo_elev, the jobs and geo_run call these. Tests stand
 //! in geo_tests_low. Read `src/disk.rt` and `src/shelf.rt` first.
 #![tactic(auto)]

@@ -13,6 +13,10 @@
 //! that back, and keeps it after a sync, is tested, not proved, and so is that a file which is locked can't be taken.
 //! geo_tests_low has a test of each call over real files; `tests/edge` and `tests/locked` run the program so.
 //!
+//! Why so: an image is locked right after it is opened and its size asked behind that, so a locked one is a fault of
+//! the shelf whatever its size. A failed write tells the whole sectors that the system took. A flush is fdatasync;
+//! giving back is fsync, whose failure is a failed give. A name with a slash is missing.
+//!
 //! geomrun gives a shelf of the current folder to the top call. Read `src/file_shelf.rt` first.
 #![tactic(auto)]
 

@@ -16,6 +16,9 @@
 //!
 //! The jobs of geo_jobs put tickets and take them; a run opens its lanes. Read `src/lane.rt` first.
 //!
+//! Why so: no clause can name what a shared queue holds, so the moment of Full and None is told by what the pass can
+//! tell of it. How often a pass has been refused is counted here, and no clause speaks of it.
+//!
 //! Nothing is promised of progress, fairness or time.
 #![tactic(auto)]
 

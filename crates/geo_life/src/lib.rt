@@ -20,6 +20,9 @@
 //! no handle's consumer is marked (`AreHandlesUnmarked`), and the others but [`orphan`] that no taste made DEV
 //! (`IsDevMade`). Each sound and steady world has both ([`handles_are_spared`]).
 //!
+//! Why so: one provider may carry thousands of handles, so these walks leave them out; a second walk for an automatic
+//! DEV would be code that never runs.
+//!
 //! Only tested, in geo_tests_life: that there is memory, and marks, spoils, orphans and washes at a concrete type.
 //! geo_moves calls it. Read `src/withers.rt` and `specs/Life.antt` first.
 #![tactic(auto)]

@@ -17,6 +17,10 @@
 //! threads on one yard, of a sum and of a mesh. geo_jobs makes steps by it, and opens and closes the yard. Read `src/yard.rt`
 //! first; docs/ARCHITECTURE.md tells the rule (`IsKept`).
 //!
+//! Why so: that a state is lawful is a condition of [`Yard::create`] and kept from there, since a law over each value
+//! of a type can't use the type's invariant. Closing and splitting take no memory (`sure`); their answers for want of
+//! it stay for a form that takes some.
+//!
 //! Nothing is promised of progress, fairness or time.
 #![tactic(auto)]
 

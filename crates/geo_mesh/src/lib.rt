@@ -19,6 +19,10 @@
 //! `can_go`). The next consumer that isn't DEV's ([`Topo::above`]) is found without a walk over the handles, and the
 //! next geom of a class and a name ([`Topo::next_named`]) among those of the name.
 //!
+//! Why so: an attach raises the ranks above ahead of its edge, so a loop is met where the geom would reach itself, and
+//! a refused attach lowers them again. DEV and TASTE have no provider, so no rank stands on theirs and none is kept for
+//! them. The inside (`Tables`) has no Model, since a definition that a Model cites can't take the struct that has it.
+//!
 //! Only tested, in geo_tests_mesh: that the calls which allocate succeed with ample memory. Counts come from
 //! geo_access, the rest from geo_life and the steps. Read `src/topo.rt` first, then `specs/Mesh.antt`.
 #![tactic(auto)]

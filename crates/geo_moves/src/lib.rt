@@ -28,11 +28,17 @@
 //! - **Steps that no actor asks for** (`events.rt`, `judges.rt`, `washes.rt`; g_event(9)): [`event`] does the head of
 //!   the queue, [`judge`] is one step of the taste under way, [`wash`] lets the first part go that can. A judge ticks
 //!   at most one step for each consumer below the provider (`bound`); only a taste that begins takes memory.
-//! - **What is read** (`geoms.rt`, `disk.rt`): [`listing`] is exactly the model's lines of the mesh as it is printed,
-//!   in one pass over the geoms; [`disk_at`] and [`sector_at`] tell the disk of a provider and the size of its sectors.
+//! - **What begins** (`begins.rt`): [`opening`] is the state of a plan's opening, disk by disk.
+//! - **What is read** (`geoms.rt`, `disk.rt`, `spots.rt`, `waits.rt`): [`listing`] is exactly the model's lines of the
+//!   mesh as it is printed, in one pass over the geoms; [`disk_at`], [`disk_of`] and [`sector_at`] tell the disk of a
+//!   provider, that of a bio, and the size of its sectors; [`spot_in`] where a bio goes that waits for its disk,
+//!   [`bytes_read`] how many bytes it gives, and [`is_unsettled`] whether something is due.
 //!
-//! There are no tests of its own: geo_tests_program and `tests/` run it. geo_core calls it. Read `src/dispatch.rt`,
-//! `src/starts.rt` and `src/events.rt` first.
+//! Why so: what is decided of a command is decided once and handed on to its step. A judge asks for all its memory
+//! first. A close posts into places that the state owes it.
+//!
+//! There are no tests of its own: geo_tests_program and `tests/` run it. geo_core calls it, and what a live mesh needs
+//! of it is there. Read `src/dispatch.rt`, `src/starts.rt` and `src/events.rt` first.
 #![tactic(auto)]
 
 mod above;

@@ -6,6 +6,9 @@
 //! `summary`: `IsReport`, `IsSummary`). They ask nothing of the log. One pass over it finds where the replies stand
 //! (`ArePlaces`), so that no line searches it.
 //!
+//! Why so: bytes that are all the same are compared many at a time. The table of replies is by line number, since there
+//! are at most 4,096.
+//!
 //! [`add_mesh`] puts the lines of the mesh behind a text, and [`add_runs`] some bytes as runs. geo_run prints by this
 //! crate, geo_shown and geo_verify by its parts. Read `src/print.rt` first; the texts are those of `Report.antt` in
 //! geo_model.

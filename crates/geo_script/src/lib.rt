@@ -13,6 +13,9 @@
 //! geo_base's `read_runs` take the same texts for the same bytes. That nothing is forgotten of a plan is a law of
 //! geo_laws_scripts.
 //!
+//! Why so: the words that are left of a line are one slice of it, so nothing is copied. [`parse`] collects a draft, and
+//! the law makes it a plan at the end, so no line is checked for the rules of plans.
+//!
 //! Only tested, in geo_tests_low: the table of good and bad lines, and that the calls succeed with ample memory.
 //! geo_run parses by it, geo_core begins with a [`Plan`], geo_verify reads traces by its words. Read `src/text.rt`,
 //! then `src/forms.rt`, one function a command.

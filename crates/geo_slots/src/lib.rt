@@ -11,6 +11,10 @@
 //! comes twice. [`Slots::get`], [`Slots::get_mut`], [`Slots::remove`] and [`Slots::first_from`] find exactly what is
 //! there (`value`, `first`). [`Slots::reserve`] makes room; where memory is wanting the values stay.
 //!
+//! Why so: the index is a row of pages, since a tree from numbers to keys costs more than all else that a mesh does.
+//! `reserve` makes the pages of the numbers to come, so an insert takes no memory; where no number is left it answers
+//! want of memory.
+//!
 //! Only tested, in geo_tests_low: that there is memory, and the table at concrete types. geo_family, geo_names,
 //! geo_mesh, geo_bio and geo_handles keep their rows in it. Read `src/slots.rt` and `specs/Slots.antt`, then
 //! `src/index.rt` and `specs/Pages.antt`.

@@ -26,6 +26,9 @@
 //! ([`laws::grants_follow`]). The queue owes at most two places for each provider, of which a close gives up as many
 //! as it needs ([`laws::places_are_owed`]).
 //!
+//! Why so: a phase has a cursor and no list of links, which would cost look-ups and a row for each child. A step's
+//! events want 128 places more than three a provider, since a chain makes 32 providers at once.
+//!
 //! Only tested: that there is memory, what is due in a few examples (geo_tests_bios), READs that pass over each
 //! other, and a Deliver after more room was refused (geo_tests_state). Else it has no tests of its own:
 //! geo_tests_program and `tests/` run it. geo_moves and geo_core work on it. Read `src/state.rt` and

@@ -20,6 +20,9 @@
 //! the model's sums (`settled`): after something was made, in such a mesh. A refused grant ends the class.
 //! [`judge_step`] and [`hand_back`] tick at most one step for each consumer below the tasted provider (`bound`).
 //!
+//! Why so: [`accept`] and [`judge_step`] can be called in any mesh and are exact in a firm one, so the facts of such a
+//! mesh are premises of a clause and no condition. The geom of an assembly is sought by its class and name.
+//!
 //! Only tested: that there is memory; how geoms are made at concrete names and sizes (geo_tests_making); tastes of
 //! hostile tables, chains and records, and of a disk that is pulled at each moment (geo_tests_core). geo_moves calls
 //! it. Read `src/step.rt` and `src/shapes.rt` first.
