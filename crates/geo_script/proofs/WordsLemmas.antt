@@ -1,9 +1,12 @@
 -- The words of a line, from the first on.
-use Rattle.std.proofs.Common.{◌≡◌, ℕ, ◌+◌, ◌<◌, ◌≤◌, ◌==◌, ◌-◌, nat_lt, Bool, true, false, not, List, [], ◌∷◌, length, take, drop, Option, Some, None, Result, Ok, Err, refl, sym, ◌∙◌, ap, arith, cond, length-drop, if◌then◌else◌}
+use Rattle.std.proofs.Common.{◌≡◌, ℕ, ◌+◌, ◌<◌, ◌≤◌, ◌==◌, ◌-◌, nat_lt, Bool, true, false, not, List, [], ◌∷◌, length, get_or, take, drop, Option, Some, None, Result, Ok, Err, refl, sym, ◌∙◌, ap, arith, cond, length-drop, if◌then◌else◌}
 use Rattle.std.specs.List.{slice_split, position, position_or_len, onto_first}
 use Rattle.std.proofs.lemmas.List.Splits.{slice_split_first}
 use Rattle.std.proofs.lemmas.List.{take_all}
+use Rattle.std.proofs.lemmas.List.Sums.{position_or_len_is}
+use Rattle.std.proofs.lemmas.Bool.{false_from_ne_true}
 use Rattle.std.proofs.lemmas.Bool.Decides.{nat_tests}
+use Rattle.memchr.specs.Find.{IsFirstByte, is_byte}
 use Rattle.geo_base.proofs.Tests.{short_name-named}
 use Rattle.geo_base.specs.Name.{name_of, is_name, is_short_name}
 use Rattle.std.specs.Option.{is_some}
@@ -12,6 +15,23 @@ use Rattle.geo_script.specs.WordsLeft.{words_left}
 use Rattle.geo_model.specs.declared.command.Cause.{Cause}
 use Rattle.geo_model.specs.declared.command.Cause.TheVariants as causes
 use Rattle.geo_model.specs.ScriptWords.{Words, next_word, short_name, at_end, class_word, class_names, beside, found_or}
+
+-- the first place of a byte, told as a list's first place that passes
+pub first_place : (b : ℕ) (xs : List ℕ) (found : Option ℕ) → IsFirstByte (is_byte b) xs found
+    → found ≡ position (λ x. x == b) xs
+first_place b xs None nowhere =
+    let whole : position_or_len (λ x. x == b) xs ≡ length xs =
+    position_or_len_is (λ x. x == b) xs (length xs) 0 (omega arith)
+    (λ k lt. false_from_ne_true (get_or xs k 0 == b) (nowhere k (omega arith) lt)) (λ lt. absurd (omega arith)) in
+    let outside : nat_lt (length xs) (length xs) ≡ false = grind (arith, nat_tests) in
+    rw (whole, outside) refl
+first_place b xs (Some at) first =
+    let lt : at < length xs = first.0.high in
+    let same : position_or_len (λ x. x == b) xs ≡ at =
+    position_or_len_is (λ x. x == b) xs at 0 (omega arith)
+    (λ k below. false_from_ne_true (get_or xs k 0 == b) (first.0.before k (omega arith) below)) (λ lt. first.1) in
+    let inside : nat_lt at (length xs) ≡ true = grind (arith, nat_tests) in
+    rw (same, inside) refl
 
 -- a byte that stands there ends the first part
 pub split_at : (b : ℕ) (xs : List ℕ) (at : ℕ) → position (λ x. x == b) xs ≡ Some at

@@ -7,6 +7,7 @@ ghost use Rattle.geo_script.specs.Reads.{ReadsWord, ReadsLast};
 use crate::refusal::LineRefusal;
 use geo_base::{MAX_COMPONENTS, Name, RunsRefusal, SharedBytes, read_runs};
 use geo_model::{Cause, NameList};
+use memchr::memchr;
 use std::alloc::Global;
 use std::marker::Model;
 
@@ -49,7 +50,7 @@ pub fn find_byte(bytes: &[u8], byte: u8) -> Option<usize>
     ensures place { result ≡ position (λ b. b == byte) bytes.now }
     ensures inside { IfSome result (λ at. at < length bytes.now) }
 {
-    bytes.iter().position(|b| *b == byte)
+    memchr(byte, bytes)
 }
 
 /// The next word, and the words behind it.
