@@ -9,7 +9,7 @@ use Rattle.geo_headline.specs.Traces.{Reading, then_read, line_says, read_steps,
 use Rattle.geo_laws_traces.proofs.Lines.{some_part, joined_back}
 use Rattle.geo_verify.specs.declared.refusal.VerifyRefusal.{VerifyRefusal}
 use Rattle.geo_verify.specs.declared.refusal.VerifyRefusal.TheVariants as refusals
-use Rattle.geo_verify.specs.Forms.{IsFormFault, IsLeft, IsLineFault, Rest, add_steps}
+use Rattle.geo_verify.specs.Forms.{IsFormFault, IsLeft, Rest, add_steps}
 
 -- none before them
 pub all_left : (r : Reading Rest) → IsLeft r r
@@ -82,15 +82,6 @@ pub fault_behind : (whole : Reading Rest) (n : ℕ) (text line behind : List ℕ
     → IsLeft whole (read_steps n (parts_of text)) → parts_of text ≡ line ∷ parts_of behind
     → same_name line report_mark ≡ false → IsErr (marked seat_and_step line) → whole ≡ Err n
 fault_behind whole n text line behind left parts other is = search rules
-
--- whatever its line is refused for, all are
-pub refused_behind : (whole : Reading Rest) (n : ℕ) (text line behind : List ℕ) (refusal : VerifyRefusal)
-    → IsLeft whole (read_steps n (parts_of text)) → parts_of text ≡ line ∷ parts_of behind
-    → same_name line report_mark ≡ false → IsLineFault n line refusal → IsFormFault whole refusal
-refused_behind whole n text line behind (refusals.Script m cause) left parts other fault = absurd fault
-refused_behind whole n text line behind (refusals.Trace m) left parts other fault =
-    fault_behind whole n text line behind left parts other fault.1 ∙ ap Err (sym fault.0)
-refused_behind whole n text line behind refusals.NoMemory left parts other fault = tt
 
 -- and so is a line that isn't ended
 pub last_fault : (whole : Reading Rest) (n : ℕ) (text : List ℕ) → IsLeft whole (read_steps n (parts_of text))
