@@ -18,9 +18,9 @@ use Rattle.geo_core.specs.Mesh.{MeshView, opened, world_of, IsHistory, Advances,
 use Rattle.geo_core.specs.declared.refusal.ApplyRefusal.{ApplyRefusal}
 use Rattle.geo_core.specs.declared.refusal.ApplyRefusal.TheVariants as refusals
 use Rattle.geo_verify.specs.declared.place.Place.{Place}
-use Rattle.geo_verify.specs.Forms.{steps_from}
+use Rattle.geo_verify.specs.Forms.{Rest, steps_from}
 use Rattle.geo_verify.specs.Making.{MakesSteps, TriesLine}
-use Rattle.geo_verify.proofs.StepsRead.{Rest, line_read}
+use Rattle.geo_verify.proofs.StepsRead.{line_read}
 
 -- a log of few entries has a place for each step
 room_by : (n : ℕ) (w : World) (a : Answer) → n + 1 + owed (world_after w a) ≤ MAX_LOG_ENTRIES

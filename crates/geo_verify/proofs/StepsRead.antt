@@ -7,17 +7,9 @@ use Rattle.geo_model.specs.declared.step.Step.{Step}
 use Rattle.geo_model.specs.Words.{same_name}
 use Rattle.geo_headline.specs.Traces.{Reading, then_read, line_says, read_steps, report_mark, parts_of, joined_parts, marked, seat_and_step}
 use Rattle.geo_laws_traces.proofs.Lines.{some_part, joined_back}
-
--- steps before others
-abbrev pub Rest : Type 0
-Rest = List (ℕ × Step) × List ℕ
-
-abbrev pub add_steps : List (ℕ × Step) → Rest → Reading Rest
-add_steps done more = Ok (done ++ more.0, more.1)
-
--- what is read is what is left to read, behind some steps
-abbrev pub IsLeft : Reading Rest → Reading Rest → Type 0
-IsLeft whole r = (done : List (ℕ × Step)) × (whole ≡ then_read r (add_steps done))
+use Rattle.geo_verify.specs.declared.refusal.VerifyRefusal.{VerifyRefusal}
+use Rattle.geo_verify.specs.declared.refusal.VerifyRefusal.TheVariants as refusals
+use Rattle.geo_verify.specs.Forms.{IsFormFault, IsLeft, Rest, add_steps}
 
 -- none before them
 pub all_left : (r : Reading Rest) → IsLeft r r
@@ -95,3 +87,17 @@ fault_behind whole n text line behind left parts other is = search rules
 pub last_fault : (whole : Reading Rest) (n : ℕ) (text : List ℕ) → IsLeft whole (read_steps n (parts_of text))
     → parts_of text ≡ text ∷ [] → whole ≡ Err n
 last_fault whole n text left parts = search rules
+
+-- what is left is a fault, and so is all
+pub fault_left : (whole r : Reading Rest) (refusal : VerifyRefusal) → IsLeft whole r → IsFormFault r refusal
+    → IsFormFault whole refusal
+fault_left whole r (refusals.Script line cause) left fault = fault
+fault_left whole r (refusals.Trace line) left fault =
+    left.1 ∙ ap (λ (x : Reading Rest). then_read x (add_steps left.0)) fault
+fault_left whole r refusals.NoMemory left fault = tt
+
+-- what is left is of the form, and so is all
+pub form_left : (whole r : Reading Rest) (items : List (ℕ × Step)) (report : List ℕ) → (left : IsLeft whole r)
+    → r ≡ Ok (items, report) → whole ≡ Ok (left.0 ++ items, report)
+form_left whole r items report left is =
+    left.1 ∙ ap (λ (x : Reading Rest). then_read x (add_steps left.0)) is

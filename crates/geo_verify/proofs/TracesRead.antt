@@ -8,7 +8,7 @@ use Rattle.geo_model.specs.Log.{made}
 use Rattle.geo_model.specs.Plans.{IsDiskDecl, FactsFit}
 use Rattle.geo_model.specs.Script.{Fault, script, lines_of}
 use Rattle.geo_headline.specs.declared.verified.Verified.{Verified}
-use Rattle.geo_headline.specs.Traces.{Trace, ReadTrace, TraceFault, InScript, Reading, then_read, Sized, read_sizes, read_steps, read_behind, read_after, read_trace, told_line, script_part, marked_part, parts_of}
+use Rattle.geo_headline.specs.Traces.{ReadTrace, TraceFault, InScript, Reading, then_read, Sized, read_sizes, read_steps, read_behind, read_after, read_trace, told_line, script_part, marked_part, parts_of}
 use Rattle.geo_headline.specs.Verifying.{found_of, found_read, verified, log_of}
 use Rattle.geo_laws_traces.proofs.Lines.{some_part}
 use Rattle.geo_laws_traces.proofs.Sizes.{sizes_tell}

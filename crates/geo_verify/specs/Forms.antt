@@ -1,5 +1,5 @@
 -- What the readers of lines give beside their definitions.
-use Rattle.std.specs.Prelude.{◌≡◌, ℕ, ◌+◌, ◌≤◌, ◌∷◌, List, Result, Ok, Err, length, MatchResult, IsErr}
+use Rattle.std.specs.Prelude.{◌≡◌, ℕ, ◌+◌, ◌≤◌, ◌∷◌, ◌++◌, List, Result, Ok, Err, length, MatchResult, IsErr}
 use Rattle.geo_model.specs.declared.command.DiskDecl.{DiskDecl}
 use Rattle.geo_model.specs.declared.step.Step.{Step}
 use Rattle.geo_headline.specs.Traces.{parts_of, Reading, then_read, Sized, add_fact, read_sizes, read_steps, marked, seat_and_step}
@@ -37,16 +37,29 @@ steps_from place = read_steps place.line (parts_of place.text.now)
 abbrev pub IsOfForm : Place → List ℕ → Type 0
 IsOfForm place report = (items : List (ℕ × Step)) × (steps_from place ≡ Ok (items, report))
 
+-- steps before others that are read
+abbrev pub Rest : Type 0
+Rest = List (ℕ × Step) × List ℕ
+
+abbrev pub add_steps : List (ℕ × Step) → Rest → Reading Rest
+add_steps done more = Ok (done ++ more.0, more.1)
+
+-- what is read is what is left to read, behind some steps
+abbrev pub IsLeft : Reading Rest → Reading Rest → Type 0
+IsLeft whole r = (done : List (ℕ × Step)) × (whole ≡ then_read r (add_steps done))
+
+-- the line of a number isn't that of a step, unless memory ran out
+abbrev pub IsLineFault : ℕ → List ℕ → VerifyRefusal → Type 0
+IsLineFault number line (refusals.Script n cause) = ⊥
+IsLineFault number line (refusals.Trace n) = (n ≡ number) × IsErr (marked seat_and_step line)
+IsLineFault number line refusals.NoMemory = Unit {0}
+
 -- the step of a line, or that it isn't of the form
 abbrev pub ReadsStep : Result (ℕ × Step) VerifyRefusal → ℕ → List ℕ → Type 0
-ReadsStep (Ok item) number line = marked seat_and_step line ≡ Ok item
-ReadsStep (Err (refusals.Script n cause)) number line = ⊥
-ReadsStep (Err (refusals.Trace n)) number line = (n ≡ number) × IsErr (marked seat_and_step line)
-ReadsStep (Err refusals.NoMemory) number line = Unit {0}
+ReadsStep result number line =
+    MatchResult result (λ item. marked seat_and_step line ≡ Ok item) (IsLineFault number line)
 
 -- whether the line is that of a step, or that it isn't
 abbrev pub JudgesStep : Result (Unit {0}) VerifyRefusal → ℕ → List ℕ → Type 0
-JudgesStep (Ok done) number line = (item : ℕ × Step) × (marked seat_and_step line ≡ Ok item)
-JudgesStep (Err (refusals.Script n cause)) number line = ⊥
-JudgesStep (Err (refusals.Trace n)) number line = (n ≡ number) × IsErr (marked seat_and_step line)
-JudgesStep (Err refusals.NoMemory) number line = Unit {0}
+JudgesStep result number line =
+    MatchResult result (λ done. (item : ℕ × Step) × (marked seat_and_step line ≡ Ok item)) (IsLineFault number line)

@@ -8,16 +8,12 @@ use Rattle.geo_model.specs.Step.{step}
 use Rattle.geo_headline.specs.Traces.{marked, seat_and_step}
 use Rattle.geo_core.specs.Mesh.{MeshView, opened, world_of, Made}
 use Rattle.geo_verify.specs.declared.place.Place.{Place}
-use Rattle.geo_verify.specs.Forms.{steps_from}
+use Rattle.geo_verify.specs.Forms.{IsBehind, IsLeft, IsOfForm, steps_from}
 
 -- a step was made, or it isn't enabled and nothing changed
 abbrev pub Tries : Bool → MeshView → MeshView → ℕ → Step → Type 0
 Tries true old new seat s = (outcome : Outcome) × Made old new seat s outcome
 Tries false old new seat s = IsErr (step (world_of old) seat s) × (new ≡ old)
-
--- the line is that of a step
-abbrev pub IsStepLine : List ℕ → Type 0
-IsStepLine line = (item : ℕ × Step) × (marked seat_and_step line ≡ Ok item)
 
 -- the same of the step of a line
 abbrev pub TriesLine : Bool → MeshView → MeshView → List ℕ → Type 0
@@ -37,3 +33,10 @@ pub record MakesSteps (old new : MeshView) (place : Place) (stopped : Option ℕ
   pub read : steps_from place ≡ Ok (items, report)
   pub log : new.log ≡ made (opened old) items
   pub stops : stopped ≡ stop_of place.line (made (opened old) items) items
+
+-- the steps that stand from one place on up to another were read and made: what is read is they and what is left there,
+-- and if all is of the form, steps were made up to the first that isn't enabled
+pub record MakesFront (old new : MeshView) (place : Place) (stopped : Option ℕ) (left : Place) : Type 0 where
+  pub read : IsLeft (steps_from place) (steps_from left)
+  pub made : (report : List ℕ) → IsOfForm place report → MakesSteps old new place stopped
+  pub behind : IsBehind left place

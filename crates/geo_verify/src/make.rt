@@ -1,9 +1,9 @@
 //! The steps of a trace are made again.
-ghost use Rattle.std.specs.Prelude.{◌≡◌, ℕ, [], ◌<◌, ◌≤◌, ◌+◌, ◌^◌, List, Ok, length, IfOk};
+ghost use Rattle.std.specs.Prelude.{◌≡◌, [], ◌<◌, ◌≤◌, ◌+◌, ◌^◌, length, IfOk, MatchResult};
 ghost use Rattle.geo_base.specs.declared.limits.TheConstants.{MAX_TRACE_BYTES};
 ghost use Rattle.geo_core.specs.Mesh.{IsHistory};
-ghost use Rattle.geo_verify.specs.Forms.{IsOfForm};
-ghost use Rattle.geo_verify.specs.Making.{MakesSteps, Tries, TriesLine, IsStepLine};
+ghost use Rattle.geo_verify.specs.Forms.{IsFormFault, IsLineFault, steps_from};
+ghost use Rattle.geo_verify.specs.Making.{MakesFront, Tries, TriesLine};
 
 use crate::cut::ended_line;
 use crate::place::Place;
@@ -53,52 +53,56 @@ fn try_step(mesh: &mut Mesh, seat: u32, step: Step) -> Result<bool, NoMemory>
     }
 }
 
-/// Makes the step of the line of a number, if it is enabled, and tells whether it was.
+/// Reads the line of a number and makes its step, if it is enabled, and tells whether it was.
 fn try_line(
     alloc: Global,
     mesh: &mut Mesh,
     pool: &mut Pool,
     number: u32,
     line: &[u8],
-) -> Result<bool, NoMemory>
+) -> Result<bool, VerifyRefusal>
     requires short { length line.now < 2 ^ 32 }
-    requires step { IsStepLine line.now }
     requires history { IsHistory mesh.old }
     requires few { length mesh.old.log ≤ MAX_TRACE_BYTES + 1 }
-    ensures made { IfOk result (λ was. TriesLine was mesh.old mesh.new line.now) }
+    ensures made { MatchResult result (λ was. TriesLine was mesh.old mesh.new line.now) (IsLineFault number line.now) }
     ensures history { IsHistory mesh.new }
 {
-    match read_step(alloc, number, line) {
-        Ok((seat, step)) => try_step(mesh, seat, pooled(pool, step)),
-        Err(VerifyRefusal::NoMemory) => Err(NoMemory),
-        Err(_) => unreachable!(),
+    let (seat, step) = read_step(alloc, number, line)?;
+    match try_step(mesh, seat, pooled(pool, step)) {
+        Ok(was) => Ok(was),
+        Err(_) => Err(VerifyRefusal::NoMemory),
     }
 }
 
-/// Makes the steps from a place on up to the first that isn't enabled, and gives the line of that. The lines are of the
-/// form, and each is read again, so that no list of steps is kept. There are too few of them to fill the log.
-pub fn make_steps(alloc: Global, mesh: &mut Mesh, place: Place<'_>) -> Result<Option<u32>, NoMemory>
+/// Reads each line from a place on and makes its step at once, up to the mark or to the first step that isn't enabled.
+/// Gives the line of that, and the place at which it or the mark stands: from there on all is still to be judged. No
+/// list of steps is kept, and there are too few of them to fill the log.
+pub fn make_steps<'a>(
+    alloc: Global,
+    mesh: &mut Mesh,
+    place: Place<'a>,
+) -> Result<(Option<u32>, Place<'a>), VerifyRefusal>
     requires history { IsHistory mesh.old }
     requires empty { mesh.old.log ≡ [] }
     requires few { place.line + length place.text.now ≤ MAX_TRACE_BYTES + 1 }
-    requires form { (report : List ℕ) × IsOfForm place report }
-    ensures made { IfOk result (λ stopped. MakesSteps mesh.old mesh.new place.entry stopped) }
+    ensures made { MatchResult result (λ x. MakesFront mesh.old mesh.new place.entry x.0 x.1)
+        (IsFormFault (steps_from place.entry)) }
     ensures history { IsHistory mesh.new }
 {
     let mut pool = Pool::new(alloc);
-    let mut number = place.line;
-    let mut rest = place.text;
-    while let Some((line, behind)) = ended_line(rest) {
+    let mut at = place;
+    while let Some((line, behind)) = ended_line(at.text) {
         if line == REPORT_MARK {
-            return Ok(None);
+            return Ok((None, at));
         }
-        let was = try_line(alloc, mesh, &mut pool, number, line)?;
-        if was {
-            number += 1;
-            rest = behind;
-        } else {
-            return Ok(Some(number));
+        let was = try_line(alloc, mesh, &mut pool, at.line, line)?;
+        if !was {
+            return Ok((Some(at.line), at));
         }
+        at = Place {
+            line: at.line + 1,
+            text: behind,
+        };
     }
-    unreachable!()
+    Err(VerifyRefusal::Trace { line: at.line })
 }

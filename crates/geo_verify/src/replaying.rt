@@ -25,7 +25,7 @@ pub struct Replayed {
     pub report: Block,
 }
 
-/// Judges the lines of the steps of a trace from a place on, and makes them.
+/// Makes the steps of a trace from a place on, and judges the lines that are left.
 fn replay_steps(
     alloc: Global,
     plan: Plan,
@@ -36,10 +36,10 @@ fn replay_steps(
     requires few { place.line + length place.text.now ≤ MAX_TRACE_BYTES + 1 }
     ensures { ReplaysRead (trace_from plan facts.now.items place.entry) result }
 {
-    let behind = read_report(alloc, place)?;
-    let report = Block::from_slice(alloc, behind)?;
     let mut mesh = Mesh::begin(alloc, plan, facts)?;
-    let stopped = make_steps(alloc, &mut mesh, place)?;
+    let (stopped, left) = make_steps(alloc, &mut mesh, place)?;
+    let behind = read_report(alloc, left)?;
+    let report = Block::from_slice(alloc, behind)?;
     Ok(Replayed {
         mesh,
         stopped,
@@ -59,9 +59,9 @@ fn replay_behind(alloc: Global, plan: Plan, place: Place<'_>) -> Result<Replayed
 }
 
 /// Reads a trace of at most 64 MiB, and makes its steps up to the first that isn't enabled; the mesh is as it was
-/// before that one. The form of the whole text is judged before any step is made, so there are two passes over it, and
-/// no list of steps. `Script` where what stands before the first line with a mark isn't a script, with its first fault;
-/// `Trace` only else, with the first line that isn't of the form.
+/// before that one. Each line is read and its step made at once, so that there is one pass over the text and no list of
+/// steps; behind a step that isn't enabled the lines are only judged. `Script` where what stands before the first line
+/// with a mark isn't a script, with its first fault; `Trace` only else, with the first line that isn't of the form.
 pub fn replay(alloc: Global, text: &[u8]) -> Result<Replayed, VerifyRefusal>
     requires few { length text.now ≤ MAX_TRACE_BYTES }
     ensures { MatchResult result (λ r. IsReplayOf (read_trace text.now) r) (IsVerifyRefusal (read_trace text.now)) }

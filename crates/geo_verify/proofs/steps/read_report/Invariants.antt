@@ -1,8 +1,7 @@
 -- The lines so far are of steps, so how the rest is read tells how all is.
 use Rattle.std.proofs.Common.{length, ◌+◌, ◌≤◌}
 use Rattle.geo_headline.specs.Traces.{read_steps, parts_of}
-use Rattle.geo_verify.specs.Forms.{steps_from}
-use Rattle.geo_verify.proofs.StepsRead.{IsLeft}
+use Rattle.geo_verify.specs.Forms.{IsLeft, steps_from}
 use Rattle.geo_verify.proofs.steps.read_report.Given as goal
 
 abbrev pub invariant-loop-line : goal.invariant-loop-line

@@ -1,0 +1,12 @@
+pub mod Others
+pub mod Commands
+pub mod Lists
+pub mod Steps
+pub mod Logs
+pub mod Actors
+pub mod Nones
+pub mod Histories
+pub mod Starting
+pub mod Answered
+pub mod Reading
+pub mod FirstTaken

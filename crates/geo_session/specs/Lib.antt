@@ -1,0 +1,5 @@
+pub mod Growth
+pub mod Session
+pub mod Live
+pub mod Moves
+pub mod Going
