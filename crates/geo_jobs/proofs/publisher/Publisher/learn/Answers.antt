@@ -1,5 +1,5 @@
 -- What the publisher was told of begins what it shows.
-use Rattle.std.proofs.Common.{rules, ◌∙◌, List, ap, refl, subst}
+use Rattle.std.proofs.Common.{rules, ◌≡◌, ◌∙◌, List, ap, refl, sym, subst}
 use mathlib.Core.List.{IsPrefix}
 use Rattle.geo_model.specs.declared.step.Entry.{Entry}
 use Rattle.geo_jobs.specs.Views.{AllBegin}
