@@ -1,27 +1,39 @@
 -- What comes home of a run: the view that it shows is the one that is looked at, and how its workers ended.
-use Rattle.std.specs.Prelude.{◌≡◌, ◌≢◌, ℕ, ◌<◌, List, [], ◌∷◌, length, All, Any, Option, Some, None, slice_index_or, ◌+◌, ◌≤◌, ◌++◌}
+use Rattle.std.specs.Prelude.{◌≡◌, ◌≢◌, ℕ, IfSome, option_and_then, ◌<◌, List, [], ◌∷◌, length, All, Any, Option, Some, None, IsSome, slice_index_or, ◌+◌, ◌≤◌, ◌++◌}
 use Rattle.std.specs.List.{AllZip, cons_option}
-use Rattle.std.specs.Option.{option_to_list}
-use Rattle.std.proofs.Common.{ap, arith, refl, subst, sym, ◌∙◌, rules}
-use Rattle.std.proofs.lemmas.List.{get_or-map, length-map, length-append, map-append}
-use Rattle.std.proofs.lemmas.Option.{none-some}
+use Rattle.std.specs.Option.{option_map_or, option_to_list}
+use Rattle.std.proofs.Common.{ap, arith, refl, subst, sym, true≢false, ◌∙◌, rules}
+use Rattle.std.proofs.lemmas.List.{append-nil, get_or-map, length-map, length-append, map-append}
+use Rattle.std.proofs.lemmas.Option.{none-some, same_Some}
 use Rattle.std.proofs.lemmas.List.Elements.{All-push, All-weaker, Contains-append_left, Contains-append_right, filter_map-append}
 use mathlib.Core.List.{IsPrefix}
 use Rattle.geo_disk.specs.declared.drive.Drive.{Drive}
 use Rattle.geo_model.specs.declared.step.Entry.{Entry}
+use Rattle.geo_model.specs.Listing.{listing}
+use Rattle.geo_model.specs.Log.{replay}
 use Rattle.geo_serve.specs.Drives.{DriveView}
-use Rattle.geo_jobs.specs.Ends.{PublisherView, WatcherView}
+use Rattle.geo_lock.proofs.Prefixes.{prefix_trans}
+use Rattle.geo_core.specs.declared.logged.MeshStart.{MeshStart}
+use Rattle.geo_core.specs.Mesh.{MeshView}
+use Rattle.geo_core.specs.Logged.{mesh_start}
+use Rattle.geo_jobs.specs.Listings.{listing_after}
+use Rattle.geo_jobs.specs.Passes.{MeshPass, opened_by}
+use Rattle.geo_model.specs.declared.listing.GeomLine.{GeomLine}
+use Rattle.geo_jobs.specs.Ends.{CanShow, PublisherView, WatcherView, begun_of, listing_at, listing_of_watcher}
+use Rattle.geo_jobs.specs.Views.{AllBegin}
 use Rattle.geo_jobs.specs.declared.lanes.Lanes.{Lanes}
 use Rattle.geo_jobs.specs.declared.turn.Turn.{Turn}
 use Rattle.geo_jobs.specs.declared.job.Role.{Role}
 use Rattle.geo_jobs.specs.declared.run.Worker.{Worker}
-use Rattle.geo_jobs.specs.Jobs.{publisher_of, drives_of}
+use Rattle.geo_jobs.specs.Jobs.{IsRoleOf, publisher_of, drives_of}
 use Rattle.geo_jobs.specs.Runs.{IsKept}
 use Rattle.geo_jobs.specs.Workers.{WorkerRan}
 use Rattle.geo_jobs.specs.declared.left.JobsEnd.{JobsEnd}
-use Rattle.geo_jobs.specs.Closing.{IsEndOf, answers_of, lists_of, passes_of, worse}
+use Rattle.geo_jobs.specs.Closing.{EndsYard, IsEndOf, answers_of, lists_of, passes_of, worse}
 use Rattle.geo_jobs.specs.Started.{MeshYard}
-use Rattle.geo_jobs.specs.Viewed.{LooksAt, LooksAtFirst, first_view, seen_by, shown_by}
+use Rattle.geo_jobs.specs.Viewed.{HasLooked, IsLastLook, LooksAt, LooksAtFirst, ShowsPrefixOf, begun_by, first_publisher, first_view, seen_by, shown_by}
+use Rattle.geo_jobs.specs.declared.left.Seen.{Seen}
+use Rattle.geo_jobs.specs.declared.left.Seen.TheVariants as seens
 use Rattle.geo_laws_graph.proofs.Members.{Contains-here}
 use Rattle.geo_jobs.specs.DriveList.{DriveListView}
 use Rattle.geo_jobs.specs.Deal.{AreTwo, gathered_drives, gathered_of}
@@ -59,16 +71,104 @@ ran_view y lanes seen (w ∷ ws) (v ∷ vs) ran = role_view seen ran.0.ran.added
 -- who looked at what the first shows still looks at what is taken away from the first
 pub looks_meet : {D : Type 0} (before after : Option WatcherView) (p : Option PublisherView) (ws vs : List (Worker D))
     → LooksAtFirst before ws → seen_by after ≡ seen_by before → first_view vs ≡ first_view ws
-    → shown_by p ≡ first_view vs → LooksAt after p
+    → p ≡ first_publisher vs → LooksAt after p
 looks_meet before None p ws vs looks same kept taken = tt
-looks_meet before (Some a) None ws vs looks same kept taken = tt
-looks_meet None (Some a) (Some q) ws vs looks same kept taken = absurd (none-some a.view (sym same))
-looks_meet (Some b) (Some a) (Some q) ws vs looks same kept taken = search rules
+looks_meet None (Some a) p ws vs looks same kept taken = absurd (none-some a.view (sym same))
+looks_meet (Some b) (Some a) p ws vs looks same kept taken =
+    ap (λ (o : Option PublisherView). shown_by o) taken ∙ (kept ∙ (looks ∙ sym same))
 
 -- nobody looks where nobody looked
 pub nobody_looks : (before after : Option WatcherView) → seen_by after ≡ seen_by before → before ≡ None → after ≡ None
 nobody_looks before None same none = refl
 nobody_looks before (Some a) same none = search rules
+
+-- somebody looks where somebody looked
+pub somebody_looks : (before after : Option WatcherView) → seen_by after ≡ seen_by before → IsSome before → IsSome after
+somebody_looks before (Some a) same some = refl
+somebody_looks None None same some = some
+somebody_looks (Some b) None same some = absurd (none-some b.view same)
+
+-- a last look is one if there is who looks
+pub last_look_looked : (w : Option WatcherView) (p : Option PublisherView) (seen : Seen) → IsSome w
+    → IsLastLook w p seen → HasLooked seen
+last_look_looked None p seen some last = absurd (true≢false (sym some))
+last_look_looked (Some w) p seens.Nothing some last = last
+last_look_looked (Some w) p (seens.List list) some last = tt
+last_look_looked (Some w) p seens.NoMemory some last = tt
+
+-- what begins another list, and which that begins, is the list
+none_shorter : {A : Type 0} (xs more rest : List A) → xs ≡ xs ++ more ++ rest → more ≡ []
+none_shorter xs [] rest e = refl
+none_shorter xs (a ∷ more) rest e =
+    let long = ap (λ l. length l) e in
+    absurd (omega (arith, long, length-append (xs ++ (a ∷ more)) rest, length-append xs (a ∷ more)))
+
+both_begin : (xs ys : List Entry) → IsPrefix xs ys → IsPrefix ys xs → xs ≡ ys
+both_begin xs ys p q =
+    let none = none_shorter xs p.0 q.0 (sym (ap (λ (z : List Entry). z ++ q.0) p.1 ∙ q.1)) in
+    sym (append-nil xs) ∙ (ap (λ (z : List Entry). xs ++ z) (sym none) ∙ p.1)
+
+-- the watcher was told of what was shown last and then looked, and what it saw begins that
+module _ (b : WatcherView) (p : PublisherView) (informed after : WatcherView) (stood saw : List Entry)
+    (list : List GeomLine) where
+  pub looked_once : informed.of ≡ b.of → informed.told ≡ stood ∷ b.told → stood ≡ p.stands → after.of ≡ informed.of
+      → AllBegin informed.told after.seen → list ≡ listing_of_watcher after → saw ≡ after.seen → IsPrefix saw p.stands
+      → list ≡ listing_at b.of p.stands
+  looked_once of told stands of' begins listed saw_is within =
+      let least : IsPrefix p.stands after.seen = subst (λ (l : List Entry). IsPrefix l after.seen) stands
+      (subst (λ (l : List (List Entry)). AllBegin l after.seen) told begins 0 stood refl) in
+      let most : IsPrefix after.seen p.stands = subst (λ (l : List Entry). IsPrefix l p.stands) saw_is within in
+      listed
+      ∙ (ap (λ (o : Option MeshPass). listing_at o after.seen) (of' ∙ of)
+      ∙ ap (λ (l : List Entry). listing_at b.of l) (both_begin after.seen p.stands most least))
+
+-- what a client shows its pass has seen
+client_shows : {D : Type 0} (lanes : Lanes) (p : MeshPass) (r : Role D) (q : PublisherView) → IsRoleOf lanes p r
+    → publisher_of r ≡ Some q → IsPrefix q.stands p.seen
+client_shows lanes p (roles.Client j) q of is =
+    (subst (λ (o : Option PublisherView). IfSome o (λ v. CanShow v p)) is of.shows).later
+client_shows lanes p (roles.Events j) q of is = absurd (none-some q is)
+client_shows lanes p (roles.Down j) q of is = absurd (none-some q is)
+client_shows lanes p (roles.Up j) q of is = absurd (none-some q is)
+client_shows lanes p (roles.Disk j) q of is = absurd (none-some q is)
+
+-- so what the first of workers that ran shows begins the log in the end
+pub shown_begins : {D : Type 0} (y : MeshYard) (lanes : Lanes) (seen : Drive D → DriveView) (ws vs : List (Worker D))
+    (first : MeshPass) (m : MeshView) (p : Option PublisherView) → AllZip (WorkerRan y lanes seen) ws vs
+    → EndsYard y (first ∷ passes_of vs) m → p ≡ first_publisher vs → IfSome p (λ q. IsPrefix q.stands m.log)
+shown_begins y lanes seen ws vs first m None ran ended is = tt
+shown_begins y lanes seen ws [] first m (Some q) ran ended is = absurd (none-some q (sym is))
+shown_begins y lanes seen [] (v ∷ vs) first m (Some q) ran ended is = absurd ran
+shown_begins y lanes seen (w ∷ ws) (v ∷ vs) first m (Some q) ran ended is =
+    let seen_of = client_shows lanes v.job.pass v.job.role q ran.0.ready.job.role (sym is) in
+    prefix_trans q.stands v.job.pass.seen m.log seen_of (ended.good 1 first (omega arith)).seen
+
+-- the listing in a yard that began so
+listing_begun : (of : Option MeshPass) (s : MeshStart) (log : List Entry)
+    → option_and_then (λ (p : MeshPass). p.start) of ≡ Some s → listing_at of log ≡ listing (replay (opened_by s) log)
+unfolding listing_after
+listing_begun None s log e = absurd (none-some s e)
+listing_begun (Some o) s log e =
+    ap (λ (start : Option MeshStart). option_map_or (λ begun. listing (replay (opened_by begun) log)) start []) e
+
+-- the last look is of a beginning of the log
+pub shows_prefix : (y : MeshYard) (before after : Option WatcherView) (p : Option PublisherView) (seen : Seen)
+    (m : MeshView) → mesh_start m ≡ y.start → IfSome before (λ w. begun_of w ≡ Some y.start)
+    → begun_by after ≡ begun_by before → LooksAt after p → IfSome p (λ q. IsPrefix q.stands m.log)
+    → IsLastLook after p seen → ShowsPrefixOf m seen
+shows_prefix y before after p seens.Nothing m began begun same looks within last = tt
+shows_prefix y before after p seens.NoMemory m began begun same looks within last = tt
+shows_prefix y before None p (seens.List list) m began begun same looks within last =
+    absurd (let wrong : ⊥ = cc in wrong)
+shows_prefix y before (Some a) None (seens.List list) m began begun same looks within last =
+    absurd (none-some a.view looks)
+shows_prefix y None (Some a) (Some q) (seens.List list) m began begun same looks within last =
+    absurd (none-some (begun_of a) (sym same))
+shows_prefix y (Some b) (Some a) (Some q) (seens.List list) m began begun same looks within last = (
+  q.stands,
+  within,
+  last ∙ listing_begun a.of (mesh_start m) q.stands (same_Some (begun_of a) (begun_of b) same ∙ (begun ∙ ap Some (sym began))),
+)
 
 -- Answers
 

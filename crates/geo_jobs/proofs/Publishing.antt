@@ -3,7 +3,7 @@ use Rattle.std.proofs.Common.{◌≡◌, ◌≢◌, ℕ, ◌+◌, ◌*◌, ◌<�
 use mathlib.Core.Option.{some, none}
 use mathlib.Core.List.{IsPrefix}
 use lib.ListN.{get_elem?}
-use Rattle.atomic_table.specs.Table.{step, takes, gives, chain, Allows}
+use Rattle.atomic_table.specs.Table.{step, keeps, takes, gives, chain, Allows}
 use Rattle.atomic_table.proofs.Lists.{set_here, set_else}
 use Rattle.geo_lock.proofs.Prefixes.{prefix_self, prefix_trans}
 use Rattle.geo_model.specs.declared.step.Entry.{Entry}
@@ -12,9 +12,9 @@ use Rattle.geo_jobs.specs.declared.role.Role.{Role}
 use Rattle.geo_jobs.specs.declared.role.Role.TheVariants.{First, Shows, Comes, Looks, Note}
 use Rattle.geo_jobs.specs.declared.known.Known.{Known}
 use Rattle.geo_jobs.specs.declared.shown.Shown.{Shown}
-use Rattle.geo_jobs.specs.Kept.{Slot, Seat, Layout, Plays, IsKept, TakesSlotBack, ShowsIt}
+use Rattle.geo_jobs.specs.Kept.{Slot, Seat, Layout, Plays, IsKept, Agrees, TakesSlotBack, ShowsIt}
 use Rattle.geo_jobs.specs.Views.{showing, AreOnePass}
-use Rattle.geo_jobs.proofs.Moves.{carried_list, differ, moves, names_middle, plays, views_stay}
+use Rattle.geo_jobs.proofs.Moves.{carried_list, differ, moves, names_middle, plays, reviews, views_stay}
 
 module _ (from : MeshPass) where
   -- what others say stays true when the publisher takes its slot
@@ -71,6 +71,23 @@ module _ (from : MeshPass) where
         },
         (λ c e. let other = plays from r.layout id v (Shows c false) k e in
             let same : b ≡ c = part.1 ∙ sym other.1 in (y.0, λ i. (showing v (same i) v.seen, (same i, y.0) ∷ []))),
+      )
+
+  -- the publisher finds that what it was told of begins what it shows
+  pub agrees : (slots id : ℕ) (v : Known) (cs : List (ℕ × Slot)) (b : ℕ) → v.role ≡ Shows b true
+      → Allows (IsKept from) slots id (v, cs) 0 (λ n. n) (Agrees (step slots 0 0 0 none) (v, cs))
+  agrees slots id v cs b role s r _ at _ =
+      let k = r.each_view id v at in
+      let part = plays from r.layout id v (Shows b true) k role in (
+        showing v b v.seen,
+        keeps,
+        tt,
+        reviews from s r id (showing v b v.seen) record { of = k.of; seen = k.seen; told = k.told; part = part },
+        (λ c e. let other = plays from r.layout id v (Shows c true) k e in
+            let same : b ≡ c = part.1 ∙ sym other.1 in (
+              (λ i. (showing v (same i) v.seen, cs)),
+              λ i t h. subst (λ (z : List Entry). IsPrefix t z) (sym part.3) (k.told i t h),
+            )),
       )
 
   -- the publisher shows what is in its slot

@@ -1,10 +1,11 @@
 -- What contracts see of the two ends of a view.
-use Rattle.std.specs.Prelude.{◌≡◌, ℕ, ◌<◌, List, [], ◌∷◌, true, false, Option, Some}
+use Rattle.std.specs.Prelude.{◌≡◌, ℕ, ◌<◌, List, [], ◌∷◌, true, false, Option, Some, option_and_then}
 use Rattle.std.specs.Option.{option_map_or}
 use mathlib.Core.List.{IsPrefix}
 use Rattle.atomic_table.specs.Seated.{TableId}
 use Rattle.geo_model.specs.declared.listing.GeomLine.{GeomLine}
 use Rattle.geo_model.specs.declared.step.Entry.{Entry}
+use Rattle.geo_core.specs.declared.logged.MeshStart.{MeshStart}
 use Rattle.geo_jobs.specs.Passes.{IsGoodPass, MeshPass}
 use Rattle.geo_jobs.specs.declared.role.Role.TheVariants.{Shows, Looks}
 use Rattle.geo_jobs.specs.declared.shown.Shown.{Shown}
@@ -26,14 +27,22 @@ pub record WatcherView : Type 0 where
   pub seen : List Entry
   pub told : List (List Entry)
 
--- which view, and where it stood
+-- which view, and where it stood, or what was seen of it
 pub record ToldView : Type 0 where
   pub view : TableId
   pub stood : List Entry
 
+-- the mesh as it is printed after these entries, in the yard of the pass
+abbrev pub listing_at : Option MeshPass → List Entry → List GeomLine
+listing_at of log = option_map_or (λ p. listing_after p log) of []
+
 -- the mesh as it is printed after what the watcher has seen
 abbrev pub listing_of_watcher : WatcherView → List GeomLine
-listing_of_watcher v = option_map_or (λ p. listing_after p v.seen) v.of []
+listing_of_watcher v = listing_at v.of v.seen
+
+-- with what the mesh of the watcher's yard began
+abbrev pub begun_of : WatcherView → Option MeshStart
+begun_of v = option_and_then (λ (p : MeshPass). p.start) v.of
 
 -- the publisher can show what this pass has seen: it is the pass of the view, and has seen all at which the view stands
 pub record CanShow (v : PublisherView) (p : MeshPass) : Type 0 where

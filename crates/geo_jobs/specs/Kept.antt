@@ -88,6 +88,11 @@ abbrev pub ShowsIt : Step Slot → Seat → ℕ → Seat → Type 0
 ShowsIt st m r m' = (b : ℕ) (x : Shown) → m.0.role ≡ Shows b true → m.1 ≡ (b, Some x) ∷ []
     → (y : Slot) × (r / 2 < 3) × (m' ≡ (showing m.0 (r / 2) x.at.value.seen, (r / 2, y) ∷ []))
 
+-- the publisher finds that all it was told of begins what it shows
+abbrev pub Agrees : Step Slot → Seat → ℕ → Seat → Type 0
+Agrees st m r m' = (b : ℕ) → m.0.role ≡ Shows b true
+    → (m' ≡ (showing m.0 b m.0.seen, m.1)) × AllBegin m.0.told m.0.seen
+
 -- the watcher learns whether a newer list waits; where none does, it has seen what it was told of
 abbrev pub Peeps : Step Slot → Seat → ℕ → Seat → Type 0
 Peeps st m r m' = (f : ℕ) → m.0.role ≡ Looks f false

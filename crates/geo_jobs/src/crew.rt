@@ -1,7 +1,8 @@
 //! The workers of a run that begin, and who looks at what they show.
-ghost use Rattle.std.specs.Prelude.{◌≡◌, ◌≤◌, [], None, IfErr, IfOk, IfSome, map, vec_len};
+ghost use Rattle.std.specs.Prelude.{◌≡◌, ◌<◌, ◌≤◌, [], Some, None, IfErr, IfOk, IfSome, IsSome, map, vec_len};
 ghost use Rattle.geo_base.specs.declared.limits.TheConstants.{MAX_ACTORS, MAX_DISKS};
 ghost use Rattle.geo_serve.specs.Drives.{drive_view};
+ghost use Rattle.geo_jobs.specs.Ends.{begun_of};
 ghost use Rattle.geo_jobs.specs.Listings.{listing_seen};
 ghost use Rattle.geo_core.specs.Logged.{mesh_of};
 ghost use Rattle.geo_jobs.specs.Crews.{Begins};
@@ -56,6 +57,8 @@ pub fn start_all<D: Disk + Drop, R: AllocGlobal>(
     ensures ok { IfOk result (λ crew. Begins yard.now lanes.now (drive_view D.view) actors given.drives.items first.new
         crew) }
     ensures unseen { given.shown ≡ None → IfOk result (λ crew. crew.watcher ≡ None) }
+    ensures of_yard { IfOk result (λ crew. IfSome crew.watcher (λ w. begun_of w ≡ Some yard.now.start)) }
+    ensures watched { IsSome given.shown → 0 < actors → IfOk result (λ crew. IsSome crew.watcher) }
 {
     let StartRoom {
         mut workers,

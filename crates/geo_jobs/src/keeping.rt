@@ -36,6 +36,15 @@ impl Play<Option<Shown>, Known> for Show {
     ghost then = { ShowsIt };
 }
 
+/// The publisher finds that what it was told of begins what it shows.
+pub struct Agree;
+
+impl Play<Option<Shown>, Known> for Agree {
+    ghost use Rattle.geo_jobs.specs.Kept.{Agrees};
+
+    ghost then = { Agrees };
+}
+
 /// The watcher looks whether a newer list waits.
 pub struct Peep;
 

@@ -20,10 +20,11 @@
 //!   is a history, each entry is of a job and of its kind, no bio is Busy, and the drives did what the log says. On
 //!   `Err` memory was wanting before the first job, and the drives come back as they were.
 //! - **The view** (`publisher.rt`, `watcher.rt`, `keeping.rt`): one publisher shows the mesh as it is printed, and one
-//!   watcher looks. A look gives the listing of the world after a beginning of the log, which begins with all that this
-//!   watcher saw before and was told of (`list`, `later`, `moment`). A look takes no handle of the runtime, and a
-//!   publish one for memory alone, so neither can wait. The view is three slots, and a publish and a look change slots
-//!   by one swap.
+//!   watcher looks. A look gives the listing of the world after what some good pass had seen, which begins with all that
+//!   this watcher saw before and was told of (`list`, `later`, `moment`). A publisher that learns what the watcher saw
+//!   knows that it begins what was shown last (`begins`). So the last look of a run gives the listing after a beginning
+//!   of its log (`shows`). A look takes no handle of the runtime, and a publish one for memory alone, so neither can
+//!   wait. The view is three slots, and a publish and a look change slots by one swap.
 //!
 //! Why so: a shown list carries a snapshot of its pass, so a watcher learns from its type of which log it is the
 //! listing. A disk worker makes room for the longest READ ahead of its Take, since nothing may fail behind that. A bio

@@ -4,7 +4,7 @@ ghost use mathlib.Core.List.{IsPrefix};
 ghost use Rattle.geo_jobs.specs.Ends.{CanShow, IsLaid};
 ghost use Rattle.geo_jobs.specs.Listings.{listing_seen};
 
-use crate::keeping::{Fetch, Keeping, Meeting, Notes, Show, TakeBack};
+use crate::keeping::{Agree, Fetch, Keeping, Meeting, Notes, Show, TakeBack};
 use crate::known::Known;
 use crate::shown::{Shown, shown_at};
 use crate::told::Told;
@@ -135,6 +135,18 @@ impl Publisher {
     {
         let note = self.slots.shared.split_seat::<Notes>(&mut self.seat);
         Told { note }
+    }
+
+    /// Learns what the watcher has seen, which begins what was shown last.
+    pub fn learn(&mut self, told: Told)
+        requires { told.view ≡ self.old.view }
+        ensures same { self.new ≡ self.old }
+        ensures begins { IsPrefix told.stood self.old.stands }
+    {
+        let note = told.into_note();
+        let shared = &self.slots.shared;
+        shared.join_seat::<Notes>(&mut self.seat, note);
+        shared.load::<Agree>(&mut self.seat, 0);
     }
 
     /// Ends the publisher, without waiting. What it showed last stays to be looked at.

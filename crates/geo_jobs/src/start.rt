@@ -1,9 +1,10 @@
 //! The workers of a run, before they begin.
-ghost use Rattle.std.specs.Prelude.{◌≡◌, ◌+◌, ◌<◌, ◌≤◌, ◌^◌, ℕ, false, [], ◌∷◌, ◌++◌, List, Some, None, IfOk, IfSome, OnOk, length, vec_capacity, vec_len};
+ghost use Rattle.std.specs.Prelude.{◌≡◌, ◌+◌, ◌<◌, ◌≤◌, ◌^◌, ℕ, false, [], ◌∷◌, ◌++◌, List, Some, None, IfOk, IfSome, IsSome, OnOk, length, vec_capacity, vec_len};
 ghost use mathlib.Core.List.{IsPrefix};
 ghost use Rattle.geo_base.specs.declared.limits.TheConstants.{MAX_ACTORS};
 ghost use Rattle.geo_disk.specs.declared.drive.Drive.{Drive as DriveValue};
 ghost use Rattle.geo_serve.specs.Drives.{drive_view};
+ghost use Rattle.geo_jobs.specs.Ends.{begun_of};
 ghost use Rattle.geo_jobs.specs.Drives.{HasDrives};
 ghost use Rattle.geo_jobs.specs.Deal.{dealt};
 ghost use Rattle.geo_jobs.specs.Lanes.{taker_of, takers_of};
@@ -68,6 +69,7 @@ fn start_viewed<D: Disk, R: AllocGlobal>(
     ensures begun { OnOk result ((actors : ℕ) → 0 < actors
         → HasBegun yard.now lanes.now (drive_view D.view) actors first.new down.new workers.new.items) }
     ensures view { IfOk result (λ watcher. first_view workers.new.items ≡ Some watcher.view) }
+    ensures of_yard { IfOk result (λ watcher. begun_of watcher ≡ Some yard.now.start) }
     ensures room { OnOk result (vec_capacity workers.new ≡ vec_capacity workers.old) }
 {
     let pass = next_pass(yard, first);
@@ -100,6 +102,8 @@ pub fn start_view<D: Disk, R: AllocGlobal>(
     ensures room { OnOk result (vec_capacity workers.new ≡ vec_capacity workers.old) }
     ensures view { IfOk result (λ watcher. LooksAtFirst watcher workers.new.items) }
     ensures none { shown ≡ None → IfOk result (λ watcher. watcher ≡ None) }
+    ensures of_yard { IfOk result (λ watcher. IfSome watcher (λ w. begun_of w ≡ Some yard.now.start)) }
+    ensures some { IsSome shown → 0 < actors → IfOk result (λ watcher. IsSome watcher) }
 {
     let Some(list) = shown else {
         return Ok(None);

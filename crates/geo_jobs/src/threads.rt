@@ -1,5 +1,5 @@
 //! The threads of a run.
-ghost use Rattle.std.specs.Prelude.{◌≡◌, ◌<◌, [], None, IfErr, IfOk, IfSome, length, map, vec_len};
+ghost use Rattle.std.specs.Prelude.{◌≡◌, ◌<◌, [], None, IfErr, IfOk, IfSome, IsSome, length, map, vec_len};
 ghost use Rattle.std.specs.List.{AllZip};
 ghost use Rattle.geo_model.specs.Listing.{listing};
 ghost use Rattle.geo_lock.specs.Yard.{first_pass};
@@ -11,7 +11,7 @@ ghost use Rattle.geo_jobs.specs.declared.left.Seen.TheVariants.{Nothing};
 ghost use Rattle.geo_jobs.specs.Left.{DrivesFit, ThreadsRan};
 ghost use Rattle.geo_jobs.specs.Rooms.{HasRoom};
 ghost use Rattle.geo_jobs.specs.Started.{AreReady};
-ghost use Rattle.geo_jobs.specs.Viewed.{seen_by};
+ghost use Rattle.geo_jobs.specs.Viewed.{HasLooked, ShowsPrefixOf, begun_by, seen_by};
 
 use crate::close::close_all;
 use crate::crew::{Crew, Given, start_all};
@@ -58,6 +58,7 @@ fn run_watched<D: Disk + Drop + Send, G: Gate + Sync, R: Threads + Wait + Sync +
     requires ready { AreReady yard.now lanes.now (drive_view D.view) crew.workers.items }
     ensures ran { AllZip (WorkerRan yard.now lanes.now (drive_view D.view)) crew.workers.items result.workers.items }
     ensures view { seen_by result.watcher ≡ seen_by crew.watcher }
+    ensures begun { begun_by result.watcher ≡ begun_by crew.watcher }
 {
     let Crew { workers, watcher } = crew;
     let Some(watcher) = watcher else {
@@ -70,7 +71,8 @@ fn run_watched<D: Disk + Drop + Send, G: Gate + Sync, R: Threads + Wait + Sync +
     let (watcher, workers) = thread::join(
         rt,
         move || -> Watcher
-            ensures { result.view ≡ watcher.view }
+            ensures view { result.view ≡ watcher.view }
+            ensures of { result.of ≡ watcher.of }
         { look_on(watcher) },
         move || -> Vec<Worker<D>>
             requires some { 0 < length workers.items }
@@ -104,6 +106,8 @@ fn run_in_yard<D: Disk + Drop + Send, G: Gate + Sync, R: Threads + Wait + Sync +
     ensures ok { IfOk result (λ left. ThreadsRan (mesh_of yard.start []) left.mesh
         (map (drive_view D.view) given.drives.items) (map (drive_view D.view) left.drives.items) left.ended) }
     ensures unseen { given.shown ≡ None → IfOk result (λ left. left.seen ≡ Nothing) }
+    ensures shows { IfOk result (λ left. ShowsPrefixOf left.mesh left.seen) }
+    ensures looked { IsSome given.shown → 0 < actors → IfOk result (λ left. HasLooked left.seen) }
 {
     let Room {
         begins,
@@ -118,7 +122,7 @@ fn run_in_yard<D: Disk + Drop + Send, G: Gate + Sync, R: Threads + Wait + Sync +
                 watcher,
             } = crew;
             let publisher = take_publisher(&mut workers);
-            let seen = look_last(watcher, publisher);
+            let seen = look_last(rt, watcher, publisher);
             Ok(close_all(rt, yard, first, workers, comes, seen))
         }
         Err(drives) => Err(drives),
@@ -152,6 +156,8 @@ fn run_in_room<D: Disk + Drop + Send, G: Gate + Sync, R: Threads + Wait + Sync +
     ensures ok { IfOk result (λ left. ThreadsRan mesh left.mesh (map (drive_view D.view) given.drives.items)
         (map (drive_view D.view) left.drives.items) left.ended) }
     ensures unseen { given.shown ≡ None → IfOk result (λ left. left.seen ≡ Nothing) }
+    ensures shows { IfOk result (λ left. ShowsPrefixOf left.mesh left.seen) }
+    ensures looked { IsSome given.shown → 0 < actors → IfOk result (λ left. HasLooked left.seen) }
 {
     match Yard::create(rt, mesh) {
         Ok((yard, first)) => run_in_yard(rt, gate, yard, first, room, actors, given),
@@ -184,6 +190,8 @@ pub fn run_threads<D: Disk + Drop + Send, G: Gate + Sync, R: Threads + Wait + Sy
     ensures ok { IfOk result (λ left. ThreadsRan mesh left.mesh (map (drive_view D.view) drives.items)
         (map (drive_view D.view) left.drives.items) left.ended) }
     ensures unseen { shown ≡ None → IfOk result (λ left. left.seen ≡ Nothing) }
+    ensures shows { IfOk result (λ left. ShowsPrefixOf left.mesh left.seen) }
+    ensures looked { IsSome shown → 0 < length mesh.plan.actors → IfOk result (λ left. HasLooked left.seen) }
 {
     let actors = actors_of(&mesh);
     match make_room(rt, actors, drives.len()) {

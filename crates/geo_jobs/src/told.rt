@@ -1,4 +1,4 @@
-//! What a publisher tells.
+//! What an end of a view tells.
 ghost use Rattle.std.specs.Prelude.{◌≡◌, []};
 
 use crate::known::Known;
@@ -6,9 +6,10 @@ use crate::shown::Shown;
 use atomic_table::Seat;
 use std::marker::Model;
 
-/// Where a view stood, to be learned by its watcher. It has no bytes.
+/// Where a view stood, to be learned by its watcher; or what a watcher saw, to be learned by its publisher. It has no
+/// bytes.
 ///
-/// Contracts see which view it is, and what its pass had seen of which the list was shown then.
+/// Contracts see which view it is, and what its pass had seen of which the list was shown, or seen, then.
 pub struct Told {
     pub(crate) note: Seat<Option<Shown>, Known>,
 }

@@ -1,8 +1,8 @@
 //! Who looks at the mesh while the jobs of a run make its steps.
-ghost use Rattle.std.specs.Prelude.{◌≡◌, None};
+ghost use Rattle.std.specs.Prelude.{◌≡◌, None, Some};
 ghost use Rattle.geo_jobs.specs.declared.left.Seen.TheVariants.{Nothing};
 ghost use Rattle.geo_jobs.specs.Closing.{answers_of, lists_of, passes_of};
-ghost use Rattle.geo_jobs.specs.Viewed.{LooksAt, first_view, shown_by};
+ghost use Rattle.geo_jobs.specs.Viewed.{IsLastLook, LooksAt, first_publisher};
 
 use crate::left::Seen;
 use crate::publisher::Publisher;
@@ -14,7 +14,8 @@ const LOOKS: u32 = 1_000;
 
 /// Looks a thousand times, whatever is seen.
 pub fn look_on(mut watcher: Watcher) -> Watcher
-    ensures { result.view ≡ watcher.view }
+    ensures view { result.view ≡ watcher.view }
+    ensures of { result.of ≡ watcher.of }
 {
     for _ in 0..LOOKS {
         let _ = watcher.look();
@@ -24,7 +25,7 @@ pub fn look_on(mut watcher: Watcher) -> Watcher
 
 /// Takes away by what the first worker shows, if it shows.
 pub fn take_publisher<D: Drop>(workers: &mut Vec<Worker<D>>) -> Option<Publisher>
-    ensures view { shown_by result ≡ first_view workers.old.items }
+    ensures publisher { result ≡ first_publisher workers.old.items }
     ensures passes { passes_of workers.new.items ≡ passes_of workers.old.items }
     ensures lists { lists_of workers.new.items ≡ lists_of workers.old.items }
     ensures answers { answers_of workers.new.items ≡ answers_of workers.old.items }
@@ -35,19 +36,38 @@ pub fn take_publisher<D: Drop>(workers: &mut Vec<Worker<D>>) -> Option<Publisher
     }
 }
 
-/// Looks once more, after the publisher told where its view stands.
-pub fn look_last(watcher: Option<Watcher>, publisher: Option<Publisher>) -> Seen
-    requires { LooksAt watcher publisher }
-    ensures { watcher ≡ None → result ≡ Nothing }
+// Looks once more, after the publisher told where its view stands. Then the publisher learns what was seen, and ends.
+fn look_once<R: AllocGlobal>(rt: &R, mut watcher: Watcher, publisher: Option<Publisher>) -> Seen
+    requires { LooksAt (Some watcher) publisher }
+    ensures { IsLastLook (Some watcher) publisher result }
 {
-    let Some(mut watcher) = watcher else {
-        return Seen::Nothing;
+    let Some(mut publisher) = publisher else {
+        unreachable!()
     };
-    if let Some(mut publisher) = publisher {
-        watcher.learn(publisher.tell());
-    }
-    match watcher.look() {
+    let note = publisher.tell();
+    watcher.learn(note);
+    let list = watcher.look();
+    let seen = watcher.tell();
+    publisher.learn(seen);
+    publisher.end(rt);
+    match list {
         Ok(list) => Seen::List(list),
         Err(_) => Seen::NoMemory,
     }
+}
+
+/// Looks once more, if anybody looks: what is seen is just what was shown last.
+pub fn look_last<R: AllocGlobal>(
+    rt: &R,
+    watcher: Option<Watcher>,
+    publisher: Option<Publisher>,
+) -> Seen
+    requires { LooksAt watcher publisher }
+    ensures none { watcher ≡ None → result ≡ Nothing }
+    ensures last { IsLastLook watcher publisher result }
+{
+    let Some(watcher) = watcher else {
+        return Seen::Nothing;
+    };
+    look_once(rt, watcher, publisher)
 }

@@ -87,6 +87,15 @@ impl Watcher {
         shared.join_seat::<Notes>(&mut self.seat, note);
     }
 
+    /// Tells what it has seen.
+    pub fn tell(&mut self) -> Told
+        ensures told { (result.view ≡ self.old.view) × (result.stood ≡ self.old.seen) }
+        ensures same { self.new ≡ self.old }
+    {
+        let note = self.slots.shared.split_seat::<Notes>(&mut self.seat);
+        Told { note }
+    }
+
     /// The mesh as it is printed after what is then seen, which begins with all that this watcher saw before and was
     /// told of. `NoMemory` comes for the copy alone, and what is seen then is seen all the same.
     pub fn look(&mut self) -> Result<MeshList, NoMemory>

@@ -10,3 +10,4 @@ pub mod Starting
 pub mod Answered
 pub mod Reading
 pub mod FirstTaken
+pub mod DueSteps

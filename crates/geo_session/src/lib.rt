@@ -21,6 +21,8 @@
 //! - [`Session::first_up`], [`Session::first_to_take`], [`Session::first_down`]: the Up of the smallest bio that is Up,
 //!   the Take of the smallest that can be taken, the Start of the smallest that is Down. One bio of each disk may be
 //!   Busy.
+//! - [`Session::pick`]: the step that is due in the fixed order, the model's `pick`; none is a Go, since no actor has a
+//!   command left ([`Session::no_commands`]).
 //! - [`Session::next_bio`]: the bio with the smallest number from a given one on. [`Session::sent`]: where a bio goes
 //!   that waits for its disk. [`Session::room`]: how many bytes a READ of a bio gives. [`Session::bios`],
 //!   [`Session::handles`], [`Session::actors`], [`Session::steps`]: how many there are.
@@ -41,6 +43,7 @@ mod found;
 mod live;
 mod making;
 mod opened;
+mod picking;
 mod refusal;
 mod session;
 mod takes;

@@ -15,7 +15,7 @@ ghost use Rattle.geo_model.specs.World.{is_down, is_up};
 ghost use Rattle.geo_moves.specs.Spots.{bytes_read_by, spot_of};
 ghost use Rattle.geo_session.specs.Growth.{with_command};
 ghost use Rattle.geo_session.specs.Moves.{IsEnabledDeliver};
-ghost use Rattle.geo_session.specs.Session.{HasHistory, without_commands, Answers, Commands};
+ghost use Rattle.geo_session.specs.Session.{none_left, HasHistory, without_commands, Answers, Commands};
 
 use crate::found::found_against;
 use crate::live::Live;
@@ -172,6 +172,13 @@ impl Session {
         ensures { result ≡ length self.now.world.handles }
     {
         self.live.state.handles.len()
+    }
+
+    /// No actor has a command left: each is made when it is given.
+    pub fn no_commands(&self)
+        ensures { self.now.world.actors ≡ none_left (length self.now.world.actors) }
+    {
+        let _live = &self.live;
     }
 
     /// How many actors there are.

@@ -1,3 +1,4 @@
+use Rattle.std.specs.Prelude.{Option, option_and_then}
 use Rattle.std.proofs.Common.{◌∙◌, ap, length, subst, sym}
 use Rattle.geo_serve.specs.Drives.{drive_view}
 use Rattle.geo_jobs.specs.Ends.{CanShow}
@@ -33,3 +34,9 @@ returns-clause-begun g c actors lt =
     c.putter-puts.ensures.same c.client.ensures.role
     (subst (λ p. CanShow c.in_ok-publisher.publisher p) (sym c.client.ensures.pass)
     (can_show c.in_ok-publisher.publisher c.next_pass-pass.result shown.0 shown.1)))
+
+-- the pass is of the yard, and the view began with it
+pub returns-clause-of_yard : goal.returns-clause-of_yard
+returns-clause-of_yard g c =
+    ap (λ (o : Option MeshPass). option_and_then (λ (p : MeshPass). p.start) o) c.in_ok-publisher.ensures.watcher.1
+    ∙ (ap (λ (p : MeshPass). p.start) c.next_pass-pass.ensures.pass ∙ c.requires.first.of_yard.start)

@@ -4,7 +4,8 @@ use Rattle.geo_serve.specs.Drives.{drive_view}
 use Rattle.geo_jobs.specs.Closing.{EndsYard}
 use Rattle.geo_jobs.specs.Deal.{AreTwo, gathered_of}
 use Rattle.geo_jobs.proofs.Leaving.{threads_ran, crew_ended, few_drives, first_listing, is_first, ready_all}
-use Rattle.geo_jobs.proofs.Homing.{as_many, ends_alike, looks_meet, nobody_looks, ran_view}
+use Rattle.geo_jobs.proofs.Homing.{as_many, ends_alike, last_look_looked, looks_meet, nobody_looks, ran_view, shown_begins, shows_prefix, somebody_looks}
+use Rattle.geo_jobs.specs.Viewed.{HasLooked, ShowsPrefixOf}
 use Rattle.geo_jobs.proofs.threads.run_in_yard.Goals as goal
 
 -- a plan has few actors, and a mesh few disks, each with one drive
@@ -45,7 +46,7 @@ look_last-seen-requires g c =
     looks_meet crew.watcher after.watcher c.take_publisher-publisher.result crew.workers.items after.workers.items
     c.in-Ok.ensures.ok.looks ran.view
     (ran_view c.args.yard c.args.room.lanes (drive_view g.D.Disk.view) crew.workers.items after.workers.items ran.ran)
-    c.take_publisher-publisher.ensures.view
+    c.take_publisher-publisher.ensures.publisher
 
 -- all passes that were made are the workers', who ended, and the first
 pub close_all-requires-clause-whole : goal.close_all-requires-clause-whole
@@ -106,5 +107,33 @@ returns-in-Ok-clause-ok g c =
 -- nothing was to be shown, so nobody looked before or after
 pub returns-in-Ok-clause-unseen : goal.returns-in-Ok-clause-unseen
 returns-in-Ok-clause-unseen g c none =
-    c.close_all.ensures.seen ∙ c.look_last-seen.ensures (nobody_looks c.in-Ok.crew.watcher
+    c.close_all.ensures.seen ∙ c.look_last-seen.ensures.none (nobody_looks c.in-Ok.crew.watcher
     c.run_watched-crew.result.watcher c.run_watched-crew.ensures.view (c.in-Ok.ensures.unseen none))
+
+-- somebody looked before, and so looks once more when all jobs have ended
+pub returns-in-Ok-clause-looked : goal.returns-in-Ok-clause-looked
+returns-in-Ok-clause-looked g c some actors =
+    subst HasLooked (sym c.close_all.ensures.seen)
+    (last_look_looked c.run_watched-crew.result.watcher c.take_publisher-publisher.result c.look_last-seen.result
+    (somebody_looks c.in-Ok.crew.watcher c.run_watched-crew.result.watcher c.run_watched-crew.ensures.view
+    (c.in-Ok.ensures.watched some actors)) c.look_last-seen.ensures.last)
+
+-- what was shown last was seen by the pass of the first client, which is good in the log of all
+pub returns-in-Ok-clause-shows : goal.returns-in-Ok-clause-shows
+returns-in-Ok-clause-shows g c =
+    let y = c.args.yard in
+    let seen = drive_view g.D.Disk.view in
+    let crew = c.in-Ok.crew in
+    let after = c.run_watched-crew.result in
+    let ran = c.run_watched-crew.ensures in
+    let taken = c.take_publisher-publisher in
+    let m = c.close_all.result.mesh in
+    let ended = subst (λ ps. EndsYard y (c.start_all.new.first ∷ ps) m) taken.ensures.passes c.close_all.ensures.mesh in
+    let looks = looks_meet crew.watcher after.watcher taken.result crew.workers.items after.workers.items
+    c.in-Ok.ensures.ok.looks ran.view
+    (ran_view y c.args.room.lanes seen crew.workers.items after.workers.items ran.ran) taken.ensures.publisher in
+    subst (λ s. ShowsPrefixOf m s) (sym c.close_all.ensures.seen)
+    (shows_prefix y crew.watcher after.watcher taken.result c.look_last-seen.result m ended.begun c.in-Ok.ensures.of_yard
+    ran.begun looks
+    (shown_begins y c.args.room.lanes seen crew.workers.items after.workers.items c.start_all.new.first m taken.result
+    ran.ran ended taken.ensures.publisher) c.look_last-seen.ensures.last)

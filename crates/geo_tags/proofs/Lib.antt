@@ -1,0 +1,6 @@
+pub mod OwnLines
+pub mod Outcomes
+pub mod Enabled
+pub mod Waits
+pub mod Submitted
+pub mod Handed
