@@ -1,5 +1,6 @@
 //! What is done to a live mesh and the tokens of its requests.
-ghost use Rattle.std.specs.Prelude.{IsOk};
+ghost use Rattle.std.specs.Prelude.{◌≡◌, None, IsOk};
+ghost use Rattle.slab.specs.Slab.{get};
 ghost use Rattle.geo_model.specs.Plans.{IsCommand};
 ghost use Rattle.geo_tags.specs.Calls.{Delivers, Nexts, Submits, SurelyCloses};
 ghost use Rattle.geo_tags.specs.Tags.{shown, EachWaits};
@@ -22,6 +23,7 @@ pub fn submit(
     requires waits { EachWaits (shown session.old tokens.old) }
     requires is_command { IsCommand command }
     ensures waits { EachWaits (shown session.new tokens.new) }
+    ensures free { get tokens.old tokens.old.vacant_key ≡ None }
     ensures submits { Submits result (shown session.old tokens.old) (shown session.new tokens.new) actor command token }
     ensures sure { SurelyCloses (shown session.old tokens.old) actor command → IsOk result }
 {

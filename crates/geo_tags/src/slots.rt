@@ -1,6 +1,6 @@
 //! The slots of tokens: a tag is a key of a slab.
-ghost use Rattle.std.specs.Prelude.{◌≡◌, ◌≤◌, ◌^◌, true, false, IfNone, IfSome, IsOk, OnOk};
-ghost use Rattle.slab.specs.Slab.{HasRoomFor};
+ghost use Rattle.std.specs.Prelude.{◌≡◌, ◌≤◌, ◌^◌, true, false, None, IfNone, IfSome, IsOk, OnOk};
+ghost use Rattle.slab.specs.Slab.{get, HasRoomFor};
 ghost use Rattle.geo_tags.specs.Slots.{is_close, taken_by, HandsOut, IsExpected};
 
 use crate::due::Due;
@@ -12,6 +12,7 @@ use slab::Slab;
 pub fn next_tag(tokens: &Slab<u64>) -> Option<u32>
     ensures fits { IfSome result (λ tag. tag ≡ tokens.now.vacant_key) }
     ensures none { IfNone result (2 ^ 32 ≤ tokens.now.vacant_key) }
+    ensures free { get tokens.now tokens.now.vacant_key ≡ None }
 {
     let tag = tokens.vacant_key();
     if tag <= u32::MAX as usize {

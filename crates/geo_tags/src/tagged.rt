@@ -65,6 +65,7 @@ impl TaggedSession {
         token: u64,
     ) -> Result<Option<Reply>, SessionRefusal>
         requires { IsCommand command }
+        ensures free { token_at self.old self.old.next_tag ≡ None }
         ensures submits { Submits result self.old self.new actor command token }
         ensures sure { SurelyCloses self.old actor command → IsOk result }
     {

@@ -1,8 +1,8 @@
-//! What no clause says: that there is memory, and a log with a Deliver.
+//! What no clause says: that there is memory, a log with a Deliver, and the sizes of disks.
 use crate::same::assert_same;
-use geo_base::{BioId, Block, SharedBytes};
-use geo_bio::LogBytes;
-use geo_log::{DeviceResult, Entry, Log, Outcome, Step};
+use geo_base::{BioId, Block, ConsId, ProvId, SharedBytes};
+use geo_bio::{LogBytes, Targets};
+use geo_log::{DeviceResult, DiskFacts, Entry, Log, Outcome, Step};
 use std::alloc::Global;
 use std::test::Fail;
 
@@ -37,5 +37,45 @@ fn delivered_bytes_stand_at_their_place(rt: HostRuntime) -> Result<(), Fail> {
     let mut log = Log::new(alloc);
     assert_same(&rt, one_deliver(&mut log, alloc)?, [None, Some(2), None]);
     assert_same(&rt, log.len(), 3);
+    Ok(())
+}
+
+// The sizes of two disks.
+fn two_facts(facts: &mut DiskFacts) -> Result<[(u32, u64); 2], Fail> {
+    facts.reserve(2)?;
+    facts.push(512, 8);
+    facts.push(4096, 2);
+    match facts.items() {
+        [first, second] => Ok([*first, *second]),
+        _ => Err("not two".into()),
+    }
+}
+
+#[test]
+fn sizes_stand_in_their_order(rt: HostRuntime) -> Result<(), Fail> {
+    let mut facts = DiskFacts::new(rt.alloc());
+    assert_same(&rt, two_facts(&mut facts)?, [(512, 8), (4096, 2)]);
+    Ok(())
+}
+
+// Two targets.
+fn two_targets(targets: &mut Targets) -> Result<[(ConsId, ProvId); 2], Fail> {
+    targets.reserve(2)?;
+    targets.push((ConsId::new(1), ProvId::new(4)));
+    targets.push((ConsId::new(2), ProvId::new(3)));
+    match targets.items() {
+        [first, second] => Ok([*first, *second]),
+        _ => Err("not two".into()),
+    }
+}
+
+#[test]
+fn targets_stand_in_their_order(rt: HostRuntime) -> Result<(), Fail> {
+    let mut targets = Targets::new(rt.alloc());
+    let want = [
+        (ConsId::new(1), ProvId::new(4)),
+        (ConsId::new(2), ProvId::new(3)),
+    ];
+    assert_same(&rt, two_targets(&mut targets)?, want);
     Ok(())
 }

@@ -1,8 +1,9 @@
 ghost use Rattle.std.specs.Prelude.{◌<◌, ◌^◌, length};
 
 use crate::same::assert_same;
-use geo_base::{Block, Calls, Name, RunsRefusal, SharedBytes, read_runs, runs_text};
+use geo_base::{Block, Calls, Kind, Name, RunsRefusal, SharedBytes, read_runs, runs_text};
 use std::alloc::Global;
+use std::test::Fail;
 
 #[test]
 fn blocks_are_made(rt: HostRuntime) {
@@ -16,6 +17,42 @@ fn blocks_are_made(rt: HostRuntime) {
     assert_same(&rt, zeros.bytes(), b"\0\0\0".as_slice());
     let calls = Calls::of(alloc, &[2, 5]).expect(&rt, "memory");
     assert!(rt; calls.has(5) && !calls.has(3));
+}
+
+// A block of a vector of two bytes.
+fn block_of_two(alloc: Global) -> Result<Block, Fail> {
+    let mut bytes = Vec::new(alloc);
+    bytes.push(b'a')?;
+    bytes.push(b'b')?;
+    Ok(Block::from_vec(bytes))
+}
+
+#[test]
+fn a_vector_becomes_a_block(rt: HostRuntime) -> Result<(), Fail> {
+    let block = block_of_two(rt.alloc())?;
+    assert_same(&rt, block.bytes() == b"ab".as_slice(), true);
+    Ok(())
+}
+
+/// The classes, with what is printed of each, and whether its consumers add an exclusive count.
+const CLASSES: [(Kind, &[u8], bool); 9] = [
+    (Kind::Disk, b"DISK", false),
+    (Kind::Dev, b"DEV", false),
+    (Kind::Taste, b"TASTE", false),
+    (Kind::Mbr, b"MBR", true),
+    (Kind::Ebr, b"EBR", true),
+    (Kind::Label, b"LABEL", true),
+    (Kind::Concat, b"CONCAT", true),
+    (Kind::Stripe, b"STRIPE", true),
+    (Kind::Nop, b"NOP", false),
+];
+
+#[test]
+fn each_class_has_its_name_and_its_exclusive_count(rt: HostRuntime) {
+    for (kind, text, adds) in CLASSES {
+        assert_same(&rt, kind.text() == text, true);
+        assert_same(&rt, kind.adds_exclusive(), adds);
+    }
 }
 
 #[test]

@@ -2,12 +2,14 @@
 //!
 //! They show what no clause says: that there is memory, and the mesh at a concrete type. A geom that would reach
 //! itself and one of rank 33 aren't attached, a tower falls by a storey, and geoms, providers and numbers are found
-//! by their names.
+//! by their names. What is noted of a part stands there alone (`parts.rt`), and what was made goes again.
 #![tactic(auto)]
 
 #[cfg(test)]
 mod mesh;
 #[cfg(test)]
 mod names;
+#[cfg(test)]
+mod parts;
 #[cfg(test)]
 mod same;

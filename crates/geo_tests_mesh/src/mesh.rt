@@ -10,8 +10,8 @@ use std::test::Fail;
 
 const NO_COUNTS: Counts = Counts { r: 0, w: 0, e: 0 };
 
-// The mesh that stands at first.
-fn first_mesh(alloc: Global) -> Result<Topo<u8>, Fail> {
+/// The mesh that stands at first.
+pub fn first_mesh(alloc: Global) -> Result<Topo<u8>, Fail> {
     Ok(Topo::new(alloc, 1, 2)?)
 }
 
@@ -20,8 +20,8 @@ fn name(bytes: &[u8]) -> Result<Name, Fail> {
     Ok(Name::new(bytes).ok().ok_or("not a name")?)
 }
 
-// A NOP geom with a provider, both of this name.
-fn geom_of(topo: &mut Topo<u8>, text: &[u8]) -> Result<(GeomId, ProvId), Fail> {
+/// A NOP geom with a provider, both of this name.
+pub fn geom_of(topo: &mut Topo<u8>, text: &[u8]) -> Result<(GeomId, ProvId), Fail> {
     let name = name(text)?;
     let geom = topo.new_geom(Kind::Nop, name, 7, false)?;
     let prov = provider_of(topo, geom, name)?;
@@ -37,16 +37,20 @@ fn provider_of(topo: &mut Topo<u8>, geom: GeomId, name: Name) -> Result<ProvId, 
     Ok(topo.new_provider(geom, name, 1_048_576, 512)?)
 }
 
-// A consumer of the geom, attached to nothing.
-fn consumer_of(topo: &mut Topo<u8>, geom: GeomId) -> Result<ConsId, Fail> {
+/// A consumer of the geom, attached to nothing.
+pub fn consumer_of(topo: &mut Topo<u8>, geom: GeomId) -> Result<ConsId, Fail> {
     if topo.geom(geom).is_none() {
         return Err(Fail::from("no geom"));
     }
     Ok(topo.new_consumer(geom)?)
 }
 
-// Attaches the consumer to the provider. None where it is attached, else why it is refused.
-fn attach(topo: &mut Topo<u8>, cons: ConsId, prov: ProvId) -> Result<Option<AttachRefusal>, Fail> {
+/// Attaches the consumer to the provider. None where it is attached, else why it is refused.
+pub fn attach(
+    topo: &mut Topo<u8>,
+    cons: ConsId,
+    prov: ProvId,
+) -> Result<Option<AttachRefusal>, Fail> {
     let free = match topo.consumer(cons) {
         Some(consumer) => consumer.prov.is_none(),
         None => false,
@@ -88,8 +92,8 @@ fn fail(topo: &mut Topo<u8>, prov: ProvId) -> Result<(), Fail> {
     Ok(())
 }
 
-// Takes the consumer off its provider.
-fn detach(topo: &mut Topo<u8>, cons: ConsId) -> Result<(), Fail> {
+/// Takes the consumer off its provider.
+pub fn detach(topo: &mut Topo<u8>, cons: ConsId) -> Result<(), Fail> {
     let quiet = match topo.consumer(cons) {
         Some(consumer) => {
             consumer.prov.is_some() && consumer.want == NO_COUNTS && consumer.active == 0

@@ -38,4 +38,4 @@ returns c =
     c.in-Some.ensures.fits c.in_ok-accepted.ensures.answer) c.in_default-2.not-Replied c.args.token
     c.insert_reserved.new.self c.insert_reserved.result c.insert_reserved.ensures.key
     c.insert_reserved.ensures.was_vacant c.insert_reserved.ensures.updates in
-    record { waits = it.waits; submits = it.submits; sure = λ sure. refl }
+    record { waits = it.waits; free = c.next_tag.ensures.free; submits = it.submits; sure = λ sure. refl }
