@@ -1,0 +1,13 @@
+//! Tests of a live mesh: commands are given as they come, and disks that the tests hold answer what they are asked.
+//!
+//! They show what no clause says: that there is memory for all of it, that what was written is read, what stands
+//! beside an exclusive right, that a pulled disk ends what is out, and that after 100,000 requests each was answered
+//! and nothing is left of them.
+#![tactic(auto)]
+
+#[cfg(test)]
+mod bench;
+#[cfg(test)]
+mod live;
+#[cfg(test)]
+mod same;
