@@ -11,7 +11,8 @@ use geo_access::consumer_of;
 use geo_base::{ConsId, GeomId, Kind, Name, ProvId};
 use geo_event::{Event, EventQueue};
 use geo_life::{
-    mark_spoiled, next_dying, orphan, spoil, wash, wash_where, wither_unless_withering,
+    mark_spoiled, next_dying, orphan, resize, spoil, wash, wash_where, wither,
+    wither_unless_withering,
 };
 use geo_mesh::Topo;
 use geo_model::WashWork;
@@ -385,5 +386,71 @@ fn a_label_is_washed_in_order_once_no_request_is_out(rt: HostRuntime) -> Result<
         ]
     );
     assert_eq!(rt; then, [Some(WashWork::Geom(GeomId::new(4))), None]);
+    Ok(())
+}
+
+// The foot of a tower was resized.
+fn resize_tower(topo: &mut Topo<u8>, queue: &mut EventQueue, tower: &Tower) -> Result<(), Fail> {
+    make_room(topo, queue)?;
+    if !is_dev_made(topo) {
+        return Err(Fail::from("no DEV"));
+    }
+    resize(topo, queue, tower.foot);
+    Ok(())
+}
+
+// The concat withers by hand.
+fn wither_concat(topo: &mut Topo<u8>, queue: &mut EventQueue, tower: &Tower) -> Result<(), Fail> {
+    make_room(topo, queue)?;
+    if topo.geom(tower.concat).is_none() {
+        return Err(Fail::from("no concat"));
+    }
+    wither(topo, queue, tower.concat);
+    Ok(())
+}
+
+// Which geoms of a tower wither: the label and the concat.
+fn withers(topo: &Topo<u8>, tower: &Tower) -> [bool; 2] {
+    [
+        topo.is_withering(tower.label),
+        topo.is_withering(tower.concat),
+    ]
+}
+
+// Which geoms wither after a Resize of the foot, and once the concat withers by hand; whether the label's consumer is
+// marked, as it is by a spoil alone; and the first events.
+type Resized = ([[bool; 2]; 2], bool, [Option<Event>; 2]);
+
+fn resized(topo: &mut Topo<u8>, alloc: Global) -> Result<Resized, Fail> {
+    let mut queue = EventQueue::new(alloc);
+    let tower = build(topo)?;
+    resize_tower(topo, &mut queue, &tower)?;
+    let outgrown = withers(topo, &tower);
+    wither_concat(topo, &mut queue, &tower)?;
+    let all = withers(topo, &tower);
+    let marked = is_marked(topo, tower.consumers[0]);
+    Ok(([outgrown, all], marked, first_events(&mut queue)))
+}
+
+// The same in a new mesh.
+fn first_resized(alloc: Global) -> Result<Resized, Fail> {
+    let mut topo = Topo::new(alloc, 1, 2)?;
+    let answer = resized(&mut topo, alloc);
+    drop(topo);
+    answer
+}
+
+#[test]
+fn a_resize_withers_what_a_taste_made_and_offers_again(rt: HostRuntime) -> Result<(), Fail> {
+    let (withering, marked, events) = first_resized(rt.alloc())?;
+    assert_eq!(rt; withering, [[true, false], [true, true]]);
+    assert!(rt; !marked);
+    assert_eq!(rt;
+        events,
+        [
+            Some(Event::Orphan(ProvId::new(2))),
+            Some(Event::NewProvider(ProvId::new(1)))
+        ]
+    );
     Ok(())
 }
