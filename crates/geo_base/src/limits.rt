@@ -27,6 +27,9 @@ pub const MAX_COMPONENTS: usize = 16;
 /// The most links of a chain of logical partitions.
 pub const MAX_LINKS: usize = 32;
 
+/// The most sectors that a class reads in one taste: a table of links, and each of them.
+pub const MAX_TASTE_READS: usize = 33;
+
 /// The greatest rank of a geom other than DEV and TASTE (g_attach(9)).
 pub const MAX_RANK: u32 = 32;
 

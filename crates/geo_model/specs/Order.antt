@@ -6,7 +6,7 @@ use Rattle.std.specs.Option.{option_map_or}
 use Rattle.geo_model.specs.Words.{first_some}
 use Rattle.geo_base.specs.declared.kind.Kind.{Kind}
 use Rattle.geo_base.specs.declared.kind.Kind.TheVariants as kinds
-use Rattle.geo_base.specs.declared.limits.TheConstants.{MAX_LINKS, UNTASTED_RANK}
+use Rattle.geo_base.specs.declared.limits.TheConstants.{MAX_LINKS, MAX_TASTE_READS, UNTASTED_RANK}
 use Rattle.geo_model.specs.declared.command.LineCommand.{LineCommand}
 use Rattle.geo_model.specs.declared.step.Event.{Event}
 use Rattle.geo_model.specs.declared.step.Event.TheVariants as events
@@ -89,7 +89,7 @@ pick w =
 
 -- the reads that a class may make in a taste, and the Judge steps for them: one submits a read, one judges what is back
 abbrev pub reads_limit : ℕ
-reads_limit = 33
+reads_limit = MAX_TASTE_READS
 
 abbrev pub judges_of_class : ℕ
 judges_of_class = 2 * reads_limit
