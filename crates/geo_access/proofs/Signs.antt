@@ -2,7 +2,7 @@
 use Rattle.std.specs.Prelude.{◌≡◌, ◌≢◌, ◌⊎◌, ℕ, ◌+◌, ◌==◌, ◌≤◌, nat_lt, min, Bool, true, false, not, ◌&&◌, ◌||◌, List, [], ◌∷◌, map, Option, Some, None, IsSome, Contains, option_map, if◌then◌else◌}
 use Rattle.std.specs.Option.{option_and_then, option_or}
 use Rattle.std.proofs.Common.{refl, sym, ◌∙◌, ap, subst, arith, inl, inr, eq-eqb}
-use Rattle.std.proofs.lemmas.Bool.{eqb-true, ne_eqb}
+use Rattle.std.proofs.lemmas.Bool.{eqb-true, ne_eqb, or_parts}
 use Rattle.std.proofs.lemmas.Bool.Decides.{nat_tests}
 use Rattle.geo_base.specs.declared.request.Counts.{Counts}
 use Rattle.geo_base.proofs.MemberLists.{Contains-there, Contains-here, Contains-cases, Contains-filter, Contains-map, nothing_in}
@@ -135,24 +135,19 @@ beside_from : (w e ae o : ℕ) → w ≢ 0 → o ≢ 0 → e + o ≤ ae
     → (min e 4294967295 == 4294967295) ≡ false → ⊥
 beside_from w e ae o some other most tests stopped = grind (arith, nat_tests)
 
--- neither of two tests that fail together holds
-both_fail : (x y : Bool) → (x || y) ≡ false → (x ≡ false) × (y ≡ false)
-both_fail true y e = absurd (cc)
-both_fail false y e = (refl, e)
-
 -- a writer beside another's exclusive count isn't passed over
 writer_tells : (mine all : Counts) (other : ℕ) → mine.w ≢ 0 → other ≢ 0 → mine.e + other ≤ all.e
     → sign_of (cap mine) (cap all) ≡ None → ⊥
 writer_tells mine all other some excludes most none =
     let fail = no_sign (stands_beside (cap mine) (cap all)) (is_stopped (cap mine)) none in
-    beside_from mine.w mine.e all.e other some excludes most (both_fail _ _ fail.0).0 (both_fail _ _ fail.1).1
+    beside_from mine.w mine.e all.e other some excludes most (or_parts _ _ fail.0).0 (or_parts _ _ fail.1).1
 
 -- nor an exclusive count beside another writer
 excluder_tells : (mine all : Counts) (other : ℕ) → mine.e ≢ 0 → other ≢ 0 → mine.w + other ≤ all.w
     → sign_of (cap mine) (cap all) ≡ None → ⊥
 excluder_tells mine all other some writes most none =
     let fail = no_sign (stands_beside (cap mine) (cap all)) (is_stopped (cap mine)) none in
-    beside_from mine.e mine.w all.w other some writes most (both_fail _ _ fail.0).1 (both_fail _ _ fail.1).0
+    beside_from mine.e mine.w all.w other some writes most (or_parts _ _ fail.0).1 (or_parts _ _ fail.1).0
 
 -- what two counts that are stopped say of those that aren't
 beside_says : (w e ae : ℕ)

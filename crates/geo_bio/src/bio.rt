@@ -1,5 +1,6 @@
 //! A request on its way (g_bio(9)).
-use geo_model::{BioCmd, BioId, BioResult, ConsId, Errno, Owner, Phase, ProvId, SharedBytes, Span};
+use geo_base::{BioCmd, BioId, ConsId, Errno, ProvId, SharedBytes};
+use geo_model::{BioResult, Owner, Phase, Span};
 
 /// How a bio ended, as the table keeps it: `AtPlace` names the bytes of a READ by their place in the log.
 #[derive(Debug, Drop)]

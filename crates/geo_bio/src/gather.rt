@@ -9,7 +9,8 @@ ghost use Rattle.geo_bio.specs.Gather.{copy_of, held_error, error_from, bytes_fr
 use crate::bio::{Bio, Held, Risen};
 use crate::log_bytes::LogBytes;
 use crate::rows::{end_with, set_phase};
-use geo_model::{BioCmd, BioId, BioResult, Block, Errno, NoMemory, Phase, SharedBytes};
+use geo_base::{BioCmd, BioId, Block, Errno, NoMemory, SharedBytes};
+use geo_model::{BioResult, Phase};
 use geo_slots::Slots;
 use std::alloc::Global;
 

@@ -1,7 +1,7 @@
 //! The bytes that a log keeps.
 ghost use Rattle.std.specs.Prelude.{◌≡◌, option_copied};
 
-use geo_model::SharedBytes;
+use geo_base::SharedBytes;
 
 /// A log, as the table asks it for bytes that were delivered.
 pub trait LogBytes {

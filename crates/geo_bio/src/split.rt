@@ -4,7 +4,8 @@ ghost use Rattle.geo_slots.specs.Slots.{value_at, with_value};
 ghost use Rattle.geo_bio.specs.Split.{child_for, children_for, waiting, with_all, numbered};
 
 use crate::bio::Bio;
-use geo_model::{BioId, ConsId, NoMemory, Owner, Phase, Piece, ProvId};
+use geo_base::{BioId, ConsId, NoMemory, ProvId};
+use geo_model::{Owner, Phase, Piece};
 use geo_slots::Slots;
 use std::alloc::Global;
 

@@ -1,7 +1,7 @@
 //! Where the pieces of a request go.
 ghost use Rattle.std.specs.Prelude.{◌≡◌, ◌-◌, ◌≤◌, [], ◌∷◌, ◌++◌, IsOk, OnOk};
 
-use geo_model::{ConsId, NoMemory, ProvId};
+use geo_base::{ConsId, NoMemory, ProvId};
 use smallvec::SmallVec;
 use std::alloc::Global;
 use std::marker::Model;

@@ -3,7 +3,8 @@ ghost use Rattle.std.specs.Prelude.{◌≡◌, ◌+◌, ◌<◌, ◌≤◌, IfOk
 ghost use Rattle.geo_model.specs.Place.{cut};
 
 use crate::piece_list::PieceList;
-use geo_model::{NoMemory, Span};
+use geo_base::NoMemory;
+use geo_model::Span;
 use std::alloc::Global;
 
 /// Where each offset of a provider lies below it: in a component, which is a place of its geom counted from 0, at an

@@ -9,7 +9,8 @@ ghost use Rattle.geo_class.specs.Assembly.{CanGrow, allowed_size, standing};
 use crate::config::{Config, Layout};
 use crate::places::Places;
 use crate::sizes::{concat_size, stripe_size};
-use geo_model::{ConcatRecord, ConsId, MAX_COMPONENTS, NoMemory, StripeRecord};
+use geo_base::{ConsId, MAX_COMPONENTS, NoMemory};
+use geo_model::{ConcatRecord, StripeRecord};
 use std::alloc::Global;
 
 /// Whether a concat of these places can stand: one is free, or a provider may have its size.

@@ -5,7 +5,7 @@ ghost use Rattle.geo_model.specs.Records.{padded};
 ghost use Rattle.geo_class.specs.Head.{is_place};
 
 use crate::field::{put_u16, put_u32};
-use geo_model::MAX_COMPONENTS;
+use geo_base::MAX_COMPONENTS;
 
 /// Whether a place is one of the places of a geom, of which there are 1 to 16.
 pub fn is_place(place: u16, count: u16) -> bool

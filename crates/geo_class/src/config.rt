@@ -12,7 +12,8 @@ use crate::concat::ConcatMap;
 use crate::places::Places;
 use crate::sizes::smallest;
 use crate::stripe::StripeMap;
-use geo_model::{ConsId, EbrPart, MAX_LINKS, MAX_MEDIA_BYTES, NoMemory, Slice};
+use geo_base::{ConsId, MAX_LINKS, MAX_MEDIA_BYTES, NoMemory};
+use geo_model::{EbrPart, Slice};
 use std::alloc::Global;
 use std::marker::Model;
 

@@ -6,7 +6,7 @@ ghost use Rattle.geo_model.specs.Records.{padded, record_head};
 ghost use Rattle.geo_class.specs.Head.{decoder_answer, head_name, padded_name};
 
 use crate::field::{put_bytes, put_u32, u32_at};
-use geo_model::{DeclineCause, Declined, Name};
+use geo_base::{DeclineCause, Declined, Name};
 
 /// How many bytes stand before the first zero.
 fn len_before_zero(field: &[u8]) -> usize

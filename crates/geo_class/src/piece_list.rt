@@ -3,7 +3,8 @@ ghost use Rattle.std.specs.Prelude.{◌≡◌, ◌+◌, ◌-◌, ◌≤◌, ◌^
 ghost use Rattle.std.specs.Option.{option_to_list};
 ghost use Rattle.geo_model.specs.Place.{piece_in};
 
-use geo_model::{NoMemory, Piece, Span, Stretch};
+use geo_base::NoMemory;
+use geo_model::{Piece, Span, Stretch};
 use smallvec::SmallVec;
 use std::alloc::Global;
 use std::marker::Model;

@@ -4,7 +4,7 @@ ghost use Rattle.std.specs.List.{list_all, list_any};
 ghost use Rattle.std.specs.Option.{option_flatten, option_to_list};
 ghost use Rattle.geo_class.specs.Places.{ArePlaces};
 
-use geo_model::{ConsId, MAX_COMPONENTS, NoMemory};
+use geo_base::{ConsId, MAX_COMPONENTS, NoMemory};
 use std::alloc::Global;
 use std::marker::Model;
 

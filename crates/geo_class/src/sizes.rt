@@ -3,7 +3,7 @@ ghost use Rattle.std.specs.Prelude.{◌≡◌, ◌*◌, ◌/◌, ◌≤◌, leng
 ghost use Rattle.geo_model.specs.Acceptance.{smallest};
 ghost use Rattle.geo_class.specs.Assembly.{allowed_size};
 
-use geo_model::{MAX_COMPONENTS, MAX_MEDIA_BYTES};
+use geo_base::{MAX_COMPONENTS, MAX_MEDIA_BYTES};
 
 /// The smallest of the sizes, 0 where there are none.
 pub fn smallest(sizes: &[u64]) -> u64

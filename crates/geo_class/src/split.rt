@@ -20,7 +20,8 @@ use crate::mbr::MbrMap;
 use crate::nop::NopMap;
 use crate::piece_list::PieceList;
 use crate::stripe::StripeMap;
-use geo_model::{ConsId, EbrPart, MAX_LINKS, MAX_MEDIA_BYTES, Name, NoMemory, Piece, Slice, Span};
+use geo_base::{ConsId, MAX_LINKS, MAX_MEDIA_BYTES, Name, NoMemory};
+use geo_model::{EbrPart, Piece, Slice, Span};
 use smallvec::SmallVec;
 use std::alloc::Global;
 

@@ -11,7 +11,8 @@ ghost use Rattle.geo_class.specs.Taste.{asked_of, chain_with, ended, sector_back
 
 use crate::ebr::{Chain, Link};
 use crate::verdict::judge;
-use geo_model::{BioResult, ConsId, Facts, Kind, ProvId, Shape, SharedBytes, Verdict};
+use geo_base::{ConsId, Kind, ProvId, SharedBytes};
+use geo_model::{BioResult, Facts, Shape, Verdict};
 use std::marker::Model;
 
 /// The classes that a taste asks, in this order.

@@ -6,10 +6,8 @@ ghost use Rattle.geo_model.specs.declared.class.Shape.TheVariants.{Slices, Joine
 ghost use Rattle.geo_class.specs.Head.{decoder_answer};
 
 use crate::{concat, label, mbr, stripe};
-use geo_model::{
-    ConcatRecord, DeclineCause, Declined, Facts, Kind, LabelRecord, MbrTable, Shape, StripeRecord,
-    Verdict,
-};
+use geo_base::{DeclineCause, Declined, Kind};
+use geo_model::{ConcatRecord, Facts, LabelRecord, MbrTable, Shape, StripeRecord, Verdict};
 
 /// The size of the sectors that a partition table has.
 const TABLE_SECTOR: u32 = 512;

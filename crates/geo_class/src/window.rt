@@ -3,7 +3,8 @@ ghost use Rattle.std.specs.Prelude.{◌≡◌, ◌+◌, ◌≤◌};
 
 use crate::address_map::AddressMap;
 use crate::piece_list::PieceList;
-use geo_model::{MAX_MEDIA_BYTES, NoMemory, Piece, Span};
+use geo_base::{MAX_MEDIA_BYTES, NoMemory};
+use geo_model::{Piece, Span};
 use std::alloc::Global;
 use std::marker::Model;
 

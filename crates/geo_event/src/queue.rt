@@ -2,7 +2,8 @@
 ghost use Rattle.std.specs.Prelude.{◌≡◌, ◌≢◌, ◌+◌, ◌-◌, ◌≤◌, [], ◌∷◌, ◌++◌, drop, length, slice_get, IsOk, OnOk};
 ghost use Rattle.geo_model.specs.Events.{provider_of_event, without_events_of};
 
-use geo_model::{Event, NoMemory, ProvId};
+use geo_base::{NoMemory, ProvId};
+use geo_model::Event;
 use std::alloc::Global;
 use std::collections::VecDeque;
 use std::marker::Model;

@@ -74,6 +74,7 @@ pub use down::DownJob;
 pub use drive_list::DriveList;
 pub use events::EventJob;
 pub use gate::{Gate, GatePlace, OpenGate};
+pub use geo_core::{ApplyRefusal, Mesh};
 pub use job::{Job, JobParts, Role};
 pub use lanes::Lanes;
 pub use left::{JobsEnd, Left, Seen};

@@ -10,8 +10,9 @@ ghost use Rattle.geo_life.specs.Life.{queued, notes, IsDevMade, RestStays, AreSt
 use crate::spoils::spoil_at;
 use geo_access::{next_fallen, next_risen};
 use geo_base::ProvId;
-use geo_event::{Event, EventQueue};
+use geo_event::EventQueue;
 use geo_mesh::Topo;
+use geo_model::Event;
 
 /// What follows a rise of write counts, as an open makes it: at each provider that is noted, in order of numbers,
 /// consumers are marked and Spoil is posted. No note of a rise is left. It takes one place of the queue for each note.

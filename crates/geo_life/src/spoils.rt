@@ -13,8 +13,9 @@ ghost use Rattle.geo_life.specs.Life.{queued, sound_providers, IsDevMade, AreHan
 use crate::above::consumer_above;
 use crate::withers::wither_unless_withering;
 use geo_base::{ConsId, Kind, ProvId};
-use geo_event::{Event, EventQueue};
+use geo_event::EventQueue;
 use geo_mesh::{ConsRec, Topo};
+use geo_model::Event;
 
 /// Marks the consumers of the provider that have to go because it is written: those of a geom that a taste made, or of
 /// TASTE, that hold no write count. The wants are read as stored, so the clause is of all grants by which these are

@@ -7,8 +7,9 @@ ghost use Rattle.geo_life.specs.Life.{queued, sound_providers, RestStays, Counts
 
 use geo_access::provider_of;
 use geo_base::{GeomId, ProvId};
-use geo_event::{Event, EventQueue};
+use geo_event::EventQueue;
 use geo_mesh::Topo;
+use geo_model::Event;
 
 /// The geom withers, and each of its providers without an error is orphaned: it gets an error, and an Orphan event is
 /// posted for its consumers (g_wither_geom(9)). It takes at most as many places of the queue as there are providers

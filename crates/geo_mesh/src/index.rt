@@ -4,8 +4,8 @@ ghost use Rattle.geo_slots.specs.Slots.{value_at};
 ghost use Rattle.geo_family.specs.Family.{is_parent, has_child};
 ghost use Rattle.geo_mesh.specs.Index.{no_index, HaveRoom, with_rooms, with_geom_index, with_provider_index, with_consumer_index, without_geom_index, without_provider_index, without_consumer_index, attached_index, detached_index};
 
+use geo_base::NoMemory;
 use geo_family::Family;
-use geo_model::NoMemory;
 use std::alloc::Global;
 
 /// The providers under their geoms, the consumers under their geoms, the consumers under the providers to which they

@@ -3,8 +3,8 @@ ghost use Rattle.std.specs.Prelude.{◌≡◌, ◌≤◌, ◌+◌, ◌-◌, [], 
 ghost use Rattle.geo_slots.specs.Slots.{value_at, with_value, without};
 ghost use Rattle.geo_mesh.specs.Marks.{no_marks, first_marked};
 
+use geo_base::NoMemory;
 use geo_family::Family;
-use geo_model::NoMemory;
 use std::alloc::Global;
 use std::marker::Model;
 

@@ -6,7 +6,7 @@ ghost use Rattle.geo_mesh.specs.Notes.{geom_name};
 ghost use Rattle.geo_mesh.specs.Named.{is_of, is_of_class};
 
 use crate::records::GeomCell;
-use geo_model::{Kind, Name};
+use geo_base::{Kind, Name};
 use geo_names::Names;
 use geo_slots::Slots;
 

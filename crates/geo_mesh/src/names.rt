@@ -3,7 +3,7 @@ ghost use Rattle.std.specs.Prelude.{◌≡◌, ℕ, ◌-◌, [], IsOk, OnOk};
 ghost use Rattle.geo_names.specs.Names.{last_named};
 ghost use Rattle.geo_mesh.specs.Names.{sound_of, HaveNameRoom, AreNames, SameNames, AddsName, RetiresName, RemovesName};
 
-use geo_model::{Name, NoMemory};
+use geo_base::{Name, NoMemory};
 use geo_names::Key;
 use std::alloc::Global;
 use std::collections::HashMap;

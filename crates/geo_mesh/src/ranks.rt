@@ -8,7 +8,7 @@ ghost use Rattle.geo_mesh.specs.Ranks.{IsKin, kinds, bare, offers, ranked_links,
 
 use crate::records::{AttachRefusal, GeomCell};
 use crate::tables::{Edges, cell_mut};
-use geo_model::{Kind, MAX_RANK};
+use geo_base::{Kind, MAX_RANK};
 use geo_slots::Slots;
 
 // The greatest rank of a geom other than DEV and TASTE, in the type of the cells.

@@ -1,5 +1,5 @@
 //! What stands under the number of a geom, a provider or a consumer.
-use geo_model::{Counts, GeomId, Kind, Name, ProvId};
+use geo_base::{Counts, GeomId, Kind, Name, ProvId};
 use thiserror::Error;
 
 /// A geom, an instance of a class (geom(4)). A geom that a taste made is automatic; `started` counts the requests that

@@ -12,7 +12,7 @@ use crate::index::Index;
 use crate::marks::Marks;
 use crate::names::Names;
 use crate::records::{ConsCell, GeomCell, ProvCell};
-use geo_model::{ConsId, GeomId, Name, NoMemory, ProvId};
+use geo_base::{ConsId, GeomId, Name, NoMemory, ProvId};
 use geo_slots::Slots;
 use std::alloc::Global;
 

@@ -18,7 +18,7 @@ use crate::records::{
 };
 use crate::tables::{self, Edges, Tables};
 use crate::{going, named, ranks};
-use geo_model::{ConsId, Counts, GeomId, Kind, Name, NoMemory, ProvId};
+use geo_base::{ConsId, Counts, GeomId, Kind, Name, NoMemory, ProvId};
 use geo_slots::Slots;
 use std::alloc::Global;
 use std::marker::Model;

@@ -13,8 +13,8 @@ ghost use Rattle.geo_moves.specs.Steps.{IsHead, HasDone};
 
 use crate::handles::kill_at;
 use geo_base::{NoMemory, ProvId};
-use geo_event::Event;
 use geo_life::{orphan, resize, spoil};
+use geo_model::Event;
 use geo_state::State;
 use geo_taste::{begin, is_tasted};
 

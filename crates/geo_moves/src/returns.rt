@@ -13,9 +13,10 @@ ghost use Rattle.geo_moves.specs.Returned.{IsReading, given_back, is_taste_read,
 
 use geo_access::Steps;
 use geo_base::{BioId, NoMemory};
+use geo_bio::Risen;
 use geo_log::Log;
 use geo_model::{BioResult, Outcome};
-use geo_state::{Risen, State};
+use geo_state::State;
 use std::alloc::Global;
 use std::sync::ledger::Ledger;
 

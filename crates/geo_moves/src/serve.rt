@@ -12,9 +12,10 @@ ghost use Rattle.geo_state.specs.Shown.{errno_of, held_of};
 
 use crate::disk::{disk_of, request_of};
 use geo_base::{BioId, Errno, NoMemory};
+use geo_bio::Held;
 use geo_log::Log;
 use geo_model::{DeviceResult, Outcome};
-use geo_state::{Held, State};
+use geo_state::State;
 use std::alloc::Global;
 
 /// A seat takes a bio for its disk, against which nothing is, and learns what is asked. Where memory is wanting all

@@ -13,9 +13,10 @@ ghost use Rattle.geo_moves.specs.Risen.{outcome_of_rise, owner_line};
 use crate::returns::hand_back;
 use geo_access::Steps;
 use geo_base::{BioId, NoMemory};
+use geo_bio::Risen;
 use geo_log::Log;
 use geo_model::{BioResult, Outcome, Owner, Reply};
-use geo_state::{Risen, State, Traffic};
+use geo_state::{State, Traffic};
 use std::alloc::Global;
 use std::sync::ledger::Ledger;
 

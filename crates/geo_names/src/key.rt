@@ -1,7 +1,7 @@
 //! A name as a key of a map.
 ghost use Rattle.geo_model.specs.Words.{same_name};
 
-use geo_model::Name;
+use geo_base::Name;
 use std::hash::{Hash, Hasher};
 
 /// A name as a key: two are the same where their bytes are.

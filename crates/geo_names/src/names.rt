@@ -5,8 +5,8 @@ ghost use Rattle.geo_names.specs.Names.{no_names, with_name, first_named, last_n
 ghost use Rattle.geo_names.specs.Inside.{IsInside, HaveRooms, id_of, rows_inside, room_of};
 
 use crate::key::Key;
+use geo_base::{Name, NoMemory};
 use geo_family::Family;
-use geo_model::{Name, NoMemory};
 use geo_slots::Slots;
 use std::alloc::Global;
 use std::collections::HashMap;

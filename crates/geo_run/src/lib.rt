@@ -41,8 +41,7 @@ mod verify_run;
 mod whole;
 mod words;
 
-pub use geo_elev::{ApplyRefusal, Mesh};
-pub use geo_jobs::{Gate, GatePlace, OpenGate};
+pub use geo_jobs::{ApplyRefusal, Gate, GatePlace, Mesh, OpenGate};
 pub use top::{Ended, run, run_alone, without_memory};
 pub use whole::program;
 pub use words::{Threaded, threads_of};

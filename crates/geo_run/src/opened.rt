@@ -9,7 +9,7 @@ use crate::lent::{Lent, give_back, take_disks};
 use crate::stop::Stop;
 use geo_base::NoMemory;
 use geo_disk::{Disk, Drive, Shelf};
-use geo_elev::Mesh;
+use geo_jobs::Mesh;
 use geo_log::DiskFacts;
 use geo_script::{ParseRefusal, Plan, parse};
 use std::alloc::Global;

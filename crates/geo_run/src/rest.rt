@@ -12,7 +12,8 @@ ghost use Rattle.geo_run.specs.Drives.{drive_view};
 ghost use Rattle.geo_run.specs.Rest.{Adds, RanFull};
 
 use geo_disk::{Disk, Drive};
-use geo_elev::{DrainRefusal, FixedOrder, Heads, Mesh, run_to_rest, sweep_to_rest};
+use geo_elev::{DrainRefusal, FixedOrder, Heads, run_to_rest, sweep_to_rest};
+use geo_jobs::Mesh;
 use std::alloc::Global;
 
 /// Goes to rest in the fixed order.

@@ -11,7 +11,8 @@ ghost use Rattle.geo_run.specs.Runners.{RanOrNot};
 
 use geo_base::{Block, NoMemory};
 use geo_disk::{Disk, Drive};
-use geo_elev::{DrainRefusal, Mesh};
+use geo_elev::DrainRefusal;
+use geo_jobs::Mesh;
 use geo_log::DiskFacts;
 use std::alloc::Global;
 

@@ -17,7 +17,8 @@ use crate::runner::{Driven, Reporter, Runner};
 use crate::stop::Stop;
 use geo_base::Name;
 use geo_disk::Shelf;
-use geo_elev::{DrainRefusal, Mesh};
+use geo_elev::DrainRefusal;
+use geo_jobs::Mesh;
 use geo_log::DiskFacts;
 use std::alloc::Global;
 

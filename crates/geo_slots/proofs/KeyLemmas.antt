@@ -1,6 +1,6 @@
 -- The keys of the pages, as a key is looked up, given and taken away.
-use Rattle.std.proofs.Common.{◌≡◌, ◌≢◌, ℕ, ◌+◌, ◌-◌, ◌*◌, ◌/◌, ◌%◌, ◌<◌, ◌≤◌, ◌^◌, [], ◌∷◌, ◌++◌, Option, length, zero, suc, ◌⊎◌, Some, None, is_some, IsSome, max, sym, refl, ap, subst, ◌∙◌, inl, inr, arith}
-use Rattle.std.proofs.lemmas.Bool.{cases_eq}
+use Rattle.std.proofs.Common.{◌≡◌, ◌≢◌, ℕ, ◌+◌, ◌-◌, ◌*◌, ◌/◌, ◌%◌, ◌<◌, ◌≤◌, ◌^◌, [], ◌∷◌, ◌++◌, Option, length, zero, suc, Some, None, is_some, IsSome, max, sym, refl, ap, subst, ◌∙◌, inl, inr, arith}
+use Rattle.std.proofs.lemmas.Bool.{cases_eq, cases_lt}
 use Rattle.std.proofs.lemmas.Option.{same_Some}
 use Rattle.std.specs.Prelude.{IfNone, slice_index_or, slice_set}
 use Rattle.std.specs.List.{slice_get, remove}
@@ -227,9 +227,6 @@ first_of_page pages m number page (Some n) there first = (
   ap is_some (key_there pages n m page (omega (arith, first.0, first.1)) there) ∙ first.2,
   λ k low high. key_there pages k m page (omega (arith, low, high, first.1)) there ∙ first.3 k low high,
 )
-
-cases_lt : (n m : ℕ) → (n < m) ⊎ (m ≤ n)
-cases_lt n m = grind arith
 
 -- a number with a key was given out
 given_out : (pages : Pages) (end next n : ℕ) → ArePages pages end next → IsSome (key_at pages n) → n < next

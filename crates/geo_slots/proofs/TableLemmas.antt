@@ -1,6 +1,6 @@
 -- What the invariant of a table says of its rows, and what becomes of them.
-use Rattle.std.proofs.Common.{◌≡◌, ◌≢◌, ℕ, suc, ◌+◌, ◌-◌, ◌*◌, ◌<◌, ◌≤◌, ◌^◌, [], ◌∷◌, ◌++◌, Option, ◌⊎◌, Some, None, is_some, IsSome, sym, refl, ap, subst, ◌∙◌, inl, inr, arith, rules}
-use Rattle.std.proofs.lemmas.Bool.{cases_eq}
+use Rattle.std.proofs.Common.{◌≡◌, ◌≢◌, ℕ, suc, ◌+◌, ◌-◌, ◌*◌, ◌<◌, ◌≤◌, ◌^◌, [], ◌∷◌, ◌++◌, Option, Some, None, is_some, IsSome, sym, refl, ap, subst, ◌∙◌, inl, inr, arith, rules}
+use Rattle.std.proofs.lemmas.Bool.{cases_eq, cases_lt}
 use Rattle.std.proofs.lemmas.Option.{same_Some}
 use Rattle.std.proofs.lemmas.List.Sums.{sum_by-set}
 use Rattle.std.specs.Option.{option_and_then}
@@ -48,9 +48,6 @@ module _ {T : Type 0} (pages : Pages) (end : ℕ) (values : Slab T) (next spare 
         | inr past ↦
             no_value n past ∙ sym (value_at_next n 1 (rows_of values pages next) next rising_rows past)
       ]
-    where
-      cases_lt : (n m : ℕ) → (n < m) ⊎ (m ≤ n)
-      cases_lt n m = grind arith
 
   -- a key has a value
   pub key_held : (n key : ℕ) → key_at pages n ≡ Some key → (t : T) × (get values key ≡ Some t)

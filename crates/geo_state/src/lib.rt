@@ -50,8 +50,9 @@ mod traffic;
 mod ups;
 
 pub use bios::{NewBio, bounce, deliver, end, send, submit_line, submit_read, take};
-pub use geo_bio::{Bio, BioResult, Held, LogBytes, Owner, Phase, Risen, Span, Targets};
+pub use geo_bio::{Bio, Held, LogBytes, Risen, Targets};
 pub use geo_class::Config;
+pub use geo_model::{BioResult, Owner, Phase, Span};
 pub use handles::kill;
 pub use oldest::own_bio;
 pub use opening::{empty, reserve_bio, reserve_events};

@@ -14,10 +14,9 @@ ghost use Rattle.geo_state.specs.Cursors.{up_after, family_size, gone_by};
 
 use crate::cursor::{Cursor, Due, with_last, with_one, without_one};
 use geo_base::{BioCmd, BioId, ConsId, Errno, NoMemory, ProvId, SharedBytes};
-use geo_bio::{
-    Bio, BioResult, BioTable, Held, LogBytes, Owner, Phase, Risen, Span, Targets, copied_at,
-};
+use geo_bio::{Bio, BioTable, Held, LogBytes, Risen, Targets, copied_at};
 use geo_class::PieceList;
+use geo_model::{BioResult, Owner, Phase, Span};
 use std::alloc::Global;
 use std::marker::Model;
 

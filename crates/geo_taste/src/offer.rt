@@ -7,8 +7,9 @@ ghost use Rattle.geo_taste.specs.Standing.{MayOffer};
 
 use geo_base::{GeomId, MAX_MEDIA_BYTES, Name, ProvId};
 use geo_class::Config;
-use geo_event::{Event, EventQueue};
+use geo_event::EventQueue;
 use geo_mesh::Topo;
+use geo_model::Event;
 
 /// A provider to be made: its name, and its media size and sector size in bytes.
 #[derive(Clone, Copy, Debug)]

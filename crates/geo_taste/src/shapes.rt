@@ -12,9 +12,10 @@ use crate::label::accept_label;
 use crate::member::{concat_member, stripe_member};
 use crate::tables::{accept_partitions, accept_slices};
 use geo_base::{MAX_LINKS, NoMemory, ProvId};
-use geo_class::{Config, Shape};
+use geo_class::Config;
 use geo_event::EventQueue;
 use geo_mesh::Topo;
+use geo_model::Shape;
 use std::alloc::Global;
 
 /// Whether something was made of a provider, or the class declined after all.

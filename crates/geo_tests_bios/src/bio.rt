@@ -5,9 +5,9 @@ ghost use Rattle.geo_bio.specs.BioTable.{has_phase};
 
 use crate::same::assert_same;
 use geo_base::{BioCmd, BioId, Block, ConsId, Errno, HandleId, NoMemory, ProvId, SharedBytes};
-use geo_bio::{BioResult, BioTable, LogBytes, Owner, Phase, Risen, Span, Targets};
+use geo_bio::{BioTable, LogBytes, Risen, Targets};
 use geo_class::PieceList;
-use geo_model::Piece;
+use geo_model::{BioResult, Owner, Phase, Piece, Span};
 use std::alloc::Global;
 use std::process::Abort;
 use std::test::Fail;

@@ -2,7 +2,8 @@
 use crate::same::assert_same;
 use geo_base::{BioId, Block, ConsId, ProvId, SharedBytes};
 use geo_bio::{LogBytes, Targets};
-use geo_log::{DeviceResult, DiskFacts, Entry, Log, Outcome, Step};
+use geo_log::{DiskFacts, Log};
+use geo_model::{DeviceResult, Entry, Outcome, Step};
 use std::alloc::Global;
 use std::test::Fail;
 

@@ -5,10 +5,11 @@ ghost use Rattle.geo_bio.specs.BioTable.{has_phase};
 
 use crate::same::assert_same;
 use geo_base::{BioCmd, BioId, Block, ConsId, Errno, HandleId, NoMemory, ProvId, SharedBytes};
+use geo_bio::{Risen, Targets};
 use geo_class::PieceList;
-use geo_log::{DeviceResult, Entry, Log, Outcome, Step};
-use geo_model::Piece;
-use geo_state::{BioResult, Owner, Phase, Risen, Span, Targets, Traffic};
+use geo_log::Log;
+use geo_model::{BioResult, DeviceResult, Entry, Outcome, Owner, Phase, Piece, Span, Step};
+use geo_state::Traffic;
 use std::alloc::Global;
 use std::test::Fail;
 

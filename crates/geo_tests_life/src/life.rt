@@ -9,13 +9,13 @@ ghost use Rattle.geo_life.specs.Life.{sound_providers, IsDevMade, AreHandlesUnma
 
 use geo_access::consumer_of;
 use geo_base::{ConsId, GeomId, Kind, Name, ProvId};
-use geo_event::{Event, EventQueue};
+use geo_event::EventQueue;
 use geo_life::{
     mark_spoiled, next_dying, orphan, resize, spoil, wash, wash_where, wither,
     wither_unless_withering,
 };
 use geo_mesh::Topo;
-use geo_model::WashWork;
+use geo_model::{Event, WashWork};
 use std::alloc::Global;
 use std::test::Fail;
 

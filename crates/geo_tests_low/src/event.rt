@@ -1,7 +1,8 @@
 //! What no clause says: that there is memory, and that a queue may be sent.
 use crate::same::assert_same;
 use geo_base::ProvId;
-use geo_event::{Event, EventQueue};
+use geo_event::EventQueue;
+use geo_model::Event;
 
 #[test]
 fn events_are_done_in_order_and_those_of_a_provider_cancelled(rt: HostRuntime) {

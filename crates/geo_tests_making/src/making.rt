@@ -8,10 +8,12 @@ ghost use Rattle.geo_taste.specs.Accepts.{NamesAPlace};
 
 use crate::same::assert_same;
 use geo_base::{Kind, Name, ProvId};
-use geo_class::{Config, Shape};
-use geo_event::{Event, EventQueue};
+use geo_class::Config;
+use geo_event::EventQueue;
 use geo_mesh::Topo;
-use geo_model::{ConcatRecord, EbrPart, EbrTable, LabelRecord, MbrTable, Slice, StripeRecord};
+use geo_model::{
+    ConcatRecord, EbrPart, EbrTable, Event, LabelRecord, MbrTable, Shape, Slice, StripeRecord,
+};
 use geo_taste::{Accepted, NewGeom, Offer, accept, build};
 use std::alloc::Global;
 use std::test::Fail;

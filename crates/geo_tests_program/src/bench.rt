@@ -5,10 +5,10 @@ ghost use Rattle.std.specs.Prelude.{◌≤◌, IfOk, IfSome};
 ghost use Rattle.geo_model.specs.Plans.{FactsFit, IsFact};
 
 use geo_base::{BioCmd, BioId, Block, SharedBytes};
+use geo_core::{ApplyRefusal, Mesh};
 use geo_log::{DiskFacts, Log};
 use geo_model::{DeviceResult, DiskDecl, DiskKind, Outcome, Request, Step};
 use geo_report::report;
-use geo_run::{ApplyRefusal, Mesh};
 use geo_script::{ParseRefusal, Plan, parse};
 use std::alloc::Global;
 use std::test::Fail;

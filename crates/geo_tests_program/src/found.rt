@@ -4,8 +4,8 @@ use crate::bench::{
 };
 use crate::scripts::{REAPED, REAPED_REPORT, SYNCS, SYNCS_REPORT, TWO_READS};
 use geo_base::{BioId, Block, SharedBytes};
+use geo_core::ApplyRefusal;
 use geo_model::{DeviceResult, Found, Phase, Step};
-use geo_run::ApplyRefusal;
 use std::alloc::Global;
 use std::process::Abort;
 use std::test::Fail;

@@ -10,9 +10,10 @@ use crate::scripts::{
 };
 use crate::users::{DONE, SIZE, Users, fronts, set_up_if};
 use geo_base::{BioId, Name};
+use geo_core::{ApplyRefusal, Mesh};
 use geo_log::Log;
 use geo_model::{DeviceResult, Step};
-use geo_run::{ApplyRefusal, Ended, Mesh};
+use geo_run::Ended;
 use std::alloc::Global;
 use std::process::Abort;
 use std::test::Fail;

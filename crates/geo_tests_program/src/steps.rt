@@ -5,8 +5,8 @@ use crate::scripts::{
     APPEND, APPEND_REPORT, DISK_FIRST, DISK_FIRST_REPORT, NO_APPEND_REPORT, NOP_FIRST,
     NOP_FIRST_REPORT, PULL, PULL_REPORT, STRIPE, STRIPE_REPORT, WRITER, WRITER_REPORT,
 };
+use geo_core::Mesh;
 use geo_model::Step;
-use geo_run::Mesh;
 use std::alloc::Global;
 use std::test::Fail;
 

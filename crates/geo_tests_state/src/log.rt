@@ -2,7 +2,8 @@
 use crate::same::assert_same;
 use geo_base::{BioId, Block, SharedBytes};
 use geo_bio::LogBytes;
-use geo_log::{DeviceResult, Entry, Log, Outcome, Step};
+use geo_log::Log;
+use geo_model::{DeviceResult, Entry, Outcome, Step};
 use std::alloc::Global;
 use std::test::Fail;
 

@@ -2,7 +2,8 @@
 use crate::bench::{Seen, begin, go, handle, none_seen, open, read, settle};
 use crate::same::assert_same;
 use geo_model::{Command, Reply};
-use geo_tags::{SessionRefusal, TaggedSession};
+use geo_session::SessionRefusal;
+use geo_tags::TaggedSession;
 use std::alloc::Global;
 use std::test::Fail;
 

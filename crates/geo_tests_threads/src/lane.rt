@@ -3,7 +3,8 @@ ghost use Rattle.std.specs.Prelude.{◌≡◌, ◌+◌, ◌-◌, ◌<◌, ◌≤
 ghost use Rattle.geo_lane.specs.LanePass.{IsSamePass};
 
 use crate::same::assert_same;
-use geo_lane::{BioId, Full, Lane, LanePass, Ticket, TicketStep};
+use geo_base::BioId;
+use geo_lane::{Full, Lane, LanePass, Ticket, TicketStep};
 use std::sync::Wait;
 use std::test::Fail;
 use std::thread::{Threads, join};

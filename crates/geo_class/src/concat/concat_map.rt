@@ -5,7 +5,8 @@ ghost use Rattle.geo_class.specs.concat.Growth.{KeepsPlaces};
 
 use crate::address_map::AddressMap;
 use crate::piece_list::PieceList;
-use geo_model::{MAX_COMPONENTS, MAX_MEDIA_BYTES, NoMemory, Span, Stretch};
+use geo_base::{MAX_COMPONENTS, MAX_MEDIA_BYTES, NoMemory};
+use geo_model::{Span, Stretch};
 use std::alloc::Global;
 use std::marker::Model;
 

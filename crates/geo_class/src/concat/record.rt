@@ -8,7 +8,8 @@ ghost use Rattle.geo_class.specs.concat.Record.{EncodedIsDecoded};
 use crate::component::{is_place, put_component};
 use crate::field::{u16_at, u32_at};
 use crate::head::{decode_head, encode_head};
-use geo_model::{ConcatRecord, DeclineCause, Declined};
+use geo_base::{DeclineCause, Declined};
+use geo_model::ConcatRecord;
 
 /// What the record begins with.
 const MAGIC: [u8; 16] = *b"RGEOM::CONCAT\0\0\0";

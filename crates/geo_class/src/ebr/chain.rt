@@ -4,7 +4,8 @@ ghost use Rattle.geo_model.specs.Chain.{feed, no_links};
 ghost use Rattle.geo_class.specs.ebr.ChainView.{chain_after, link_verdict};
 
 use crate::ebr::link::{cause_against, leads_on, named_part, next_link};
-use geo_model::{DeclineCause, EbrPart, EbrTable, MAX_LINKS};
+use geo_base::{DeclineCause, MAX_LINKS};
+use geo_model::{EbrPart, EbrTable};
 use std::marker::Model;
 
 /// What a link says of its chain.

@@ -5,7 +5,8 @@ ghost use Rattle.geo_class.specs.ebr.MapLaws.{MapsAreTheModels};
 use crate::address_map::AddressMap;
 use crate::piece_list::PieceList;
 use crate::window::Window;
-use geo_model::{MAX_MEDIA_BYTES, NoMemory, Span};
+use geo_base::{MAX_MEDIA_BYTES, NoMemory};
+use geo_model::Span;
 use std::alloc::Global;
 use std::marker::Model;
 

@@ -6,7 +6,8 @@ ghost use Rattle.geo_model.specs.Records.{entry_type};
 ghost use Rattle.geo_class.specs.ebr.Links.{cause_against, is_back};
 
 use crate::entry::{entry_count, entry_first, entry_type, has_signature};
-use geo_model::{DeclineCause, EbrPart, MAX_LINKS};
+use geo_base::{DeclineCause, MAX_LINKS};
+use geo_model::EbrPart;
 
 /// The partition that the link at a sector names, of a provider with so many sectors. It counts from the link, and is
 /// kept unless its type, its first sector or its size is 0, or its end is past the media.

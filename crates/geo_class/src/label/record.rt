@@ -7,7 +7,8 @@ ghost use Rattle.geo_class.specs.label.Record.{EncodedIsDecoded};
 
 use crate::field::{put_u64, u32_at, u64_at};
 use crate::head::{decode_head, encode_head};
-use geo_model::{Declined, LabelRecord};
+use geo_base::Declined;
+use geo_model::LabelRecord;
 
 /// What the record begins with.
 const MAGIC: [u8; 16] = *b"RGEOM::LABEL\0\0\0\0";

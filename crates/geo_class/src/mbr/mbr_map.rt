@@ -4,7 +4,8 @@ ghost use Rattle.std.specs.Prelude.{◌≡◌, ◌+◌, ◌*◌, ◌≤◌};
 use crate::address_map::AddressMap;
 use crate::piece_list::PieceList;
 use crate::window::Window;
-use geo_model::{MAX_MEDIA_BYTES, NoMemory, Slice, Span};
+use geo_base::{MAX_MEDIA_BYTES, NoMemory};
+use geo_model::{Slice, Span};
 use std::alloc::Global;
 use std::marker::Model;
 

@@ -5,7 +5,8 @@ ghost use Rattle.geo_model.specs.Records.{entry_type, kept_entries, kept_entry, 
 ghost use Rattle.geo_class.specs.Head.{decoder_answer};
 
 use crate::entry::{entry_count, entry_first, entry_type, has_signature};
-use geo_model::{DeclineCause, Declined, MbrTable, Slice};
+use geo_base::{DeclineCause, Declined};
+use geo_model::{MbrTable, Slice};
 
 /// The type of an entry that protects a table of another kind.
 const PROTECTIVE: u8 = 0xEE;

@@ -8,7 +8,8 @@ ghost use Rattle.geo_class.specs.stripe.Record.{EncodedIsDecoded};
 use crate::component::{is_place, put_component};
 use crate::field::{put_u32, u16_at, u32_at};
 use crate::head::{decode_head, encode_head};
-use geo_model::{DeclineCause, Declined, MAX_STRIPE_BYTES, StripeRecord};
+use geo_base::{DeclineCause, Declined, MAX_STRIPE_BYTES};
+use geo_model::StripeRecord;
 
 /// What the record begins with.
 const MAGIC: [u8; 16] = *b"RGEOM::STRIPE\0\0\0";

@@ -5,7 +5,8 @@ ghost use Rattle.geo_model.specs.Place.{cut, strip};
 
 use crate::address_map::AddressMap;
 use crate::piece_list::PieceList;
-use geo_model::{MAX_MEDIA_BYTES, NoMemory, Span, Stretch};
+use geo_base::{MAX_MEDIA_BYTES, NoMemory};
+use geo_model::{Span, Stretch};
 use std::alloc::Global;
 use std::marker::Model;
 
