@@ -118,7 +118,8 @@ ends old now start number text line behind going parts mark =
     }
 
 -- the step of the next line is the first that is left
-record IsNext (left : List (ℕ × Step)) (report : List ℕ) (item : ℕ × Step) (rest : Result StepsAndReport ℕ) : Type 0 where
+record IsNext (left : List (ℕ × Step)) (report : List ℕ) (item : ℕ × Step)
+    (rest : Result StepsAndReport ℕ) : Type 0 where
   further : List (ℕ × Step)
   left_is : left ≡ item ∷ further
   reads : rest ≡ Ok (further, report)

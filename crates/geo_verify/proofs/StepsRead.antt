@@ -56,7 +56,9 @@ pub left_behind : (whole : Reading StepsAndReport) (n : ℕ) (text line behind :
     → IsLeft whole (read_steps (n + 1) (parts_of behind))
 left_behind whole n text line behind item left parts other is = (
   left.0 ++ item ∷ [],
-  left.1 ∙ ap (λ (r : Reading StepsAndReport). then_read r (add_steps left.0)) (line_read n text line behind item parts other is)
+  left.1
+      ∙ ap (λ (r : Reading StepsAndReport). then_read r (add_steps left.0))
+      (line_read n text line behind item parts other is)
       ∙ one_before (read_steps (n + 1) (parts_of behind)) item left.0,
 )
 
