@@ -16,7 +16,7 @@ struct disk {
     char name[MOST_NAME + 1];
     struct tzb_disk_ops ops;
     void *arg;
-    uint64_t sectors;
+    uint64_t bytes;
     uint8_t *ram; /* of a disk of the header that no functions were given for */
 };
 

@@ -47,7 +47,7 @@ static uint32_t disk_named(const struct tzb_mesh *mesh, const char *name)
 }
 
 int32_t tzb_mesh_set_disk(struct tzb_mesh *mesh, const char *disk, const struct tzb_disk_ops *ops, void *arg,
-                          uint64_t sectors)
+                          uint64_t bytes)
 {
     if (mesh->core.is_open)
         return TZB_OPEN;
@@ -58,7 +58,7 @@ int32_t tzb_mesh_set_disk(struct tzb_mesh *mesh, const char *disk, const struct 
         return TZB_UNFIT;
     if (at == mesh->set_count)
         mesh->set_count++;
-    mesh->disks[at] = (struct disk){.ops = *ops, .arg = arg, .sectors = sectors};
+    mesh->disks[at] = (struct disk){.ops = *ops, .arg = arg, .bytes = bytes};
     strcpy(mesh->disks[at].name, disk);
     return TZB_OK;
 }
@@ -81,6 +81,29 @@ static const struct tzb_disk_ops ram_ops = {sizeof ram_ops, ram_read, ram_write,
 
 /* ---- The header ---- */
 
+/* A disk of the header gets its place. 1, or below 0 if it can't be opened. */
+static int place_disk(struct tzb_mesh *mesh, const char *name, unsigned sector, bool is_ram, uint64_t sectors)
+{
+    uint32_t at = disk_named(mesh, name);
+    if (at == mesh->set_count && !is_ram) {
+        snprintf(mesh->fault, sizeof mesh->fault, "the disk %s has no functions", name);
+        return -1;
+    }
+    if (at == mesh->set_count) {
+        at = MOST_DISKS + mesh->disk_count;
+        mesh->disks[at] = (struct disk){.ops = ram_ops, .arg = &mesh->disks[at], .bytes = sectors * sector};
+    }
+    uint64_t bytes = mesh->disks[at].bytes;
+    if (sector != 0 && bytes % sector != 0) {
+        snprintf(mesh->fault, sizeof mesh->fault, "the disk %s isn't of whole sectors", name);
+        return -1;
+    }
+    mesh->places[mesh->disk_count] = at;
+    mesh->sizes[mesh->disk_count].sector = sector;
+    mesh->sizes[mesh->disk_count++].sectors = sector != 0 ? bytes / sector : 0;
+    return 1;
+}
+
 /* A line of the header is looked at: 1 if it is one, 0 if it isn't, and below 0 if it can't be opened. */
 static int scan_line(struct tzb_mesh *mesh, const char *line)
 {
@@ -98,18 +121,7 @@ static int scan_line(struct tzb_mesh *mesh, const char *line)
     bool is_ram = count >= 4 && strcmp(word, "ram") == 0;
     if ((!is_ram && (count < 3 || strcmp(word, "disk") != 0)) || mesh->disk_count == MOST_DISKS)
         return 0;
-    uint32_t at = disk_named(mesh, name);
-    if (at == mesh->set_count && !is_ram) {
-        snprintf(mesh->fault, sizeof mesh->fault, "the disk %s has no functions", name);
-        return -1;
-    }
-    if (at == mesh->set_count) {
-        at = MOST_DISKS + mesh->disk_count;
-        mesh->disks[at] = (struct disk){.ops = ram_ops, .arg = &mesh->disks[at], .sectors = sectors};
-    }
-    mesh->places[mesh->disk_count] = at;
-    mesh->sizes[mesh->disk_count++] = (struct tzb_size){.sectors = mesh->disks[at].sectors, .sector = sector};
-    return 1;
+    return place_disk(mesh, name, sector, is_ram, sectors);
 }
 
 /* The lines of the header are looked at, and kept. */
@@ -148,11 +160,10 @@ static int32_t give_ram(struct tzb_mesh *mesh)
         struct disk *disk = &mesh->disks[mesh->places[place]];
         if (mesh->places[place] < MOST_DISKS)
             continue;
-        size_t len = (size_t)disk->sectors * mesh->sizes[place].sector;
-        disk->ram = memory.alloc(len);
+        disk->ram = memory.alloc((size_t)disk->bytes);
         if (disk->ram == NULL)
             return TZB_NO_MEMORY;
-        memset(disk->ram, 0, len);
+        memset(disk->ram, 0, (size_t)disk->bytes);
     }
     return TZB_OK;
 }

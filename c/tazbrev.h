@@ -314,14 +314,14 @@ struct tzb_mesh *tzb_mesh_create(void);
 int32_t tzb_mesh_set_lock(struct tzb_mesh *mesh, void (*lock)(void *arg), void (*unlock)(void *arg), void *arg);
 
 /*
- * Says what a disk of the header does, by its name, and how many sectors it has. The functions are copied, and `arg` is
- * handed to them. A `ram` disk of the header needs none: the library has memory for it.
+ * Says what a disk of the header does, by its name, and how many bytes it has: whole sectors. The functions are copied,
+ * and `arg` is handed to them. A `ram` disk of the header needs none: the library has memory for it.
  *
  * TZB_OPEN: the mesh is open. TZB_WRONG: the name or `ops->size` doesn't have its form, or `on_read` is NULL.
  * TZB_UNFIT: there are 16 disks already. For a name that was given before, the last call counts.
  */
 int32_t tzb_mesh_set_disk(struct tzb_mesh *mesh, const char *disk, const struct tzb_disk_ops *ops, void *arg,
-                          uint64_t sectors);
+                          uint64_t bytes);
 
 /*
  * Opens the mesh with a header. Commands behind the header aren't made. Then call `tzb_mesh_run`: what stands on the
