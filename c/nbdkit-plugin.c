@@ -3,8 +3,8 @@
  *
  *     nbdkit ./nbdkit-tazbrev-plugin.so script=FILE [disk=NAME:FILE ..] [provider=NAME] [exclusive=true]
  *
- * The script (docs/geomrun.8) has the disks of the mesh and what is set up over them; disk= says which file a disk is. A
- * client names the provider that it wants as the export, or gets provider=. The export @mesh is the mesh as text.
+ * The script (docs/geomrun.8) has the disks of the mesh and what is set up over them; disk= says which file a disk is.
+ * A client names the provider that it wants as the export, or gets provider=. The export @mesh is the mesh as text.
  *
  * A connection is a handle of the mesh, r1w1 or, under `nbdkit -r`, r1; with exclusive=true it has an exclusive right
  * too. It is closed when the client leaves, and then what it wrote is tasted: a partition table makes its slices.

@@ -1,6 +1,6 @@
 /*
- * c-threads: threads share a mesh under a lock. Each writes its own sectors and reads them, over two disks of which each
- * takes its time. Prints how many requests there were, if each was well and read what was written.
+ * c-threads: threads share a mesh under a lock. Each writes its own sectors and reads them, over two disks that let the
+ * others run in between. Prints how many requests there were, if each was well and read what was written.
  */
 #define _GNU_SOURCE
 #include <tazbrev.h>
