@@ -12,8 +12,8 @@
  * There are two sets of calls, for two sorts of callers:
  *
  * - `tzb_mesh_*`, in the second half: names as strings, a disk as a few functions of yours, a function that is called
- *   with each reply. Begin there, with c/first-read.c. These are plain C over the first set, c/tazbrev.c: tested, and
- *   not proved.
+ *   with each reply. Begin there, with c/examples/first-read.c. These are plain C over the first set, c/tazbrev.c:
+ *   tested, and not proved.
  * - `tzb_core_*`, in the first half: numbers and bytes. These are proved (crates/geo_exports): whatever is called in
  *   whatever order, each call does what the call of the same name of the live mesh does, or it is refused and nothing
  *   changes. So each request that was accepted has one reply to come, with its own token, and it is well only if your
