@@ -58,6 +58,7 @@ static struct tzb_mesh *mesh;
 static pthread_mutex_t mutex = PTHREAD_MUTEX_INITIALIZER;
 static struct job sleepers = {.next = &sleepers, .previous = &sleepers};
 static uint64_t moves; /* rises with whatever may have made something due */
+static int drivers, most_drivers = 1;
 static uint32_t handles;
 
 static void lock(void *arg)
@@ -218,20 +219,39 @@ static void piece_done(void *arg, int32_t error, const uint8_t *bytes, size_t le
     pthread_mutex_unlock(&mutex);
 }
 
-/* Goes on until all pieces of a job have their replies. Then another one goes on. */
-static int finish(struct job *job)
+/* Goes on until all pieces of a job have their replies, or nothing is due. With the lock taken. */
+static void drive(struct job *job)
 {
-    pthread_mutex_lock(&mutex);
-    while (job->left > 0) {
+    bool is_idle = false;
+    drivers++;
+    while (job->left > 0 && !is_idle) {
         uint64_t seen = moves;
         pthread_mutex_unlock(&mutex);
         int32_t kind = tzb_mesh_step(mesh);
         if (kind == TZB_NO_MEMORY)
             usleep(1000);
         pthread_mutex_lock(&mutex);
-        if (kind == TZB_ASK)
+        if (kind == TZB_ASK && drivers < most_drivers)
+            wake_one();
+        else if (kind == TZB_ASK)
             moves++;
-        else if (kind == TZB_IDLE && job->left > 0 && seen == moves)
+        is_idle = kind == TZB_IDLE && seen == moves;
+    }
+    drivers--;
+}
+
+/*
+ * Waits until all pieces of a job have their replies. As many threads as there are disks make what is due, and the
+ * others sleep. One that found nothing due looks again if something has moved since.
+ */
+static int finish(struct job *job)
+{
+    pthread_mutex_lock(&mutex);
+    moves++;
+    while (job->left > 0) {
+        if (drivers < most_drivers)
+            drive(job);
+        if (job->left > 0)
             sleep_on(job);
     }
     wake_one();
@@ -369,6 +389,7 @@ static int plugin_get_ready(void)
         nbdkit_error("%s is too long", script);
     else
         status = run_script(text);
+    most_drivers = file_count > 1 ? file_count : 1;
     free(text);
     if (file != NULL)
         fclose(file);
