@@ -43,7 +43,7 @@ struct giving {
     uint32_t error;
 };
 
-/* Takes the lock for a command. After anything but TZB_OK it is free again. */
+/* Takes the lock for a command. After anything but TZB_OK it is free. */
 static int32_t begin(struct tzb_mesh *mesh, const char *actor, tzb_done *done, void *arg, struct giving *giving)
 {
     uint32_t at = 0;
@@ -143,9 +143,7 @@ int32_t tzb_mesh_command(struct tzb_mesh *mesh, const char *actor, const char *c
 {
     struct giving it;
     int32_t code = begin(mesh, actor, done, arg, &it);
-    if (code != TZB_OK)
-        return code;
-    return end(mesh, give_line(mesh, actor, command, &it), &it);
+    return code != TZB_OK ? code : end(mesh, give_line(mesh, actor, command, &it), &it);
 }
 
 int32_t tzb_mesh_read(struct tzb_mesh *mesh, const char *actor, const char *handle, uint64_t offset, void *bytes,
@@ -351,8 +349,10 @@ int32_t tzb_mesh_answer_failed(struct tzb_mesh *mesh, uint64_t bio, uint32_t don
 int32_t tzb_mesh_list(struct tzb_mesh *mesh, char *text, size_t room, size_t *need)
 {
     uint64_t len;
+    uint8_t none;
     take_lock(mesh);
-    int32_t code = tzb_core_list(&mesh->core, (uint8_t *)text, room > 0 ? room - 1 : 0, &len);
+    int32_t code = room > 0 ? tzb_core_list(&mesh->core, (uint8_t *)text, room - 1, &len)
+                            : tzb_core_list(&mesh->core, &none, 0, &len);
     if (code == TZB_OK && room > 0)
         text[len] = '\0';
     *need = code == TZB_OK || code == TZB_ROOM ? (size_t)len + 1 : 0;

@@ -133,8 +133,8 @@ struct tzb_event {
  * aren't made, and sizes past the last disk aren't read. The text and the sizes stay yours.
  *
  * TZB_OPEN: it is open, and stays as it was. TZB_WRONG: the text isn't a script (`*fault` is the first line against
- * the grammar, from 1 on), or has 2^32 bytes or more, or a size doesn't fit (`*fault` is 0 for both). TZB_NO_MEMORY.
- * After each the handle is as it was.
+ * the grammar, from 1 on), or has 2^32 bytes or more, or a size is missing or doesn't fit (`*fault` is 0 for these).
+ * TZB_NO_MEMORY. After each the handle is as it was, and `*fault` is 0 but for a line.
  */
 int32_t tzb_core_open(struct tzb_core *core, const uint8_t *header, size_t header_len, const struct tzb_size *sizes,
                       size_t size_count, uint32_t *fault);
@@ -147,8 +147,9 @@ void tzb_core_close(struct tzb_core *core);
  *
  * TZB_OK: it is on its way; its reply comes by `tzb_core_next`, with the token. TZB_REPLIED: it was replied to at
  * once, and no event of it comes; `*error` is its error, or 0 where it is well. TZB_WRONG: a name or a number doesn't
- * have its form. TZB_CLOSED. TZB_UNFIT: there is no such actor in the header. TZB_NO_MEMORY: also where 2^32 requests
- * wait. After each refusal nothing has changed, and `*error` is 0. What is passed stays yours.
+ * have its form, whether the handle is open or not. TZB_CLOSED. TZB_UNFIT: there is no such actor in the header.
+ * TZB_NO_MEMORY: also where 2^32 requests wait. After each refusal nothing has changed, and `*error` is 0. What is
+ * passed stays yours.
  */
 
 /* Opens a provider as a handle, with so many rights to read, to write and to exclude others: 0 to 9 each, not all 0. */
@@ -185,20 +186,15 @@ int32_t tzb_core_pull(struct tzb_core *core, uint32_t actor, const uint8_t *disk
                       uint32_t *error);
 
 /*
- * A command of the script language by its text, for all that has no call of its own. `script` is a whole script with
- * exactly one command: the lines of the header, and one line such as `a nop md0 0 4096 2`. It is given as of its actor.
+ * Any command, as a text: a script with one command line, such as "actor a\na concat big md0 md1\n". It is given as of
+ * the line's actor, whose number is its place in this text: so declare the mesh's actors here in their order. No disk
+ * need be declared.
  *
- * Answers as the commands above. TZB_WRONG: the text isn't a script, or has no command, or more than one.
+ * TZB_WRONG: it isn't a script, it has no command or several, or it has 2^32 bytes or more. `mesh` is well, but its
+ * lines aren't told: see `tzb_core_list`. A `sync` or a `settle` that has to wait is TZB_UNFIT: give it again.
  */
 int32_t tzb_core_command(struct tzb_core *core, const uint8_t *script, size_t script_len, uint64_t token,
                          uint32_t *error);
-
-/*
- * The mesh as text, as `geomrun` prints it: the first `*need` of `bytes`. The mesh stays as it is.
- *
- * TZB_ROOM: `len` is smaller than `*need`. TZB_CLOSED. TZB_NO_MEMORY. After each the bytes are as they were.
- */
-int32_t tzb_core_list(struct tzb_core *core, uint8_t *bytes, size_t len, uint64_t *need);
 
 /*
  * Makes the step that is due, and says what is due then (TZB_OK). `bytes` is room for TZB_MOST_BYTES: the first
@@ -228,6 +224,13 @@ uint64_t tzb_core_waiting(struct tzb_core *core);
 
 /* How many steps were made, counted up to 2^64 and then from 0 again; 0 for a handle that is closed. */
 uint64_t tzb_core_steps(struct tzb_core *core);
+
+/*
+ * The mesh as text, line by line as `geomrun` prints it at its end: TZB_OK, and `*need` bytes of it stand at the front
+ * of `bytes`. TZB_ROOM: `len` is smaller than `*need`, which is how many are wanted. TZB_CLOSED and TZB_NO_MEMORY:
+ * `*need` is 0. After each refusal the bytes are as they were. The mesh isn't changed.
+ */
+int32_t tzb_core_list(struct tzb_core *core, uint8_t *bytes, size_t len, uint64_t *need);
 
 /* ------------------------------------- A mesh with functions for its disks ---------------------------------------- */
 
@@ -417,7 +420,8 @@ int32_t tzb_mesh_answer_failed(struct tzb_mesh *mesh, uint64_t bio, uint32_t don
 /*
  * The mesh as `geomrun` prints it, with a NUL behind it. `*need` is the room it wants, with the NUL.
  *
- * TZB_ROOM: `room` is smaller, and `text` as it was; 0 asks for the size alone. TZB_CLOSED. TZB_NO_MEMORY.
+ * TZB_ROOM: `room` is smaller, and `text` as it was; 0 asks for the size alone, and `text` may be NULL then. TZB_CLOSED.
+ * TZB_NO_MEMORY.
  */
 int32_t tzb_mesh_list(struct tzb_mesh *mesh, char *text, size_t room, size_t *need);
 

@@ -34,6 +34,7 @@ static struct tzb_mesh *mesh;
 static struct out out[MOST_OUT];
 static struct later later[8];
 static int later_count, waiting;
+static bool is_locked;
 static bool is_calm; /* memory is there, and disks answer now and well */
 static uint64_t state;
 static unsigned long counts[3]; /* of calls that were done, refused by the mesh, refused by the library */
@@ -42,6 +43,18 @@ static void failed(const char *what, int line)
 {
     printf("line %d: not so: %s\n", line, what);
     exit(1);
+}
+
+static void lock(void *arg)
+{
+    CHECK(arg == &is_locked && !is_locked);
+    is_locked = true;
+}
+
+static void unlock(void *arg)
+{
+    CHECK(arg == &is_locked && is_locked);
+    is_locked = false;
 }
 
 static unsigned draw(unsigned below)
@@ -68,6 +81,7 @@ static void *resize(void *at, size_t size)
 /* What a disk says: 0, TZB_LATER or a failure. */
 static int32_t mood(struct tzb_ask *ask, uint8_t *disk, bool reads)
 {
+    CHECK(!is_locked);
     if (is_calm || draw(3) != 0)
         return 0;
     if (draw(4) == 0 || later_count == 8) {
@@ -100,7 +114,7 @@ static int32_t on_flush(void *arg, struct tzb_ask *ask)
 static void done(void *arg, int32_t error, const uint8_t *bytes, size_t len)
 {
     struct out *it = arg;
-    CHECK(it->waits);
+    CHECK(it->waits && !is_locked);
     CHECK((bytes == NULL) == (len == 0));
     CHECK(error == TZB_CLOSED || (error >= 0 && error <= TZB_EDEEP));
     it->waits = false;
@@ -114,6 +128,7 @@ static char *listed(void)
     is_calm = true;
     CHECK(tzb_mesh_list(mesh, NULL, 0, &need) == TZB_ROOM);
     char *text = malloc(need);
+    CHECK(tzb_mesh_list(mesh, text, need - 1, &need) == TZB_ROOM);
     CHECK(tzb_mesh_list(mesh, text, need, &need) == 0 && strlen(text) + 1 == need);
     is_calm = was_calm;
     return text;
@@ -149,8 +164,8 @@ static int32_t command(struct out *it)
 
 static int32_t request(struct out *it)
 {
-    uint64_t offset = draw(40) == 0 ? UINT64_MAX - draw(4096) : 512u * draw(80) + (draw(20) == 0);
-    size_t len = 512u * (draw(10) == 0 ? draw(65) : draw(4));
+    uint64_t offset = draw(40) == 0 ? UINT64_MAX - draw(4096) : 512u * draw(66) + (draw(20) == 0);
+    size_t len = 512u * (draw(10) == 0 ? draw(66) : 1 + draw(3));
     switch (draw(4)) {
     case 0:
         return tzb_mesh_read(mesh, actor(), handle(), offset, draw(4) == 0 ? NULL : it->bytes, len, done, it);
@@ -199,6 +214,8 @@ static int32_t call(struct out *it, bool *has_reply)
     case 3:
         return tzb_mesh_open_handle(mesh, actor(), handle(), name(), draw(3), draw(3), draw(draw(9) == 0 ? 11 : 2));
     case 1:
+        if (draw(3) != 0)
+            return tzb_mesh_open_handle(mesh, actor(), handle(), name(), 2, 2, 0);
         return tzb_mesh_close_handle(mesh, actor(), handle());
     case 2:
         return draw(4) != 0 ? tzb_mesh_insert(mesh, actor(), name()) : tzb_mesh_pull(mesh, actor(), name());
@@ -254,51 +271,76 @@ static void end(void)
     CHECK(waiting == 0 && tzb_mesh_waiting(mesh) == 0);
 }
 
-/* What is written over all is read, on a mesh that is new. */
+/* Whether these bytes are read from an offset on. */
+static bool reads(uint64_t offset, const uint8_t *bytes, size_t len)
+{
+    static uint8_t back[TZB_MOST_BYTES];
+    memset(back, 0xa5, sizeof back);
+    CHECK(tzb_mesh_read(mesh, "a", "h", offset, back, len, NULL, NULL) == 0 && tzb_mesh_run(mesh) == 0);
+    return memcmp(bytes, back, len) == 0;
+}
+
+/* A new disk has zeros; what is written is read; what is deleted reads as zeros, and nothing beside it. */
 static void read_back(void)
 {
-    static uint8_t written[TZB_MOST_BYTES], back[TZB_MOST_BYTES];
+    static uint8_t written[TZB_MOST_BYTES], zeros[TZB_MOST_BYTES];
     mesh = tzb_mesh_create();
     CHECK(tzb_mesh_open(mesh, "ram r0 512 64\nram r1 512 64\nactor a\n") == 0 && tzb_mesh_run(mesh) == 0);
     CHECK(tzb_mesh_command(mesh, "a", "stripe s 1024 r0 r1", NULL, NULL) == 0 && tzb_mesh_run(mesh) == 0);
     CHECK(tzb_mesh_open_handle(mesh, "a", "h", "stripe/s", 1, 1, 1) == 0);
     for (unsigned i = 0; i < sizeof written; i++)
         written[i] = (uint8_t)draw(256);
+    CHECK(reads(0, zeros, sizeof zeros) && reads(sizeof zeros, zeros, sizeof zeros));
     CHECK(tzb_mesh_write(mesh, "a", "h", 512, written, sizeof written, NULL, NULL) == 0 && tzb_mesh_run(mesh) == 0);
-    CHECK(tzb_mesh_read(mesh, "a", "h", 512, back, sizeof back, NULL, NULL) == 0 && tzb_mesh_run(mesh) == 0);
-    CHECK(memcmp(written, back, sizeof back) == 0);
-    CHECK(tzb_mesh_read(mesh, "a", "h", 0, back, 512, NULL, NULL) == 0);
+    CHECK(reads(512, written, sizeof written) && reads(0, zeros, 512));
+    CHECK(tzb_mesh_delete(mesh, "a", "h", 1024, 4096, NULL, NULL) == 0 && tzb_mesh_run(mesh) == 0);
+    CHECK(reads(1024, zeros, 4096) && reads(512, written, 512) && reads(5120, written + 4608, 8192));
+    CHECK(tzb_mesh_read(mesh, "a", "h", 0, zeros, 512, NULL, NULL) == 0);
     tzb_mesh_close(mesh);
 }
 
-int main(int count, char **words)
+/* The life of a mesh of so many calls; some of its requests wait when it is closed. */
+static void life(long calls)
 {
     static const struct tzb_disk_ops ops = {sizeof ops, on_read, on_write, NULL, on_flush};
     static uint8_t disks[2][DISK];
-    CHECK(count == 3);
-    state = strtoull(words[1], NULL, 10);
-    CHECK(tzb_set_alloc(give, resize, free) == 0);
     is_calm = true;
     mesh = tzb_mesh_create();
     CHECK(tzb_set_alloc(give, resize, free) == TZB_OPEN);
+    CHECK(tzb_mesh_step(mesh) == TZB_CLOSED && tzb_mesh_waiting(mesh) == 0);
     CHECK(tzb_mesh_set_disk(mesh, "d0", &ops, disks[0], DISK) == 0);
     CHECK(tzb_mesh_set_disk(mesh, "d1", &ops, disks[1], DISK) == 0);
+    CHECK(tzb_mesh_set_lock(mesh, lock, unlock, &is_locked) == 0);
     CHECK(tzb_mesh_open(mesh, header) == 0 && tzb_mesh_run(mesh) == 0);
+    CHECK(tzb_mesh_open(mesh, header) == TZB_OPEN);
+    CHECK(tzb_mesh_open_handle(mesh, "a", "h", "d0", 1, 1, 0) == 0);
+    CHECK(tzb_mesh_open_handle(mesh, "b", "h", "r0", 1, 1, 0) == 0);
     is_calm = false;
-    for (long i = strtol(words[2], NULL, 10); i > 0; i--) {
+    for (long i = 0; i < calls; i++) {
         one();
         go_on(draw(6));
         if (draw(200) == 0)
             end(), is_calm = false;
     }
     end();
-    printf("%lu done, %lu refused by the mesh, %lu by the library\n", counts[0], counts[1], counts[2]);
     is_calm = false;
-    for (int i = 0; i < 50; i++)
+    for (int i = 0; i < 30; i++)
         one();
     tzb_mesh_close(mesh);
     CHECK(waiting == 0);
+    later_count = 0;
+    memset(disks, 0, sizeof disks);
+}
+
+int main(int count, char **words)
+{
+    CHECK(count == 3);
+    state = strtoull(words[1], NULL, 10);
+    CHECK(tzb_set_alloc(give, resize, free) == 0);
+    for (long left = strtol(words[2], NULL, 10); left > 0; left -= 400)
+        life(left < 400 ? left : 400);
     is_calm = true;
     read_back();
+    printf("%lu done, %lu refused by the mesh, %lu by the library\n", counts[0], counts[1], counts[2]);
     return 0;
 }
