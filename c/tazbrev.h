@@ -312,7 +312,7 @@ struct tzb_mesh *tzb_mesh_create(void);
 /*
  * Lets several threads call for the mesh at once. `lock` and `unlock` are called around what is short: no function of
  * yours is called in between, and nothing is waited for. Call it before `tzb_mesh_open`, from one thread (else
- * TZB_OPEN).
+ * TZB_OPEN). That a mesh goes from thread to thread is tested; the proofs speak of one.
  */
 int32_t tzb_mesh_set_lock(struct tzb_mesh *mesh, void (*lock)(void *arg), void (*unlock)(void *arg), void *arg);
 
