@@ -441,9 +441,10 @@ static int plugin_list_exports(int readonly, int is_tls, struct nbdkit_exports *
     char name[MOST_NAME], about[64];
     int64_t size;
     uint32_t sector;
-    char *text = listing();
     (void)readonly;
     (void)is_tls;
+    settle();
+    char *text = listing();
     if (text == NULL)
         return -1;
     for (const char *at = text; (at = next_provider(at, name, &size, &sector)) != NULL;) {
