@@ -1,16 +1,26 @@
 # make install [DESTDIR=] [PREFIX=/usr/local]   installs program, manual page, tools, completion, examples
 # make uninstall [DESTDIR=] [PREFIX=/usr/local] removes what that installed
 # make deb [OUT=out]                            makes a Debian package of each part
+# make lib [OUT=out]                            makes the C library of the released archive and of c/
+# make plugin [OUT=out]                         makes the plugin for nbdkit
+# make install-lib [DESTDIR=] [PREFIX=..]       installs the C library, its header and tazbrev.pc
+# make install-plugin [DESTDIR=]                installs the plugin where nbdkit looks for it
+# make uninstall-lib, make uninstall-plugin     remove what these installed
 # make clean [OUT=out]                          removes what these made there
 #
 # The program is the release. PROGRAM=FILE installs another one, as crates/geomrun/out/geomrun, which ./prove builds.
+# The archive is the released one. ARCHIVE=FILE takes another one, which `rt lib` makes in crates/geo_exports.
 # Each part, a line of PARTS, has a rule install-PART; with a folder packaging/PART it is a Debian package too.
 PARTS = tazbrev
 
 PREFIX = /usr/local
 DESTDIR =
 PROGRAM = release/geomrun
+ARCHIVE = release/library/libgeo_exports.a
 OUT = out
+CC = cc
+CFLAGS = -O2
+WARNINGS = -std=c11 -Wall -Wextra
 VERSION := $(shell cat VERSION)
 ARCHITECTURE = amd64
 
@@ -20,12 +30,20 @@ sharedir = $(DESTDIR)$(PREFIX)/share
 datadir = $(sharedir)/tazbrev
 docdir = $(sharedir)/doc/tazbrev
 zshdir = $(sharedir)/zsh/site-functions
+libdir = $(DESTDIR)$(PREFIX)/lib
+plugindir = $(DESTDIR)$(shell pkg-config --variable=plugindir nbdkit)
+
+# The C library: its files beside the archive, and what is made of them.
+LAYER = tazbrev opening numbers memory
+OBJECTS = $(LAYER:%=$(OUT)/c/%.o)
+SHARED = libtazbrev.so.0
+PLUGIN = nbdkit-tazbrev-plugin.so
 
 # What is installed of a folder, as find is asked for it.
 FILES = -type f ! -name '.*' ! -name '*.pyc' ! -name '*.img'
 DOCUMENTS = README.md CHANGELOG.md LICENSE NOTICE SECURITY.md docs/PROFILE.md docs/TOOLS.md docs/RECIPES.md docs/view.png
 
-.PHONY: all install uninstall deb clean fits $(PARTS:%=install-%) $(PARTS:%=deb-%)
+.PHONY: all install uninstall deb clean fits fits-lib lib plugin install-lib install-plugin uninstall-lib uninstall-plugin $(PARTS:%=install-%) $(PARTS:%=deb-%)
 
 all:
 	@sed -n 's/^# \(make\)/\1/p' Makefile
@@ -37,6 +55,15 @@ ifeq ($(PROGRAM),release/geomrun)
 	    { { echo "make: the release was made from other sources"; release/sum --differs | head -n 3; } >&2; exit 1; }
 	@grep -qx "    program  *$$(sha256sum <release/geomrun | cut -d ' ' -f 1)" release/MADE.md || \
 	    { echo "make: release/geomrun isn't the recorded file" >&2; exit 1; }
+endif
+
+# The same of the archive.
+fits-lib:
+ifeq ($(ARCHIVE),release/library/libgeo_exports.a)
+	@grep -qx "    sources  *$$(release/sum --library)" release/library/MADE.md || \
+	    { echo "make: the archive was made from other sources" >&2; exit 1; }
+	@grep -qx "    archive  *$$(sha256sum <$(ARCHIVE) | cut -d ' ' -f 1)" release/library/MADE.md || \
+	    { echo "make: $(ARCHIVE) isn't the recorded file" >&2; exit 1; }
 endif
 
 install: $(PARTS:%=install-%)
@@ -56,10 +83,45 @@ install-tazbrev: fits
 	cd share && find bash-completion vim $(FILES) -exec install -D -m 644 {} $(abspath $(sharedir))/{} ';'
 	install -m 644 share/zsh/site-functions/* $(zshdir)
 
+lib: $(OUT)/$(SHARED) $(OUT)/libtazbrev.a
+
+$(OUT)/c/%.o: c/%.c c/mesh.h c/tazbrev.h
+	@mkdir -p $(OUT)/c
+	$(CC) $(WARNINGS) $(CFLAGS) -fPIC -c -o $@ $<
+
+$(OUT)/$(SHARED): $(OBJECTS) $(ARCHIVE) c/tazbrev.map
+	$(CC) $(CFLAGS) -shared -Wl,-soname,$(SHARED),--version-script=c/tazbrev.map,-z,defs -o $@ $(OBJECTS) \
+	    -Wl,--whole-archive $(ARCHIVE) -Wl,--no-whole-archive
+	ln -sf $(SHARED) $(OUT)/libtazbrev.so
+
+# All in one object, in which the names of calls alone are seen.
+$(OUT)/libtazbrev.a: $(OBJECTS) $(ARCHIVE)
+	$(CC) -r -nostdlib -o $(OUT)/c/libtazbrev.o $(OBJECTS) -Wl,--whole-archive $(ARCHIVE) -Wl,--no-whole-archive
+	objcopy --wildcard --keep-global-symbol='tzb_*' $(OUT)/c/libtazbrev.o
+	rm -f $@
+	ar -rcs $@ $(OUT)/c/libtazbrev.o
+
+plugin: $(OUT)/$(PLUGIN)
+
+$(OUT)/$(PLUGIN): c/nbdkit-plugin.c c/tazbrev.h $(OUT)/libtazbrev.a
+	$(CC) $(WARNINGS) $(CFLAGS) -Ic $$(pkg-config --cflags nbdkit) -fPIC -shared -pthread -o $@ c/nbdkit-plugin.c \
+	    $(OUT)/libtazbrev.a
+
+install-lib: fits-lib lib
+	install -d $(libdir)/pkgconfig $(DESTDIR)$(PREFIX)/include
+	install -m 644 $(OUT)/$(SHARED) $(OUT)/libtazbrev.a $(libdir)
+	ln -sf $(SHARED) $(libdir)/libtazbrev.so
+	sed 's,@PREFIX@,$(PREFIX),; s,@VERSION@,$(VERSION),' c/tazbrev.pc.in >$(libdir)/pkgconfig/tazbrev.pc
+	install -m 644 c/tazbrev.h $(DESTDIR)$(PREFIX)/include
+
+install-plugin: fits-lib plugin
+	install -d $(plugindir)
+	install -m 644 $(OUT)/$(PLUGIN) $(plugindir)
+
 # What stands there was installed by the same rules, so these are run once more, aside, to know the names.
-uninstall:
+uninstall uninstall-lib uninstall-plugin:
 	rm -rf $(OUT)/uninstall
-	$(MAKE) -s install DESTDIR=$(abspath $(OUT))/uninstall PREFIX=$(PREFIX) PROGRAM=VERSION
+	$(MAKE) -s $(subst uninstall,install,$@) DESTDIR=$(abspath $(OUT))/uninstall PREFIX=$(PREFIX) PROGRAM=VERSION
 	cd $(OUT)/uninstall && find . ! -type d | while read -r file; do rm -f "$(abspath $(DESTDIR))/$$file"; done
 	cd $(OUT)/uninstall && find . -depth -type d -path '*/tazbrev*' | while read -r folder; do \
 	    it="$(abspath $(DESTDIR))/$$folder"; [ ! -d "$$it" ] || rmdir --ignore-fail-on-non-empty "$$it"; done
@@ -77,4 +139,4 @@ $(PARTS:%=deb-%): deb-%:
 	rm -rf $(OUT)/deb/$*
 
 clean:
-	rm -rf $(OUT)/deb $(OUT)/uninstall $(OUT)/*.deb
+	rm -rf $(OUT)/deb $(OUT)/uninstall $(OUT)/*.deb $(OUT)/c $(OUT)/libtazbrev.* $(OUT)/$(PLUGIN)
