@@ -16,6 +16,7 @@ from .headers import Header
 Disks = Union[Sequence[Disk], Mapping[str, Disk]]
 Value = TypeVar('Value', bytes, None)
 _log = logging.getLogger('tazbrev')
+_log.addHandler(logging.NullHandler())
 #: The most bytes of a memory disk that a header makes, as for `geomrun`.
 MOST_RAM = 67108864
 
