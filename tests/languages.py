@@ -1,0 +1,72 @@
+"""What the tests of the live mesh in other languages share: the library that they take, runs, examples, pages."""
+import os, pathlib, re, subprocess, sys
+
+TOP = pathlib.Path(__file__).resolve().parent.parent
+USUAL = TOP / 'out' / 'libtazbrev.so.0'
+EXPECTED = TOP / 'examples' / 'live'
+LONGEST = 90
+
+
+class Checks:
+    """Counts the checks, and prints those that fail."""
+
+    def __init__(self, name):
+        self.name, self.count, self.failed = name, 0, 0
+
+    def due(self, what, got, wanted):
+        self.count += 1
+        if got != wanted:
+            self.failed += 1
+            print(f'{what}: {got!r}, not {wanted!r}', flush=True)
+
+    def runs(self, what, done):
+        """That a run ends with status 0. What it said is printed where it doesn't."""
+        self.count += 1
+        if done.returncode:
+            self.failed += 1
+            print(f'{what} ends with status {done.returncode}:\n{(done.stdout + done.stderr)[-3000:]}', flush=True)
+
+    def end(self):
+        """Prints the counts, and gives the exit status."""
+        print(f'{self.name}: {self.count} checks, {self.failed} fail')
+        return 1 if self.failed else 0
+
+
+def library_of(argv, page):
+    """The library that is tested. Where there is none the call ends, with status 0 if none was named."""
+    if len(argv) > 1 or argv and argv[0].startswith('-'):
+        print(page, file=sys.stderr)
+        sys.exit(2)
+    library = pathlib.Path(argv[0] if argv else USUAL).resolve()
+    if not library.is_file():
+        print(f'{library} is not here' + ('' if argv else ' (`make lib` makes it), so nothing is tried'))
+        sys.exit(2 if argv else 0)
+    return library
+
+
+def run(*words, cwd=TOP, **env):
+    """A run with these variables more; its output is text. One that takes too long ends with status 124."""
+    words = [str(it) for it in words]
+    try:
+        return subprocess.run(words, capture_output=True, text=True, errors='replace', timeout=LONGEST, check=False,
+                              cwd=cwd, env={**os.environ, **env})
+    except subprocess.TimeoutExpired:
+        return subprocess.CompletedProcess(words, 124, '', f'it takes more than {LONGEST} seconds')
+
+
+def examples():
+    """The examples, each with what it has to print."""
+    return [(it.stem, it.read_text()) for it in sorted(EXPECTED.glob('*.txt'))]
+
+
+def blocks(page, language):
+    """The blocks of code of a page, each with its line."""
+    text = (TOP / page).read_text()
+    for block in re.finditer(rf'^```{language}\n(.*?)^```', text, re.M | re.S):
+        yield text.count('\n', 0, block.start()) + 1, block[1]
+
+
+def written(pattern, path):
+    """What a pattern finds in a file."""
+    found = re.search(pattern, (TOP / path).read_text(), re.M)
+    return found[1] if found else None
