@@ -33,3 +33,8 @@ pub use crate::disk::{Disk, Fault, FileDisk, MemoryDisk};
 pub use crate::error::{Errno, Error, Refusal};
 pub use crate::mesh::{Answer, Handle, Mesh, Reply, Request};
 pub use crate::rows::{parse, Consumer, Counts, Geom, Provider};
+
+/// The blocks of code of the guide, which are run as tests.
+#[cfg(doctest)]
+#[doc = include_str!("../../../docs/LIVE-RUST.md")]
+struct Guide;
