@@ -3,7 +3,7 @@ import os, pathlib, re, subprocess, sys
 
 TOP = pathlib.Path(__file__).resolve().parent.parent
 USUAL = TOP / 'out' / 'libtazbrev.so.0'
-EXPECTED = TOP / 'examples' / 'live'
+EXPECTED = TOP / 'c' / 'examples'
 LONGEST = 90
 
 
@@ -56,7 +56,7 @@ def run(*words, cwd=TOP, **env):
 
 def examples():
     """The examples, each with what it has to print."""
-    return [(it.stem, it.read_text()) for it in sorted(EXPECTED.glob('*.txt'))]
+    return [(it.stem, it.read_text()) for it in sorted(EXPECTED.glob('*.out'))]
 
 
 def blocks(page, language):

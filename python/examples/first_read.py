@@ -1,10 +1,15 @@
 #!/usr/bin/env python3
-"""A disk in memory: reads a sector, writes another, and prints the mesh."""
+"""A disk in memory: writes a sector, reads it back, and is refused what lies past its end."""
 import tazbrev
 
-with tazbrev.Mesh('ram md0 512 4\nactor a\n') as mesh:
+with tazbrev.Mesh('ram md0 512 16\nactor a\n') as mesh:
     with mesh.open('a', 'h', 'md0', r=1, w=1) as handle:
-        print('sector 0 begins with', handle.read(0, 512)[:4].hex())
-        handle.write(512, b'Z' * 512)
-        print('sector 1 begins with', handle.read(512, 512)[:4].hex())
-    print(mesh.text(), end='')
+        handle.write(1024, b'hello'.ljust(512, b'\0'))
+        print('written: well')
+        data = handle.read(1024, 512)
+        print('read: well')
+        print(data.rstrip(b'\0').decode())
+        try:
+            handle.write(16 * 512, bytes(512))
+        except tazbrev.GeomError as error:
+            print(f'write past the end: TZB_{error.name}: {error.about}')

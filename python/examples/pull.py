@@ -1,45 +1,43 @@
 #!/usr/bin/env python3
-"""A disk is pulled while requests are out, and comes back."""
+"""A disk goes while requests are out. Its driver answers later, and the disk is let go once it is idle."""
 import tazbrev
 
 
 class SlowDisk(tazbrev.MemoryDisk):
-    """Answers a read only when it is told to."""
+    """Keeps what it is asked, once it is slow, and answers when it is told to."""
 
-    def __init__(self, sectors):
-        super().__init__(sectors)
-        self.asked = []
+    is_slow = False
+    asked = None
 
     def read(self, first, count):
-        self.asked.append((tazbrev.Pending(), super().read(first, count)))
-        return self.asked[-1][0]
+        if not self.is_slow:
+            return super().read(first, count)
+        self.asked = tazbrev.Pending(), super().read(first, count)
+        return self.asked[0]
 
     def answer(self):
-        later, data = self.asked.pop(0)
+        (later, data), self.asked = self.asked, None
         later.answer(data)
+
+
+def told(request):
+    error = request.exception()
+    return f'TZB_{error.name}' if error else 'well'
 
 
 disk = SlowDisk(sectors=16)
 with tazbrev.Mesh('disk md0 512\nactor a\n', [disk]) as mesh:
-    while disk.asked:                              # what the mesh reads to taste the disk
-        disk.answer()
-        mesh.run()
     handle = mesh.open('a', 'h', 'md0', r=1)
-    requests = [handle.submit_read(512 * place, 512) for place in range(4)]
+    disk.is_slow = True
+    requests = [handle.submit_read(512 * place, 512) for place in range(3)]
     mesh.run()
-    print(f'{mesh.waiting} reads are out')
     mesh.pull('md0')
-    print(mesh.text(), end='')
+    print(f'pulled, and {mesh.waiting} wait')
     while disk.asked:
         disk.answer()
         mesh.run()
-    print('their replies:', *(it.exception().name if it.exception() else 'ok' for it in requests))
-    late = handle.submit_read(0, 512)
-    print('a read after the pull:', late.exception().name)
+    for name, request in zip(('first', 'second', 'third'), requests):
+        print(f'{name}: {told(request)}')
+    print(f'one more: {told(handle.submit_read(0, 512))}')
     handle.close()
-    print(f'{len(mesh.list())} geoms are left')
-    mesh.insert('md0')
-    while disk.asked:
-        disk.answer()
-        mesh.run()
-    print(mesh.text(), end='')
+    print(mesh.text() or 'nothing is left')

@@ -70,7 +70,7 @@ class RangeError(GeomError):
 
 class TransferError(GeomError):
     errno, name, number = errno.EIO, 'EIO', 9
-    about = 'the range is past the end, or a disk failed'
+    about = 'a range past the end, or a disk that failed'
 
 
 class LoopError(GeomError):

@@ -1,4 +1,4 @@
-//! A disk of one's own: its third request fails after two sectors.
+//! A disk of one's own whose third write fails after one sector.
 
 use tazbrev::{Asked, Counts, Disk, Error, Fault, MemoryDisk, Mesh};
 
@@ -19,8 +19,8 @@ impl Disk for FailingDisk {
     fn write(&mut self, asked: &Asked, bytes: &[u8]) -> Result<(), Fault> {
         self.writes += 1;
         if self.writes == 3 {
-            self.memory.write(&Asked { count: 2, ..*asked }, &bytes[..1024])?;
-            return Err(Fault::Failed { done: 2 });
+            self.memory.write(&Asked { count: 1, ..*asked }, &bytes[..512])?;
+            return Err(Fault::Failed { done: 1 });
         }
         self.memory.write(asked, bytes)
     }
@@ -36,21 +36,30 @@ fn main() -> Result<(), Error> {
         writes: 0,
     };
     let mut mesh = Mesh::new("disk md0 512\nactor a\n", vec![disk])?;
-    let handle = mesh.open("a", "h", "md0", Counts::READ_WRITE)?;
+    let handle = mesh.open("a", "h", "md0", Counts { r: 0, w: 1, e: 0 })?;
     let mut requests = Vec::new();
-    for place in 0..4 {
-        requests.push(mesh.submit_write(&handle, 4096 * place, &[b'Z'; 4096])?);
+    for (byte, offset) in (b'1'..=b'4').zip((0..).step_by(2048)) {
+        requests.push(mesh.submit_write(&handle, offset, &[byte; 2048])?);
     }
-    for (request, number) in requests.into_iter().zip(1..) {
+    for (name, request) in ["first", "second", "third", "fourth"].into_iter().zip(requests) {
         match mesh.wait(request) {
-            Ok(_) => println!("write {number}: ok"),
-            Err(error) => println!("write {number}: {error}"),
+            Ok(_) => println!("{name}: well"),
+            Err(Error::Geom(errno)) => println!("{name}: TZB_{}", errno.name()),
+            Err(other) => return Err(other),
         }
     }
     if let Some(disk) = mesh.disk(0) {
-        let written = |it: &[u8]| (it.iter().filter(|&&byte| byte == b'Z').count() / 512).to_string();
-        let counts: Vec<String> = disk.memory.data.chunks(4096).take(4).map(written).collect();
-        println!("sectors written: {}", counts.join(" "));
+        let shown = |&byte: &u8| if byte == 0 { '.' } else { char::from(byte) };
+        println!(
+            "{}",
+            disk.memory
+                .data
+                .iter()
+                .step_by(512)
+                .take(16)
+                .map(shown)
+                .collect::<String>()
+        );
     }
-    Ok(())
+    mesh.close(&handle)
 }

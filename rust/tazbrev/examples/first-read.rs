@@ -1,18 +1,18 @@
-//! A disk in memory: reads a sector, writes another, and prints the mesh.
+//! A disk in memory: writes a sector, reads it back, and is refused what lies past its end.
 
 use tazbrev::{Counts, Error, Mesh};
 
 fn main() -> Result<(), Error> {
-    let mut mesh = Mesh::in_memory("ram md0 512 4\nactor a\n")?;
+    let mut mesh = Mesh::in_memory("ram md0 512 16\nactor a\n")?;
     let handle = mesh.open("a", "h", "md0", Counts::READ_WRITE)?;
-    println!("sector 0 begins with {}", hex(&mesh.read(&handle, 0, 512)?[..4]));
-    mesh.write(&handle, 512, &[b'Z'; 512])?;
-    println!("sector 1 begins with {}", hex(&mesh.read(&handle, 512, 512)?[..4]));
-    mesh.close(&handle)?;
-    print!("{}", mesh.text()?);
-    Ok(())
-}
-
-fn hex(bytes: &[u8]) -> String {
-    bytes.iter().map(|it| format!("{it:02x}")).collect()
+    let mut bytes = [0; 512];
+    bytes[..5].copy_from_slice(b"hello");
+    mesh.write(&handle, 1024, &bytes)?;
+    println!("written: well");
+    let read = mesh.read(&handle, 1024, 512)?;
+    println!("read: well\n{}", String::from_utf8_lossy(&read[..5]));
+    if let Err(error) = mesh.write(&handle, 16 * 512, &bytes) {
+        println!("write past the end: TZB_{error}");
+    }
+    mesh.close(&handle)
 }

@@ -1,9 +1,11 @@
-//! A disk is pulled while requests are out, and comes back.
+//! A disk goes while requests are out. Its driver answers later, and the disk is let go once it is idle.
 
-use tazbrev::{Answer, Asked, Counts, Disk, Error, Fault, Mesh};
+use tazbrev::{Answer, Asked, Counts, Disk, Error, Fault, Mesh, Reply};
 
-/// A disk of zeros that answers a read only when it is told to.
-struct SlowDisk;
+/// A disk of zeros that answers a read later, once it is slow.
+struct SlowDisk {
+    is_slow: bool,
+}
 
 impl Disk for SlowDisk {
     fn sectors(&self) -> u64 {
@@ -11,7 +13,11 @@ impl Disk for SlowDisk {
     }
 
     fn read(&mut self, _asked: &Asked, _bytes: &mut [u8]) -> Result<(), Fault> {
-        Err(Fault::Later)
+        if self.is_slow {
+            Err(Fault::Later)
+        } else {
+            Ok(())
+        }
     }
 
     fn write(&mut self, _asked: &Asked, _bytes: &[u8]) -> Result<(), Fault> {
@@ -23,45 +29,40 @@ impl Disk for SlowDisk {
     }
 }
 
-/// Answers what the disk is asked, until it is asked nothing.
-fn answer_all(mesh: &mut Mesh<SlowDisk>) -> Result<(), Error> {
-    mesh.run()?;
-    while let Some(&asked) = mesh.asked().first() {
-        let bytes = vec![0; 512 * asked.count as usize];
-        mesh.answer(&asked, Answer::Bytes(&bytes))?;
-        mesh.run()?;
+fn tell(name: &str, reply: Reply) {
+    match reply {
+        Ok(_) => println!("{name}: well"),
+        Err(errno) => println!("{name}: TZB_{}", errno.name()),
     }
-    Ok(())
 }
 
 fn main() -> Result<(), Error> {
-    let mut mesh = Mesh::new("disk md0 512\nactor a\n", vec![SlowDisk])?;
-    answer_all(&mut mesh)?; // what the mesh reads to taste the disk
+    let mut mesh = Mesh::new("disk md0 512\nactor a\n", vec![SlowDisk { is_slow: false }])?;
     let handle = mesh.open("a", "h", "md0", Counts::READ)?;
-    let mut requests = Vec::new();
-    for place in 0..4 {
-        requests.push(mesh.submit_read(&handle, 512 * place, 512)?);
+    if let Some(disk) = mesh.disk(0) {
+        disk.is_slow = true;
+    }
+    for place in 0..3 {
+        let _request = mesh.submit_read(&handle, 512 * place, 512)?;
     }
     mesh.run()?;
-    println!("{} reads are out", mesh.waiting());
     mesh.pull("md0")?;
-    print!("{}", mesh.text()?);
-    answer_all(&mut mesh)?;
-    let mut replies = Vec::new();
-    for request in requests {
-        replies.push(
-            mesh.wait(request)
-                .map_or_else(|error| error.to_string(), |_| "ok".to_owned()),
-        );
+    println!("pulled, and {} wait", mesh.waiting());
+    let mut names = ["first", "second", "third"].into_iter();
+    while let Some(&asked) = mesh.asked().first() {
+        mesh.answer(&asked, Answer::Bytes(&vec![0; 512 * asked.count as usize]))?;
+        while let Some((_request, reply)) = mesh.next_reply()? {
+            tell(names.next().unwrap_or("another"), reply);
+        }
     }
-    println!("their replies: {}", replies.join(" "));
-    if let Err(error) = mesh.read(&handle, 0, 512) {
-        println!("a read after the pull: {error}");
+    match mesh.read(&handle, 0, 512) {
+        Err(Error::Geom(errno)) => tell("one more", Err(errno)),
+        other => tell("one more", Ok(other?)),
     }
     mesh.close(&handle)?;
-    println!("{} geoms are left", mesh.list()?.len());
-    mesh.insert("md0")?;
-    answer_all(&mut mesh)?;
-    print!("{}", mesh.text()?);
+    match mesh.text()?.as_str() {
+        "" => println!("nothing is left"),
+        text => print!("{text}"),
+    }
     Ok(())
 }

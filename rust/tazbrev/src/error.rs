@@ -23,7 +23,7 @@ pub enum Errno {
     Busy,
     /// EINVAL: an offset, a length or a size doesn't fit.
     Range,
-    /// EIO: the range is past the end, or a disk failed.
+    /// EIO: a range past the end, or a disk that failed.
     Transfer,
     /// ELOOP: a geom would reach itself.
     Loop,
@@ -33,19 +33,39 @@ pub enum Errno {
     Other(u32),
 }
 
-/// Each error in the order of its number, with its name and the host's number.
-const ERRORS: [(Errno, &str, Option<i32>); 11] = [
-    (Errno::NotFound, "ENOENT", Some(2)),
-    (Errno::NameInUse, "EEXIST", Some(17)),
-    (Errno::Handle, "EBADF", Some(9)),
-    (Errno::Gone, "ENXIO", Some(6)),
-    (Errno::Access, "EPERM", Some(1)),
-    (Errno::Count, "EOVERFLOW", Some(75)),
-    (Errno::Busy, "EBUSY", Some(16)),
-    (Errno::Range, "EINVAL", Some(22)),
-    (Errno::Transfer, "EIO", Some(5)),
-    (Errno::Loop, "ELOOP", Some(40)),
-    (Errno::Depth, "EDEEP", None),
+/// Each error in the order of its number, with its name, the host's number, and what it says.
+const ERRORS: [(Errno, &str, Option<i32>, &str); 11] = [
+    (Errno::NotFound, "ENOENT", Some(2), "there is none of this name"),
+    (Errno::NameInUse, "EEXIST", Some(17), "the name is in use"),
+    (Errno::Handle, "EBADF", Some(9), "there is no such handle"),
+    (
+        Errno::Gone,
+        "ENXIO",
+        Some(6),
+        "the provider carries an error, the handle is dead, or the disk of a pull doesn't stand",
+    ),
+    (
+        Errno::Access,
+        "EPERM",
+        Some(1),
+        "the access counts forbid it, or the handle wasn't opened for it",
+    ),
+    (Errno::Count, "EOVERFLOW", Some(75), "a count would pass its limit"),
+    (Errno::Busy, "EBUSY", Some(16), "it is in use"),
+    (
+        Errno::Range,
+        "EINVAL",
+        Some(22),
+        "an offset, a length or a size doesn't fit",
+    ),
+    (
+        Errno::Transfer,
+        "EIO",
+        Some(5),
+        "a range past the end, or a disk that failed",
+    ),
+    (Errno::Loop, "ELOOP", Some(40), "a geom would reach itself"),
+    (Errno::Depth, "EDEEP", None, "a geom would have too great a rank"),
 ];
 
 impl Errno {
@@ -60,6 +80,14 @@ impl Errno {
         ERRORS.iter().find(|row| row.0 == self).map_or("unknown", |row| row.1)
     }
 
+    /// What the error says.
+    pub fn about(self) -> &'static str {
+        ERRORS
+            .iter()
+            .find(|row| row.0 == self)
+            .map_or("a number of a later library", |row| row.3)
+    }
+
     /// Linux's number, where it has one.
     pub fn raw_os_error(self) -> Option<i32> {
         ERRORS.iter().find(|row| row.0 == self)?.2
@@ -70,7 +98,7 @@ impl fmt::Display for Errno {
     fn fmt(&self, out: &mut fmt::Formatter<'_>) -> fmt::Result {
         match self {
             Errno::Other(number) => write!(out, "error {number}"),
-            known => out.write_str(known.name()),
+            known => write!(out, "{}: {}", known.name(), known.about()),
         }
     }
 }
