@@ -1,5 +1,5 @@
 """What the tests of the live mesh in other languages share: the library that they take, runs, examples, pages."""
-import os, pathlib, re, subprocess, sys
+import os, pathlib, re, shutil, subprocess, sys
 
 TOP = pathlib.Path(__file__).resolve().parent.parent
 USUAL = TOP / 'out' / 'libtazbrev.so.0'
@@ -54,9 +54,15 @@ def run(*words, cwd=TOP, **env):
         return subprocess.CompletedProcess(words, 124, '', f'it takes more than {LONGEST} seconds')
 
 
-def examples():
-    """The examples, each with what it has to print."""
-    return [(it.stem, it.read_text()) for it in sorted(EXPECTED.glob('*.out'))]
+def examples(library):
+    """The examples, each with the words that it takes and what it has to print."""
+    plugin = library.parent / 'nbdkit-tazbrev-plugin.so'
+    for it in sorted(EXPECTED.glob('*.out')):
+        words = [plugin] if it.stem.endswith('-nbd') else []
+        if words and not (plugin.is_file() and shutil.which('nbdkit')):
+            print(f'nbdkit or {plugin} is not here, so {it.stem} is not tried')
+        else:
+            yield it.stem, words, it.read_text()
 
 
 def blocks(page, language):
