@@ -39,9 +39,9 @@ use Rattle.geo_state.specs.World.{world, HasBytes}
 use Rattle.geo_session.specs.declared.live.Live.{Live}
 use Rattle.geo_session.specs.declared.refusal.SessionRefusal.{SessionRefusal}
 use Rattle.geo_session.specs.Growth.{more_left, with_command}
-use Rattle.geo_session.specs.Live.{seen, IsSession}
-use Rattle.geo_session.specs.Moves.{IsFound, IsFoundGiven, IsEnabledDeliver, Leads, SurelyCloses}
-use Rattle.geo_session.specs.Session.{SessionView, HistoryOf, AnswersFrom, Made, Refuses, none_left}
+use Rattle.geo_session.specs.Live.{session_view, IsSession}
+use Rattle.geo_session.specs.Moves.{IsFoundAgainst, IsFoundGiven, IsEnabledDeliver, Leads, SurelyCloses}
+use Rattle.geo_session.specs.Session.{SessionView, HistoryOf, AnswersFrom, Made, IsRefusedFor, none_left}
 use Rattle.geo_session.proofs.Histories.{commands_go_on, history_names, names_prop, steps_go_on}
 use Rattle.geo_session.proofs.Lists.{get_more, more_from}
 use Rattle.geo_session.proofs.Nones.{given, gone, none_at, none_beyond, none_given, none_or_less}
@@ -83,19 +83,20 @@ session_stands l is =
     let none : List Entry = [] in record { kept = is.holds; firm = (none, (none_left l.actors, is.firm)) }
 
 pub session_names : (l : Live) → IsSession l → HaveNames l.state.topo.topology
-session_names l is = ∥∥₁_elim is.history (names_prop (seen l).world) (λ h. history_names h)
+session_names l is = ∥∥₁_elim is.history (names_prop (session_view l).world) (λ h. history_names h)
 
 -- after a step from a firm world it is one again
 module _ (l : Live) (s : State) (count : ℕ) (is : IsSession l) (before : World) (firm : Firm before) (seat : ℕ)
     (st : Step) (o : Outcome) (holds : Holds s) (bytes : HasBytes [] s)
-    (does : step before seat st ≡ Ok (world (none_left l.actors) [] s, o)) (counted : count ≡ (l.steps + 1) % 2 ^ 64) where
+    (does : step before seat st ≡ Ok (world (none_left l.actors) [] s, o))
+    (counted : count ≡ (l.steps + 1) % 2 ^ 64) where
   abbrev next : Live
   next = record l { state = s; steps = count }
 
-  pub next_made : Made before (seen l) (seen next) seat st o
+  pub next_made : Made before (session_view l) (session_view next) seat st o
   next_made = record { does = does; counted = counted }
 
-  pub next_session : (HistoryOf (seen l) → HistoryOf (seen next)) → IsSession next
+  pub next_session : (HistoryOf (session_view l) → HistoryOf (session_view next)) → IsSession next
   next_session goes_on = record {
     holds = holds;
     bytes = bytes;
@@ -106,29 +107,31 @@ module _ (l : Live) (s : State) (count : ℕ) (is : IsSession l) (before : World
 -- so it is after a step
 module _ (l : Live) (s : State) (count : ℕ) (is : IsSession l) (seat : ℕ) (st : Step) (o : Outcome) (holds : Holds s)
     (bytes : HasBytes [] s)
-    (does : step (seen l).world seat st ≡ Ok (world (none_left l.actors) [] s, o))
+    (does : step (session_view l).world seat st ≡ Ok (world (none_left l.actors) [] s, o))
     (counted : count ≡ (l.steps + 1) % 2 ^ 64) where
   pub step_session : IsSession (record l { state = s; steps = count })
   step_session =
-      next_session l s count is (seen l).world is.firm seat st o holds bytes does counted
+      next_session l s count is (session_view l).world is.firm seat st o holds bytes does counted
       (λ h. (steps_go_on seat st o
-      (next_made l s count is (seen l).world is.firm seat st o holds bytes does counted) h).next)
+      (next_made l s count is (session_view l).world is.firm seat st o holds bytes does counted) h).next)
 
-  pub step_made : Made (seen l).world (seen l) (seen (record l { state = s; steps = count })) seat st o
-  step_made = next_made l s count is (seen l).world is.firm seat st o holds bytes does counted
+  pub step_made : Made (session_view l).world (session_view l) (session_view (record l { state = s; steps = count }))
+      seat st o
+  step_made = next_made l s count is (session_view l).world is.firm seat st o holds bytes does counted
 
 -- and after a command
 module _ (l : Live) (s : State) (count : ℕ) (is : IsSession l) (c : LineCommand) (is_command : IsCommand c.command)
     (o : Outcome) (holds : Holds s) (bytes : HasBytes [] s)
-    (does : step (with_command c (seen l).world) 0 (steps.Go c.actor) ≡ Ok (world (none_left l.actors) [] s, o))
+    (does : step (with_command c (session_view l).world) 0 (steps.Go c.actor) ≡ Ok (world (none_left l.actors) [] s, o))
     (counted : count ≡ (l.steps + 1) % 2 ^ 64) where
   abbrev given_world : World
-  given_world = with_command c (seen l).world
+  given_world = with_command c (session_view l).world
 
   given_firm : Firm given_world
-  given_firm = firm_with c is_command (seen l).world is.firm
+  given_firm = firm_with c is_command (session_view l).world is.firm
 
-  pub command_made : Made given_world (seen l) (seen (record l { state = s; steps = count })) 0 (steps.Go c.actor) o
+  pub command_made : Made given_world (session_view l) (session_view (record l { state = s; steps = count })) 0
+      (steps.Go c.actor) o
   command_made = next_made l s count is given_world given_firm 0 (steps.Go c.actor) o holds bytes does counted
 
   pub command_session : IsSession (record l { state = s; steps = count })
@@ -138,7 +141,7 @@ module _ (l : Live) (s : State) (count : ℕ) (is : IsSession l) (c : LineComman
 
 -- where memory was wanting it is the one that it was
 module _ (l : Live) (s : State) (is : IsSession l) (same : SameWorld l.state s) where
-  pub same_seen : seen (record l { state = s }) ≡ seen l
+  pub same_seen : session_view (record l { state = s }) ≡ session_view l
   same_seen =
       ap (λ (w : World). let v : SessionView = record { world = w; steps = l.steps } in v)
       (same (none_left l.actors) [])
@@ -156,11 +159,11 @@ module _ (l : Live) (s : State) (is : IsSession l) (same : SameWorld l.state s) 
 -- what a call that was refused so answers
 pub answers_refusal : (result : Result Outcome SessionRefusal) (refusal : SessionRefusal) (before : World)
     (old new : SessionView) (seat : ℕ) (st : Step)
-    → IsErrAnd result (λ x. x ≡ refusal) → Refuses refusal before old new seat st
+    → IsErrAnd result (λ x. x ≡ refusal) → IsRefusedFor refusal before old new seat st
     → AnswersFrom before result old new seat st
 answers_refusal (Ok o) refusal before old new seat st is refuses = absurd is
 answers_refusal (Err x) refusal before old new seat st is refuses =
-    subst (λ (y : SessionRefusal). Refuses y before old new seat st) (sym is) refuses
+    subst (λ (y : SessionRefusal). IsRefusedFor y before old new seat st) (sym is) refuses
 
 -- what ended with an error isn't ok
 pub not_ok : {A E : Type 0} (r : Result A E) (e : E) → r ≡ Err e → IsOk r → ⊥
@@ -188,35 +191,38 @@ found_none (Ok made) e = refl
 found_none (Err f) e = absurd (let no : ⊥ = cc in no)
 
 -- against a step is what its world answers
-pub found_at : (actors : ℕ) (s : State) (seat : ℕ) (st : Step) (f : Option Found) → IsFound actors s seat st f
+pub found_at : (actors : ℕ) (s : State) (seat : ℕ) (st : Step) (f : Option Found) → IsFoundAgainst actors s seat st f
     → against (step (world (none_left actors) [] s) seat st) ≡ f
 unfolding step
 found_at actors s seat (steps.Go actor) f is = is
 found_at actors s seat st f is = is (none_left actors) []
 
-pub refused_found : (actors : ℕ) (s : State) (seat : ℕ) (st : Step) (f : Found) → IsFound actors s seat st (Some f)
+pub refused_found : (actors : ℕ) (s : State) (seat : ℕ) (st : Step) (f : Found)
+    → IsFoundAgainst actors s seat st (Some f)
     → step (world (none_left actors) [] s) seat st ≡ Err f
 refused_found actors s seat st f is =
     found_some (step (world (none_left actors) [] s) seat st) f (found_at actors s seat st (Some f) is)
 
-pub enabled_found : (actors : ℕ) (s : State) (seat : ℕ) (st : Step) → IsFound actors s seat st None
+pub enabled_found : (actors : ℕ) (s : State) (seat : ℕ) (st : Step) → IsFoundAgainst actors s seat st None
     → IsOk (step (world (none_left actors) [] s) seat st)
 enabled_found actors s seat st is =
     found_none (step (world (none_left actors) [] s) seat st) (found_at actors s seat st None is)
 
 -- against a Go is that there is no command, or no such actor
-pub no_command : (actors actor : ℕ) (s : State) → actor < actors → IsFound actors s 0 (steps.Go actor) (Some found.NoCommand)
+pub no_command : (actors actor : ℕ) (s : State) → actor < actors
+    → IsFoundAgainst actors s 0 (steps.Go actor) (Some found.NoCommand)
 unfolding go
 no_command actors actor s less =
     ap (λ l. against (go_of (world (none_left actors) [] s) actor l)) (none_at actors actor less)
 
-pub no_actor : (actors actor : ℕ) (s : State) → actors ≤ actor → IsFound actors s 0 (steps.Go actor) (Some found.NoSuchActor)
+pub no_actor : (actors actor : ℕ) (s : State) → actors ≤ actor
+    → IsFoundAgainst actors s 0 (steps.Go actor) (Some found.NoSuchActor)
 unfolding go
 no_actor actors actor s less =
     ap (λ l. against (go_of (world (none_left actors) [] s) actor l)) (none_beyond actors actor less)
 
 -- so that something is
-pub never_none : (actors : ℕ) (s : State) (seat actor : ℕ) → IsFound actors s seat (steps.Go actor) None → ⊥
+pub never_none : (actors : ℕ) (s : State) (seat actor : ℕ) → IsFoundAgainst actors s seat (steps.Go actor) None → ⊥
 unfolding go
 never_none actors s seat actor is = by (none_or_less actors actor) where
   w : World
@@ -323,12 +329,12 @@ module _ (actors : ℕ) (s : State) (c : LineCommand) where
 
 module _ (actors : ℕ) (old new : State) (seat : ℕ) {st it : Step} (is : st ≡ it) where
   -- where nothing is against it, nothing is against the one that a match shows it to be
-  pub none_by : IsFound actors old seat st None → IsFound actors old seat it None
-  none_by none = subst (λ (x : Step). IsFound actors old seat x None) is none
+  pub none_by : IsFoundAgainst actors old seat st None → IsFoundAgainst actors old seat it None
+  none_by none = subst (λ (x : Step). IsFoundAgainst actors old seat x None) is none
 
   -- what is against that one, is against it
-  pub found_by : (f : Option Found) → IsFound actors old seat it f → IsFound actors old seat st f
-  found_by f is_found = subst (λ (x : Step). IsFound actors old seat x f) (sym is) is_found
+  pub found_by : (f : Option Found) → IsFoundAgainst actors old seat it f → IsFoundAgainst actors old seat st f
+  found_by f is_found = subst (λ (x : Step). IsFoundAgainst actors old seat x f) (sym is) is_found
 
   -- and it leads where that one does
   pub made_by : (o : Outcome) → Makes (λ w. step w seat it) [] old new o
@@ -346,13 +352,14 @@ module _ (actors : ℕ) (old new : State) (seat : ℕ) {st it : Step} (is : st �
   -- it isn't a Deliver where that one is none
   pub no_deliver_by : (IsEnabledDeliver (world (none_left actors) [] old) seat it → ⊥)
       → IsEnabledDeliver (world (none_left actors) [] old) seat st → ⊥
-  no_deliver_by never sure = never (subst (λ (x : Step). IsEnabledDeliver (world (none_left actors) [] old) seat x) is sure)
+  no_deliver_by never sure = never (subst (λ (x : Step). IsEnabledDeliver (world (none_left actors) [] old) seat x)
+      is sure)
 
 -- What a command is answered that is given
 
 module _ (l : Live) (c : LineCommand) where
   abbrev given_to : World
-  given_to = with_command c (seen l).world
+  given_to = with_command c (session_view l).world
 
   -- something is against it
   pub refused_given : (f : Found) → IsFoundGiven l.actors l.state c (Some f)

@@ -11,17 +11,17 @@ use Rattle.geo_model.specs.World.{World, is_up, is_down}
 use Rattle.geo_model.specs.Order.{pick, first_bio, is_to_take, take_step, if_enabled, earliest, ready_actors}
 use Rattle.geo_model.proofs.RestLemmas.{no-go, none-ready}
 use Rattle.geo_session.specs.declared.live.Live.{Live}
-use Rattle.geo_session.specs.Live.{seen}
+use Rattle.geo_session.specs.Live.{session_view}
 use Rattle.geo_session.specs.Session.{SessionView, none_left}
 use Rattle.geo_session.proofs.Nones.{all_done}
 
 -- a live mesh has no command left
-none_seen : (l : Live) → ((seen l).world).actors ≡ none_left (length ((seen l).world).actors)
+none_seen : (l : Live) → ((session_view l).world).actors ≡ none_left (length ((session_view l).world).actors)
 none_seen l =
     let none : ℕ → List LineCommand = λ actor. [] in
     ap none_left (sym (length-map-range_with_len none 0 l.actors))
 
-pub none_shown : (l : Live) (v : SessionView) → seen l ≡ v
+pub none_shown : (l : Live) (v : SessionView) → session_view l ≡ v
     → (v.world).actors ≡ none_left (length (v.world).actors)
 none_shown l v is =
     subst (λ (x : SessionView). (x.world).actors ≡ none_left (length (x.world).actors)) is (none_seen l)

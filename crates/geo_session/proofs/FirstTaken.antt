@@ -81,7 +81,8 @@ module _ (s : State) (actors : List (List LineCommand)) (entries : List Entry) (
       rw here (free_is (shown_bio log y) here is)
 
   module _ (d : Option ℕ)
-      (is : d ≡ option_and_then (λ (y : BioOf Held). disk_at s.topo.topology y.target) (bio_among s.traffic.bios bio)) where
+      (is : d ≡ option_and_then (λ (y : BioOf Held). disk_at s.topo.topology y.target)
+      (bio_among s.traffic.bios bio)) where
     -- it has no disk
     pub none_free : d ≡ None → IfSome (bio_at w bio) (λ x. None ≡ free w x)
     none_free none =
@@ -96,7 +97,8 @@ module _ (s : State) (actors : List (List LineCommand)) (entries : List Entry) (
     found_free disk f some found =
         by_bio (bio_among s.traffic.bios bio) refl d is (if is_some f then None else Some disk) by
       where
-        by : (x : Bio) → bio_at w bio ≡ Some x → d ≡ disk_of_bio w x → (if is_some f then None else Some disk) ≡ free w x
+        by : (x : Bio) → bio_at w bio ≡ Some x → d ≡ disk_of_bio w x
+            → (if is_some f then None else Some disk) ≡ free w x
         by x here same =
             let at : disk_of_bio w x ≡ Some disk = sym same ∙ some in
             let told_by : is_none f ≡ is_to_take w x =
@@ -283,7 +285,8 @@ module _ (s : State) (order : AreInOrder s.traffic) (from bio : ℕ) (is : Some 
       let w : World = world actors entries s in
       let next : Next s order actors entries from bio = next_is s order actors entries from bio is in
       let fails : is_to_take w next.x ≡ false =
-      not_free w next.x (let h : IfSome (bio_at w bio) (λ x. None ≡ free w x) = held actors entries in rw next.at at h) in
+      not_free w next.x (let h : IfSome (bio_at w bio) (λ x. None ≡ free w x) = held actors entries in
+      rw next.at at h) in
       before actors entries
       ∙ skip (is_to_take w) from 0 s.traffic.next bio w.bios next.x (rising s order actors entries) next.first
       next.number fails

@@ -23,7 +23,7 @@ use Rattle.geo_model.proofs.LogLemmas.{Legal-append, replay-append}
 use Rattle.geo_laws_requests.proofs.Complete.{legal_logs_complete_requests}
 use Rattle.geo_laws_texts.specs.Naming.{HaveNames}
 use Rattle.geo_laws_texts.proofs.Logs.{legal_logs_have_names}
-use Rattle.geo_session.specs.Going.{HistoriesGoOn, GoesOn, entry_of}
+use Rattle.geo_session.specs.Going.{HistoriesGoOn, GoesOn, entry_of_step}
 use Rattle.geo_session.specs.Growth.{plan_with, with_command, more_for}
 use Rattle.geo_session.specs.Session.{SessionView, HistoryOf, Made}
 use Rattle.geo_session.proofs.Actors.{actors_of_plan}
@@ -36,7 +36,7 @@ module _ (plan : Plan) (facts : List (ℕ × ℕ)) (begins : MayBegin plan) (fit
     {old new : SessionView} (counts : length log % 2 ^ 64 ≡ old.steps) (seat : ℕ) (s : Step) (o : Outcome)
     (made : Made before old new seat s o) where
   abbrev entry : Entry
-  entry = entry_of seat s o
+  entry = entry_of_step seat s o
 
   is_made : IsMade (replay (opening plan facts) log) entry
   is_made = rw (leads, made.does) refl
@@ -61,7 +61,7 @@ module _ (plan : Plan) (facts : List (ℕ × ℕ)) (begins : MayBegin plan) (fit
 
 -- a step goes on with the same plan
 pub steps_go_on : {old new : SessionView} (seat : ℕ) (s : Step) (o : Outcome) → Made old.world old new seat s o
-    → (h : HistoryOf old) → GoesOn h h.plan (entry_of seat s o) new
+    → (h : HistoryOf old) → GoesOn h h.plan (entry_of_step seat s o) new
 unfolding longer
 steps_go_on {old} {new} seat s o made h = record {
   next = longer h.plan h.facts h.begins h.fit h.log h.legal h.leads h.counts seat s o made;
@@ -118,7 +118,7 @@ module _ {old new : SessionView} (c : LineCommand) (o : Outcome) (is : IsCommand
       ∙ ap (with_command c) h.leads
 
   -- a command with the plan that has it
-  pub commands_go_on : GoesOn h (plan_with h.plan c) (entry_of 0 (steps.Go c.actor) o) new
+  pub commands_go_on : GoesOn h (plan_with h.plan c) (entry_of_step 0 (steps.Go c.actor) o) new
   unfolding longer
   commands_go_on = record {
     next = longer (plan_with h.plan c) h.facts begins h.fit h.log legal leads h.counts 0 (steps.Go c.actor) o made;

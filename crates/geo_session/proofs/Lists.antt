@@ -18,7 +18,8 @@ of_actor plan c a = filter-append (λ x. x.actor == a) plan.commands (c ∷ [])
 
 -- what all have
 from_plan : (plan : Plan) (c : LineCommand) (a n : ℕ)
-    → map (commands_of (plan_with plan c)) (range_with_len a n) ≡ more_from c a (map (commands_of plan) (range_with_len a n))
+    → map (commands_of (plan_with plan c)) (range_with_len a n) ≡ more_from c a
+    (map (commands_of plan) (range_with_len a n))
 from_plan plan c a zero = refl
 from_plan plan c a (suc n) =
     ap (λ x. x ∷ map (commands_of (plan_with plan c)) (range_with_len (a + 1) n)) (of_actor plan c a)

@@ -29,8 +29,8 @@ use Rattle.geo_state.specs.World.{world}
 use Rattle.geo_moves.specs.Spots.{bytes_read, bytes_read_by, spot_in, spot_of}
 use Rattle.geo_moves.proofs.Told as told
 use Rattle.geo_session.specs.declared.live.Live.{Live}
-use Rattle.geo_session.specs.Live.{seen, IsSession}
-use Rattle.geo_session.specs.Moves.{IsFound}
+use Rattle.geo_session.specs.Live.{session_view, IsSession}
+use Rattle.geo_session.specs.Moves.{IsFoundAgainst}
 use Rattle.geo_session.specs.Session.{SessionView, HasHistory, none_left}
 use Rattle.geo_session.proofs.Answered.{found_at, session_stands}
 use Rattle.geo_session.proofs.Histories.{history_keeps}
@@ -39,11 +39,11 @@ use Rattle.geo_session.proofs.Nones.{all_done}
 -- a live mesh that is read, and what is seen of it
 pub record Reads (l : Live) (v : SessionView) : Type 0 where
   pub is : IsSession l
-  pub same : seen l ≡ v
+  pub same : session_view l ≡ v
 
 -- as it was read where it is kept
-pub reads : {l kept : Live} {v : SessionView} → l ≡ kept → seen kept ≡ v → IsSession kept → Reads l v
-reads is view session = record { is = subst IsSession (sym is) session; same = ap seen is ∙ view }
+pub reads : {l kept : Live} {v : SessionView} → l ≡ kept → session_view kept ≡ v → IsSession kept → Reads l v
+reads is view session = record { is = subst IsSession (sym is) session; same = ap session_view is ∙ view }
 
 module _ {l : Live} {v : SessionView} (it : Reads l v) where
   abbrev log : ℕ → Option (List ℕ)
@@ -62,7 +62,7 @@ module _ {l : Live} {v : SessionView} (it : Reads l v) where
   read_firm = subst Firm shows it.is.firm
 
   -- a step is enabled where nothing is against it
-  pub enabled_is : (seat : ℕ) (st : Step) (f : Option Found) → IsFound l.actors l.state seat st f
+  pub enabled_is : (seat : ℕ) (st : Step) (f : Option Found) → IsFoundAgainst l.actors l.state seat st f
       → is_none f ≡ is_ok (step v.world seat st)
   enabled_is seat st f is_found =
       subst (λ (w : World). is_none f ≡ is_ok (step w seat st)) shows

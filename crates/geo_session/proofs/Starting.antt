@@ -18,7 +18,7 @@ use Rattle.geo_state.specs.Shown.{AreLogged}
 use Rattle.geo_state.specs.World.{world, HasBytes}
 use Rattle.geo_moves.specs.Openings.{IsOpened}
 use Rattle.geo_session.specs.declared.live.Live.{Live}
-use Rattle.geo_session.specs.Live.{seen, IsSession}
+use Rattle.geo_session.specs.Live.{session_view, IsSession}
 use Rattle.geo_session.specs.Session.{SessionView, HistoryOf, none_left, without_commands}
 
 abbrev Item : Type 0
@@ -70,10 +70,10 @@ module _ (plan : Plan) (facts : List (ℕ × ℕ)) (s : State) (actors : ℕ) (i
       ∙ ap (λ (w : World). record w { actors = none_left (length plan.actors) }) (opens.world [])
       ∙ sym (opening_without plan facts)
 
-  pub first_seen : seen first ≡ record { world = opening (without_commands plan) facts; steps = 0 }
+  pub first_seen : session_view first ≡ record { world = opening (without_commands plan) facts; steps = 0 }
   first_seen = ap (λ (w : World). let v : SessionView = record { world = w; steps = 0 } in v) first_world
 
-  first_history : HistoryOf (seen first)
+  first_history : HistoryOf (session_view first)
   first_history = record {
     plan = without_commands plan;
     facts = facts;

@@ -152,7 +152,8 @@ module _ (c : LineCommand) (w : World) (actor : ℕ) {after : World} {o : Outcom
       (same_wait (more_left c) w actor x.command)
       ∙ ap (λ lists. unless_found (waits_for w actor x.command)
       (do_command (record w { actors = lists }) x.line actor x.command)) (set_more c w.actors actor rest)
-      ∙ ap (λ made. unless_found (waits_for w actor x.command) made) (command_other (more_left c) left x.line actor x.command)
+      ∙ ap (λ made. unless_found (waits_for w actor x.command) made)
+      (command_other (more_left c) left x.line actor x.command)
       ∙ unless_other (more_left c) (waits_for w actor x.command) (do_command left x.line actor x.command)
       ∙ ap (λ a. other_answer (more_left c) a) does
 

@@ -11,8 +11,8 @@ use Rattle.geo_session.specs.Growth.{plan_with}
 use Rattle.geo_session.specs.Session.{SessionView, HistoryOf, Answers, Commands}
 
 -- the entry of a step
-abbrev pub entry_of : ℕ → Step → Outcome → Entry
-entry_of seat s outcome = record { seat = seat; step = s; outcome = outcome }
+abbrev pub entry_of_step : ℕ → Step → Outcome → Entry
+entry_of_step seat s outcome = record { seat = seat; step = s; outcome = outcome }
 
 -- there is a history of the mesh with the plan, on the same disks, whose log has this entry more
 pub record GoesOn {old : SessionView} (h : HistoryOf old) (plan : Plan) (e : Entry) (new : SessionView) : Type 0 where
@@ -24,7 +24,7 @@ pub record GoesOn {old : SessionView} (h : HistoryOf old) (plan : Plan) (e : Ent
 -- a step goes on with the same plan, a command with the plan that has it at its end
 pub record HistoriesGoOn : Type 0 where
   pub step : (old new : SessionView) (seat : ℕ) (s : Step) (outcome : Outcome)
-      → Answers (Ok outcome) old new seat s → (h : HistoryOf old) → GoesOn h h.plan (entry_of seat s outcome) new
+      → Answers (Ok outcome) old new seat s → (h : HistoryOf old) → GoesOn h h.plan (entry_of_step seat s outcome) new
   pub command : (old new : SessionView) (c : LineCommand) (outcome : Outcome) → IsCommand c.command
       → Commands (Ok outcome) old new c → (h : HistoryOf old)
-      → GoesOn h (plan_with h.plan c) (entry_of 0 (steps.Go c.actor) outcome) new
+      → GoesOn h (plan_with h.plan c) (entry_of_step 0 (steps.Go c.actor) outcome) new

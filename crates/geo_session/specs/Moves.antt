@@ -19,9 +19,9 @@ use Rattle.geo_session.specs.Session.{none_left}
 
 -- that is what was found against the step, where so many actors have no command left; against a step that isn't a Go
 -- whatever commands are left
-abbrev pub IsFound : ℕ → State → ℕ → Step → Option Found → Type 0
-IsFound actors s seat (steps.Go actor) found = against (go (world (none_left actors) [] s) actor) ≡ found
-IsFound actors s seat st found = IsAgainst (λ w. step w seat st) s found
+abbrev pub IsFoundAgainst : ℕ → State → ℕ → Step → Option Found → Type 0
+IsFoundAgainst actors s seat (steps.Go actor) found = against (go (world (none_left actors) [] s) actor) ≡ found
+IsFoundAgainst actors s seat st found = IsAgainst (λ w. step w seat st) s found
 
 -- that is what was found against a command that is given: there is no such actor, or what it waits for
 abbrev pub IsFoundGiven : ℕ → State → LineCommand → Option Found → Type 0

@@ -52,14 +52,14 @@ pub record Made (before : World) (old new : SessionView) (seat : ℕ) (s : Step)
 
 -- a step was refused, and the mesh is as before: for what was found, exactly where the step isn't enabled; or for want
 -- of memory, where it is
-abbrev pub Refuses : SessionRefusal → World → SessionView → SessionView → ℕ → Step → Type 0
-Refuses (refusals.NotEnabled found) before old new seat s = (step before seat s ≡ Err found) × (new ≡ old)
-Refuses refusals.NoMemory before old new seat s = IsOk (step before seat s) × (new ≡ old)
+abbrev pub IsRefusedFor : SessionRefusal → World → SessionView → SessionView → ℕ → Step → Type 0
+IsRefusedFor (refusals.NotEnabled found) before old new seat s = (step before seat s ≡ Err found) × (new ≡ old)
+IsRefusedFor refusals.NoMemory before old new seat s = IsOk (step before seat s) × (new ≡ old)
 
 -- what a step is answered from a world, and the mesh that it leaves
 abbrev pub AnswersFrom : World → Result Outcome SessionRefusal → SessionView → SessionView → ℕ → Step → Type 0
 AnswersFrom before (Ok outcome) old new seat s = Made before old new seat s outcome
-AnswersFrom before (Err refusal) old new seat s = Refuses refusal before old new seat s
+AnswersFrom before (Err refusal) old new seat s = IsRefusedFor refusal before old new seat s
 
 -- a step of a seat
 abbrev pub Answers : Result Outcome SessionRefusal → SessionView → SessionView → ℕ → Step → Type 0

@@ -3,7 +3,7 @@ ghost use Rattle.std.specs.Prelude.{Some};
 ghost use Rattle.geo_model.specs.declared.step.Step.{Step as StepValue};
 ghost use Rattle.geo_state.specs.Steps.{Stands};
 ghost use Rattle.geo_state.specs.declared.state.State.{State as StateValue};
-ghost use Rattle.geo_session.specs.Moves.{IsFound, IsFoundGiven};
+ghost use Rattle.geo_session.specs.Moves.{IsFoundAgainst, IsFoundGiven};
 
 use geo_model::{Found, LineCommand, Step};
 use geo_moves::{
@@ -15,7 +15,7 @@ use geo_state::State;
 /// What is against a step of a seat, if anything is. A Go is never enabled: each command is made when it is given.
 pub fn found_against(actors: u32, state: &State, seat: u32, step: &Step) -> Option<Found>
     requires stands { Stands state.now }
-    ensures { IsFound actors state.now seat step.now result }
+    ensures { IsFoundAgainst actors state.now seat step.now result }
 {
     match step {
         Step::Go { actor } => Some(no_command(actors, *actor)),
@@ -32,7 +32,7 @@ pub fn found_against(actors: u32, state: &State, seat: u32, step: &Step) -> Opti
 
 // Why an actor has no command, where no one has.
 fn no_command(actors: u32, actor: u32) -> Found
-    ensures { (state : StateValue) → IsFound actors state 0 (StepValue.Go actor) (Some result) }
+    ensures { (state : StateValue) → IsFoundAgainst actors state 0 (StepValue.Go actor) (Some result) }
 {
     if actor < actors {
         Found::NoCommand

@@ -2,8 +2,8 @@
 //! g_bio(9), g_event(9)).
 //!
 //! Contracts see a [`Session`] as its world, in which no actor has a command left, and how many steps it has made
-//! (`SessionView`). The world is the one for which its state stands over an empty log; a bio holds itself the bytes that
-//! it waits to hand up.
+//! (`SessionView`). The world is the one for which its state stands over an empty log; a bio holds itself the bytes
+//! that it waits to hand up.
 //!
 //! - [`Session::begin`]: the opening of a plan's header (its disks, its actors), whose commands aren't made.
 //! - [`Session::step`]: on Ok it is the model's step and outcome, and one step more is counted (`answer`: `Answers`).

@@ -12,8 +12,8 @@ ghost use Rattle.geo_state.specs.Holds.{Holds};
 ghost use Rattle.geo_state.specs.Steps.{Does, Makes, SameWorld, Stands};
 ghost use Rattle.geo_state.specs.World.{world, HasBytes};
 ghost use Rattle.geo_session.specs.Growth.{with_command};
-ghost use Rattle.geo_session.specs.Live.{seen, IsSession};
-ghost use Rattle.geo_session.specs.Moves.{IsFound, IsEnabledDeliver, Leads, SurelyCloses};
+ghost use Rattle.geo_session.specs.Live.{session_view, IsSession};
+ghost use Rattle.geo_session.specs.Moves.{IsFoundAgainst, IsEnabledDeliver, Leads, SurelyCloses};
 ghost use Rattle.geo_session.specs.Session.{none_left, Answers, Commands};
 
 use crate::found::{found_against, found_given};
@@ -41,8 +41,8 @@ pub fn make<L: Ledger>(
     requires parts { blank.parts ≡ L.parts }
     requires some { L.parts ≡ 1 }
     ensures session { IsSession live.new }
-    ensures answer { Answers result (seen live.old) (seen live.new) seat step }
-    ensures sure { IsEnabledDeliver (seen live.old).world seat step → IsOk result }
+    ensures answer { Answers result (session_view live.old) (session_view live.new) seat step }
+    ensures sure { IsEnabledDeliver (session_view live.old).world seat step → IsOk result }
 {
     if let Some(found) = found_against(live.actors, &live.state, seat, &step) {
         return Err(SessionRefusal::NotEnabled { found });
@@ -64,7 +64,7 @@ fn turn<L: Ledger>(
 ) -> Result<Outcome, NoMemory>
     requires stands { Stands state.old }
     requires bytes { HasBytes [] state.old }
-    requires found { IsFound actors state.old seat step None }
+    requires found { IsFoundAgainst actors state.old seat step None }
     ensures made { IfOk result (λ o.
         Leads (world (none_left actors) [] state.old) seat step (world (none_left actors) [] state.new) o) }
     ensures kept { Holds state.new }
@@ -128,8 +128,8 @@ pub fn command<L: Ledger>(
     requires parts { blank.parts ≡ L.parts }
     requires some { L.parts ≡ 1 }
     ensures session { IsSession live.new }
-    ensures answer { Commands result (seen live.old) (seen live.new) line.now }
-    ensures sure { ClosesOk (with_command line.now (seen live.old).world) 0 line.now.actor → IsOk result }
+    ensures answer { Commands result (session_view live.old) (session_view live.new) line.now }
+    ensures sure { ClosesOk (with_command line.now (session_view live.old).world) 0 line.now.actor → IsOk result }
 {
     if let Some(found) = found_given(live.actors, &live.state, line) {
         return Err(SessionRefusal::NotEnabled { found });

@@ -2,7 +2,7 @@
 ghost use Rattle.std.specs.Prelude.{◌≡◌, length, IfOk};
 ghost use Rattle.geo_model.specs.Opening.{opening};
 ghost use Rattle.geo_model.specs.Plans.{FactsFit};
-ghost use Rattle.geo_session.specs.Live.{seen, IsSession};
+ghost use Rattle.geo_session.specs.Live.{session_view, IsSession};
 ghost use Rattle.geo_session.specs.Session.{without_commands};
 
 use crate::live::Live;
@@ -15,7 +15,7 @@ use std::alloc::Global;
 /// What a live mesh holds that has made no step.
 pub fn begin(alloc: Global, plan: &Plan, disks: &DiskFacts) -> Result<Live, NoMemory>
     requires { FactsFit plan.now disks.now.items }
-    ensures began { IfOk result (λ l. seen l
+    ensures began { IfOk result (λ l. session_view l
         ≡ record { world = opening (without_commands plan.now) disks.now.items; steps = 0 }) }
     ensures session { IfOk result IsSession }
 {

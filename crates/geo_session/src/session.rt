@@ -41,12 +41,12 @@ pub struct Session {
 }
 
 impl Model for Session {
-    ghost use Rattle.geo_session.specs.Live.{seen, IsSession};
+    ghost use Rattle.geo_session.specs.Live.{session_view, IsSession};
     ghost use Rattle.geo_session.specs.Session.{SessionView};
 
     ghost Value = { SessionView };
 
-    ghost view = { λ s. seen s.live.value };
+    ghost view = { λ s. session_view s.live.value };
 
     ghost invariant = { λ s. IsSession s.live.value };
 }

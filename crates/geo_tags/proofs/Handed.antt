@@ -19,9 +19,9 @@ use Rattle.geo_laws_replies.proofs.AnsweringSteps.{steps_answer}
 use Rattle.geo_session.specs.Session.{SessionView, Made}
 use Rattle.geo_tags.specs.declared.due.Due.{Due}
 use Rattle.geo_tags.specs.declared.due.Due.TheVariants as dues
-use Rattle.geo_tags.specs.Calls.{Delivers, IsDue, Nexts}
-use Rattle.geo_tags.specs.Slots.{taken_by, HandsOut, IsExpected}
-use Rattle.geo_tags.specs.Tags.{shown, EachWaits}
+use Rattle.geo_tags.specs.Calls.{Delivers, IsDueBy, Nexts}
+use Rattle.geo_tags.specs.Tokens.{taken_by, HandsOut, IsExpected}
+use Rattle.geo_tags.specs.Tags.{tagged_view, EachWaits}
 use Rattle.geo_tags.proofs.Outcomes.{Tells, outcome_tells}
 use Rattle.geo_tags.proofs.Waits.{weight, has_token, others_count, quiet_counts, reply_counts, turned, waits_still, waits_where}
 
@@ -45,7 +45,7 @@ expected_by slots s (outcomes.Asked request) tells there = asking_takes s reques
 expected_by slots s (outcomes.Replied line reply) tells there = there line reply refl
 expected_by slots s _ tells there = tt
 
-module _ (old new : SessionView) (slots : Slab ℕ) (waits : EachWaits (shown old slots)) (firm : Firm old.world)
+module _ (old new : SessionView) (slots : Slab ℕ) (waits : EachWaits (tagged_view old slots)) (firm : Firm old.world)
     (s : Step) (o : Outcome) (made : Made old.world old new 0 s o) where
   -- what the step answers
   answers : (tag : ℕ) → unanswered tag new.world + counts_reply tag o ≡ unanswered tag old.world
@@ -86,14 +86,14 @@ module _ (old new : SessionView) (slots : Slab ℕ) (waits : EachWaits (shown ol
   expected = expected_by slots s o (outcome_tells old.world 0 s new.world o made.does) replied_there
 
   -- where no line is answered and no token comes or goes
-  quietly : (later : Slab ℕ) → later ≡ slots → ((tag : ℕ) → counts_reply tag o ≡ 0) → EachWaits (shown new later)
+  quietly : (later : Slab ℕ) → later ≡ slots → ((tag : ℕ) → counts_reply tag o ≡ 0) → EachWaits (tagged_view new later)
   quietly later same none =
-      subst (λ (x : Slab ℕ). EachWaits (shown new x)) (sym same)
+      subst (λ (x : Slab ℕ). EachWaits (tagged_view new x)) (sym same)
       (waits_still old new slots waits (none_answered none))
 
   -- what is handed out
   pub handed_waits : (due : Due) (later : Slab ℕ) → HandsOut due (taken_by s) o slots later
-      → EachWaits (shown new later)
+      → EachWaits (tagged_view new later)
   handed_waits (dues.Ask disk bio request) later (taken, is, same) =
       quietly later same (λ tag. ap (counts_reply tag) is)
   handed_waits (dues.Reply token reply) later (line, is, has, updates) =
@@ -103,16 +103,16 @@ module _ (old new : SessionView) (slots : Slab ℕ) (waits : EachWaits (shown ol
   handed_waits dues.Idle later out = absurd out
 
   handed_due : (due : Due) (later : Slab ℕ) → HandsOut due (taken_by s) o slots later
-      → IsDue due s o (shown old slots) (shown new later)
+      → IsDueBy due s o (tagged_view old slots) (tagged_view new later)
   handed_due (dues.Ask disk bio request) later (taken, is, same) =
-      (taking s disk bio taken, is, ap (shown new) same)
+      (taking s disk bio taken, is, ap (tagged_view new) same)
   handed_due (dues.Reply token reply) later (line, is, has, updates) =
       (line, is, has, turned old new slots later line None updates)
-  handed_due dues.Moved later (quiet, same) = (quiet, ap (shown new) same)
+  handed_due dues.Moved later (quiet, same) = (quiet, ap (tagged_view new) same)
   handed_due dues.Idle later out = out
 
   pub handed_next : pick old.world ≡ Some s → (due : Due) (later : Slab ℕ) → HandsOut due (taken_by s) o slots later
-      → Nexts (Ok due) (shown old slots) (shown new later)
+      → Nexts (Ok due) (tagged_view old slots) (tagged_view new later)
   handed_next picked dues.Idle later out = absurd out
   handed_next picked due later out = record {
     step = s;
@@ -126,13 +126,13 @@ module _ (old new : SessionView) (slots : Slab ℕ) (waits : EachWaits (shown ol
 
 pub record Stepped (old new : SessionView) (slots : Slab ℕ) (s : Step) (o : Outcome) (taken : Option (ℕ × ℕ)) : Type 0
   where
-    pub waits : EachWaits (shown old slots)
+    pub waits : EachWaits (tagged_view old slots)
     pub firm : Firm old.world
     pub made : Made old.world old new 0 s o
     pub taken_is : taken ≡ taken_by s
 
 pub stepped : (old new : SessionView) (slots : Slab ℕ) {s : Step} {o : Outcome} {taken : Option (ℕ × ℕ)}
-    → EachWaits (shown old slots) → Sound old.world → Steady old.world → Fitting old.world
+    → EachWaits (tagged_view old slots) → Sound old.world → Steady old.world → Fitting old.world
     → Made old.world old new 0 s o → taken ≡ taken_by s → Stepped old new slots s o taken
 stepped old new slots waits sound steady fitting made is = record {
   waits = waits;
@@ -151,27 +151,27 @@ module _ {old new : SessionView} {slots : Slab ℕ} {s : Step} {o : Outcome} {ta
   as_taken : (due : Due) (later : Slab ℕ) → HandsOut due taken o slots later → HandsOut due (taken_by s) o slots later
   as_taken due later out = subst (λ (t : Option (ℕ × ℕ)). HandsOut due t o slots later) it.taken_is out
 
-  pub leaves_waits : (due : Due) (later : Slab ℕ) → HandsOut due taken o slots later → EachWaits (shown new later)
+  pub leaves_waits : (due : Due) (later : Slab ℕ) → HandsOut due taken o slots later → EachWaits (tagged_view new later)
   leaves_waits due later out =
       handed_waits old new slots it.waits it.firm s o it.made due later (as_taken due later out)
 
   pub leaves_next : pick old.world ≡ Some s → (due : Due) (later : Slab ℕ) → HandsOut due taken o slots later
-      → Nexts (Ok due) (shown old slots) (shown new later)
+      → Nexts (Ok due) (tagged_view old slots) (tagged_view new later)
   leaves_next picked due later out =
       handed_next old new slots it.waits it.firm s o it.made picked due later (as_taken due later out)
 
 -- What a disk answers
 
-module _ (old new : SessionView) (slots : Slab ℕ) (waits : EachWaits (shown old slots)) (sound : Sound old.world)
+module _ (old new : SessionView) (slots : Slab ℕ) (waits : EachWaits (tagged_view old slots)) (sound : Sound old.world)
     (steady : Steady old.world) (fitting : Fitting old.world) (bio : ℕ) (got : DeviceResult) (o : Outcome)
     (made : Made old.world old new 0 (steps.Deliver bio got) o) where
   delivered : o ≡ outcomes.Delivered
   delivered = outcome_tells old.world 0 (steps.Deliver bio got) new.world o made.does
 
-  pub delivered_waits : EachWaits (shown new slots)
+  pub delivered_waits : EachWaits (tagged_view new slots)
   delivered_waits =
       quietly old new slots waits (firm_of old.world sound steady fitting) (steps.Deliver bio got) o made slots refl
       (λ tag. ap (counts_reply tag) delivered)
 
-  pub delivers : Delivers (Ok tt) (shown old slots) (shown new slots) bio got
+  pub delivers : Delivers (Ok tt) (tagged_view old slots) (tagged_view new slots) bio got
   delivers = (subst (Made old.world old new 0 (steps.Deliver bio got)) delivered made, refl)

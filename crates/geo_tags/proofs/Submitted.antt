@@ -10,13 +10,13 @@ use Rattle.geo_model.specs.declared.step.Outcome.{Outcome}
 use Rattle.geo_model.specs.declared.step.Outcome.TheVariants as outcomes
 use Rattle.geo_model.specs.declared.step.Reply.{Reply}
 use Rattle.geo_model.specs.declared.step.Step.TheVariants as steps
+use Rattle.geo_laws_owed.specs.OwedLaws.{is_close}
 use Rattle.geo_laws_replies.specs.ReplyLaws.{counts_reply, unanswered}
 use Rattle.geo_session.specs.declared.refusal.SessionRefusal.{SessionRefusal}
 use Rattle.geo_session.specs.Growth.{with_command}
 use Rattle.geo_session.specs.Session.{SessionView, Made, none_left}
 use Rattle.geo_tags.specs.Calls.{tagged, Submits, SurelyCloses}
-use Rattle.geo_tags.specs.Slots.{is_close}
-use Rattle.geo_tags.specs.Tags.{TaggedView, shown, EachWaits}
+use Rattle.geo_tags.specs.Tags.{TaggedView, tagged_view, EachWaits}
 use Rattle.geo_tags.proofs.OwnLines.{IsOwn, IsReply, close_outcome, next_is, outcome_answers, own_outcome}
 use Rattle.geo_tags.proofs.Waits.{weight, turned, waits_still, waits_where}
 
@@ -47,15 +47,15 @@ module _ (old : SessionView) (slots : Slab ℕ) (actor : ℕ) (command : Command
   key = slots.vacant_key
 
   abbrev line : LineCommand
-  line = tagged (shown old slots) actor command
+  line = tagged (tagged_view old slots) actor command
 
   -- what surely closes is a close
-  pub surely_a_close : SurelyCloses (shown old slots) actor command → is_close command ≡ true
+  pub surely_a_close : SurelyCloses (tagged_view old slots) actor command → is_close command ≡ true
   surely_a_close sure =
       ap (λ (x : LineCommand). is_close x.command) (next_is old.world line none sure.closes.command sure.closes.is_next)
       ∙ ap is_close sure.closes.is_close
 
-  module _ (waits : EachWaits (shown old slots)) (new : SessionView) (o : Outcome)
+  module _ (waits : EachWaits (tagged_view old slots)) (new : SessionView) (o : Outcome)
       (made : Made (with_command line old.world) old new 0 (steps.Go actor) o) where
     own : IsOwn key o
     own = own_outcome old.world line none made.does
@@ -75,7 +75,8 @@ module _ (old : SessionView) (slots : Slab ℕ) (actor : ℕ) (command : Command
           ap (counts_reply tag) is ∙ ap (λ (n : ℕ). cond (n == tag) 1 0) same_line in
           omega (arith, answers tag, one)
 
-      pub replied : (token : ℕ) → Submitted (Ok (Some reply)) (shown old slots) (shown new slots) actor command token
+      pub replied : (token : ℕ) → Submitted (Ok (Some reply)) (tagged_view old slots) (tagged_view new slots) actor
+          command token
       replied token = record {
         waits = waits_still old new slots waits replied_still;
         submits = (
@@ -114,7 +115,7 @@ module _ (old : SessionView) (slots : Slab ℕ) (actor : ℕ) (command : Command
             omega (arith, answers tag, none_replied tag, zero)
 
       pub accepted : (token : ℕ) (later : Slab ℕ) → get slots key ≡ None → Updates slots later key (Some token)
-          → Submitted (Ok None) (shown old slots) (shown new later) actor command token
+          → Submitted (Ok None) (tagged_view old slots) (tagged_view new later) actor command token
       accepted token later free updates =
           let is = accepted_by key o own not in record {
             waits = waits_where old new slots waits later key (Some token) updates (waits_now is.0 is.1 free)
@@ -135,19 +136,19 @@ no_reply _ other is = is
 
 pub record Given (old new : SessionView) (first slots : Slab ℕ) (actor : ℕ) (command : Command) (o : Outcome) : Type 0
   where
-    pub waits : EachWaits (shown old slots)
+    pub waits : EachWaits (tagged_view old slots)
     pub none : (old.world).actors ≡ none_left (length (old.world).actors)
-    pub same : shown old slots ≡ shown old first
-    pub made : Made (with_command (tagged (shown old slots) actor command) old.world) old new 0 (steps.Go actor) o
+    pub same : tagged_view old slots ≡ tagged_view old first
+    pub made : Made (with_command (tagged (tagged_view old slots) actor command) old.world) old new 0 (steps.Go actor) o
 
 pub given : (old new : SessionView) (first slots : Slab ℕ) (actor : ℕ) (command : Command) {tag : ℕ} {o : Outcome}
-    → slots ≡ record first { capacity = slots.capacity } → EachWaits (shown old first)
+    → slots ≡ record first { capacity = slots.capacity } → EachWaits (tagged_view old first)
     → (old.world).actors ≡ none_left (length (old.world).actors) → tag ≡ first.vacant_key
     → Made (with_command (record { line = tag; actor = actor; command = command }) old.world) old new 0
     (steps.Go actor) o
     → Given old new first slots actor command o
 given old new first slots actor command {tag} {o} kept waits none is made =
-    let same : shown old slots ≡ shown old first = ap (shown old) kept in
+    let same : tagged_view old slots ≡ tagged_view old first = ap (tagged_view old) kept in
     record {
       waits = subst EachWaits (sym same) waits;
       none = none;
@@ -159,15 +160,15 @@ given old new first slots actor command {tag} {o} kept waits none is made =
 module _ {old new : SessionView} {first slots : Slab ℕ} {actor : ℕ} {command : Command} {o : Outcome}
     (it : Given old new first slots actor command o) where
   as_before : (result : Result (Option Reply) SessionRefusal) (after : TaggedView) (token : ℕ)
-      → Submitted result (shown old slots) after actor command token
-      → Submitted result (shown old first) after actor command token
+      → Submitted result (tagged_view old slots) after actor command token
+      → Submitted result (tagged_view old first) after actor command token
   as_before result after token is =
       subst (λ (v : TaggedView). Submitted result v after actor command token) it.same is
 
   pub replies : (l : ℕ) (reply : Reply) (token : ℕ) → o ≡ outcomes.Replied l reply
-      → Submitted (Ok (Some reply)) (shown old first) (shown new slots) actor command token
+      → Submitted (Ok (Some reply)) (tagged_view old first) (tagged_view new slots) actor command token
   replies l reply token is =
-      as_before (Ok (Some reply)) (shown new slots) token
+      as_before (Ok (Some reply)) (tagged_view new slots) token
       (replied old slots actor command it.none it.waits new o it.made l reply is token)
 
   module _ (other : (l : ℕ) (reply : Reply) → o ≡ outcomes.Replied l reply → ⊥) where
@@ -176,9 +177,9 @@ module _ {old new : SessionView} {first slots : Slab ℕ} {actor : ℕ} {command
 
     pub accepts : (token : ℕ) (later : Slab ℕ) (at : ℕ) → at ≡ slots.vacant_key → get slots at ≡ None
         → Updates slots later at (Some token)
-        → Submitted (Ok None) (shown old first) (shown new later) actor command token
+        → Submitted (Ok None) (tagged_view old first) (tagged_view new later) actor command token
     accepts token later at is free updates =
-        as_before (Ok None) (shown new later) token
+        as_before (Ok None) (tagged_view new later) token
         (accepted old slots actor command it.none it.waits new o it.made (no_reply o other) token later
         (subst (λ (n : ℕ). get slots n ≡ None) is free)
         (subst (λ (n : ℕ). Updates slots later n (Some token)) is updates))

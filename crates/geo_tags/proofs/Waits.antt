@@ -12,8 +12,8 @@ use Rattle.geo_model.specs.World.{Plan, commands_of}
 use Rattle.geo_laws_replies.specs.ReplyLaws.{counts_reply, left_of_line, unanswered}
 use Rattle.geo_laws_replies.proofs.PlanLines.{stands_leave}
 use Rattle.geo_session.specs.Session.{SessionView, without_commands}
-use Rattle.geo_tags.specs.Calls.{IsQuiet}
-use Rattle.geo_tags.specs.Tags.{shown, EachWaits, Turns}
+use Rattle.geo_tags.specs.Calls.{StaysInside}
+use Rattle.geo_tags.specs.Tags.{tagged_view, EachWaits, Turns}
 
 -- so many a slot waits for
 abbrev pub weight : Option ℕ → ℕ
@@ -29,7 +29,7 @@ none_begin tag plan (a ∷ actors) = none_begin tag plan actors
 
 -- so nothing is unanswered, and no tag waits
 pub opening_waits : (plan : Plan) (facts : List (ℕ × ℕ)) (steps : ℕ) (slots : Slab ℕ) → slots.slots ≡ []
-    → EachWaits (shown (record { world = opening (without_commands plan) facts; steps = steps }) slots)
+    → EachWaits (tagged_view (record { world = opening (without_commands plan) facts; steps = steps }) slots)
 unfolding opening
 opening_waits plan facts steps slots none tag =
     stands_leave tag
@@ -49,7 +49,7 @@ has_token None some = absurd (omega (arith, some))
 has_token (Some token) some = refl
 
 -- what doesn't reply answers no line
-pub quiet_counts : (tag : ℕ) (o : Outcome) → IsQuiet o → counts_reply tag o ≡ 0
+pub quiet_counts : (tag : ℕ) (o : Outcome) → StaysInside o → counts_reply tag o ≡ 0
 quiet_counts tag (outcomes.Asked request) quiet = absurd quiet
 quiet_counts tag (outcomes.Replied line reply) quiet = absurd quiet
 quiet_counts tag _ quiet = refl
@@ -61,15 +61,17 @@ reply_counts line reply = ap (λ b. cond b 1 0) (eq-eqb line line refl)
 pub others_count : (tag line : ℕ) (reply : Reply) → tag ≢ line → counts_reply tag (outcomes.Replied line reply) ≡ 0
 others_count tag line reply other = ap (λ b. cond b 1 0) (ne_eqb line tag (λ same. other (sym same)))
 
-module _ (old new : SessionView) (slots : Slab ℕ) (waits : EachWaits (shown old slots)) where
+module _ (old new : SessionView) (slots : Slab ℕ) (waits : EachWaits (tagged_view old slots)) where
   -- where each line is unanswered as before
-  pub waits_still : ((tag : ℕ) → unanswered tag new.world ≡ unanswered tag old.world) → EachWaits (shown new slots)
+  pub waits_still : ((tag : ℕ) → unanswered tag new.world ≡ unanswered tag old.world)
+      → EachWaits (tagged_view new slots)
   waits_still same tag = same tag ∙ waits tag
 
   -- where one is unanswered as its slot is now, and the others as before
   pub waits_where : (later : Slab ℕ) (line : ℕ) (slot : Option ℕ) → Updates slots later line slot
       → unanswered line new.world ≡ weight slot
-      → ((tag : ℕ) → tag ≢ line → unanswered tag new.world ≡ unanswered tag old.world) → EachWaits (shown new later)
+      → ((tag : ℕ) → tag ≢ line → unanswered tag new.world ≡ unanswered tag old.world)
+      → EachWaits (tagged_view new later)
   waits_where later line slot updates here there tag = elim (cases_eq tag line) [
     | inl same ↦
         ap (λ n. unanswered n new.world) same ∙ here ∙ ap weight (sym updates.changed)
@@ -79,5 +81,5 @@ module _ (old new : SessionView) (slots : Slab ℕ) (waits : EachWaits (shown ol
 
 -- what changes a slot turns the token of its tag
 pub turned : (old new : SessionView) (slots later : Slab ℕ) (line : ℕ) (slot : Option ℕ)
-    → Updates slots later line slot → Turns (shown old slots) (shown new later) line slot
+    → Updates slots later line slot → Turns (tagged_view old slots) (tagged_view new later) line slot
 turned old new slots later line slot updates = record { here = updates.changed; others = updates.others }

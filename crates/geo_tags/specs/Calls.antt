@@ -44,20 +44,20 @@ pub record SurelyCloses (v : TaggedView) (actor : ℕ) (command : Command) : Typ
   pub closes : ClosesOk (with_command (tagged v actor command) (v.session).world) 0 actor
 
 -- neither asks a disk nor replies
-abbrev pub IsQuiet : Outcome → Type 0
-IsQuiet (outcomes.Asked request) = ⊥
-IsQuiet (outcomes.Replied line reply) = ⊥
-IsQuiet _ = ⊤
+abbrev pub StaysInside : Outcome → Type 0
+StaysInside (outcomes.Asked request) = ⊥
+StaysInside (outcomes.Replied line reply) = ⊥
+StaysInside _ = ⊤
 
 -- what is due after a step with this outcome: a disk is asked what a Take asks it; a reply to a tag is handed out with
 -- the tag's token, which it then has no more
-abbrev pub IsDue : Due → Step → Outcome → TaggedView → TaggedView → Type 0
-IsDue (dues.Ask disk bio request) s outcome old new =
+abbrev pub IsDueBy : Due → Step → Outcome → TaggedView → TaggedView → Type 0
+IsDueBy (dues.Ask disk bio request) s outcome old new =
     (s ≡ steps.Take disk bio) × (outcome ≡ outcomes.Asked request) × SameTokens old new
-IsDue (dues.Reply token reply) s outcome old new =
+IsDueBy (dues.Reply token reply) s outcome old new =
     (tag : ℕ) × (outcome ≡ outcomes.Replied tag reply) × (token_at old tag ≡ Some token) × Turns old new tag None
-IsDue dues.Moved s outcome old new = IsQuiet outcome × SameTokens old new
-IsDue dues.Idle s outcome old new = ⊥
+IsDueBy dues.Moved s outcome old new = StaysInside outcome × SameTokens old new
+IsDueBy dues.Idle s outcome old new = ⊥
 
 -- the step that is picked was made
 pub record Moves (due : Due) (old new : TaggedView) : Type 0 where
@@ -65,7 +65,7 @@ pub record Moves (due : Due) (old new : TaggedView) : Type 0 where
   pub picked : pick (old.session).world ≡ Some step
   pub outcome : Outcome
   pub made : Answers (Ok outcome) old.session new.session 0 step
-  pub is_due : IsDue due step outcome old new
+  pub is_due : IsDueBy due step outcome old new
 
 -- it is idle exactly where no step is picked; where memory is wanting for the one that is, all is as before
 abbrev pub Nexts : Result Due NoMemory → TaggedView → TaggedView → Type 0

@@ -1,3 +1,3 @@
 pub mod Tags
-pub mod Slots
+pub mod Tokens
 pub mod Calls

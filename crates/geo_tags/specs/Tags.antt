@@ -11,8 +11,8 @@ pub record TaggedView : Type 0 where
   pub next_tag : ℕ
 
 -- what is seen of a live mesh and a slab of tokens: a tag is a key of the slab
-abbrev pub shown : SessionView → Slab ℕ → TaggedView
-shown session slab = record { session = session; tokens = slab.slots; next_tag = slab.vacant_key }
+abbrev pub tagged_view : SessionView → Slab ℕ → TaggedView
+tagged_view session slab = record { session = session; tokens = slab.slots; next_tag = slab.vacant_key }
 
 -- the token of a tag
 abbrev pub token_at : TaggedView → ℕ → Option ℕ

@@ -3,10 +3,10 @@ ghost use Rattle.std.specs.Prelude.{◌≡◌, None, IsOk};
 ghost use Rattle.slab.specs.Slab.{get};
 ghost use Rattle.geo_model.specs.Plans.{IsCommand};
 ghost use Rattle.geo_tags.specs.Calls.{Delivers, Nexts, Submits, SurelyCloses};
-ghost use Rattle.geo_tags.specs.Tags.{shown, EachWaits};
+ghost use Rattle.geo_tags.specs.Tags.{tagged_view, EachWaits};
 
 use crate::due::Due;
-use crate::slots::{hand_out, make_room, next_tag, taken_by};
+use crate::tokens::{hand_out, make_room, next_tag, taken_by};
 use geo_base::{BioId, NoMemory};
 use geo_model::{Command, DeviceResult, Found, LineCommand, Outcome, Reply, Step};
 use geo_session::{Session, SessionRefusal};
@@ -20,12 +20,13 @@ pub fn submit(
     command: Command,
     token: u64,
 ) -> Result<Option<Reply>, SessionRefusal>
-    requires waits { EachWaits (shown session.old tokens.old) }
+    requires waits { EachWaits (tagged_view session.old tokens.old) }
     requires is_command { IsCommand command }
-    ensures waits { EachWaits (shown session.new tokens.new) }
+    ensures waits { EachWaits (tagged_view session.new tokens.new) }
     ensures free { get tokens.old tokens.old.vacant_key ≡ None }
-    ensures submits { Submits result (shown session.old tokens.old) (shown session.new tokens.new) actor command token }
-    ensures sure { SurelyCloses (shown session.old tokens.old) actor command → IsOk result }
+    ensures submits { Submits result (tagged_view session.old tokens.old) (tagged_view session.new tokens.new) actor
+        command token }
+    ensures sure { SurelyCloses (tagged_view session.old tokens.old) actor command → IsOk result }
 {
     session.no_commands();
     let Some(tag) = next_tag(tokens) else {
@@ -49,9 +50,9 @@ pub fn submit(
 
 /// Makes the step that is picked.
 pub fn next(session: &mut Session, tokens: &mut Slab<u64>) -> Result<Due, NoMemory>
-    requires waits { EachWaits (shown session.old tokens.old) }
-    ensures waits { EachWaits (shown session.new tokens.new) }
-    ensures nexts { Nexts result (shown session.old tokens.old) (shown session.new tokens.new) }
+    requires waits { EachWaits (tagged_view session.old tokens.old) }
+    ensures waits { EachWaits (tagged_view session.new tokens.new) }
+    ensures nexts { Nexts result (tagged_view session.old tokens.old) (tagged_view session.new tokens.new) }
 {
     session.history();
     session.no_commands();
@@ -73,9 +74,10 @@ pub fn answer(
     bio: BioId,
     got: DeviceResult,
 ) -> Result<(), Found>
-    requires waits { EachWaits (shown session.old tokens.now) }
-    ensures waits { EachWaits (shown session.new tokens.now) }
-    ensures delivers { Delivers result (shown session.old tokens.now) (shown session.new tokens.now) bio got }
+    requires waits { EachWaits (tagged_view session.old tokens.now) }
+    ensures waits { EachWaits (tagged_view session.new tokens.now) }
+    ensures delivers { Delivers result (tagged_view session.old tokens.now) (tagged_view session.new tokens.now) bio
+        got }
 {
     session.history();
     match session.step(0, Step::Deliver { bio, got }) {

@@ -17,14 +17,14 @@
 //!   (`EachWaits`). So no reply is lost, and none comes twice or with another's token.
 //! - [`TaggedSession::session`], [`TaggedSession::waiting`]: the live mesh, and how many tags wait.
 //!
-//! Tested by requests that are out at once and answered out of order (geo_tests_tags). Read `src/tagged.rt`,
+//! Tested by requests that are out at once and answered out of order (geo_tests_session). Read `src/tagged.rt`,
 //! `specs/Tags.antt` and `specs/Calls.antt` first.
 #![tactic(auto)]
 
 mod calls;
 mod due;
-mod slots;
 mod tagged;
+mod tokens;
 
 pub use due::Due;
 pub use geo_log::DiskFacts;

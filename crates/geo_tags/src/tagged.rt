@@ -27,13 +27,13 @@ pub struct TaggedSession {
 }
 
 impl Model for TaggedSession {
-    ghost use Rattle.geo_tags.specs.Tags.{TaggedView, shown, EachWaits};
+    ghost use Rattle.geo_tags.specs.Tags.{TaggedView, tagged_view, EachWaits};
 
     ghost Value = { TaggedView };
 
-    ghost view = { λ t. shown t.session t.tokens };
+    ghost view = { λ t. tagged_view t.session t.tokens };
 
-    ghost invariant = { λ t. EachWaits (shown t.session t.tokens) };
+    ghost invariant = { λ t. EachWaits (tagged_view t.session t.tokens) };
 }
 
 impl TaggedSession {

@@ -30,6 +30,8 @@ mod mbr;
 #[cfg(test)]
 mod model;
 #[cfg(test)]
+mod nbd;
+#[cfg(test)]
 mod nop;
 #[cfg(test)]
 mod range;

@@ -1,5 +1,5 @@
 //! A live mesh over disks that the tests hold themselves. Its commands are those of a script, by their places in it;
-//! what is due is made in this order: Up, Take and Start of the smallest bio, Judge, Event, Reap, Wash.
+//! what is due is made in the fixed order.
 ghost use Rattle.std.specs.Prelude.{◌≤◌, IfOk, IfSome};
 ghost use Rattle.geo_model.specs.Plans.{FactsFit, IsFact};
 
@@ -48,8 +48,8 @@ fn fact_of(decl: &DiskDecl) -> Option<(u32, u64)>
     }
 }
 
-// The sizes of the disks of a plan, if all are small and in memory and there is memory for the sizes.
-fn facts_of(alloc: Global, plan: &Plan) -> Option<DiskFacts>
+/// The sizes of the disks of a plan, if all are small and in memory and there is memory for the sizes.
+pub fn facts_of(alloc: Global, plan: &Plan) -> Option<DiskFacts>
     ensures { IfSome result (λ facts. FactsFit plan.now facts.items) }
 {
     let mut facts = DiskFacts::new(alloc);
@@ -135,17 +135,22 @@ fn opened(alloc: Global, plan: Plan) -> Option<Bench> {
     }
 }
 
-/// The live mesh of a script's header over small disks in memory, in which no command was made yet.
-pub fn begin(alloc: Global, script: &[u8]) -> Result<Bench, Fail> {
+/// The plan of a short script.
+pub fn plan_of(alloc: Global, script: &[u8]) -> Result<Plan, Fail> {
     if script.len() > 4096 {
         return Err("a long script".into());
     }
     match parse(alloc, script) {
-        Ok(plan) => match opened(alloc, plan) {
-            Some(bench) => Ok(bench),
-            None => Err("no memory".into()),
-        },
+        Ok(plan) => Ok(plan),
         Err(_) => Err("no script".into()),
+    }
+}
+
+/// The live mesh of a script's header over small disks in memory, in which no command was made yet.
+pub fn begin(alloc: Global, script: &[u8]) -> Result<Bench, Fail> {
+    match opened(alloc, plan_of(alloc, script)?) {
+        Some(bench) => Ok(bench),
+        None => Err("no memory".into()),
     }
 }
 
@@ -258,49 +263,6 @@ fn taken_by(step: &Step) -> Option<(u32, BioId)> {
     }
 }
 
-// Whether seat 0 can make a step.
-fn is_enabled(session: &Session, step: Step) -> bool {
-    let enabled = session.enabled(0, &step);
-    drop(step);
-    enabled
-}
-
-// The step of a bio that is due.
-fn due_of_bios(session: &Session) -> Option<Step> {
-    if let Some(step) = session.first_up() {
-        return Some(step);
-    }
-    if let Some(step) = session.first_to_take() {
-        return Some(step);
-    }
-    session.first_down()
-}
-
-// The step that is due of a taste, an event, a reap or a wash.
-fn due_of_rest(session: &Session) -> Option<Step> {
-    if is_enabled(session, Step::Judge) {
-        return Some(Step::Judge);
-    }
-    if is_enabled(session, Step::Event) {
-        return Some(Step::Event);
-    }
-    if is_enabled(session, Step::Reap) {
-        return Some(Step::Reap);
-    }
-    if is_enabled(session, Step::Wash) {
-        return Some(Step::Wash);
-    }
-    None
-}
-
-// The step that is due.
-fn due(session: &Session) -> Option<Step> {
-    if let Some(step) = due_of_bios(session) {
-        return Some(step);
-    }
-    due_of_rest(session)
-}
-
 // Makes a step that is due. A Take is answered at once.
 fn make_due(bench: &mut Bench, step: Step) -> Result<(), Fail> {
     if let Some((disk, bio)) = taken_by(&step) {
@@ -314,7 +276,7 @@ fn make_due(bench: &mut Bench, step: Step) -> Result<(), Fail> {
 
 /// One step that is due, and whether there was one.
 pub fn go_on(bench: &mut Bench) -> Result<bool, Fail> {
-    match due(&bench.session) {
+    match bench.session.pick() {
         Some(step) => {
             make_due(bench, step)?;
             Ok(true)

@@ -2,7 +2,8 @@
 //!
 //! They show what no clause says: that there is memory for all of it, that what was written is read, what stands
 //! beside an exclusive right, that a pulled disk ends what is out, and that after 100,000 requests each was answered
-//! and nothing is left of them.
+//! and nothing is left of them. Of requests with tokens several are out at once over two disks that answer out of
+//! order: each reply comes, with the bytes that its token stands for.
 #![tactic(auto)]
 
 #[cfg(test)]
@@ -11,3 +12,7 @@ mod bench;
 mod live;
 #[cfg(test)]
 mod same;
+#[cfg(test)]
+mod tagged;
+#[cfg(test)]
+mod tokens;

@@ -18,7 +18,7 @@ use Rattle.geo_core.specs.Mesh.{MeshView, opened, world_of, IsHistory, Advances,
 use Rattle.geo_core.specs.declared.refusal.ApplyRefusal.{ApplyRefusal}
 use Rattle.geo_core.specs.declared.refusal.ApplyRefusal.TheVariants as refusals
 use Rattle.geo_verify.specs.declared.place.Place.{Place}
-use Rattle.geo_verify.specs.Forms.{Rest, steps_from}
+use Rattle.geo_verify.specs.Forms.{StepsAndReport, steps_from}
 use Rattle.geo_verify.specs.Making.{MakesSteps, TriesLine}
 use Rattle.geo_verify.proofs.StepsRead.{line_read}
 
@@ -80,16 +80,16 @@ begins old start report items empty read = record {
 }
 
 -- the steps that are read, and the report
-abbrev left_of : Result Rest ℕ → List (ℕ × Step)
+abbrev left_of : Result StepsAndReport ℕ → List (ℕ × Step)
 left_of (Ok more) = more.0
 left_of (Err n) = []
 
-abbrev report_of : Result Rest ℕ → List ℕ
+abbrev report_of : Result StepsAndReport ℕ → List ℕ
 report_of (Ok more) = more.1
 report_of (Err n) = []
 
 -- behind the mark no step is left
-no_more : (left : List (ℕ × Step)) (report behind : List ℕ) (r : Result Rest ℕ) → r ≡ Ok (left, report)
+no_more : (left : List (ℕ × Step)) (report behind : List ℕ) (r : Result StepsAndReport ℕ) → r ≡ Ok (left, report)
     → r ≡ Ok ([], behind) → left ≡ []
 no_more left report behind r is mark = ap left_of (sym is ∙ mark)
 
@@ -118,13 +118,14 @@ ends old now start number text line behind going parts mark =
     }
 
 -- the step of the next line is the first that is left
-record IsNext (left : List (ℕ × Step)) (report : List ℕ) (item : ℕ × Step) (rest : Result Rest ℕ) : Type 0 where
+record IsNext (left : List (ℕ × Step)) (report : List ℕ) (item : ℕ × Step)
+    (rest : Result StepsAndReport ℕ) : Type 0 where
   further : List (ℕ × Step)
   left_is : left ≡ item ∷ further
   reads : rest ≡ Ok (further, report)
 
-next_is : (left : List (ℕ × Step)) (report : List ℕ) (item : ℕ × Step) (rest : Result Rest ℕ)
-    → then_read {A = Rest} {B = Rest} rest (λ more. Ok (item ∷ more.0, more.1)) ≡ Ok (left, report)
+next_is : (left : List (ℕ × Step)) (report : List ℕ) (item : ℕ × Step) (rest : Result StepsAndReport ℕ)
+    → then_read {A = StepsAndReport} {B = StepsAndReport} rest (λ more. Ok (item ∷ more.0, more.1)) ≡ Ok (left, report)
     → IsNext left report item rest
 next_is left report item (Ok more) is = search rules
 next_is left report item (Err n) is = absurd (let bad : ⊥ = cc in bad)

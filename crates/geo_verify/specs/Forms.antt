@@ -38,14 +38,14 @@ abbrev pub IsOfForm : Place → List ℕ → Type 0
 IsOfForm place report = (items : List (ℕ × Step)) × (steps_from place ≡ Ok (items, report))
 
 -- steps before others that are read
-abbrev pub Rest : Type 0
-Rest = List (ℕ × Step) × List ℕ
+abbrev pub StepsAndReport : Type 0
+StepsAndReport = List (ℕ × Step) × List ℕ
 
-abbrev pub add_steps : List (ℕ × Step) → Rest → Reading Rest
+abbrev pub add_steps : List (ℕ × Step) → StepsAndReport → Reading StepsAndReport
 add_steps done more = Ok (done ++ more.0, more.1)
 
 -- what is read is what is left to read, behind some steps
-abbrev pub IsLeft : Reading Rest → Reading Rest → Type 0
+abbrev pub IsLeft : Reading StepsAndReport → Reading StepsAndReport → Type 0
 IsLeft whole r = (done : List (ℕ × Step)) × (whole ≡ then_read r (add_steps done))
 
 -- the line of a number isn't that of a step, unless memory ran out

@@ -2,7 +2,7 @@ use Rattle.std.proofs.Common.{refl, []}
 use Rattle.geo_model.specs.declared.step.Step.TheVariants as steps
 use Rattle.geo_session.specs.declared.refusal.SessionRefusal.TheVariants as refusals
 use Rattle.geo_session.specs.Growth.{with_command}
-use Rattle.geo_session.specs.Live.{seen}
+use Rattle.geo_session.specs.Live.{session_view}
 use Rattle.geo_session.proofs.Answered.{answers_refusal, closes_enabled, closes_given, command_made, command_session, done_given, enabled_given, none_given_by, not_ok, refused_given, same_seen, same_session, session_names, session_stands}
 use Rattle.geo_session.proofs.making.command.Goals as goal
 
@@ -17,7 +17,8 @@ returns-in-Some-clause-answer g c =
 pub returns-in-Some-clause-sure : goal.returns-in-Some-clause-sure
 returns-in-Some-clause-sure g c = λ sure.
     absurd
-    (closes_enabled (with_command c.args.line.now (seen c.args.live.now).world) c.args.line.now.actor c.in-Some.found
+    (closes_enabled (with_command c.args.line.now (session_view c.args.live.now).world) c.args.line.now.actor
+    c.in-Some.found
     (refused_given c.args.live.now c.args.line.now c.in-Some.found c.in-Some.ensures) sure)
 
 pub go-requires-clause-stands : goal.go-requires-clause-stands
@@ -36,8 +37,8 @@ pub returns-in_err-outcome-clause-answer : goal.returns-in_err-outcome-clause-an
 returns-in_err-outcome-clause-answer g c =
     let none = none_given_by c.args.live.now c.args.line.now c.in_default.is c.found_given.ensures in
     answers_refusal c.from_residual.result refusals.NoMemory
-    (with_command c.args.line.now (seen c.args.live.now).world) (seen c.args.live.now)
-    (seen (record c.args.live.now { state = c.go.new.state })) 0 (steps.Go c.args.line.now.actor)
+    (with_command c.args.line.now (session_view c.args.live.now).world) (session_view c.args.live.now)
+    (session_view (record c.args.live.now { state = c.go.new.state })) 0 (steps.Go c.args.line.now.actor)
     c.from_residual.ensures.1 (
       enabled_given c.args.live.now c.args.line.now none,
       same_seen c.args.live.now c.go.new.state c.requires.session c.in_err-outcome.ensures.same,

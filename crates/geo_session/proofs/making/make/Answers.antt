@@ -2,8 +2,8 @@ use Rattle.std.specs.Prelude.{Option}
 use Rattle.std.proofs.Common.{refl, subst}
 use Rattle.geo_model.specs.declared.step.Found.{Found}
 use Rattle.geo_session.specs.declared.refusal.SessionRefusal.TheVariants as refusals
-use Rattle.geo_session.specs.Live.{seen}
-use Rattle.geo_session.specs.Moves.{IsFound}
+use Rattle.geo_session.specs.Live.{session_view}
+use Rattle.geo_session.specs.Moves.{IsFoundAgainst}
 use Rattle.geo_session.proofs.Answered.{answers_refusal, enabled_found, never_refused, not_ok, refused_found, same_seen, same_session, session_stands, step_made, step_session}
 use Rattle.geo_session.proofs.making.make.Goals as goal
 
@@ -21,7 +21,7 @@ returns-in-Some-clause-answer g c = (
 pub returns-in-Some-clause-sure : goal.returns-in-Some-clause-sure
 returns-in-Some-clause-sure g c = λ sure.
     absurd
-    (never_refused (seen c.args.live.now).world c.args.seat c.args.step c.in-Some.found
+    (never_refused (session_view c.args.live.now).world c.args.seat c.args.step c.in-Some.found
     (refused_found c.args.live.now.actors c.args.live.now.state c.args.seat c.args.step c.in-Some.found
     c.in-Some.ensures) sure)
 
@@ -30,7 +30,7 @@ turn-requires-clause-stands g c = session_stands c.args.live.now c.requires.sess
 
 pub turn-requires-clause-found : goal.turn-requires-clause-found
 turn-requires-clause-found g c =
-    subst (λ (f : Option Found). IsFound c.args.live.now.actors c.args.live.now.state c.args.seat c.args.step f)
+    subst (λ (f : Option Found). IsFoundAgainst c.args.live.now.actors c.args.live.now.state c.args.seat c.args.step f)
     c.in_default.is c.found_against.ensures
 
 -- memory was wanting
@@ -41,10 +41,13 @@ returns-in_err-outcome-clause-session g c =
 
 pub returns-in_err-outcome-clause-answer : goal.returns-in_err-outcome-clause-answer
 returns-in_err-outcome-clause-answer g c =
-    answers_refusal c.from_residual.result refusals.NoMemory (seen c.args.live.now).world (seen c.args.live.now)
-    (seen (record c.args.live.now { state = c.turn.new.state })) c.args.seat c.args.step c.from_residual.ensures.1 (
+    answers_refusal c.from_residual.result refusals.NoMemory (session_view c.args.live.now).world
+    (session_view c.args.live.now)
+    (session_view (record c.args.live.now { state = c.turn.new.state })) c.args.seat c.args.step
+    c.from_residual.ensures.1 (
       enabled_found c.args.live.now.actors c.args.live.now.state c.args.seat c.args.step
-          (subst (λ (f : Option Found). IsFound c.args.live.now.actors c.args.live.now.state c.args.seat c.args.step f)
+          (subst (λ (f : Option Found). IsFoundAgainst c.args.live.now.actors c.args.live.now.state c.args.seat
+          c.args.step f)
           c.in_default.is c.found_against.ensures),
       same_seen c.args.live.now c.turn.new.state c.requires.session c.in_err-outcome.ensures.same,
     )
@@ -56,9 +59,11 @@ returns-in_err-outcome-clause-sure g c = λ sure. absurd (not_ok _ _ c.in_err-ou
 pub returns-clause-session : goal.returns-clause-session
 returns-clause-session g c =
     step_session c.args.live.now c.turn.new.state c.one_more-live.result c.requires.session c.args.seat c.args.step
-    c.in_ok-outcome.outcome c.turn.ensures.kept c.turn.ensures.bytes c.in_ok-outcome.ensures.made c.one_more-live.ensures
+    c.in_ok-outcome.outcome c.turn.ensures.kept c.turn.ensures.bytes c.in_ok-outcome.ensures.made
+    c.one_more-live.ensures
 
 pub returns-clause-answer : goal.returns-clause-answer
 returns-clause-answer g c =
     step_made c.args.live.now c.turn.new.state c.one_more-live.result c.requires.session c.args.seat c.args.step
-    c.in_ok-outcome.outcome c.turn.ensures.kept c.turn.ensures.bytes c.in_ok-outcome.ensures.made c.one_more-live.ensures
+    c.in_ok-outcome.outcome c.turn.ensures.kept c.turn.ensures.bytes c.in_ok-outcome.ensures.made
+    c.one_more-live.ensures

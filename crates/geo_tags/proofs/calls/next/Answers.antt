@@ -1,7 +1,7 @@
 use Rattle.std.proofs.Common.{sym, subst, ◌∙◌}
 use Rattle.geo_model.proofs.FirmLemmas.{firm_of}
 use Rattle.geo_session.specs.declared.refusal.SessionRefusal.{SessionRefusal}
-use Rattle.geo_session.specs.Session.{Refuses}
+use Rattle.geo_session.specs.Session.{IsRefusedFor}
 use Rattle.geo_tags.proofs.Enabled.{never_refused}
 use Rattle.geo_tags.proofs.Handed.{expects, leaves_next, leaves_waits, stepped}
 use Rattle.geo_tags.proofs.calls.next.Goals as goal
@@ -16,7 +16,7 @@ pub unreachable-requires : goal.unreachable-requires
 unreachable-requires c =
     let old = c.args.session.now in
     let refused =
-    subst (λ (x : SessionRefusal). Refuses x old.world old c.step.new.self 0 c.in-Some.step)
+    subst (λ (x : SessionRefusal). IsRefusedFor x old.world old c.step.new.self 0 c.in-Some.step)
     c.in-Err-NotEnabled.field-0-is c.in-Err-NotEnabled.ensures.answer in
     never_refused old.world
     (firm_of _ c.history.ensures.sound c.history.ensures.steady c.history.ensures.fitting) c.no_commands.ensures

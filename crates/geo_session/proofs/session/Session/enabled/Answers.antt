@@ -1,7 +1,7 @@
 use Rattle.std.proofs.Common.{◌∙◌, subst, sym}
 use Rattle.geo_moves.proofs.Told.{none_told}
 use Rattle.geo_session.specs.declared.live.Live.{Live}
-use Rattle.geo_session.specs.Moves.{IsFound}
+use Rattle.geo_session.specs.Moves.{IsFoundAgainst}
 use Rattle.geo_session.proofs.Reading.{enabled_is, read_stands, reads}
 use Rattle.geo_session.proofs.session.Session.enabled.Goals as goal
 
@@ -13,5 +13,6 @@ returns c =
     none_told c.found_against.result c.is_none.result c.is_none.ensures
     ∙ enabled_is (reads c.deref.ensures c.self.view_is c.self.invariant) c.args.seat c.args.step.now
     c.found_against.result
-    (subst (λ (l : Live). IsFound c.deref.result.now.actors l.state c.args.seat c.args.step.now c.found_against.result)
+    (subst (λ (l : Live). IsFoundAgainst c.deref.result.now.actors l.state c.args.seat c.args.step.now
+    c.found_against.result)
     (c.deref-2.ensures ∙ sym c.deref.ensures) c.found_against.ensures)

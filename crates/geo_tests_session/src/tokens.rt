@@ -1,6 +1,6 @@
 //! Requests that are on their way at once.
-use crate::bench::{Seen, begin, go, handle, none_seen, open, read, settle};
 use crate::same::assert_same;
+use crate::tagged::{Seen, begin, go, handle, none_seen, open, read, settle};
 use geo_model::{Command, Reply};
 use geo_session::SessionRefusal;
 use geo_tags::TaggedSession;

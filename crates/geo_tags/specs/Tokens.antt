@@ -1,20 +1,13 @@
 -- What becomes of the slots of tokens.
-use Rattle.std.specs.Prelude.{◌≡◌, ℕ, Bool, true, false, Option, Some, None, IsSome, ⊤}
+use Rattle.std.specs.Prelude.{◌≡◌, ℕ, Option, Some, None, IsSome, ⊤}
 use Rattle.slab.specs.Slab.{Slab, get, ContainsKey, Updates}
-use Rattle.geo_model.specs.declared.command.Command.{Command}
-use Rattle.geo_model.specs.declared.command.Command.TheVariants as commands
 use Rattle.geo_model.specs.declared.step.Outcome.{Outcome}
 use Rattle.geo_model.specs.declared.step.Outcome.TheVariants as outcomes
 use Rattle.geo_model.specs.declared.step.Step.{Step}
 use Rattle.geo_model.specs.declared.step.Step.TheVariants as steps
 use Rattle.geo_tags.specs.declared.due.Due.{Due}
 use Rattle.geo_tags.specs.declared.due.Due.TheVariants as dues
-use Rattle.geo_tags.specs.Calls.{IsQuiet}
-
--- a close is replied to at once, so it needs no room for a token
-abbrev pub is_close : Command → Bool
-is_close (commands.Close name) = true
-is_close _ = false
+use Rattle.geo_tags.specs.Calls.{StaysInside}
 
 -- the disk and the bio of a Take
 abbrev pub taken_by : Step → Option (ℕ × ℕ)
@@ -33,5 +26,5 @@ HandsOut (dues.Ask disk bio request) taken outcome old new =
     (taken ≡ Some (disk, bio)) × (outcome ≡ outcomes.Asked request) × (new ≡ old)
 HandsOut (dues.Reply token reply) taken outcome old new =
     (tag : ℕ) × (outcome ≡ outcomes.Replied tag reply) × (get old tag ≡ Some token) × Updates old new tag None
-HandsOut dues.Moved taken outcome old new = IsQuiet outcome × (new ≡ old)
+HandsOut dues.Moved taken outcome old new = StaysInside outcome × (new ≡ old)
 HandsOut dues.Idle taken outcome old new = ⊥

@@ -1,7 +1,8 @@
 //! The slots of tokens: a tag is a key of a slab.
 ghost use Rattle.std.specs.Prelude.{◌≡◌, ◌≤◌, ◌^◌, true, false, None, IfNone, IfSome, IsOk, OnOk};
 ghost use Rattle.slab.specs.Slab.{get, HasRoomFor};
-ghost use Rattle.geo_tags.specs.Slots.{is_close, taken_by, HandsOut, IsExpected};
+ghost use Rattle.geo_laws_owed.specs.OwedLaws.{is_close};
+ghost use Rattle.geo_tags.specs.Tokens.{taken_by, HandsOut, IsExpected};
 
 use crate::due::Due;
 use geo_base::{BioId, NoMemory};

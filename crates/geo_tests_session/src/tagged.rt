@@ -1,12 +1,11 @@
 //! A live mesh over two disks that answer each read by bytes that tell the disk and the sector.
-ghost use Rattle.std.specs.Prelude.{◌<◌, ◌^◌, ◌≤◌, IfOk, IfSome, IsTrue};
-ghost use Rattle.geo_base.specs.Name.{is_name};
-ghost use Rattle.geo_model.specs.Plans.{FactsFit, IsCommand, IsFact, IsProviderName, IsShortName};
+ghost use Rattle.std.specs.Prelude.{IfOk};
+ghost use Rattle.geo_model.specs.Plans.{IsCommand, IsShortName};
 
+use crate::bench::{facts_of, plan_of};
 use geo_base::{BioCmd, BioId, Block, Counts, Name, SharedBytes};
-use geo_log::DiskFacts;
-use geo_model::{Command, DeviceResult, DiskDecl, DiskKind, Reply, Request};
-use geo_script::{Plan, parse};
+use geo_model::{Command, DeviceResult, Reply, Request};
+use geo_script::Plan;
 use geo_tags::{Due, TaggedSession};
 use std::alloc::Global;
 use std::test::Fail;
@@ -29,31 +28,6 @@ pub struct Seen {
     pub replies: Vec<(u64, u64)>,
 }
 
-// The sector size and the sectors of a small disk in memory, none of another one.
-fn fact_of(decl: &DiskDecl) -> Option<(u32, u64)>
-    ensures { IfSome result (IsFact decl.now) }
-{
-    match decl.kind {
-        DiskKind::Ram if decl.sector == 512 && 1 <= decl.sectors && decl.sectors <= 1024 => {
-            Some((512, decl.sectors))
-        }
-        _ => None,
-    }
-}
-
-// The sizes of the disks of a plan, if all are small and in memory and there is memory for the sizes.
-fn facts_of(alloc: Global, plan: &Plan) -> Option<DiskFacts>
-    ensures { IfSome result (λ facts. FactsFit plan.now facts.items) }
-{
-    let mut facts = DiskFacts::new(alloc);
-    facts.reserve(plan.disks().len() as u64).ok()?;
-    for decl in plan.disks() {
-        let (sector, sectors) = fact_of(decl)?;
-        facts.push(sector, sectors);
-    }
-    Some(facts)
-}
-
 // The live mesh of a plan's header.
 fn opened(alloc: Global, plan: &Plan) -> Option<TaggedSession> {
     let facts = facts_of(alloc, plan)?;
@@ -64,19 +38,12 @@ fn opened(alloc: Global, plan: &Plan) -> Option<TaggedSession> {
 
 /// The live mesh of a script's header.
 pub fn begin(alloc: Global, script: &[u8]) -> Result<TaggedSession, Fail> {
-    if script.len() > 4096 {
-        return Err("a long script".into());
-    }
-    match parse(alloc, script) {
-        Ok(plan) => {
-            let tagged = opened(alloc, &plan);
-            drop(plan);
-            match tagged {
-                Some(tagged) => Ok(tagged),
-                None => Err("no memory".into()),
-            }
-        }
-        Err(_) => Err("no script".into()),
+    let plan = plan_of(alloc, script)?;
+    let tagged = opened(alloc, &plan);
+    drop(plan);
+    match tagged {
+        Some(tagged) => Ok(tagged),
+        None => Err("no memory".into()),
     }
 }
 

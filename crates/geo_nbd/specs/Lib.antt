@@ -1,0 +1,5 @@
+pub mod Fields
+pub mod Messages
+pub mod Laws
+pub mod Handshake
+pub mod Worked
