@@ -4,7 +4,7 @@ import os, pathlib, re, shutil, subprocess, sys
 TOP = pathlib.Path(__file__).resolve().parent.parent
 USUAL = TOP / 'out' / 'libtazbrev.so.0'
 EXPECTED = TOP / 'c' / 'examples'
-LONGEST = 90
+LONGEST = 300
 
 
 class Checks:

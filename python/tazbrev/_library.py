@@ -147,9 +147,11 @@ class Core:
         self._next, self._ident = self._calls.next, threading.get_ident
 
     def __del__(self) -> None:
-        if getattr(self, '_thread', None) == threading.get_ident():
+        if not hasattr(self, '_next') or not self._handle.is_open:
+            return
+        if self._ident() == self._thread:
             self._calls.close(self._at)
-        elif hasattr(self, '_handle') and self._handle.is_open:
+        else:
             warnings.warn('a mesh was let go in another thread than its own, so its memory stays', ResourceWarning)
 
     def own(self) -> int:

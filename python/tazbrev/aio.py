@@ -93,7 +93,11 @@ class AsyncMesh:
         if line.split(' ')[1:] in (['sync'], ['settle']):
             for request in [*self.mesh._requests.values()]:
                 await self._silently(request)
-        return await self.wait(self.mesh.submit_command(line))  # type: ignore[no-any-return]
+        try:
+            got: Optional[bytes] = await self.wait(self.mesh.submit_command(line))
+            return got
+        finally:
+            self._go_on()
 
     async def _silently(self, request: 'Request[Any]') -> None:
         try:
@@ -145,6 +149,6 @@ class AsyncHandle:
     async def __aexit__(self, kind: Optional[Type[BaseException]], fault: Optional[BaseException],
                         trace: Optional[TracebackType]) -> None:
         if self.mesh.mesh.is_open:
-            for request in [*self.mesh.mesh._requests.values()]:
+            for request in self.handle._out():
                 await self.mesh._silently(request)
             await self.close()

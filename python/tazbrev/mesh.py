@@ -24,10 +24,10 @@ MOST_RAM = 67108864
 class Request(Generic[Value]):
     """What was asked of the mesh: its reply comes while the mesh goes on, once."""
 
-    __slots__ = ('_mesh', 'token', '_is_done', '_value', '_error', '_callbacks')
+    __slots__ = ('_mesh', 'token', 'handle', '_is_done', '_value', '_error', '_callbacks')
 
-    def __init__(self, mesh: 'Mesh', token: int) -> None:
-        self._mesh, self.token = mesh, token
+    def __init__(self, mesh: 'Mesh', token: int, handle: 'Optional[Handle]' = None) -> None:
+        self._mesh, self.token, self.handle = mesh, token, handle
         self._is_done = False
         self._value: Any = None
         self._error: Optional[Exception] = None
@@ -60,9 +60,12 @@ class Request(Generic[Value]):
 
     def _settle(self, value: Any, error: Optional[Exception]) -> None:
         self._value, self._error, self._is_done = value, error, True
-        for call in self._callbacks or ():
-            call(self)
-        self._callbacks = None
+        calls, self._callbacks = self._callbacks, None
+        for call in calls or ():
+            try:
+                call(self)
+            except Exception:  # the mesh goes on for its other requests
+                _log.exception('a callback of %r failed', self)
 
     def __repr__(self) -> str:
         state = 'waits' if not self._is_done else repr(self._error) if self._error else 'done'
@@ -87,23 +90,23 @@ class Handle:
     def submit_read(self, offset: int, length: int) -> 'Request[bytes]':
         """Whole sectors, 32,768 bytes at most."""
         mesh = self.mesh
-        return mesh._given(mesh._core.submit_read(self._actor, self._name, offset, length, mesh._token))
+        return mesh._given(mesh._core.submit_read(self._actor, self._name, offset, length, mesh._token), self)
 
     def submit_write(self, offset: int, data: Data) -> 'Request[None]':
         """Whole sectors, 32,768 bytes at most. The data may be changed afterwards."""
         mesh = self.mesh
         data = data if type(data) is bytes else bytes(memoryview(data))
-        return mesh._given(mesh._core.submit_write(self._actor, self._name, offset, data, mesh._token))
+        return mesh._given(mesh._core.submit_write(self._actor, self._name, offset, data, mesh._token), self)
 
     def submit_delete(self, offset: int, length: int) -> 'Request[None]':
         """The bytes read as zeros then."""
         mesh = self.mesh
-        return mesh._given(mesh._core.submit_delete(self._actor, self._name, offset, length, mesh._token))
+        return mesh._given(mesh._core.submit_delete(self._actor, self._name, offset, length, mesh._token), self)
 
     def submit_flush(self) -> 'Request[None]':
         """The disks keep what was written."""
         mesh = self.mesh
-        return mesh._given(mesh._core.submit_flush(self._actor, self._name, mesh._token))
+        return mesh._given(mesh._core.submit_flush(self._actor, self._name, mesh._token), self)
 
     def read(self, offset: int, length: int) -> bytes:
         return self.submit_read(offset, length).result()
@@ -128,8 +131,13 @@ class Handle:
     def __exit__(self, kind: Optional[Type[BaseException]], fault: Optional[BaseException],
                  trace: Optional[TracebackType]) -> None:
         if self.mesh.is_open:
-            self.mesh.wait()
+            for request in self._out():
+                self.mesh.wait(request)
             self.close()
+
+    def _out(self) -> 'List[Request[Any]]':
+        """Its requests that are out."""
+        return [it for it in self.mesh._requests.values() if it.handle is self]
 
     def __repr__(self) -> str:
         return f'<Handle {self.name} of {self.actor} at {self.provider}>'
@@ -237,9 +245,9 @@ class Mesh:
             raise errors.UnfitError(f'the header has no actor {name}')
         return actors[name]
 
-    def _given(self, error: Optional[int]) -> 'Request[Any]':
+    def _given(self, error: Optional[int], handle: Optional[Handle] = None) -> 'Request[Any]':
         """The request that was just given with the next token; `error` is None where it is on its way."""
-        request: 'Request[Any]' = Request(self, self._token)
+        request: 'Request[Any]' = Request(self, self._token, handle)
         self._token += 1
         if error is None:
             self._requests[request.token] = request

@@ -110,6 +110,23 @@ class Requests(unittest.TestCase):
             reads = [handle.submit_read(512 * it, 512) for it in range(100)]
             self.assertEqual([it.result()[0] for it in reversed(reads)], list(range(99, -1, -1)))
 
+    def test_a_with_waits_for_its_own_requests(self):
+        disk = SlowDisk()
+        with tazbrev.Mesh('disk md0 512\nram md1 512 64\nactor a\n', [disk]) as mesh:
+            other = mesh.open('a', 'g', 'md0', w=1).submit_write(0, bytes(512))
+            with mesh.open('a', 'h', 'md1', w=1) as handle:
+                request = handle.submit_write(0, bytes(512))
+            self.assertEqual((request.done(), other.done()), (True, False))
+
+    def test_a_callback_that_fails_stops_nothing(self):
+        with tazbrev.Mesh(TWO) as mesh, mesh.open('a', 'h', 'd0', w=1) as handle:
+            request, told = handle.submit_flush(), []
+            request.add_done_callback(lambda _: 1 // 0)
+            request.add_done_callback(told.append)
+            with self.assertLogs('tazbrev', 'ERROR'):
+                mesh.run()
+            self.assertEqual(told, [request])
+
     def test_a_closed_mesh_answers_so(self):
         disk = SlowDisk()
         mesh = tazbrev.Mesh(BY_HAND, [disk])
@@ -179,6 +196,23 @@ class Disks(unittest.TestCase):
         disk.answer()
         self.assertIsNone(request.exception())
         self.assertEqual(mesh.list(), [])
+
+    def test_an_answer_that_lacked_memory_is_given_again(self):
+        mesh, handle = self.mesh(tazbrev.MemoryDisk(64))
+        core, lacks = mesh._core, [errors.MemoryWantingError('')] * 2
+
+        def answer_done(bio):
+            if lacks:
+                raise lacks.pop()
+            type(core).answer_done(core, bio)
+
+        core.answer_done = answer_done
+        request = handle.submit_write(0, b'x' * 512)
+        for _ in range(2):
+            self.assertRaises(MemoryError, mesh.run)
+        mesh.run()
+        self.assertIsNone(request.exception())
+        self.assertEqual(handle.read(0, 512), b'x' * 512)
 
     def test_an_interrupt_is_raised_and_the_request_failed(self):
         disk = OddDisk(64)
