@@ -45,7 +45,8 @@ def contents(library, platform):
     files[f'{inside}/WHEEL'] = (f'Wheel-Version: 1.0\nGenerator: build_wheel\nRoot-Is-Purelib: false\n'
                                 f'Tag: py3-none-{platform}\n').encode()
     files[f'{inside}/entry_points.txt'] = b'[pytest11]\ntazbrev = tazbrev.pytest_plugin\n'
-    files[f'{inside}/LICENSE'] = (HERE.parent / 'LICENSE').read_bytes()
+    for name in ('LICENSE', 'NOTICE'):
+        files[f'{inside}/{name}'] = (HERE.parent / name).read_bytes()
     rows = [f'{name},sha256={digest(data)},{len(data)}\n' for name, data in files.items()]
     record = f'{inside}/RECORD'
     return {**files, record: (''.join(rows) + f'{record},,\n').encode()}
