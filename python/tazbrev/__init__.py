@@ -7,9 +7,9 @@
             handle.write(512, b'x' * 512)
             assert handle.read(512, 512) == b'x' * 512
 
-A mesh has a header, which names its disks and actors. An actor opens a provider, such as `md0`, as a handle. Requests go
-through geoms (nop, concat, stripe, labels, slices) to disks, which are objects of yours. What is proved is the library's:
-this package is tested only.
+A mesh has a header, which names its disks and actors. An actor opens a provider, such as `md0`, as a handle. Requests
+go through geoms (nop, concat, stripe, labels, slices) to disks, which are objects of yours. What is proved is the
+library's: this package is tested only.
 """
 from .aio import AsyncHandle, AsyncMesh
 from .disks import Disk, FileDisk, MemoryDisk, Pending

@@ -5,8 +5,8 @@ import logging
 import queue
 import time
 from types import TracebackType
-from typing import (Any, Callable, Dict, Generic, Iterable, Iterator, List, Mapping, NamedTuple, Optional, Sequence, Type,
-                    TypeVar, Union)
+from typing import (Any, Callable, Dict, Generic, Iterable, Iterator, List, Mapping, NamedTuple, Optional, Sequence,
+                    Type, TypeVar, Union)
 
 from . import errors, rows
 from ._library import ASK, DELETE, FLUSH, IDLE, READ, REPLY, WRITE, Core

@@ -1,10 +1,10 @@
 //! FreeBSD's GEOM as a mesh over disks of your own, over the library `libtazbrev`, whose calls are proved. This crate
 //! is tested only.
 //!
-//! A [`Mesh`] has a header, which names its disks and actors. An actor opens a provider, such as `md0`, as a [`Handle`].
-//! Requests go through geoms (nop, concat, stripe, labels, slices) to disks, which are types of yours that are
-//! [`Disk`]. The mesh has no thread: it makes steps while it is called. [`Core`] has the library's calls as they are,
-//! for loops of one's own.
+//! A [`Mesh`] has a header, which names its disks and actors. An actor opens a provider, such as `md0`, as a
+//! [`Handle`]. Requests go through geoms (nop, concat, stripe, labels, slices) to disks, which are types of yours that
+//! are [`Disk`]. The mesh has no thread: it makes steps while it is called. [`Core`] has the library's calls as they
+//! are, for loops of one's own.
 //!
 //! ```
 //! use tazbrev::{Counts, Errno, Error, Mesh};
