@@ -2,7 +2,7 @@
 import os, pathlib, re, shutil, subprocess, sys
 
 TOP = pathlib.Path(__file__).resolve().parent.parent
-USUAL = TOP / 'out' / 'libtazbrev.so.0'
+ARCHIVE = TOP / 'release' / 'library' / 'libgeo_exports.a'
 EXPECTED = TOP / 'c' / 'examples'
 LONGEST = 300
 
@@ -32,16 +32,27 @@ class Checks:
         return 1 if self.failed else 0
 
 
-def library_of(argv, page):
-    """The library that is tested. Where there is none the call ends, with status 0 if none was named."""
+def library_of(argv, page, room):
+    """The library that is tested; of an archive it is made, in this folder, with the plugin for nbdkit where that can be
+    made. Where there is none, or no C compiler, the call ends, with status 0 if none was named."""
     if len(argv) > 1 or argv and argv[0].startswith('-'):
         print(page, file=sys.stderr)
         sys.exit(2)
-    library = pathlib.Path(argv[0] if argv else USUAL).resolve()
-    if not library.is_file():
-        print(f'{library} is not here' + ('' if argv else ' (`make lib` makes it), so nothing is tried'))
+    given = pathlib.Path(argv[0] if argv else ARCHIVE).resolve()
+    if not given.is_file():
+        print(f'{given} is not here, so nothing is tried')
         sys.exit(2 if argv else 0)
-    return library
+    if given.suffix != '.a':
+        return given
+    if shutil.which('cc') is None:
+        print('there is no C compiler (cc), so no library is made')
+        sys.exit(0)
+    made = run('make', '-s', '-C', TOP, 'lib', f'ARCHIVE={given}', f'OUT={room}')
+    if made.returncode:
+        print(f'make lib: {made.stdout}{made.stderr}')
+        sys.exit(1)
+    run('make', '-s', '-C', TOP, 'plugin', f'ARCHIVE={given}', f'OUT={room}')
+    return room / 'libtazbrev.so.0'
 
 
 def run(*words, cwd=TOP, **env):

@@ -130,7 +130,7 @@ def _refusal(code: int) -> Exception:
 
 
 class Core:
-    """A handle of the library. Only the thread that made it may call it."""
+    """A handle of the library. Only the thread that made it may call it, or the one that adopted it last."""
 
     def __init__(self) -> None:
         self._calls = library()
@@ -154,10 +154,14 @@ class Core:
         else:
             warnings.warn('a mesh was let go in another thread than its own, so its memory stays', ResourceWarning)
 
+    def adopt(self) -> None:
+        """From now on this thread alone may call it. The one that did so is done with it."""
+        self._thread = self._ident()
+
     def own(self) -> int:
         """The handle's address, for the thread that made it."""
         if self._ident() != self._thread:
-            raise errors.ThreadError('a mesh is called from another thread than the one that made it')
+            raise errors.ThreadError('a mesh is called from another thread than its own')
         return self._at
 
     # Opening, closing.

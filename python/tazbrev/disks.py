@@ -1,7 +1,8 @@
 """Disks: what the mesh asks, and two kinds that are ready.
 
 A disk is any object with the attributes and methods of `Disk`. A method that raises an exception has failed;
-`DiskError` says after how many sectors. A method that has no answer yet returns a `Pending`, or any `concurrent.futures.Future`.
+`DiskError` says after how many sectors. A method that has no answer yet returns a `Pending`, or any
+`concurrent.futures.Future`.
 """
 from __future__ import annotations
 

@@ -146,7 +146,7 @@ class RoomError(CallError):
 
 
 class ThreadError(CallError):
-    """A mesh is called from another thread than its own."""
+    """A mesh is called from another thread than its own: the one that made it, or that adopted it last."""
 
 
 class StuckError(CallError):

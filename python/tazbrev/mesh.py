@@ -262,6 +262,10 @@ class Mesh:
         finally:
             self.run()
 
+    def adopt(self) -> None:
+        """Makes this thread the mesh's own. The thread that it had has to be done with it."""
+        self._core.adopt()
+
     # Going on.
 
     def run(self) -> None:

@@ -290,6 +290,11 @@ class Meshes(unittest.TestCase):
     def test_another_thread_is_refused(self):
         with tazbrev.Mesh(TWO) as mesh, concurrent.futures.ThreadPoolExecutor(1) as pool:
             self.assertRaises(tazbrev.ThreadError, pool.submit(mesh.run).result)
+            pool.submit(mesh.adopt).result()
+            pool.submit(mesh.command, 'a open h d0 r1w1e0').result()
+            self.assertRaises(tazbrev.ThreadError, mesh.command, 'a close h')
+            mesh.adopt()
+            mesh.command('a close h')
 
     def test_a_mesh_that_is_let_go_is_closed(self):
         with warnings.catch_warnings():
