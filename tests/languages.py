@@ -33,8 +33,8 @@ class Checks:
 
 
 def library_of(argv, page, room):
-    """The library that is tested; of an archive it is made, in this folder, with the plugin for nbdkit where that can be
-    made. Where there is none, or no C compiler, the call ends, with status 0 if none was named."""
+    """The library that is tested; of an archive it is made, in this folder, with the plugin for nbdkit where that can
+    be made. Where there is none, or no C compiler, the call ends, with status 0 if none was named."""
     if len(argv) > 1 or argv and argv[0].startswith('-'):
         print(page, file=sys.stderr)
         sys.exit(2)
