@@ -260,7 +260,10 @@ class Mesh:
         try:
             return request.result()
         finally:
-            self.run()
+            try:
+                self.run()
+            except errors.MemoryWantingError:  # the command is done; the next call goes on where this one stopped
+                pass
 
     def adopt(self) -> None:
         """Makes this thread the mesh's own. The thread that it had has to be done with it."""

@@ -49,31 +49,39 @@ pub trait Disk {
     }
 }
 
-impl<D: Disk + ?Sized> Disk for Box<D> {
-    fn sectors(&self) -> u64 {
-        (**self).sectors()
-    }
+/// A pointer to a disk is a disk.
+macro_rules! pointer_is_disk {
+    ($pointer:ty) => {
+        impl<D: Disk + ?Sized> Disk for $pointer {
+            fn sectors(&self) -> u64 {
+                (**self).sectors()
+            }
 
-    fn sector(&self) -> u32 {
-        (**self).sector()
-    }
+            fn sector(&self) -> u32 {
+                (**self).sector()
+            }
 
-    fn read(&mut self, asked: &Asked, bytes: &mut [u8]) -> Result<(), Fault> {
-        (**self).read(asked, bytes)
-    }
+            fn read(&mut self, asked: &Asked, bytes: &mut [u8]) -> Result<(), Fault> {
+                (**self).read(asked, bytes)
+            }
 
-    fn write(&mut self, asked: &Asked, bytes: &[u8]) -> Result<(), Fault> {
-        (**self).write(asked, bytes)
-    }
+            fn write(&mut self, asked: &Asked, bytes: &[u8]) -> Result<(), Fault> {
+                (**self).write(asked, bytes)
+            }
 
-    fn delete(&mut self, asked: &Asked) -> Result<(), Fault> {
-        (**self).delete(asked)
-    }
+            fn delete(&mut self, asked: &Asked) -> Result<(), Fault> {
+                (**self).delete(asked)
+            }
 
-    fn flush(&mut self, asked: &Asked) -> Result<(), Fault> {
-        (**self).flush(asked)
-    }
+            fn flush(&mut self, asked: &Asked) -> Result<(), Fault> {
+                (**self).flush(asked)
+            }
+        }
+    };
 }
+
+pointer_is_disk!(Box<D>);
+pointer_is_disk!(&mut D);
 
 /// A disk in memory, of zeros.
 #[derive(Debug, Clone)]

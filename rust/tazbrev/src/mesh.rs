@@ -120,6 +120,15 @@ impl<D: Disk> Mesh<D> {
         }
     }
 
+    /// Lets the mesh go, and gives back the disks. Requests that wait get no reply.
+    pub fn into_disks(self) -> Vec<D> {
+        let given = |slot| match slot {
+            Slot::Given(disk) => Some(disk),
+            Slot::Memory(_) => None,
+        };
+        self.slots.into_iter().filter_map(given).collect()
+    }
+
     /// How many requests wait for their reply.
     pub fn waiting(&mut self) -> u64 {
         self.core.waiting()
@@ -178,7 +187,7 @@ impl<D: Disk> Mesh<D> {
         self.run()?;
         let request = self.submit_command(line)?;
         let reply = self.wait(request);
-        self.run()?;
+        self.go_on()?;
         reply
     }
 
@@ -393,8 +402,16 @@ impl<D: Disk> Mesh<D> {
     fn at_once(&mut self, given: Result<Given, Refusal>) -> Result<(), Error> {
         let request = self.on_its_way(given)?;
         let reply = self.wait(request);
-        self.run()?;
+        self.go_on()?;
         reply.map(|_| ())
+    }
+
+    /// Goes on behind a command. Where memory is wanting the command is done, and the next call goes on from there.
+    fn go_on(&mut self) -> Result<(), Error> {
+        match self.run() {
+            Err(Error::Call(Refusal::NoMemory)) => Ok(()),
+            other => other,
+        }
     }
 }
 

@@ -222,6 +222,23 @@ fn an_image_keeps_what_is_written() -> Tested {
 }
 
 #[test]
+fn disks_are_lent_or_come_back() -> Tested {
+    let mut disk = MemoryDisk::new(8, 512);
+    assert!(Mesh::new("disk md0 4096\nactor a\n", vec![&mut disk]).is_err());
+    let mut mesh = Mesh::new("disk md0 512\nram md1 512 8\nactor a\n", vec![&mut disk])?;
+    let handle = mesh.open("a", "h", "md0", Counts::READ_WRITE)?;
+    mesh.write(&handle, 512, &[6; 512])?;
+    drop(mesh);
+    assert_eq!(disk.data[512..1024], [6; 512]);
+    let boxed: Vec<Box<dyn Disk + Send>> = vec![Box::new(disk)];
+    let mut boxed = Mesh::new("disk md0 512\nactor a\n", boxed)?.into_disks();
+    assert_eq!((boxed.len(), boxed[0].sectors()), (1, 8));
+    let handle = Mesh::new("disk md0 512\nactor a\n", boxed.iter_mut().collect())?.open("a", "h", "md0", Counts::READ);
+    assert!(handle.is_ok());
+    Ok(())
+}
+
+#[test]
 fn a_loop_of_ones_own_asks_and_answers() -> Tested {
     let mut core = Core::open(
         b"disk md0 512\nactor a\n",
