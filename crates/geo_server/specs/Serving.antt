@@ -24,7 +24,7 @@ piece a = min (a.len - a.done) MAX_REQUEST_BYTES
 -- the next command
 abbrev pub command_as : BioCmd → List ℕ → Asked → Command
 command_as cmds.Read handle a = commands.Read handle (a.offset + a.done) (piece a)
-command_as cmds.Write handle a = commands.Write handle (a.offset + a.done) (take (piece a) (drop a.done a.data))
+command_as cmds.Write handle a = commands.Write handle (a.offset + a.done) (take (piece a) (drop a.done a.bytes))
 command_as cmds.Delete handle a = commands.Delete handle (a.offset + a.done) (piece a)
 command_as cmds.Flush handle a = commands.Flush handle
 

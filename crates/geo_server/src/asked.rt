@@ -13,6 +13,6 @@ pub struct Asked {
     pub len: u32,
     pub done: u32,
     pub fua: bool,
-    pub data: SharedBytes,
+    pub bytes: SharedBytes,
     pub got: Gathered,
 }

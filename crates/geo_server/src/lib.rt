@@ -18,13 +18,16 @@
 #![tactic(auto)]
 
 mod asked;
+mod further;
 mod gathered;
 mod judging;
 mod replies;
+mod service;
 mod serving;
 
 pub use asked::Asked;
 pub use gathered::Gathered;
 pub use judging::{Judged, MAX_TRANSFER, data_len, judge};
 pub use replies::{add_failed, add_reply};
+pub use service::{Begun, Lost, Replied, Service};
 pub use serving::{Going, go_on, next_command};

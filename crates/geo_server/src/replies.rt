@@ -1,6 +1,7 @@
 //! Replies to requests, as bytes.
 ghost use Rattle.std.specs.Prelude.{◌≡◌, ◌+◌, ◌<◌, ◌^◌, ◌++◌, length, OnOk};
 ghost use Rattle.geo_server.specs.Serving.{done, failed, read_head, read_reply, reply_to};
+ghost use Rattle.geo_server.specs.Whole.{IsWhole};
 
 use crate::asked::Asked;
 use geo_base::{BioCmd, NoMemory};
@@ -67,7 +68,7 @@ pub fn add_reply(
     asked: &Asked,
     error: u32,
 ) -> Result<(), NoMemory>
-    requires { asked.now.len + 8 < 2 ^ 32 }
+    requires { IsWhole asked.now }
     ensures { OnOk result (out.new ≡ out.old ++ reply_to structured asked.now error) }
 {
     if error != 0 {

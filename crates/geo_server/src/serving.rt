@@ -2,7 +2,7 @@
 ghost use Rattle.std.specs.Prelude.{◌≡◌, ◌+◌, ◌≤◌, length, take, drop, IfOk};
 ghost use Rattle.geo_model.specs.Plans.{IsCommand, IsRunsBytes, IsShortName};
 ghost use Rattle.geo_server.specs.Serving.{changes, error_of, go_on, next_command, next_of, piece};
-ghost use Rattle.geo_server.specs.Whole.{IsAsked};
+ghost use Rattle.geo_server.specs.Whole.{IsAsked, IsWhole, KeepsWhole};
 
 use crate::asked::Asked;
 use geo_base::{BioCmd, Errno, MAX_REQUEST_BYTES, MAX_RUNS_BYTES, Name, NoMemory, SharedBytes};
@@ -40,14 +40,14 @@ fn are_runs_bytes(bytes: &[u8])
 
 /// The bytes of the next command of a write.
 fn next_bytes(alloc: Global, asked: &Asked, len: u32) -> Result<SharedBytes, NoMemory>
-    requires whole { length asked.now.data ≡ asked.now.len }
+    requires whole { length asked.now.bytes ≡ asked.now.len }
     requires inside { asked.now.done + len ≤ asked.now.len }
     requires some { 1 ≤ len }
     requires not_long { len ≤ MAX_RUNS_BYTES }
-    ensures part { IfOk result (λ bytes. bytes ≡ take len (drop asked.now.done asked.now.data)) }
+    ensures part { IfOk result (λ bytes. bytes ≡ take len (drop asked.now.done asked.now.bytes)) }
     ensures runs { IfOk result IsRunsBytes }
 {
-    let part = asked.data.part(alloc, asked.done as u64, len as u64)?;
+    let part = asked.bytes.part(alloc, asked.done as u64, len as u64)?;
     are_runs_bytes(part.bytes());
     Ok(part)
 }
@@ -106,7 +106,9 @@ fn error_of(errno: Errno) -> u32
 
 /// What comes next: another piece, the flush that FUA asks for, or the reply.
 fn next_of(asked: Asked) -> Going
-    ensures { result ≡ next_of asked }
+    requires { IsWhole asked }
+    ensures next { result ≡ next_of asked }
+    ensures keeps { KeepsWhole result }
 {
     if asked.done < asked.len {
         return Going::Goes(asked);
@@ -122,7 +124,8 @@ fn next_of(asked: Asked) -> Going
 /// How a request goes on by the mesh's reply to its command. `NoMemory` where there is none for the bytes.
 pub fn go_on(asked: Asked, reply: Reply) -> Result<Going, NoMemory>
     requires { IsAsked asked }
-    ensures { IfOk result (λ going. going ≡ go_on asked reply) }
+    ensures goes { IfOk result (λ going. going ≡ go_on asked reply) }
+    ensures keeps { IfOk result KeepsWhole }
 {
     let mut asked = asked;
     match reply {
