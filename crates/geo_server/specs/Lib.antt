@@ -1,0 +1,4 @@
+pub mod Judging
+pub mod Serving
+pub mod Whole
+pub mod Service
