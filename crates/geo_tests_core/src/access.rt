@@ -22,8 +22,8 @@ const ONE_READ: Counts = Counts { r: 1, w: 0, e: 0 };
 
 const ONE_WRITE: Counts = Counts { r: 0, w: 1, e: 0 };
 
-// A concat over two providers, which may be one, and its provider.
-fn concat(
+/// A concat over two providers, which may be one, and its provider.
+pub fn concat(
     topo: &mut Topo<u8>,
     text: &[u8],
     first: ProvId,

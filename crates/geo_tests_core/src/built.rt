@@ -112,7 +112,7 @@ pub fn open<C, L: Ledger>(
 }
 
 /// Whether the consumer is of DEV, is attached and has no counts.
-fn holds_nothing<C>(topo: &Topo<C>, cons: ConsId) -> bool
+pub fn holds_nothing<C>(topo: &Topo<C>, cons: ConsId) -> bool
     ensures holder { result ≡ true → IsHolder topo.now.topology cons }
     ensures nothing { result ≡ true → value_at topo.now.wants cons ≡ Some no_counts }
 {

@@ -2,9 +2,9 @@
 //!
 //! They show what no clause says: that there is memory, and that meshes can be built so far that the calls decide
 //! something. `access.rt` has a diamond that is read and not written, thirty concats each over the one below twice,
-//! one more that is too much, and an open concat that grows. `taste.rt` has whole tastes of sectors in memory:
-//! hostile tables and chains, refused reads, and a disk that is pulled at each moment of its taste. Meshes are made
-//! by `built.rt`, sectors by `media.rt`.
+//! one more that is too much, and an open concat that grows. `holds.rt` has a handle that comes and goes, and one at a
+//! concat over a disk and its NOP. `taste.rt` has whole tastes of sectors in memory: hostile tables and chains, refused
+//! reads, and a disk that is pulled at each moment of its taste. Meshes are made by `built.rt`, sectors by `media.rt`.
 #![tactic(auto)]
 
 #[cfg(test)]
@@ -13,6 +13,8 @@ mod access;
 mod built;
 #[cfg(test)]
 mod class;
+#[cfg(test)]
+mod holds;
 #[cfg(test)]
 mod media;
 #[cfg(test)]

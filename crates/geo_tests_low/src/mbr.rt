@@ -7,17 +7,24 @@ use geo_class::mbr::{MbrMap, decode};
 use geo_model::{Slice, Span};
 use std::process::Abort;
 
-/// A sector with a signature, and one entry of this type, first sector and number of sectors.
-fn with_entry(place: usize, kind: u8, first: [u8; 4], count: [u8; 4]) -> [u8; 512]
+/// Gives an entry of a sector this type, first sector and number of sectors.
+fn set_entry(sector: &mut [u8; 512], place: usize, kind: u8, first: [u8; 4], count: [u8; 4])
     requires { place < 4 }
 {
-    let mut sector = [0u8; 512];
     let start = 446 + 16 * place;
     sector[start + 4] = kind;
     for i in 0..4 {
         sector[start + 8 + i] = first[i];
         sector[start + 12 + i] = count[i];
     }
+}
+
+/// A sector with a signature, and one such entry.
+fn with_entry(place: usize, kind: u8, first: [u8; 4], count: [u8; 4]) -> [u8; 512]
+    requires { place < 4 }
+{
+    let mut sector = [0u8; 512];
+    set_entry(&mut sector, place, kind, first, count);
     sector[510] = 0x55;
     sector[511] = 0xAA;
     sector
@@ -78,6 +85,30 @@ fn hostile_entries(rt: HostRuntime) {
     assert_same(&rt, cause_of(&rt, &protected, 64), DeclineCause::Protective);
     protected[510] = 0x54;
     assert_same(&rt, cause_of(&rt, &protected, 64), DeclineCause::Signature);
+}
+
+#[test]
+fn no_sum_of_a_hostile_entry_wraps(rt: HostRuntime) {
+    let mut each = with_entry(0, 0xA5, [255; 4], [255; 4]);
+    for place in 1..4 {
+        set_entry(&mut each, place, 0xA5, [255; 4], [255; 4]);
+    }
+    assert_same(&rt, cause_of(&rt, &each, 64), DeclineCause::Nothing);
+    assert_same(
+        &rt,
+        cause_of(&rt, &each, 8_589_934_589),
+        DeclineCause::Nothing,
+    );
+    // With one sector more all four end at the media's end.
+    let table = decode(&each, 8_589_934_590).expect(&rt, "a table");
+    assert!(rt; table.slices[3].is_some());
+}
+
+#[test]
+fn a_protective_entry_behind_a_good_one_declines_the_table(rt: HostRuntime) {
+    let mut sector = with_entry(0, 0xA5, [1, 0, 0, 0], [7, 0, 0, 0]);
+    set_entry(&mut sector, 3, 0xEE, [1, 0, 0, 0], [7, 0, 0, 0]);
+    assert_same(&rt, cause_of(&rt, &sector, 64), DeclineCause::Protective);
 }
 
 #[test]
