@@ -1,0 +1,77 @@
+-- What each call answers, and what a handle holds behind it: the live mesh that it held, after what the live mesh's own
+-- call did.
+use Rattle.std.specs.Prelude.{◌≡◌, ◌⊎◌, ◌≤◌, ◌++◌, ℕ, ℤ, List, Option, Some, None, Result, Ok, Err, length, drop}
+use Rattle.geo_base.specs.declared.block.NoMemory.{NoMemory}
+use Rattle.geo_model.specs.declared.command.Command.{Command}
+use Rattle.geo_model.specs.declared.step.DeviceResult.{DeviceResult}
+use Rattle.geo_model.specs.declared.step.Found.{Found}
+use Rattle.geo_model.specs.declared.step.Reply.{Reply}
+use Rattle.geo_session.specs.declared.refusal.SessionRefusal.{SessionRefusal}
+use Rattle.geo_tags.specs.declared.due.Due.{Due}
+use Rattle.geo_tags.specs.Calls.{Delivers, Nexts, Submits}
+use Rattle.geo_tags.specs.Tags.{TaggedView, waiting}
+use Rattle.geo_exports.specs.declared.codes.TheConstants.{CLOSED, NO_MEMORY, OK, UNFIT}
+use Rattle.geo_exports.specs.declared.event.TzbEvent.{TzbEvent}
+use Rattle.geo_exports.specs.Events.{bytes_of, event_of}
+use Rattle.geo_exports.specs.Numbers.{given_code, given_error}
+
+-- a command was given to a live mesh
+abbrev pub Gives : ℤ → ℕ → TaggedView → TaggedView → ℕ → Command → ℕ → Type 0
+Gives code error old new actor command token =
+    (given : Result (Option Reply) SessionRefusal) × Submits given old new actor command token
+    × (code ≡ given_code given) × (error ≡ given_error given)
+
+-- to what a handle holds, if it is open
+abbrev pub Given : ℤ → ℕ → Option TaggedView → Option TaggedView → ℕ → Command → ℕ → Type 0
+Given code error None new actor command token = (code ≡ CLOSED) × (error ≡ 0) × (new ≡ None)
+Given code error (Some old) (Some new) actor command token = Gives code error old new actor command token
+Given code error (Some old) None actor command token = ⊥
+
+-- where there is no memory for the bytes of a WRITE it isn't given
+abbrev pub Written : ℤ → ℕ → Option TaggedView → Option TaggedView → ℕ → Command → ℕ → Type 0
+Written code error old new actor command token =
+    Given code error old new actor command token ⊎ ((code ≡ NO_MEMORY) × (error ≡ 0) × (new ≡ old))
+
+-- what is told of a turn: what is due, and its bytes in front of a buffer that has room for them
+abbrev pub Tells : ℤ → TzbEvent → List ℕ → List ℕ → Result Due NoMemory → Type 0
+Tells code event was bytes (Ok due) = (code ≡ OK) × (event ≡ event_of due)
+    × (length (bytes_of due) ≤ length was → bytes ≡ bytes_of due ++ drop (length (bytes_of due)) was)
+Tells code event was bytes (Err wanting) = (code ≡ NO_MEMORY) × (bytes ≡ was)
+
+-- the step that is due was made
+abbrev pub Turns : ℤ → TzbEvent → List ℕ → List ℕ → TaggedView → TaggedView → Type 0
+Turns code event was bytes old new =
+    (due : Result Due NoMemory) × Nexts due old new × Tells code event was bytes due
+
+abbrev pub Turned : ℤ → TzbEvent → List ℕ → List ℕ → Option TaggedView → Option TaggedView → Type 0
+Turned code event was bytes None new = (code ≡ CLOSED) × (bytes ≡ was) × (new ≡ None)
+Turned code event was bytes (Some old) (Some new) = Turns code event was bytes old new
+Turned code event was bytes (Some old) None = ⊥
+
+-- a disk's answer was delivered, or may not be
+abbrev pub answer_code : Result (Unit {0}) Found → ℤ
+answer_code (Ok done) = OK
+answer_code (Err found) = UNFIT
+
+abbrev pub Answers : ℤ → TaggedView → TaggedView → ℕ → DeviceResult → Type 0
+Answers code old new bio got =
+    (answered : Result (Unit {0}) Found) × Delivers answered old new bio got × (code ≡ answer_code answered)
+
+abbrev pub Answered : ℤ → Option TaggedView → Option TaggedView → ℕ → DeviceResult → Type 0
+Answered code None new bio got = (code ≡ CLOSED) × (new ≡ None)
+Answered code (Some old) (Some new) bio got = Answers code old new bio got
+Answered code (Some old) None bio got = ⊥
+
+-- bytes that a disk answered; where there is no memory for them they aren't delivered
+abbrev pub AnsweredBytes : ℤ → Option TaggedView → Option TaggedView → ℕ → DeviceResult → Type 0
+AnsweredBytes code old new bio got = Answered code old new bio got ⊎ ((code ≡ NO_MEMORY) × (new ≡ old))
+
+-- how many tags wait; none in a handle that is closed
+abbrev pub waiting_in : Option TaggedView → ℕ
+waiting_in None = 0
+waiting_in (Some mesh) = waiting mesh
+
+-- how many steps it has made; none in a handle that is closed
+abbrev pub steps_in : Option TaggedView → ℕ
+steps_in None = 0
+steps_in (Some mesh) = (mesh.session).steps
