@@ -4,4 +4,5 @@ pub mod Numbers
 pub mod Forms
 pub mod Events
 pub mod Calls
+pub mod Texts
 pub mod Opening

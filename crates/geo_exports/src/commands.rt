@@ -1,19 +1,20 @@
 //! Commands that are given to a live mesh, with a token.
-ghost use Rattle.std.specs.Prelude.{◌≡◌, ◌≤◌, true, false, MatchOption, length, None};
+ghost use Rattle.std.specs.Prelude.{◌≡◌, ◌<◌, ◌≤◌, true, false, MatchOption, length, None};
 ghost use Rattle.geo_base.specs.Name.{is_short_name, is_name};
 ghost use Rattle.geo_base.specs.declared.limits.TheConstants.{MAX_RUNS_BYTES};
 ghost use Rattle.geo_model.specs.declared.command.Command.TheVariants as commands;
 ghost use Rattle.geo_model.specs.Plans.{IsCommand, IsProviderName, IsShortName};
-ghost use Rattle.geo_exports.specs.declared.codes.TheConstants.{WRONG};
-ghost use Rattle.geo_exports.specs.Calls.{Gives, Given, Written};
+ghost use Rattle.geo_exports.specs.Calls.{Commanded, Gives, Given, Refused, Written};
 ghost use Rattle.geo_exports.specs.Forms.{is_grant};
 ghost use Rattle.geo_exports.specs.Held.{mesh_in};
 
 use crate::codes::{CLOSED, NO_MEMORY, WRONG};
 use crate::held::TzbCore;
 use crate::numbers::{given_code, given_error};
+use crate::refusal::refusal_code;
+use crate::texts::command_of;
 use geo_base::{Block, Counts, MAX_RUNS_BYTES, Name, SharedBytes};
-use geo_model::Command;
+use geo_model::{Command, LineCommand};
 use geo_tags::TaggedSession;
 use std::alloc::Global;
 
@@ -100,7 +101,9 @@ pub extern "C" fn tzb_core_open_handle(
     ensures given { IsShortName handle.now → IsProviderName provider.now → is_grant r w e ≡ true
         → Given result error.new (mesh_in core.old) (mesh_in core.new) actor
         (commands.Open handle.now provider.now (record { r = r; w = w; e = e })) token }
-    ensures wrong { is_short_name handle.now ≡ false → (result ≡ WRONG) × (mesh_in core.new ≡ mesh_in core.old) }
+    ensures wrong_handle { is_short_name handle.now ≡ false → Refused result error.new (mesh_in core.old) (mesh_in core.new) }
+    ensures wrong_provider { is_name provider.now ≡ false → Refused result error.new (mesh_in core.old) (mesh_in core.new) }
+    ensures wrong_counts { is_grant r w e ≡ false → Refused result error.new (mesh_in core.old) (mesh_in core.new) }
 {
     *error = 0;
     let Some(handle) = short_name(handle) else {
@@ -133,7 +136,7 @@ pub extern "C" fn tzb_core_close_handle(
 ) -> i32
     ensures given { IsShortName handle.now
         → Given result error.new (mesh_in core.old) (mesh_in core.new) actor (commands.Close handle.now) token }
-    ensures wrong { is_short_name handle.now ≡ false → (result ≡ WRONG) × (mesh_in core.new ≡ mesh_in core.old) }
+    ensures wrong { is_short_name handle.now ≡ false → Refused result error.new (mesh_in core.old) (mesh_in core.new) }
 {
     *error = 0;
     match short_name(handle) {
@@ -156,7 +159,7 @@ pub extern "C" fn tzb_core_submit_read(
 ) -> i32
     ensures given { IsShortName handle.now
         → Given result error.new (mesh_in core.old) (mesh_in core.new) actor (commands.Read handle.now offset len) token }
-    ensures wrong { is_short_name handle.now ≡ false → (result ≡ WRONG) × (mesh_in core.new ≡ mesh_in core.old) }
+    ensures wrong { is_short_name handle.now ≡ false → Refused result error.new (mesh_in core.old) (mesh_in core.new) }
 {
     *error = 0;
     let Some(handle) = short_name(handle) else {
@@ -185,7 +188,9 @@ pub extern "C" fn tzb_core_submit_write(
     ensures given { IsShortName handle.now → 1 ≤ length bytes.now → length bytes.now ≤ MAX_RUNS_BYTES
         → Written result error.new (mesh_in core.old) (mesh_in core.new) actor
         (commands.Write handle.now offset bytes.now) token }
-    ensures wrong { is_short_name handle.now ≡ false → (result ≡ WRONG) × (mesh_in core.new ≡ mesh_in core.old) }
+    ensures wrong { is_short_name handle.now ≡ false → Refused result error.new (mesh_in core.old) (mesh_in core.new) }
+    ensures none { length bytes.now ≡ 0 → Refused result error.new (mesh_in core.old) (mesh_in core.new) }
+    ensures long { MAX_RUNS_BYTES < length bytes.now → Refused result error.new (mesh_in core.old) (mesh_in core.new) }
 {
     *error = 0;
     let Some(handle) = short_name(handle) else {
@@ -221,7 +226,7 @@ pub extern "C" fn tzb_core_submit_delete(
     ensures given { IsShortName handle.now
         → Given result error.new (mesh_in core.old) (mesh_in core.new) actor
         (commands.Delete handle.now offset len) token }
-    ensures wrong { is_short_name handle.now ≡ false → (result ≡ WRONG) × (mesh_in core.new ≡ mesh_in core.old) }
+    ensures wrong { is_short_name handle.now ≡ false → Refused result error.new (mesh_in core.old) (mesh_in core.new) }
 {
     *error = 0;
     let Some(handle) = short_name(handle) else {
@@ -247,7 +252,7 @@ pub extern "C" fn tzb_core_submit_flush(
 ) -> i32
     ensures given { IsShortName handle.now
         → Given result error.new (mesh_in core.old) (mesh_in core.new) actor (commands.Flush handle.now) token }
-    ensures wrong { is_short_name handle.now ≡ false → (result ≡ WRONG) × (mesh_in core.new ≡ mesh_in core.old) }
+    ensures wrong { is_short_name handle.now ≡ false → Refused result error.new (mesh_in core.old) (mesh_in core.new) }
 {
     *error = 0;
     match short_name(handle) {
@@ -268,7 +273,7 @@ pub extern "C" fn tzb_core_insert(
 ) -> i32
     ensures given { IsShortName disk.now
         → Given result error.new (mesh_in core.old) (mesh_in core.new) actor (commands.Insert disk.now) token }
-    ensures wrong { is_short_name disk.now ≡ false → (result ≡ WRONG) × (mesh_in core.new ≡ mesh_in core.old) }
+    ensures wrong { is_short_name disk.now ≡ false → Refused result error.new (mesh_in core.old) (mesh_in core.new) }
 {
     *error = 0;
     match short_name(disk) {
@@ -289,11 +294,32 @@ pub extern "C" fn tzb_core_pull(
 ) -> i32
     ensures given { IsShortName disk.now
         → Given result error.new (mesh_in core.old) (mesh_in core.new) actor (commands.Pull disk.now) token }
-    ensures wrong { is_short_name disk.now ≡ false → (result ≡ WRONG) × (mesh_in core.new ≡ mesh_in core.old) }
+    ensures wrong { is_short_name disk.now ≡ false → Refused result error.new (mesh_in core.old) (mesh_in core.new) }
 {
     *error = 0;
     match short_name(disk) {
         Some(disk) => submit(alloc, core, actor, Command::Pull(disk), token, error),
         None => WRONG,
+    }
+}
+
+/// Any command, as a script that has no other. It is given as of the line's actor.
+#[unsafe(no_mangle)]
+pub extern "C" fn tzb_core_command(
+    alloc: Global,
+    core: &mut TzbCore,
+    script: &[u8],
+    token: u64,
+    error: &mut u32,
+) -> i32
+    ensures { Commanded result error.new (mesh_in core.old) (mesh_in core.new) script.now token }
+{
+    *error = 0;
+    match command_of(alloc, script) {
+        Ok(line) => {
+            let LineCommand { actor, command, .. } = line;
+            submit(alloc, core, actor, command, token, error)
+        }
+        Err(refusal) => refusal_code(refusal),
     }
 }

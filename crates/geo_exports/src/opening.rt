@@ -1,38 +1,36 @@
 //! A handle is opened and closed.
-ghost use Rattle.std.specs.Prelude.{◌≡◌, ℕ, List, IfOk, None, Ok};
-ghost use Rattle.geo_model.specs.Plans.{FactsFit};
-ghost use Rattle.geo_model.specs.Script.{script};
+ghost use Rattle.std.specs.Prelude.{◌≡◌, IfOk, MatchResult, None};
 ghost use Rattle.geo_exports.specs.Held.{mesh_in};
-ghost use Rattle.geo_exports.specs.Opening.{Begins, Opens, begun};
+ghost use Rattle.geo_exports.specs.Opening.{begun, facts_of, Begins, BeginsBy, IsUnbegun, IsUnopened, Opens, SizesFit};
 
 use crate::codes::{OK, OPEN};
 use crate::held::TzbCore;
-use crate::refusal::{Refusal, refusal_code};
-use crate::sizes::{TzbSize, facts_of};
-use geo_script::{ParseRefusal, Plan, parse};
+use crate::refusal::{Refusal, fault_line, refusal_code};
+use crate::sizes::{TzbSize, listed, sizes_fit};
+use crate::texts::plan_of;
+use geo_base::NoMemory;
+use geo_log::DiskFacts;
+use geo_script::Plan;
 use geo_tags::TaggedSession;
 use std::alloc::Global;
 
-// The plan of a header. Of a fault of the text the line is told, and that of the first command.
-fn header(alloc: Global, text: &[u8], fault: &mut u32) -> Result<Plan, Refusal>
-    ensures { IfOk result (λ plan. script text.now ≡ Ok plan) }
+// The sizes of the disks of a plan, which fit it.
+fn facts_of(alloc: Global, plan: &Plan, sizes: &[TzbSize]) -> Result<DiskFacts, NoMemory>
+    requires { SizesFit plan.now sizes.now }
+    ensures { IfOk result (λ facts. facts.items ≡ facts_of plan.now.disks sizes.now) }
 {
-    if text.len() >= 1 << 32 {
-        return Err(Refusal::Wrong);
-    }
-    match parse(alloc, text) {
-        Ok(plan) => Ok(plan),
-        Err(ParseRefusal::Fault { line, .. }) => {
-            *fault = line;
-            Err(Refusal::Wrong)
-        }
-        Err(ParseRefusal::NoMemory) => Err(Refusal::NoMemory),
-    }
+    listed(alloc, &sizes[..plan.disks().len()])
 }
 
-// The live mesh of a plan's header.
-fn begin(alloc: Global, plan: &Plan, sizes: &[TzbSize]) -> Result<Box<TaggedSession>, Refusal>
-    ensures { IfOk result (λ b. (facts : List (ℕ × ℕ)) × FactsFit plan.now facts × (b.value ≡ begun plan.now facts)) }
+// The live mesh of a plan's header over sizes that fit it.
+#[tactic(auto, using(crate::proofs::Fitting::fitting_facts))]
+fn begin_fitting(
+    alloc: Global,
+    plan: &Plan,
+    sizes: &[TzbSize],
+) -> Result<Box<TaggedSession>, NoMemory>
+    requires { SizesFit plan.now sizes.now }
+    ensures { IfOk result (λ b. b.value ≡ begun plan.now (facts_of plan.now.disks sizes.now)) }
 {
     let facts = facts_of(alloc, plan, sizes)?;
     let begun = TaggedSession::begin(alloc, plan, &facts);
@@ -40,22 +38,35 @@ fn begin(alloc: Global, plan: &Plan, sizes: &[TzbSize]) -> Result<Box<TaggedSess
     match begun {
         Ok(session) => match Box::new(alloc, session) {
             Ok(boxed) => Ok(boxed),
-            Err(_) => Err(Refusal::NoMemory),
+            Err(_) => Err(NoMemory),
         },
+        Err(_) => Err(NoMemory),
+    }
+}
+
+// The live mesh of a plan's header.
+fn begin(alloc: Global, plan: &Plan, sizes: &[TzbSize]) -> Result<Box<TaggedSession>, Refusal>
+    ensures { MatchResult result (λ b. Begins plan.now sizes.now b.value)
+        (λ refusal. IsUnbegun refusal plan.now sizes.now) }
+{
+    if !sizes_fit(plan.disks(), sizes) {
+        return Err(Refusal::Sizes);
+    }
+    match begin_fitting(alloc, plan, sizes) {
+        Ok(session) => Ok(session),
         Err(_) => Err(Refusal::NoMemory),
     }
 }
 
-// The live mesh of a header.
-fn begun_by(
-    alloc: Global,
-    text: &[u8],
-    sizes: &[TzbSize],
-    fault: &mut u32,
-) -> Result<Box<TaggedSession>, Refusal>
-    ensures { IfOk result (λ b. Begins text.now b.value) }
+// The live mesh of a text's header.
+fn begin_by(alloc: Global, text: &[u8], sizes: &[TzbSize]) -> Result<Box<TaggedSession>, Refusal>
+    ensures { MatchResult result (λ b. BeginsBy text.now sizes.now b.value)
+        (λ refusal. IsUnopened refusal text.now sizes.now) }
 {
-    let plan = header(alloc, text, fault)?;
+    let plan = match plan_of(alloc, text) {
+        Ok(plan) => plan,
+        Err(refusal) => return Err(refusal),
+    };
     let begun = begin(alloc, &plan, sizes);
     drop(plan);
     begun
@@ -70,18 +81,21 @@ pub extern "C" fn tzb_core_open(
     sizes: &[TzbSize],
     fault: &mut u32,
 ) -> i32
-    ensures { Opens result header.now (mesh_in core.old) (mesh_in core.new) }
+    ensures { Opens result fault.new header.now sizes.now (mesh_in core.old) (mesh_in core.new) }
 {
     *fault = 0;
     if !core.is_closed() {
         return OPEN;
     }
-    match begun_by(alloc, header, sizes, fault) {
+    match begin_by(alloc, header, sizes) {
         Ok(session) => {
             core.put(alloc, session);
             OK
         }
-        Err(refusal) => refusal_code(refusal),
+        Err(refusal) => {
+            *fault = fault_line(refusal);
+            refusal_code(refusal)
+        }
     }
 }
 

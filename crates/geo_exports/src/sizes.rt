@@ -1,12 +1,10 @@
 //! The sizes of the disks of a header, as C gives them.
-ghost use Rattle.std.specs.Prelude.{◌≡◌, IfOk, IfSome};
-ghost use Rattle.geo_model.specs.Plans.{FactsFit, IsFact};
+ghost use Rattle.std.specs.Prelude.{◌≡◌, IfOk, map};
+ghost use Rattle.geo_exports.specs.Opening.{fact_of, sectors_fit, size_fits, sizes_fit};
 
-use crate::refusal::Refusal;
-use geo_base::MAX_IMAGE_BYTES;
+use geo_base::{MAX_IMAGE_BYTES, NoMemory};
 use geo_log::DiskFacts;
 use geo_model::{DiskDecl, DiskKind};
-use geo_script::Plan;
 use std::alloc::Global;
 
 /// How large a disk is: a sector in bytes, as the header says, and how many there are.
@@ -19,49 +17,51 @@ pub struct TzbSize {
     pub spare: u32,
 }
 
-// The size of a disk, if it fits the header's.
-fn fact_of(decl: &DiskDecl, size: TzbSize) -> Option<(u32, u64)>
-    ensures { IfSome result (IsFact decl.now) }
+// Whether a disk of this kind may have so many sectors, where the header tells a memory disk's.
+fn sectors_fit(kind: DiskKind, told: u64, given: u64) -> bool
+    ensures { result ≡ sectors_fit kind told given }
 {
-    let found = match decl.kind {
-        DiskKind::Ram => decl.sectors,
-        DiskKind::Shelf => size.sectors,
-    };
-    if size.sectors == found
-        && size.sector == decl.sector
-        && 1 <= found
-        && 1 <= decl.sector
-        && found <= MAX_IMAGE_BYTES / u64::from(decl.sector)
-    {
-        Some((decl.sector, found))
-    } else {
-        None
+    match kind {
+        DiskKind::Ram => given == told,
+        DiskKind::Shelf => true,
     }
 }
 
-/// The sizes of the disks of a plan.
-pub fn facts_of(alloc: Global, plan: &Plan, sizes: &[TzbSize]) -> Result<DiskFacts, Refusal>
-    ensures { IfOk result (λ facts. FactsFit plan.now facts.items) }
+// Whether the size of a disk fits its line of the header.
+fn size_fits(disk: &DiskDecl, size: TzbSize) -> bool
+    ensures { result ≡ size_fits disk.now size }
+{
+    size.sector == disk.sector
+        && sectors_fit(disk.kind, disk.sectors, size.sectors)
+        && 1 <= size.sectors
+        && u128::from(size.sectors) * u128::from(size.sector) <= u128::from(MAX_IMAGE_BYTES)
+}
+
+/// Whether each disk has a size that fits, in the order of the header.
+pub fn sizes_fit(disks: &[DiskDecl], sizes: &[TzbSize]) -> bool
+    ensures { result ≡ sizes_fit disks.now sizes.now }
+{
+    let mut rest = sizes;
+    for disk in disks {
+        let [size, behind @ ..] = rest else {
+            return false;
+        };
+        if !size_fits(disk, *size) {
+            return false;
+        }
+        rest = behind;
+    }
+    true
+}
+
+/// These sizes, as a mesh begins with them.
+pub fn listed(alloc: Global, sizes: &[TzbSize]) -> Result<DiskFacts, NoMemory>
+    ensures { IfOk result (λ facts. facts.items ≡ map fact_of sizes.now) }
 {
     let mut facts = DiskFacts::new(alloc);
-    if facts.reserve(plan.disks().len() as u64).is_err() {
-        return Err(Refusal::NoMemory);
-    }
-    let mut place = 0usize;
-    for decl in plan.disks() {
-        let told = match sizes.get(place) {
-            Some(size) => *size,
-            None => TzbSize {
-                sectors: 0,
-                sector: 0,
-                spare: 0,
-            },
-        };
-        let Some((sector, count)) = fact_of(decl, told) else {
-            return Err(Refusal::Wrong);
-        };
-        facts.push(sector, count);
-        place = place.wrapping_add(1);
+    facts.reserve(sizes.len() as u64)?;
+    for size in sizes {
+        facts.push(size.sector, size.sectors);
     }
     Ok(facts)
 }

@@ -2,8 +2,7 @@
 ghost use Rattle.std.specs.Prelude.{◌≡◌, ◌<◌, ◌≤◌, length};
 ghost use Rattle.geo_base.specs.declared.limits.TheConstants.{MAX_REQUEST_BYTES};
 ghost use Rattle.geo_model.specs.declared.step.DeviceResult.TheVariants as results;
-ghost use Rattle.geo_exports.specs.declared.codes.TheConstants.{ROOM};
-ghost use Rattle.geo_exports.specs.Calls.{Answered, AnsweredBytes, Answers, Turned, Turns, steps_in, waiting_in};
+ghost use Rattle.geo_exports.specs.Calls.{Answered, AnsweredBytes, Answers, HasNoRoom, Turned, Turns, steps_in, waiting_in};
 ghost use Rattle.geo_exports.specs.Held.{mesh_in};
 
 use crate::codes::{CLOSED, NO_MEMORY, OK, ROOM, UNFIT};
@@ -25,7 +24,10 @@ fn turn(session: &mut TaggedSession, event: &mut TzbEvent, bytes: &mut [u8]) -> 
             drop(due);
             OK
         }
-        Err(_) => NO_MEMORY,
+        Err(_) => {
+            *event = plain(IDLE);
+            NO_MEMORY
+        }
     }
 }
 
@@ -39,7 +41,8 @@ pub extern "C" fn tzb_core_next(
 ) -> i32
     ensures turned { MAX_REQUEST_BYTES ≤ length bytes.old
         → Turned result event.new bytes.old bytes.new (mesh_in core.old) (mesh_in core.new) }
-    ensures room { length bytes.old < MAX_REQUEST_BYTES → (result ≡ ROOM) × (mesh_in core.new ≡ mesh_in core.old) }
+    ensures room { length bytes.old < MAX_REQUEST_BYTES
+        → HasNoRoom result event.new bytes.old bytes.new (mesh_in core.old) (mesh_in core.new) }
 {
     *event = plain(IDLE);
     if (bytes.len() as u64) < MAX_REQUEST_BYTES {
