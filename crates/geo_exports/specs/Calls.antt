@@ -115,3 +115,8 @@ waiting_in (Some mesh) = waiting mesh
 abbrev pub steps_in : Option TaggedView → ℕ
 steps_in None = 0
 steps_in (Some mesh) = (mesh.session).steps
+
+-- how many of them were of the graph
+abbrev pub generation_in : Option TaggedView → ℕ
+generation_in None = 0
+generation_in (Some mesh) = (mesh.session).generation

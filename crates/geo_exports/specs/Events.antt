@@ -4,7 +4,7 @@ use Rattle.geo_model.specs.declared.step.Reply.{Reply}
 use Rattle.geo_model.specs.declared.step.Reply.TheVariants as replies
 use Rattle.geo_tags.specs.declared.due.Due.{Due}
 use Rattle.geo_tags.specs.declared.due.Due.TheVariants as dues
-use Rattle.geo_exports.specs.declared.event.TheConstants.{ASK, IDLE, MOVED, REPLY}
+use Rattle.geo_exports.specs.declared.event.TheConstants.{ASK, CHANGED, IDLE, MOVED, REPLY}
 use Rattle.geo_exports.specs.declared.event.TzbEvent.{TzbEvent}
 use Rattle.geo_exports.specs.Numbers.{op_number, reply_error}
 
@@ -32,6 +32,7 @@ plain kind = record {
   len = 0;
   error = 0;
   spare = 0;
+  generation = 0;
 }
 
 abbrev pub event_of : Due → TzbEvent
@@ -49,4 +50,5 @@ event_of (dues.Reply token reply) = record (plain REPLY) {
   error = reply_error reply;
 }
 event_of dues.Moved = plain MOVED
+event_of (dues.Changed generation) = record (plain CHANGED) { generation = generation }
 event_of dues.Idle = plain IDLE

@@ -44,7 +44,7 @@ facts_of disks sizes = map fact_of (take (length disks) sizes)
 -- the live mesh that a plan's header begins over disks of these sizes
 abbrev pub begun : Plan → List (ℕ × ℕ) → TaggedView
 begun plan facts = record {
-  session = record { world = opening (without_commands plan) facts; steps = 0 };
+  session = record { world = opening (without_commands plan) facts; steps = 0; generation = 0 };
   tokens = [];
   next_tag = 0;
 }

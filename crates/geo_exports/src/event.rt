@@ -18,6 +18,9 @@ pub const REPLY: u32 = 2;
 /// A step was made inside the mesh.
 pub const MOVED: u32 = 3;
 
+/// A step was made inside the mesh that may have changed its graph.
+pub const CHANGED: u32 = 4;
+
 /// What is due. Fields that the kind doesn't speak of are 0.
 #[repr(C)]
 #[derive(Clone, Copy)]
@@ -39,6 +42,8 @@ pub struct TzbEvent {
     pub error: u32,
     /// 0.
     pub spare: u32,
+    /// How many steps were of the graph, where one was made.
+    pub generation: u64,
 }
 
 /// An event of a kind, and nothing else.
@@ -56,6 +61,7 @@ pub fn plain(kind: u32) -> TzbEvent
         len: 0,
         error: 0,
         spare: 0,
+        generation: 0,
     }
 }
 
@@ -100,6 +106,10 @@ pub fn event_of(due: &Due) -> TzbEvent
             ..plain(REPLY)
         },
         Due::Moved => plain(MOVED),
+        Due::Changed { generation } => TzbEvent {
+            generation: *generation,
+            ..plain(CHANGED)
+        },
         Due::Idle => plain(IDLE),
     }
 }

@@ -23,7 +23,8 @@
 //!   (`Answered`, for bytes `AnsweredBytes`).
 //! - `tzb_core_list`: clause `lists`: the text of the mesh stands in front of the buffer, or its length is told where
 //!   there is too little room (`Lists`). Clause `same`: the mesh is as it was.
-//! - `tzb_core_waiting`, `tzb_core_steps`: how many requests wait, and how many steps were made; clause `same`.
+//! - `tzb_core_waiting`, `tzb_core_steps`, `tzb_core_generation`: how many requests wait, how many steps were made, and
+//!   how many of these were of the graph; clause `same`.
 //!
 //! Owed by C and not checked (`c/tazbrev.h`): each pointer leads to as much memory as its length says and none overlap,
 //! a handle is one of zeros or as the last call left it, and one call at a time has it. Not stated: that no bytes that

@@ -2,7 +2,7 @@
 ghost use Rattle.std.specs.Prelude.{◌≡◌, ◌<◌, ◌≤◌, length};
 ghost use Rattle.geo_base.specs.declared.limits.TheConstants.{MAX_REQUEST_BYTES};
 ghost use Rattle.geo_model.specs.declared.step.DeviceResult.TheVariants as results;
-ghost use Rattle.geo_exports.specs.Calls.{Answered, AnsweredBytes, Answers, HasNoRoom, Turned, Turns, steps_in, waiting_in};
+ghost use Rattle.geo_exports.specs.Calls.{Answered, AnsweredBytes, Answers, HasNoRoom, Turned, Turns, generation_in, steps_in, waiting_in};
 ghost use Rattle.geo_exports.specs.Held.{mesh_in};
 
 use crate::codes::{CLOSED, NO_MEMORY, OK, ROOM, UNFIT};
@@ -141,6 +141,20 @@ pub extern "C" fn tzb_core_steps(alloc: Global, core: &mut TzbCore) -> u64
         return 0;
     };
     let count = session.session().steps();
+    core.put(alloc, session);
+    count
+}
+
+/// How many of the steps were of the graph.
+#[unsafe(no_mangle)]
+pub extern "C" fn tzb_core_generation(alloc: Global, core: &mut TzbCore) -> u64
+    ensures generation { result ≡ generation_in (mesh_in core.old) }
+    ensures same { mesh_in core.new ≡ mesh_in core.old }
+{
+    let Some(session) = core.take(alloc) else {
+        return 0;
+    };
+    let count = session.session().generation();
     core.put(alloc, session);
     count
 }
