@@ -1,8 +1,8 @@
 //! A box as its pointer: what a handle owns that leaves the language.
 //!
-//! Contracts see a [`BoxPointer`] as its pointer, its allocator and the value behind the pointer, which it owns with the
-//! right to free it. [`BoxPointer::of`] takes a box apart and [`BoxPointer::into_box`] makes it again, with the same
-//! value. Both are proved by hand (`proofs/BoxPointer/`), since no borrow follows a raw pointer.
+//! Contracts see a [`BoxPointer`] as its pointer, its allocator and the value behind the pointer, which it owns with
+//! the right to free it. [`BoxPointer::of`] takes a box apart and [`BoxPointer::into_box`] makes it again, with the
+//! same value. Both are proved by hand (`proofs/BoxPointer/`), since no borrow follows a raw pointer.
 //!
 //! geo_exports uses it.
 #![tactic(auto)]

@@ -12,7 +12,8 @@ use Rattle.geo_exports.specs.declared.sizes.TzbSize.{TzbSize}
 use Rattle.geo_exports.specs.Opening.{fact_of, facts_of, sectors_fit, size_fits, sizes_fit}
 
 -- each disk of sizes that fit has one
-sizes_reach : (disks : List DiskDecl) (sizes : List TzbSize) → sizes_fit disks sizes ≡ true → length disks ≤ length sizes
+sizes_reach : (disks : List DiskDecl) (sizes : List TzbSize) → sizes_fit disks sizes ≡ true
+    → length disks ≤ length sizes
 sizes_reach [] sizes fit = omega arith
 sizes_reach (disk ∷ disks) [] fit = absurd (let no : ⊥ = cc in no)
 sizes_reach (disk ∷ disks) (size ∷ sizes) fit =
@@ -34,7 +35,8 @@ fitting_fact : (d : DiskDecl) (s : TzbSize) → size_fits d s ≡ true → IsFac
 fitting_fact d s fit =
     let sector = s.sector == d.sector in
     let sectors = sectors_fit d.kind d.sectors s.sectors in
-    let last = and_parts (sector && sectors && nat_le 1 s.sectors) (nat_le (s.sectors * s.sector) MAX_IMAGE_BYTES) fit in
+    let last = and_parts (sector && sectors && nat_le 1 s.sectors) (nat_le (s.sectors * s.sector) MAX_IMAGE_BYTES) fit
+    in
     let third = and_parts (sector && sectors) (nat_le 1 s.sectors) last.0 in
     let each = and_parts sector sectors third.0 in
     record {

@@ -15,7 +15,8 @@ no_other all (a ∷ []) last is some = ap only_one is
 no_other all (a ∷ b ∷ front) last is some = ap only_one is
 
 -- the one of some commands that have their forms
-only_of_all : (actors : ℕ) (all : List LineCommand) (c : LineCommand) → All (IsCommandOf actors) all → only_one all ≡ Some c
+only_of_all : (actors : ℕ) (all : List LineCommand) (c : LineCommand) → All (IsCommandOf actors) all
+    → only_one all ≡ Some c
     → IsCommand c.command
 only_of_all actors [] c each is = absurd (let no : ⊥ = cc in no)
 only_of_all actors (a ∷ []) c each is =

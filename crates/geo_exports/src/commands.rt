@@ -101,8 +101,10 @@ pub extern "C" fn tzb_core_open_handle(
     ensures given { IsShortName handle.now → IsProviderName provider.now → is_grant r w e ≡ true
         → Given result error.new (mesh_in core.old) (mesh_in core.new) actor
         (commands.Open handle.now provider.now (record { r = r; w = w; e = e })) token }
-    ensures wrong_handle { is_short_name handle.now ≡ false → Refused result error.new (mesh_in core.old) (mesh_in core.new) }
-    ensures wrong_provider { is_name provider.now ≡ false → Refused result error.new (mesh_in core.old) (mesh_in core.new) }
+    ensures wrong_handle { is_short_name handle.now ≡ false
+        → Refused result error.new (mesh_in core.old) (mesh_in core.new) }
+    ensures wrong_provider { is_name provider.now ≡ false
+        → Refused result error.new (mesh_in core.old) (mesh_in core.new) }
     ensures wrong_counts { is_grant r w e ≡ false → Refused result error.new (mesh_in core.old) (mesh_in core.new) }
 {
     *error = 0;
@@ -158,7 +160,8 @@ pub extern "C" fn tzb_core_submit_read(
     error: &mut u32,
 ) -> i32
     ensures given { IsShortName handle.now
-        → Given result error.new (mesh_in core.old) (mesh_in core.new) actor (commands.Read handle.now offset len) token }
+        → Given result error.new (mesh_in core.old) (mesh_in core.new) actor
+        (commands.Read handle.now offset len) token }
     ensures wrong { is_short_name handle.now ≡ false → Refused result error.new (mesh_in core.old) (mesh_in core.new) }
 {
     *error = 0;

@@ -1,9 +1,9 @@
 //! The live mesh for C: a handle, commands with tokens, what is due, what disks answered (geom(4), g_bio(9)).
 //!
 //! C makes a [`TzbCore`] of zeros and hands its address to each call. Contracts see a handle as the live mesh that it
-//! holds, if it is open (`mesh_in`). An export takes the mesh out of the handle, makes one call of geo_tags, and puts it
-//! back. Its clause is that call's own, with the number that C is told for the answer. No export has a `requires`, so
-//! each may be called at any moment, in any order. After each refusal the handle holds what it held.
+//! holds, if it is open (`mesh_in`). An export takes the mesh out of the handle, makes one call of geo_tags, and puts
+//! it back. Its clause is that call's own, with the number that C is told for the answer. No export has a `requires`,
+//! so each may be called at any moment, in any order. After each refusal the handle holds what it held.
 //!
 //! - `tzb_core_open` (`Opens`): a handle that is open stays as it was. One that is closed holds what the header of the
 //!   text begins, over the sizes of its disks, where the text is a script of fewer than 2^32 bytes and the sizes fit
