@@ -196,8 +196,8 @@ impl Session {
         self.live.steps
     }
 
-    /// How many of its steps were of the graph, counted up to 2^64 and then from 0 again: while it stays, nothing was
-    /// done that may change geoms, providers, consumers, their counts or handles.
+    /// How many of its steps were of the graph, counted up to 2^64 and then from 0 again: by their kind they may have
+    /// changed geoms, providers, consumers, their counts or handles.
     pub fn generation(&self) -> u64
         ensures { result ≡ self.now.generation }
     {
