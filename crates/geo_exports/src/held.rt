@@ -1,10 +1,9 @@
 //! A live mesh that C holds across calls.
 ghost use Rattle.std.specs.Prelude.{◌≡◌, Some, None, Option, IsSome, is_some};
 ghost use Rattle.std.specs.Box.Ownership.{box_owns};
-ghost use Rattle.libc.specs.Heap.{chunk};
 ghost use Rattle.geo_tags.specs.Tags.{TaggedView};
 ghost use Rattle.geo_tags.specs.contracts.tagged.TaggedSession.{the_row as session_row};
-ghost use Rattle.geo_exports.specs.Owns.{where_some};
+ghost use Rattle.geo_exports.specs.Owns.{token, where_some};
 
 use geo_box_pointer::BoxPointer;
 use geo_tags::TaggedSession;
@@ -20,7 +19,7 @@ pub struct Held {
 }
 
 impl Model for Held {
-    ghost also_owns = { λ h. where_some h.value (λ x. box_owns (λ ty ptr. chunk ty ptr) session_row h.at x) };
+    ghost also_owns = { λ h. where_some h.value (λ x. box_owns token session_row h.at x) };
 }
 
 impl Held {

@@ -35,9 +35,8 @@ use denote.RawPtr.{ptr_val, in_a_block}
 use denote.Triple.Walked.{Goes-dropped}
 use Rattle.core.proofs.alloc.Calls.{Al, handle_tells}
 use Rattle.std_alloc.specs.Box.Ownership.{box_owns}
-use Rattle.libc.specs.Heap.{chunk}
 use Rattle.std.specs.Prelude.{Option}
-use Rattle.geo_exports.specs.Owns.{where_some}
+use Rattle.geo_exports.specs.Owns.{token, where_some}
 use Rattle.geo_exports.specs.contracts.held.Held as held
 
 some_of : {X : Type 0} (o : Option X) → IsSome o → (x : X) × (o ≡ Some x)
@@ -65,9 +64,9 @@ into_pointer_spec 𝓤 𝓛 𝓜 𝓡 wired =
     z.0.3 z.0.4)) ∷ raw (fact 𝓤 (IsSome v.value)) ∷ []) ∵
     move ! (1 ∷ []) $ heard ! (IsSome v.value) (λ some. let got = some_of v.value some in let x = got.0 in split ! $
     move ! (1 ∷ []) $ fsplit ! $ held_out ! v z.0.4.0 (λ e0.
-    rewrite ! 0 (λ (opt : Option R.Denot). ‵ (where_some opt (λ y. box_owns (λ ty ptr. chunk ty ptr) R v.at y)))
+    rewrite ! 0 (λ (opt : Option R.Denot). ‵ (where_some opt (λ y. box_owns token R v.at y)))
     got.1 refl $
-    in_a_block ! v.at (λ p. box_owns (λ ty ptr. chunk ty ptr) R p x) (fst∗ 𝓤 (never 𝓤) (sem 𝓛 (chunk (bare
+    in_a_block ! v.at (λ p. box_owns token R p x) (fst∗ 𝓤 (never 𝓤) (sem 𝓛 (token (bare
     (lone R.mir)) null_ptr))) (λ b o e.
     move ! (1 ∷ []) $ fsplit ! $ handle_tells al ! a z.0.4.1.0 (λ h ea fits. move ! (1 ∷ []) $ drop ! $
     move ! (1 ∷ []) $
@@ -84,10 +83,5 @@ into_pointer_spec 𝓤 𝓛 𝓜 𝓡 wired =
     use0 𝓛 (raw (fact 𝓤 (v.value ≡ Some x))) (fact_i 𝓤 (v.value ≡ Some x) (emp 𝓤) got.1) $
     nothing ! $ nothing ! $ fjoin ! $ nothing ! $ fjoin ! $
     returns ! (look_at ! 0 refl) $ free_all ! refl $ keep ! (3 ∷ 0 ∷ 2 ∷ 1 ∷ []) $
-    by ! (leaves 𝓛 ended hs c z (both (vptr b o) h) (record { at = block_ptr b o; alloc = a; value = x }) (
-      tt,
-      (
-        tt,
-        tt,
-      ),
-    ) (tt, (tt, tt)))))))))
+    by ! (leaves 𝓛 ended hs c z (both (vptr b o) h) (record { at = block_ptr b o; alloc = a; value = x })
+    (tt, (tt, tt)) (tt, (tt, tt)))))))))
