@@ -37,13 +37,19 @@ fn opened(alloc: Global, plan: &Plan) -> Option<TaggedSession> {
     tagged
 }
 
-/// The live mesh of a script's header.
+// Only what may go to another thread is taken.
+fn goes_to_another_thread<T: Send>(_value: &T) {}
+
+/// The live mesh of a script's header, which may go to another thread.
 pub fn begin(alloc: Global, script: &[u8]) -> Result<TaggedSession, Fail> {
     let plan = plan_of(alloc, script)?;
     let tagged = opened(alloc, &plan);
     drop(plan);
     match tagged {
-        Some(tagged) => Ok(tagged),
+        Some(tagged) => {
+            goes_to_another_thread(&tagged);
+            Ok(tagged)
+        }
         None => Err("no memory".into()),
     }
 }
