@@ -276,7 +276,7 @@ static int32_t reply(struct tzb_mesh *mesh, const struct tzb_event *event, struc
     return TZB_REPLY;
 }
 
-/* What is due, with the lock taken. TZB_MOVED and TZB_IDLE have no room. */
+/* What is due, with the lock taken. TZB_MOVED, TZB_CHANGED and TZB_IDLE have no room. */
 static int32_t due(struct tzb_mesh *mesh, struct tzb_event *event, struct room **room)
 {
     if (mesh->kept != NULL) {
@@ -359,12 +359,22 @@ int32_t tzb_mesh_list(struct tzb_mesh *mesh, char *text, size_t room, size_t *ne
     return unlocked(mesh, code == TZB_OK && room == 0 ? TZB_ROOM : code);
 }
 
-uint64_t tzb_mesh_waiting(struct tzb_mesh *mesh)
+static uint64_t counted(struct tzb_mesh *mesh, uint64_t (*count)(struct tzb_core *core))
 {
     take_lock(mesh);
-    uint64_t count = tzb_core_waiting(&mesh->core);
+    uint64_t got = count(&mesh->core);
     mesh->unlock(mesh->lock_arg);
-    return count;
+    return got;
+}
+
+uint64_t tzb_mesh_waiting(struct tzb_mesh *mesh)
+{
+    return counted(mesh, tzb_core_waiting);
+}
+
+uint64_t tzb_mesh_generation(struct tzb_mesh *mesh)
+{
+    return counted(mesh, tzb_core_generation);
 }
 
 static void tell_closed(struct request *ring)

@@ -404,15 +404,16 @@ int32_t tzb_mesh_delete(struct tzb_mesh *mesh, const char *actor, const char *ha
 int32_t tzb_mesh_flush(struct tzb_mesh *mesh, const char *actor, const char *handle, tzb_done *done, void *arg);
 
 /*
- * Does the one thing that is due, and says what it was: TZB_ASK, TZB_REPLY, TZB_MOVED or TZB_CHANGED; TZB_IDLE if there
- * was nothing.
- * TZB_CLOSED. TZB_NO_MEMORY: call it again; what a disk has done is kept.
+ * Does the one thing that is due, and says what it was: TZB_ASK, TZB_REPLY, TZB_MOVED, or TZB_CHANGED, after which
+ * `tzb_mesh_list` may show something else; TZB_IDLE if there was nothing. TZB_CLOSED. TZB_NO_MEMORY: call it again;
+ * what a disk has done is kept.
  */
 int32_t tzb_mesh_step(struct tzb_mesh *mesh);
 
 /*
  * Goes on until nothing is due: 0. What still waits, waits for a disk that answers later, or that another thread is
- * asking; whoever answers has to go on. TZB_CLOSED. TZB_NO_MEMORY, as above.
+ * asking; whoever answers has to go on. Whether a step was TZB_CHANGED is told by `tzb_mesh_generation`. TZB_CLOSED.
+ * TZB_NO_MEMORY, as above.
  */
 int32_t tzb_mesh_run(struct tzb_mesh *mesh);
 
@@ -429,13 +430,19 @@ int32_t tzb_mesh_answer_failed(struct tzb_mesh *mesh, uint64_t bio, uint32_t don
 /*
  * The mesh as `geomrun` prints it, with a NUL behind it. `*need` is the room it wants, with the NUL.
  *
- * TZB_ROOM: `room` is smaller, and `text` as it was; 0 asks for the size alone, and `text` may be NULL then. TZB_CLOSED.
- * TZB_NO_MEMORY.
+ * TZB_ROOM: `room` is smaller, and `text` as it was; 0 asks for the size alone, and `text` may be NULL then.
+ * TZB_CLOSED. TZB_NO_MEMORY.
  */
 int32_t tzb_mesh_list(struct tzb_mesh *mesh, char *text, size_t room, size_t *need);
 
 /* How many requests wait for their reply; 0 if the mesh isn't open. */
 uint64_t tzb_mesh_waiting(struct tzb_mesh *mesh);
+
+/*
+ * How many steps and commands may have changed what `tzb_mesh_list` shows, as `tzb_core_generation` counts them; 0 if
+ * the mesh isn't open. While it stays as it was, the list does too.
+ */
+uint64_t tzb_mesh_generation(struct tzb_mesh *mesh);
 
 #ifdef __cplusplus
 }

@@ -4,6 +4,7 @@
  *
  * - a call that is refused changes the mesh as it is listed, or how many requests wait;
  * - a request that was accepted is replied to twice, or not at all, or one that wasn't is replied to;
+ * - the listing changes and the generation doesn't, or a step changes this and isn't TZB_CHANGED;
  * - what was written isn't read.
  *
  * What touches memory that isn't the library's is found by the sanitizers with which this is built.
@@ -230,12 +231,19 @@ static int32_t call(struct out *it, bool *has_reply)
 
 static void go_on(unsigned most)
 {
-    for (unsigned i = 0; i < most; i++) {
-        int32_t kind = tzb_mesh_step(mesh);
+    char *before = listed();
+    uint64_t first = tzb_mesh_generation(mesh);
+    int32_t kind = TZB_MOVED;
+    for (unsigned i = 0; i < most && kind != TZB_IDLE; i++) {
+        uint64_t generation = tzb_mesh_generation(mesh);
+        kind = tzb_mesh_step(mesh);
         CHECK(kind >= 0 || kind == TZB_NO_MEMORY);
-        if (kind == TZB_IDLE)
-            break;
+        CHECK(tzb_mesh_generation(mesh) == generation + (kind == TZB_CHANGED));
     }
+    char *after = listed();
+    CHECK(tzb_mesh_generation(mesh) != first || strcmp(before, after) == 0);
+    free(before);
+    free(after);
 }
 
 /* One call, and whether it changed nothing if it was refused. */
@@ -245,16 +253,14 @@ static void one(void)
     if (it->waits)
         return;
     char *before = listed();
-    uint64_t waited = tzb_mesh_waiting(mesh);
+    uint64_t waited = tzb_mesh_waiting(mesh), generation = tzb_mesh_generation(mesh);
     bool has_reply;
     int32_t code = call(it, &has_reply);
+    char *after = listed();
     counts[code == 0 ? 0 : code > 0 ? 1 : 2]++;
-    if (code != 0) {
-        char *after = listed();
-        CHECK(strcmp(before, after) == 0);
-        CHECK(tzb_mesh_waiting(mesh) == waited);
-        free(after);
-    }
+    CHECK(strcmp(before, after) == 0 || (code == 0 && tzb_mesh_generation(mesh) != generation));
+    CHECK(code == 0 || tzb_mesh_waiting(mesh) == waited);
+    free(after);
     it->waits = has_reply && code == 0;
     waiting += it->waits;
     free(before);
@@ -307,7 +313,7 @@ static void life(long calls)
     is_calm = true;
     mesh = tzb_mesh_create();
     CHECK(tzb_set_alloc(give, resize, free) == TZB_OPEN);
-    CHECK(tzb_mesh_step(mesh) == TZB_CLOSED && tzb_mesh_waiting(mesh) == 0);
+    CHECK(tzb_mesh_step(mesh) == TZB_CLOSED && tzb_mesh_waiting(mesh) == 0 && tzb_mesh_generation(mesh) == 0);
     CHECK(tzb_mesh_set_disk(mesh, "d0", &ops, disks[0], DISK) == 0);
     CHECK(tzb_mesh_set_disk(mesh, "d1", &ops, disks[1], DISK) == 0);
     CHECK(tzb_mesh_set_lock(mesh, lock, unlock, &is_locked) == 0);

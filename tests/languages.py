@@ -5,6 +5,8 @@ TOP = pathlib.Path(__file__).resolve().parent.parent
 ARCHIVE = TOP / 'release' / 'library' / 'libgeo_exports.a'
 EXPECTED = TOP / 'c' / 'examples'
 LONGEST = 300
+# Where file systems are made, too.
+PATH = f'{os.environ.get("PATH", "/usr/bin:/bin")}:/usr/sbin:/sbin'
 
 
 class Checks:
@@ -60,7 +62,7 @@ def run(*words, cwd=TOP, **env):
     words = [str(it) for it in words]
     try:
         return subprocess.run(words, capture_output=True, text=True, errors='replace', timeout=LONGEST, check=False,
-                              cwd=cwd, env={**os.environ, **env})
+                              cwd=cwd, env={**os.environ, 'PATH': PATH, **env})
     except subprocess.TimeoutExpired:
         return subprocess.CompletedProcess(words, 124, '', f'it takes more than {LONGEST} seconds')
 

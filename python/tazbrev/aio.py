@@ -79,6 +79,10 @@ class AsyncMesh:
     def disks(self) -> Dict[str, Disk]:
         return dict(self._disks)
 
+    @property
+    def generation(self) -> int:
+        return self.mesh.generation
+
     def text(self) -> str:
         return self.mesh.text()
 

@@ -276,6 +276,24 @@ class Meshes(unittest.TestCase):
             mesh.command('a destroy concat c')
             self.assertEqual(len(mesh.list()), 2)
 
+    def test_the_generation_says_when_to_list_again(self):
+        with tazbrev.Mesh(TWO) as mesh, mesh.open('a', 'h', 'd0', r=1, w=1) as handle:
+            seen, text = mesh.generation, mesh.text()
+            handle.write(0, b'x' * 1024)
+            handle.delete(512, 512)
+            handle.flush()
+            handle.read(0, 1024)
+            mesh.command('a sync')
+            self.assertEqual((mesh.generation, mesh.text()), (seen, text))
+            for change in (lambda: mesh.open('b', 'g', 'd1', r=1), lambda: mesh.command('b close g'),
+                           lambda: mesh.command('a concat c d0 d1'), lambda: mesh.command('a destroy concat c'),
+                           lambda: mesh.pull('d1'), lambda: mesh.insert('d1')):
+                change()
+                self.assertNotEqual(mesh.text(), text)
+                self.assertGreater(mesh.generation, seen)
+                seen, text = mesh.generation, mesh.text()
+        self.assertEqual(mesh.generation, 0)
+
     def test_commands_are_lines_of_a_script(self):
         with tazbrev.Mesh(TWO) as mesh:
             mesh.command('a open h d0 r1w1e0')

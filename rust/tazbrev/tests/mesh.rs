@@ -116,6 +116,31 @@ fn a_stripe_is_made_by_a_command_and_listed() -> Tested {
     Ok(())
 }
 
+#[test]
+fn the_generation_says_when_to_list_again() -> Tested {
+    let mut mesh = Mesh::in_memory(STRIPE)?;
+    let handle = mesh.open("a", "h", "d0", Counts::READ_WRITE)?;
+    let (mut seen, mut text) = (mesh.generation(), mesh.text()?);
+    mesh.write(&handle, 0, &[7; 1024])?;
+    mesh.delete(&handle, 512, 512)?;
+    mesh.flush(&handle)?;
+    mesh.read(&handle, 0, 1024)?;
+    assert_eq!((mesh.generation(), mesh.text()?), (seen, text.clone()));
+    for line in [
+        "open g d1 r1w0e0",
+        "close g",
+        "concat c d0 d1",
+        "destroy concat c",
+        "pull d1",
+        "insert d1",
+    ] {
+        mesh.command(&format!("a {line}"))?;
+        assert!(mesh.generation() > seen && mesh.text()? != text, "{line}");
+        (seen, text) = (mesh.generation(), mesh.text()?);
+    }
+    Ok(())
+}
+
 /// A disk that answers a write only when it is told to.
 struct Slow(MemoryDisk);
 
