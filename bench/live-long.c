@@ -87,6 +87,19 @@ static void pull_and_insert(void)
     open_handles(PULLED, HANDLES);
 }
 
+/* The peak of memory in KB, of this program alone: `ru_maxrss` has that of who started it, too. */
+static unsigned long peak(void)
+{
+    char line[128];
+    unsigned long got = 0;
+    FILE *status = fopen("/proc/self/status", "r");
+    while (status != NULL && fgets(line, sizeof line, status) != NULL && sscanf(line, "VmHWM: %lu", &got) != 1)
+        ;
+    if (status != NULL)
+        fclose(status);
+    return got;
+}
+
 int main(int count, char **words)
 {
     static const struct tzb_disk_ops ops = {sizeof ops, on_read, on_write, NULL, NULL};
@@ -109,7 +122,7 @@ int main(int count, char **words)
     }
     getrusage(RUSAGE_SELF, &used);
     printf("%lu %lu %lu %.1f %.1f\n", replies, errors, changes,
-           (double)used.ru_utime.tv_sec + (double)used.ru_utime.tv_usec / 1e6, (double)used.ru_maxrss / 1024);
+           (double)used.ru_utime.tv_sec + (double)used.ru_utime.tv_usec / 1e6, (double)peak() / 1024);
     tzb_mesh_close(mesh);
     return errors != 0;
 }
