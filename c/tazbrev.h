@@ -84,10 +84,11 @@ enum {
 
 /* What is due. */
 enum {
-    TZB_IDLE = 0,  /* nothing, until a disk answers or a command comes */
-    TZB_ASK = 1,   /* a disk is asked: give its answer for the bio, now or later, in any order */
-    TZB_REPLY = 2, /* the reply to the request that carries the token */
-    TZB_MOVED = 3  /* a step was made inside the mesh: call again */
+    TZB_IDLE = 0,   /* nothing, until a disk answers or a command comes */
+    TZB_ASK = 1,    /* a disk is asked: give its answer for the bio, now or later, in any order */
+    TZB_REPLY = 2,  /* the reply to the request that carries the token */
+    TZB_MOVED = 3,  /* a step was made inside the mesh: call again */
+    TZB_CHANGED = 4 /* the same, and the step may have changed what `tzb_core_list` shows: call again */
 };
 
 /* What a disk is asked for. */
@@ -116,7 +117,7 @@ struct tzb_size {
 
 /* What is due. Fields that the kind doesn't speak of are 0. */
 struct tzb_event {
-    uint32_t kind;  /* TZB_IDLE .. TZB_MOVED */
+    uint32_t kind;  /* TZB_IDLE .. TZB_CHANGED */
     uint32_t op;    /* ASK: TZB_READ .. TZB_FLUSH */
     uint32_t disk;  /* ASK: the disk's place in the header */
     uint32_t count; /* ASK: how many sectors */
@@ -126,6 +127,7 @@ struct tzb_event {
     uint64_t len;   /* how many bytes came: of a WRITE that is asked, or of a READ that is replied to */
     uint32_t error; /* REPLY: 0 or TZB_ENOENT .. */
     uint32_t spare; /* 0 */
+    uint64_t generation; /* CHANGED: what `tzb_core_generation` answers now */
 };
 
 /*
@@ -224,6 +226,12 @@ uint64_t tzb_core_waiting(struct tzb_core *core);
 
 /* How many steps were made, counted up to 2^64 and then from 0 again; 0 for a handle that is closed. */
 uint64_t tzb_core_steps(struct tzb_core *core);
+
+/*
+ * How many of the steps were of the graph, counted so too; 0 for a handle that is closed. While it stays as it was,
+ * nothing was done that may change geoms, providers, consumers, their counts or handles.
+ */
+uint64_t tzb_core_generation(struct tzb_core *core);
 
 /*
  * The mesh as text, line by line as `geomrun` prints it at its end: TZB_OK, and `*need` bytes of it stand at the front
@@ -396,7 +404,8 @@ int32_t tzb_mesh_delete(struct tzb_mesh *mesh, const char *actor, const char *ha
 int32_t tzb_mesh_flush(struct tzb_mesh *mesh, const char *actor, const char *handle, tzb_done *done, void *arg);
 
 /*
- * Does the one thing that is due, and says what it was: TZB_ASK, TZB_REPLY or TZB_MOVED; TZB_IDLE if there was nothing.
+ * Does the one thing that is due, and says what it was: TZB_ASK, TZB_REPLY, TZB_MOVED or TZB_CHANGED; TZB_IDLE if there
+ * was nothing.
  * TZB_CLOSED. TZB_NO_MEMORY: call it again; what a disk has done is kept.
  */
 int32_t tzb_mesh_step(struct tzb_mesh *mesh);

@@ -16,7 +16,7 @@ from . import errors
 
 NAME = 'libtazbrev.so.0'
 # What is due, what a disk is asked for, and the most bytes of a request.
-IDLE, ASK, REPLY, MOVED = range(4)
+IDLE, ASK, REPLY, MOVED, CHANGED = range(5)
 READ, WRITE, DELETE, FLUSH = range(1, 5)
 MOST_BYTES = 32768
 # What calls answer.
@@ -44,10 +44,11 @@ class Event(ctypes.Structure):
     token: int
     len: int
     error: int
+    generation: int
     _fields_ = [
         ('kind', ctypes.c_uint32), ('op', ctypes.c_uint32), ('disk', ctypes.c_uint32), ('count', ctypes.c_uint32),
         ('bio', ctypes.c_uint64), ('first', ctypes.c_uint64), ('token', ctypes.c_uint64), ('len', ctypes.c_uint64),
-        ('error', ctypes.c_uint32), ('spare', ctypes.c_uint32),
+        ('error', ctypes.c_uint32), ('spare', ctypes.c_uint32), ('generation', ctypes.c_uint64),
     ]
 
 
@@ -73,8 +74,9 @@ _CALLS = {
     'answer_failed': [_P, _L, _I],
     'waiting': [_P],
     'steps': [_P],
+    'generation': [_P],
 }
-_RESULTS = {'close': None, 'waiting': ctypes.c_uint64, 'steps': ctypes.c_uint64}
+_RESULTS = {'close': None, 'waiting': ctypes.c_uint64, 'steps': ctypes.c_uint64, 'generation': ctypes.c_uint64}
 
 
 def path() -> str:
@@ -292,3 +294,6 @@ class Core:
 
     def steps(self) -> int:
         return int(self._calls.steps(self.own()))
+
+    def generation(self) -> int:
+        return int(self._calls.generation(self.own()))

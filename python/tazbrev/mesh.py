@@ -191,6 +191,11 @@ class Mesh:
         """How many steps were made."""
         return self._core.steps()
 
+    @property
+    def generation(self) -> int:
+        """How many steps may have changed what `list` shows. While it stays, nothing has changed there."""
+        return self._core.generation()
+
     def text(self) -> str:
         """The mesh as `geomrun` prints it at its end."""
         self.run()

@@ -95,11 +95,11 @@ fn listed(
     alloc: Global,
     exports: &[Export],
     agreed: Agreed,
-    data: &[u8],
+    bytes: &[u8],
 ) -> Result<Answer, NoMemory>
-    ensures { IfOk result (λ sent. sent ≡ listed exports.now agreed data.now) }
+    ensures { IfOk result (λ sent. sent ≡ listed exports.now agreed bytes.now) }
 {
-    if data.len() != 0 {
+    if bytes.len() != 0 {
         return stay(alloc, agreed, OPTION_LIST, REPLY_ERROR_INVALID);
     }
     let mut sent = Text::new(alloc);
@@ -112,10 +112,10 @@ fn listed(
 }
 
 /// STRUCTURED_REPLY.
-fn structured(alloc: Global, agreed: Agreed, data: &[u8]) -> Result<Answer, NoMemory>
-    ensures { IfOk result (λ sent. sent ≡ structured agreed data.now) }
+fn structured(alloc: Global, agreed: Agreed, bytes: &[u8]) -> Result<Answer, NoMemory>
+    ensures { IfOk result (λ sent. sent ≡ structured agreed bytes.now) }
 {
-    if data.len() != 0 {
+    if bytes.len() != 0 {
         return stay(alloc, agreed, OPTION_STRUCTURED_REPLY, REPLY_ERROR_INVALID);
     }
     let agreed = Agreed {
@@ -168,17 +168,17 @@ pub fn answer(
     exports: &[Export],
     agreed: Agreed,
     option: u32,
-    data: &[u8],
+    bytes: &[u8],
 ) -> Result<Answer, NoMemory>
-    ensures { IfOk result (λ sent. sent ≡ answer exports.now agreed option data.now) }
+    ensures { IfOk result (λ sent. sent ≡ answer exports.now agreed option bytes.now) }
 {
     match option {
-        OPTION_EXPORT_NAME => by_name(alloc, agreed, export_of(exports, data)),
+        OPTION_EXPORT_NAME => by_name(alloc, agreed, export_of(exports, bytes)),
         OPTION_ABORT => aborted(alloc),
-        OPTION_LIST => listed(alloc, exports, agreed, data),
-        OPTION_INFO => informed(alloc, agreed, export_asked(exports, data)),
-        OPTION_GO => gone(alloc, agreed, export_asked(exports, data)),
-        OPTION_STRUCTURED_REPLY => structured(alloc, agreed, data),
+        OPTION_LIST => listed(alloc, exports, agreed, bytes),
+        OPTION_INFO => informed(alloc, agreed, export_asked(exports, bytes)),
+        OPTION_GO => gone(alloc, agreed, export_asked(exports, bytes)),
+        OPTION_STRUCTURED_REPLY => structured(alloc, agreed, bytes),
         _ => stay(alloc, agreed, option, REPLY_ERROR_UNSUPPORTED),
     }
 }

@@ -10,17 +10,17 @@ use geo_base::NoMemory;
 use geo_text::Text;
 
 /// A reply of this kind to an option, with its data.
-pub fn add_reply(sent: &mut Text, option: u32, kind: u32, data: &[u8]) -> Result<(), NoMemory>
-    requires { length data.now < 2 ^ 32 }
-    ensures { OnOk result (sent.new ≡ sent.old ++ reply option kind data.now) }
+pub fn add_reply(sent: &mut Text, option: u32, kind: u32, bytes: &[u8]) -> Result<(), NoMemory>
+    requires { length bytes.now < 2 ^ 32 }
+    ensures { OnOk result (sent.new ≡ sent.old ++ reply option kind bytes.now) }
 {
     let head = OptionReply {
         option,
         kind,
-        len: data.len() as u32,
+        len: bytes.len() as u32,
     };
     sent.add(&head.bytes())?;
-    sent.add(data)
+    sent.add(bytes)
 }
 
 /// An export by its name.

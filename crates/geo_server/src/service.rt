@@ -98,6 +98,13 @@ impl Service {
         }
     }
 
+    /// Whether replies are structured.
+    pub fn structured(&self) -> bool
+        ensures { result ≡ self.now.structured }
+    {
+        self.structured
+    }
+
     /// A request begins, with the bytes that came behind it: it is out under the next token, which had none, and its
     /// first command is to be made. Where memory is wanting all is as before.
     pub fn begin(

@@ -32,6 +32,7 @@ pub const TZB_IDLE: u32 = 0;
 pub const TZB_ASK: u32 = 1;
 pub const TZB_REPLY: u32 = 2;
 pub const TZB_MOVED: u32 = 3;
+pub const TZB_CHANGED: u32 = 4;
 
 /// What a disk is asked for.
 pub const TZB_READ: u32 = 1;
@@ -73,6 +74,7 @@ pub struct TzbEvent {
     pub len: u64,
     pub error: u32,
     pub spare: u32,
+    pub generation: u64,
 }
 
 extern "C" {
@@ -175,4 +177,5 @@ extern "C" {
     pub fn tzb_core_answer_failed(core: *mut TzbCore, bio: u64, done: u32) -> i32;
     pub fn tzb_core_waiting(core: *mut TzbCore) -> u64;
     pub fn tzb_core_steps(core: *mut TzbCore) -> u64;
+    pub fn tzb_core_generation(core: *mut TzbCore) -> u64;
 }

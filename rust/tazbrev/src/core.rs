@@ -61,6 +61,11 @@ pub enum Due {
     },
     /// A step was made inside the mesh.
     Moved,
+    /// The same, and the step may have changed the mesh's geoms, providers, consumers, their counts or handles.
+    Changed {
+        /// How many steps of this sort there were.
+        generation: u64,
+    },
 }
 
 /// What comes of a command: None where it is on its way, else its reply.
@@ -274,6 +279,9 @@ impl Core {
                 error: Errno::of(event.error),
             },
             sys::TZB_MOVED => Due::Moved,
+            sys::TZB_CHANGED => Due::Changed {
+                generation: event.generation,
+            },
             _ => Due::Idle,
         })
     }
@@ -311,6 +319,12 @@ impl Core {
     pub fn steps(&mut self) -> u64 {
         // SAFETY: as the module says.
         unsafe { sys::tzb_core_steps(&mut self.raw) }
+    }
+
+    /// How many steps may have changed the mesh's geoms, providers, consumers, their counts or handles.
+    pub fn generation(&mut self) -> u64 {
+        // SAFETY: as the module says.
+        unsafe { sys::tzb_core_generation(&mut self.raw) }
     }
 
     fn named(&mut self, call: Named, actor: u32, name: &str, token: u64) -> Result<Given, Refusal> {

@@ -139,6 +139,11 @@ impl<D: Disk> Mesh<D> {
         self.core.steps()
     }
 
+    /// How many steps may have changed what a listing shows; while it stays, nothing has changed there.
+    pub fn generation(&mut self) -> u64 {
+        self.core.generation()
+    }
+
     /// The mesh as `geomrun` prints it at its end.
     pub fn text(&mut self) -> Result<String, Error> {
         self.run()?;

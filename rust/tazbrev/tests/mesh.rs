@@ -254,7 +254,7 @@ fn a_loop_of_ones_own_asks_and_answers() -> Tested {
         match core.next()? {
             Due::Ask(asked) => core.answer_bytes(asked.bio, &vec![asked.first as u8; 512 * asked.count as usize])?,
             Due::Reply { token, error } => replies.push((token, error, core.bytes().to_vec())),
-            Due::Moved => {}
+            Due::Moved | Due::Changed { .. } => {}
             Due::Idle => break,
         }
     }

@@ -7,6 +7,6 @@ use Rattle.geo_nbd.proofs.tell.add_reply.Goals as goal
 pub returns : goal.returns
 returns c =
     two_parts c.add-2.result c.args.sent.now
-    (option_reply_bytes (record { option = c.args.option; kind = c.args.kind; len = length c.args.data.now }))
-    c.args.data.now c.add.new.self c.add-2.new.self
+    (option_reply_bytes (record { option = c.args.option; kind = c.args.kind; len = length c.args.bytes.now }))
+    c.args.bytes.now c.add.new.self c.add-2.new.self
     (c.in_ok-add.ensures ∙ ap (λ head. c.args.sent.now ++ head) c.bytes.ensures) c.add-2.ensures
