@@ -8,12 +8,14 @@ use Rattle.geo_disk.specs.Memory.{Memory}
 use Rattle.geo_lock.specs.Yard.{IsPassOf, IsWhole, YardView, first_pass}
 use Rattle.geo_jobs.specs.MeshStart.{MeshStart}
 use Rattle.geo_jobs.specs.declared.lanes.Lanes.{Lanes}
-use Rattle.geo_jobs.specs.Passes.{MeshPass}
+use Rattle.geo_jobs.specs.Passes.{IsGoodPass, MeshPass, opened_by}
 use Rattle.geo_jobs.specs.declared.turn.Turn.{Turn}
+use Rattle.geo_jobs.specs.declared.job.Job.{Job}
 use Rattle.geo_jobs.specs.declared.job.Role.{Role}
 use Rattle.geo_jobs.specs.declared.run.Worker.{Worker}
-use Rattle.geo_jobs.specs.Jobs.{HasItsDrives}
+use Rattle.geo_jobs.specs.Jobs.{DidTurn, HasItsDrives}
 use Rattle.geo_jobs.specs.Workers.{IsReady, WorkerRan}
+use Rattle.geo_jobs.proofs.Running.{job_more, job_none}
 use Rattle.geo_tests_jobs.specs.Benches.{seen_drive}
 use Rattle.geo_tests_jobs.specs.Standing.{AreStanding, IsFirst, IsNewRole, IsStanding, passes_of}
 
@@ -29,6 +31,14 @@ pub is_first : (y : YardView MeshStart) (p : MeshPass) → p ≡ first_pass y �
 is_first y p is =
     subst (λ (q : MeshPass). IsFirst y 1 q) (sym is)
     (record { of_yard = record { yard = refl; start = refl }; number = refl; own = refl; made = refl })
+
+-- a turn leaves the number of the pass
+pub turn_leaves_number : (y : YardView MeshStart) (a b : Job Memory) (r : Turn) → IsPassOf y a.pass → IsGoodPass b.pass
+    → HasItsDrives y.start.facts seen_drive a.role → DidTurn (opened_by y.start) seen_drive a b r
+    → b.pass.number ≡ a.pass.number
+turn_leaves_number y a b r of good has did =
+    let ran = job_more y (opened_by y.start) y.start.facts seen_drive a a b r of good has (job_none seen_drive a) did in
+    ran.goes.same.number
 
 module _ (y : YardView MeshStart) (lanes : Lanes) where
   -- one more worker behind the others

@@ -121,9 +121,9 @@ fn small_disk(alloc: Global) -> Result<MemDisk, NoMemory>
     Ok(MemDisk::new(bytes, 512, Calls::none(alloc)))
 }
 
-// The drives of a disk worker that has this disk alone.
+/// The drives of a disk worker that has this disk alone.
 #[tactic(auto, using(crate::proofs::Disks::one_drive))]
-fn drives_of(alloc: Global, disk: u32) -> Result<DriveList<MemDisk>, NoMemory>
+pub fn drives_of(alloc: Global, disk: u32) -> Result<DriveList<MemDisk>, NoMemory>
     requires { disk < 2 }
     ensures { IfOk result (λ drives. HasDrives two_facts seen_drive drives.items) }
 {

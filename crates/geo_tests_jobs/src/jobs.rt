@@ -25,7 +25,21 @@ use std::sync::Wait;
 use std::test::Fail;
 use std::thread::Threads;
 
-// Lets a job go until it ends.
+// Lets a job make one turn.
+fn turn_one<R: Wait + AllocGlobal>(
+    rt: &R,
+    yard: &Yard<Mesh>,
+    lanes: &Lanes,
+    worker: &mut Worker<MemDisk>,
+)
+    requires { IsReady yard.now lanes.now seen_drive worker.old }
+    ensures ready { IsReady yard.now lanes.now seen_drive worker.new }
+    ensures number { worker.new.job.pass.number ≡ worker.old.job.pass.number }
+{
+    worker.answer = worker.job.turn(rt, yard, lanes, &OpenGate);
+}
+
+// Lets a job make one turn, and then go until it ends.
 fn go_one<R: Wait + AllocGlobal>(
     rt: &R,
     yard: &Yard<Mesh>,
@@ -36,6 +50,7 @@ fn go_one<R: Wait + AllocGlobal>(
     ensures ready { IsReady yard.now lanes.now seen_drive worker.new }
     ensures number { worker.new.job.pass.number ≡ worker.old.job.pass.number }
 {
+    turn_one(rt, yard, lanes, worker);
     worker.answer = worker.job.go(rt, yard, lanes, &OpenGate);
 }
 

@@ -2,7 +2,8 @@
 //!
 //! The jobs of a small script go one after another on one thread, and at once (`jobs.rt`); what they leave seat 0 makes
 //! (`drain.rt`). They show what no clause says: that the jobs do the work where nothing is in their way, and what
-//! becomes of the others where a lane has no place for a ticket, which is then dropped (`fill.rt`).
+//! becomes of the others where a lane has no place for a ticket, which is then dropped (`fill.rt`). `made.rt` makes
+//! each kind of job, and takes it apart.
 #![tactic(auto)]
 
 #[cfg(test)]
@@ -13,6 +14,8 @@ mod drain;
 mod fill;
 #[cfg(test)]
 mod jobs;
+#[cfg(test)]
+mod made;
 mod rooms;
 #[cfg(test)]
 mod start;

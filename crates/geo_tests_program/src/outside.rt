@@ -92,17 +92,18 @@ pub fn put_failing(
     }
 }
 
-// The words of the program, which are this one.
-fn words_of(alloc: Global, word: &str) -> Option<Vec<String>> {
-    let word = String::from_str(alloc, word).ok()?;
+// Puts a word behind others, if there is memory for it.
+fn push_word(alloc: Global, words: &mut Vec<String>, word: &str) -> Option<()> {
+    words.push(String::from_str(alloc, word).ok()?).ok()
+}
+
+// The words of the program.
+fn words_of(alloc: Global, texts: &[&str]) -> Option<Vec<String>> {
     let mut words = Vec::new(alloc);
-    match words.push(word).ok() {
-        Some(()) => Some(words),
-        None => {
-            drop(words);
-            None
-        }
+    for text in texts {
+        push_word(alloc, &mut words, text)?;
     }
+    Some(words)
 }
 
 // The run of the words.
@@ -119,12 +120,17 @@ fn run_words(rt: &impl Abort, alloc: Global, words: &[String], outside: &mut Out
     )
 }
 
-/// The run of the script, or none where there is no memory for the words. What it answers is dropped by a call.
-pub fn run(rt: &impl Abort, alloc: Global, outside: &mut Outside) -> Option<Ended> {
-    let words = words_of(alloc, "step")?;
+// The run of words that start no thread, or none where there is no memory for the words.
+fn run_on(rt: &impl Abort, alloc: Global, texts: &[&str], outside: &mut Outside) -> Option<Ended> {
+    let words = words_of(alloc, texts)?;
     let ended = run_words(rt, alloc, words.as_slice(), outside);
     drop(words);
     Some(ended)
+}
+
+/// The run of the script, or none where there is no memory for the words. What it answers is dropped by a call.
+pub fn run(rt: &impl Abort, alloc: Global, outside: &mut Outside) -> Option<Ended> {
+    run_on(rt, alloc, &["step"], outside)
 }
 
 // The run of the word in threads that the gate may hold, or none where there is no memory for the words.
@@ -134,7 +140,7 @@ fn run_threads<R: Threads + Wait + Sync + AllocGlobal, G: Gate + Sync>(
     outside: &mut Outside,
     gate: &G,
 ) -> Option<Ended> {
-    let words = words_of(rt.alloc(), word)?;
+    let words = words_of(rt.alloc(), &[word])?;
     let ended = geo_run::run(
         rt,
         words.as_slice(),
@@ -172,6 +178,19 @@ fn end_of(ended: Ended) -> End {
     };
     drop(ended);
     end
+}
+
+/// The end of the run of words that start no thread, or none where there is no memory for the words.
+pub fn run_to_end_on(
+    rt: &impl Abort,
+    alloc: Global,
+    texts: &[&str],
+    outside: &mut Outside,
+) -> Option<End> {
+    match run_on(rt, alloc, texts, outside) {
+        Some(ended) => Some(end_of(ended)),
+        None => None,
+    }
 }
 
 /// The end of the run of the script, or none where there is no memory for the words.

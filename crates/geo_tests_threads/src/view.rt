@@ -332,6 +332,34 @@ fn seen_alone<R: Wait + AllocGlobal>(rt: &R) -> Option<(u32, u32)> {
     Some(show_twice(rt, &yard, &mut showing, &mut watcher))
 }
 
+// What the watcher sees of two commands once their publisher has ended.
+fn see_after_end<R: Wait + AllocGlobal>(
+    rt: &R,
+    yard: &Yard<Mesh>,
+    mut showing: Showing,
+    watcher: &mut Watcher,
+) -> u32
+    requires own { IsPassOf yard.now showing.pass }
+    requires shows { CanShow showing.publisher showing.pass }
+{
+    go(rt, yard, &mut showing, 1);
+    go(rt, yard, &mut showing, 1);
+    let Showing { pass, publisher } = showing;
+    drop(pass);
+    publisher.end(rt);
+    readers_seen(watcher)
+}
+
+// The same of the script. None for want of memory.
+fn seen_after_end<R: Wait + AllocGlobal>(rt: &R) -> Option<u32> {
+    let Setup {
+        yard,
+        showing,
+        mut watcher,
+    } = script_setup(rt)?;
+    Some(see_after_end(rt, &yard, showing, &mut watcher))
+}
+
 #[test]
 fn looks_never_go_back_beside_ten_thousand_publishes(rt: HostRuntime) -> Result<(), Fail> {
     let seen = seen_in_two(&rt);
@@ -351,5 +379,11 @@ fn a_watcher_told_of_the_first_sees_it_or_the_second(rt: HostRuntime) -> Result<
     };
     assert!(rt; first == 1 || first == 2);
     assert!(rt; first <= second && second <= 2);
+    Ok(())
+}
+
+#[test]
+fn what_was_shown_last_stays_where_the_publisher_ended(rt: HostRuntime) -> Result<(), Fail> {
+    assert_same(&rt, seen_after_end(&rt), Some(1));
     Ok(())
 }
