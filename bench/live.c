@@ -1,6 +1,7 @@
 /*
- * live: the time of a request of 4 KiB and of 32 KiB to a disk in memory, one at a time, by the library's calls. A line
- * has the bytes, and the least of some rounds, in microseconds, of a write and of a read.
+ * live: the time of a request of 4 KiB and of 32 KiB to a disk in memory, one at a time. A line has the calls (`core`,
+ * or the layer `mesh` with its own disk), the bytes, and the least of some rounds, in microseconds, of a write and of a
+ * read.
  */
 #define _POSIX_C_SOURCE 200809L
 #include "tazbrev.h"
@@ -16,6 +17,7 @@ static uint8_t room[TZB_MOST_BYTES];
 static uint8_t data[TZB_MOST_BYTES];
 static size_t bytes;
 static struct tzb_core core;
+static struct tzb_mesh *mesh;
 
 static const uint8_t *text(const char *word)
 {
@@ -44,7 +46,7 @@ static void go_on(uint64_t token)
     }
 }
 
-static void request(int is_read, uint64_t offset)
+static void by_core(int is_read, uint64_t offset)
 {
     uint32_t error;
     if (is_read)
@@ -56,7 +58,16 @@ static void request(int is_read, uint64_t offset)
         memcpy(data, room, bytes);
 }
 
-static double least(int is_read)
+static void by_mesh(int is_read, uint64_t offset)
+{
+    if (is_read)
+        tzb_mesh_read(mesh, "a", "h", offset, data, bytes, NULL, NULL);
+    else
+        tzb_mesh_write(mesh, "a", "h", offset, data, bytes, NULL, NULL);
+    tzb_mesh_run(mesh);
+}
+
+static double least(void (*request)(int is_read, uint64_t offset), int is_read)
 {
     double least = 1e9;
     for (int round = 0; round < ROUNDS; round++) {
@@ -72,22 +83,36 @@ static double least(int is_read)
     return least;
 }
 
-int main(void)
+static int open_core(void)
 {
     static const char header[] = "disk md0 512\nactor a\n";
-    const struct tzb_size size = { .sectors = SECTORS, .sector = SECTOR };
+    const struct tzb_size size = {.sectors = SECTORS, .sector = SECTOR};
     uint32_t fault, error;
     if (tzb_core_open(&core, text(header), strlen(header), &size, 1, &fault) != TZB_OK)
+        return -1;
+    go_on(0);
+    return tzb_core_open_handle(&core, 0, text("h"), 1, text("md0"), 3, 1, 1, 0, 1, &error) < 0 || error != 0 ? -1 : 0;
+}
+
+static int open_mesh(void)
+{
+    mesh = tzb_mesh_create();
+    if (mesh == NULL || tzb_mesh_open(mesh, "ram md0 512 512\nactor a\n") != 0 || tzb_mesh_run(mesh) != 0)
+        return -1;
+    return tzb_mesh_open_handle(mesh, "a", "h", "md0", 1, 1, 0);
+}
+
+int main(void)
+{
+    if (open_core() != 0 || open_mesh() != 0)
         return 1;
     for (size_t at = 0; at < sizeof data; at++)
         data[at] = (uint8_t)(at * 2654435761u >> 13);
-    go_on(0);
-    if (tzb_core_open_handle(&core, 0, text("h"), 1, text("md0"), 3, 1, 1, 0, 1, &error) < 0 || error != 0)
-        return 1;
     for (bytes = 4096; bytes <= TZB_MOST_BYTES; bytes *= 8) {
-        double write = least(0), read = least(1);
-        printf("%zu %.2f %.2f\n", bytes, write, read);
+        printf("core %zu %.2f %.2f\n", bytes, least(by_core, 0), least(by_core, 1));
+        printf("mesh %zu %.2f %.2f\n", bytes, least(by_mesh, 0), least(by_mesh, 1));
     }
+    tzb_mesh_close(mesh);
     tzb_core_close(&core);
     return 0;
 }

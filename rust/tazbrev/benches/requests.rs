@@ -28,7 +28,7 @@ fn main() -> Result<(), Error> {
         let mut bytes = vec![7; len];
         let write = least(len, |offset| mesh.write(&handle, offset, black_box(&bytes)))?;
         let read = least(len, |offset| mesh.read_into(&handle, offset, black_box(&mut bytes)))?;
-        println!("{len} {write:.2} {read:.2}");
+        println!("mesh {len} {write:.2} {read:.2}");
     }
     Ok(())
 }
