@@ -14,14 +14,14 @@ use Rattle.geo_model.specs.declared.step.Owner.{Owner}
 use Rattle.geo_model.specs.declared.step.Owner.TheVariants as owners
 use Rattle.geo_model.specs.declared.step.Phase.{Phase}
 use Rattle.geo_model.specs.declared.step.Phase.TheVariants as phases
-use Rattle.geo_model.specs.World.{BioOf, is_down, is_sent, is_busy, is_up, is_done, is_waiting, is_root, is_child_of, children_among, change_number, bio_among}
+use Rattle.geo_model.specs.World.{BioOf, is_down, is_busy, is_up, is_done, is_waiting, is_root, is_child_of, children_among, change_number, bio_among}
 use Rattle.geo_model.proofs.FindLists.{find-map}
 use Rattle.geo_slots.specs.Slots.{SlotsView, IsRising, value_at, with_value, without}
 use Rattle.geo_slots.proofs.RowLemmas.{IsRising_ends, IsRising_from, IsRising-push, IsRising-with_value, IsRising-without, with_value_below, without_below, value_at_below, value_at-set, value_at-kept, value_at-without, value_at-gone, find-items, change-items}
 use Rattle.geo_bio.specs.declared.bio.Bio.{Bio}
 use Rattle.geo_bio.specs.declared.bio.Held.{Held}
-use Rattle.geo_bio.specs.BioTable.{BioTableView, AreInOrder, HasParent, has_phase, delivered, delivered_result}
-use Rattle.geo_bio.specs.Rows.{as_bio, seen_row, up_holding, Child, child_of, family, FollowFrom, StandFrom, HasFamily, WaitsIn, IsTable, KnowsChildren}
+use Rattle.geo_bio.specs.BioTable.{BioTableView, AreInOrder, HasParent, has_phase, is_going, with_phase, delivered, delivered_result}
+use Rattle.geo_bio.specs.Rows.{as_bio, seen_row, at_phase, up_holding, Child, child_of, family, FollowFrom, StandFrom, HasFamily, WaitsIn, IsTable, KnowsChildren}
 
 -- Values under numbers
 
@@ -290,10 +290,6 @@ pub down_facts : (phase : Phase) → is_down phase ≡ true → (is_done phase �
 down_facts phases.Down e = (refl, refl)
 down_facts _ e = absurd (cc)
 
-pub sent_facts : (phase : Phase) → is_sent phase ≡ true → (is_done phase ≡ false) × (is_waiting phase ≡ false)
-sent_facts phases.Sent e = (refl, refl)
-sent_facts _ e = absurd (cc)
-
 pub busy_facts : (phase : Phase) → is_busy phase ≡ true → (is_done phase ≡ false) × (is_waiting phase ≡ false)
 busy_facts (phases.Busy seat) e = (refl, refl)
 busy_facts _ e = absurd (cc)
@@ -301,6 +297,12 @@ busy_facts _ e = absurd (cc)
 pub up_facts : (phase : Phase) → is_up phase ≡ true → (is_done phase ≡ false) × (is_waiting phase ≡ false)
 up_facts phases.Up e = (refl, refl)
 up_facts _ e = absurd (cc)
+
+-- nor is one that is on its way itself
+pub going_facts : (phase : Phase) → is_going phase ≡ true → (is_done phase ≡ false) × (is_waiting phase ≡ false)
+going_facts phases.Waiting e = absurd (cc)
+going_facts phases.Done e = absurd (cc)
+going_facts _ e = (refl, refl)
 
 -- and one that waits isn't Done
 pub waiting_not_done : (phase : Phase) → is_waiting phase ≡ true → is_done phase ≡ false
@@ -454,6 +456,19 @@ one_delivered s view table {m} same is place errno {held} {x} found holds =
     (λ y. record { owner = refl; undone = refl; idle = refl; changed = refl })
     (subst (λ o. MatchOption o (new ≡ s) (λ y. new ≡ record s { rows = with_value s.rows m (write y) })) (sym found)
     (ap (λ h. record s { rows = with_value s.rows m (up_holding h x) }) holds))
+
+-- and with one that comes to another phase
+pub one_set : {v : BioTableView} (s : SlotsView Bio) → seen s ≡ v → IsTable s.rows s.next → {m n : ℕ} → m ≡ n
+    → has_phase is_going v.bios n ≡ true → (phase : Phase) → is_going phase ≡ true → {x : Bio}
+    → value_at s.rows m ≡ Some x
+    → Leaves v (record s { rows = with_value s.rows m (at_phase phase x) }) n (with_phase phase)
+one_set s view table {m} same is phase goes {x} found =
+    let new : SlotsView Bio = record s { rows = with_value s.rows m (at_phase phase x) } in
+    let facts = going_facts phase goes in
+    one_changed s new view table same is_going going_facts is (with_phase phase) (at_phase phase)
+    (λ y. record { owner = refl; undone = facts.0; idle = facts.1; changed = refl })
+    (subst (λ o. MatchOption o (new ≡ s) (λ y. new ≡ record s { rows = with_value s.rows m (at_phase phase y) }))
+    (sym found) refl)
 
 -- The children of a bio
 

@@ -1,5 +1,5 @@
 -- The table of bios, as contracts see it.
-use Rattle.std.specs.Prelude.{ℕ, ◌≤◌, nat_le, Bool, false, IsTrue, ⊤, List, All, map, Option, Some, None, find, if◌then◌else◌}
+use Rattle.std.specs.Prelude.{ℕ, ◌≤◌, nat_le, Bool, true, false, IsTrue, ⊤, List, All, map, Option, Some, None, find, if◌then◌else◌}
 use Rattle.std.specs.Option.{option_map, option_map_or}
 use Rattle.geo_model.specs.BioCmd.{BioCmd}
 use Rattle.geo_model.specs.Errno.{Errno}
@@ -28,6 +28,12 @@ pub record AreInOrder (t : BioTableView) : Type 0 where
 -- whether the bio of a number is there, in a phase that passes
 abbrev pub has_phase : {R : Type 0} → (Phase → Bool) → List (BioOf R) → ℕ → Bool
 has_phase test bios bio = option_map_or (λ x. test x.phase) (bio_among bios bio) false
+
+-- whether a bio is on its way itself: it waits for no children, and isn't Done
+abbrev pub is_going : Phase → Bool
+is_going phases.Waiting = false
+is_going phases.Done = false
+is_going _ = true
 
 -- the parent of a child is there, and waits for it
 abbrev pub HasParent : {R : Type 0} → List (BioOf R) → Owner → Type 0

@@ -1,5 +1,5 @@
 -- How a parent gathers, number by number, what its children hold.
-use Rattle.std.specs.Prelude.{ℕ, zero, suc, ◌+◌, ◌==◌, Bool, List, [], ◌++◌, Option, Some, None, unwrap_or, if◌then◌else◌}
+use Rattle.std.specs.Prelude.{ℕ, zero, suc, ◌+◌, ◌==◌, Bool, List, [], ◌++◌, Option, Some, None, if◌then◌else◌}
 use Rattle.std.specs.Option.{option_map_or, option_and_then}
 use Rattle.geo_model.specs.BioCmd.{BioCmd}
 use Rattle.geo_model.specs.Errno.{Errno}
@@ -12,11 +12,6 @@ use Rattle.geo_bio.specs.declared.bio.Held.{Held}
 use Rattle.geo_bio.specs.declared.bio.Held.TheVariants as held
 use Rattle.geo_bio.specs.Rows.{at_phase, up_holding}
 use Rattle.geo_bio.specs.Up.{resolved}
-
--- the bytes of a place, where a bio names one
-abbrev pub copy_of : (ℕ → Option (List ℕ)) → Option Held → Option (List ℕ)
-copy_of log (Some (held.AtPlace place)) = Some (unwrap_or (log place) [])
-copy_of log _ = None
 
 -- the error that a bio holds
 abbrev pub held_error : Option Held → Option Errno

@@ -4,7 +4,7 @@ ghost use Rattle.geo_slots.specs.Slots.{value_at, with_value, without};
 ghost use Rattle.std.specs.Option.{option_and_then, option_map_or};
 ghost use Rattle.geo_model.specs.Bios.{bytes_of_result};
 ghost use Rattle.geo_bio.specs.Up.{resolved};
-ghost use Rattle.geo_bio.specs.Gather.{copy_of, held_error, error_from, bytes_from, without_all, counted, held_from, is_last, rows_up};
+ghost use Rattle.geo_bio.specs.Gather.{held_error, error_from, bytes_from, without_all, counted, held_from, is_last, rows_up};
 
 use crate::bio::{Bio, Held, Risen};
 use crate::log_bytes::LogBytes;
@@ -24,20 +24,6 @@ pub fn copied_at<B: LogBytes>(alloc: Global, place: u64, log: &B) -> Result<Shar
     }
 }
 
-// The bytes of a READ that the log keeps, once more; None where a bio holds none by their place.
-fn copied_bytes<B: LogBytes>(
-    alloc: Global,
-    bio: &Bio,
-    log: &B,
-) -> Result<Option<SharedBytes>, NoMemory>
-    ensures { IfOk result (λ copied. copied ≡ copy_of (B.place_bytes log.now) bio.now.held) }
-{
-    match &bio.held {
-        Some(Held::AtPlace(place)) => { Ok(Some(copied_at(alloc, *place, log)?)) }
-        _ => Ok(None),
-    }
-}
-
 // A root is taken out, and its result handed on.
 pub fn take_root<B: LogBytes>(
     bios: &mut Slots<Bio>,
@@ -52,7 +38,10 @@ pub fn take_root<B: LogBytes>(
 {
     // What may want memory comes first: where it is wanting, the root stays.
     let copied = match bios.get(number) {
-        Some(bio) => copied_bytes(alloc, bio, log)?,
+        Some(bio) => match &bio.held {
+            Some(Held::AtPlace(place)) => Some(copied_at(alloc, *place, log)?),
+            _ => None,
+        },
         None => None,
     };
     let held = match bios.remove(number) {

@@ -4,9 +4,9 @@
 //! bytes of a READ are named by their place in the log ([`LogBytes`]), or held by the bio itself where no log keeps
 //! them ([`Held`]); in the model they are bytes.
 //!
-//! [`BioTable::submit`], [`BioTable::start`], [`BioTable::bounce`], [`BioTable::send`], [`BioTable::take`],
-//! [`BioTable::deliver`] and [`BioTable::end`] change exactly the named bio; the last two are a disk's answer, with a
-//! log and without. `start` puts one child for each piece behind all others
+//! [`BioTable::submit`], [`BioTable::start`], [`BioTable::bounce`], [`BioTable::set_phase`], [`BioTable::deliver`] and
+//! [`BioTable::end`] change exactly the named bio. By `set_phase` it goes to its disk and is taken there; the last two
+//! are a disk's answer, with a log and without. `start` puts one child for each piece behind all others
 //! (`split`). [`BioTable::up`] follows the model's `up` (`told`, `rises`): the last child that comes in ends its
 //! parent. The parent gets the first error in the order of the pieces, else the bytes joined in that order, and its
 //! children are taken out. The children of a split are those that the definitions make of its pieces

@@ -2,9 +2,9 @@
 ghost use Rattle.std.specs.Prelude.{◌≡◌, ◌+◌, ◌-◌, ◌<◌, ◌≤◌, ◌^◌, max, [], ◌∷◌, ◌++◌, length, IsOk, OnOk, IfOk, IfSome, OnErr, IsTrue, option_copied};
 ghost use Rattle.std.specs.Option.{option_map};
 ghost use Rattle.geo_model.specs.Bios.{new_bio, up_with};
-ghost use Rattle.geo_model.specs.World.{change_number, children_among, is_down, is_sent, is_busy, is_up, is_waiting, is_root, bio_among};
+ghost use Rattle.geo_model.specs.World.{change_number, children_among, is_down, is_busy, is_up, is_waiting, is_root, bio_among};
 ghost use Rattle.geo_model.specs.Words.{is_write};
-ghost use Rattle.geo_bio.specs.BioTable.{AreInOrder, HasParent, has_phase, bio_from, with_phase, delivered};
+ghost use Rattle.geo_bio.specs.BioTable.{AreInOrder, HasParent, has_phase, is_going, bio_from, with_phase, delivered};
 ghost use Rattle.geo_bio.specs.Rows.{as_bio, KnowsChildren};
 ghost use Rattle.geo_bio.specs.Split.{split_into};
 ghost use Rattle.geo_bio.specs.Up.{told_of_up, after_up};
@@ -12,7 +12,7 @@ ghost use Rattle.geo_bio.specs.Up.{told_of_up, after_up};
 use crate::bio::{Bio, Held, Risen};
 use crate::gather::{rise_in, take_root};
 use crate::log_bytes::LogBytes;
-use crate::rows::{end_with, set_phase};
+use crate::rows::end_with;
 use crate::split::{make_children, split_bio};
 use crate::targets::Targets;
 use geo_base::{BioCmd, BioId, ConsId, Errno, NoMemory, ProvId, SharedBytes};
@@ -183,24 +183,17 @@ impl BioTable {
         end_with(&mut self.bios, bio.number(), Held::Failed(errno));
     }
 
-    /// A bio goes to its disk.
-    pub fn send(&mut self, bio: BioId)
-        requires { IsTrue (has_phase is_down self.old.bios bio) }
-        ensures sent { self.new ≡ record self.old { bios = change_number bio (with_phase Phase.Sent) self.old.bios } }
+    /// A bio that is on its way itself, and waits for no children, comes to another phase of which this is so too.
+    pub fn set_phase(&mut self, bio: BioId, phase: Phase)
+        requires was { IsTrue (has_phase is_going self.old.bios bio) }
+        requires is { IsTrue (is_going phase) }
+        ensures set { self.new ≡ record self.old { bios = change_number bio (with_phase phase) self.old.bios } }
         ensures in_order { AreInOrder self.new }
     {
-        set_phase(&mut self.bios, bio.number(), Phase::Sent);
-    }
-
-    /// A seat takes a bio for its disk.
-    pub fn take(&mut self, bio: BioId, seat: u32)
-        requires { IsTrue (has_phase is_sent self.old.bios bio) }
-        ensures taken { self.new ≡ record self.old {
-          bios = change_number bio (with_phase (Phase.Busy seat)) self.old.bios;
-        } }
-        ensures in_order { AreInOrder self.new }
-    {
-        set_phase(&mut self.bios, bio.number(), Phase::Busy(seat));
+        let Some(found) = self.bios.get_mut(bio.number()) else {
+            unreachable!()
+        };
+        found.phase = phase;
     }
 
     /// A bio's disk has answered: it goes up with the bytes at this place of the log, with success, or with an error.

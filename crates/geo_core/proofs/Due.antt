@@ -1,10 +1,11 @@
 -- What a mesh has that is read: what is due next, whether all is at rest, how many bytes a bio reads and where it goes.
-use Rattle.std.specs.Prelude.{◌≡◌, ℕ, suc, ◌==◌, nat_le, Bool, true, false, not, ◌&&◌, ◌||◌, List, [], ◌∷◌, length, find, Option, Some, None, is_some, is_none, IsSome, IfSome, IsTrue, Contains, slice_get, ◌≤◌}
+use Rattle.std.specs.Prelude.{◌≡◌, ℕ, suc, ◌==◌, nat_le, Bool, true, false, not, ◌&&◌, ◌||◌, List, [], ◌∷◌, length, find, map, Option, Some, None, unwrap_or, is_some, is_none, IsSome, IsTrue, Contains, slice_get, ◌≤◌}
 use Rattle.std.specs.List.{AllByRecursion, list_all}
 use Rattle.std.specs.Option.{option_map, option_map_or, option_and_then}
 use Rattle.std.proofs.Common.{refl, sym, ◌∙◌, ap, subst, arith}
 use Rattle.std.proofs.lemmas.Bool.{ne_eqb}
 use Rattle.std.proofs.lemmas.List.Elements.{recursion_from_All}
+use Rattle.std.proofs.lemmas.Simd.{map-map}
 use Rattle.geo_base.proofs.Options.{none-mapped}
 use Rattle.geo_base.proofs.FindLists.{find_agree}
 use Rattle.geo_base.proofs.AllLists.{all_weaker}
@@ -15,12 +16,12 @@ use Rattle.geo_model.specs.declared.step.Step.{Step}
 use Rattle.geo_model.specs.World.{World, Bio, BioOf, is_busy, is_sent, bio_among}
 use Rattle.geo_model.specs.Bios.{busy_bio, disk_of_bio, disk_at}
 use Rattle.geo_model.specs.Fitting.{Firm}
+use Rattle.geo_model.specs.Graph.{AreNumbers}
 use Rattle.geo_model.specs.Freeing.{reap_work, wash_work}
 use Rattle.geo_model.specs.Laws.{NoneBusy}
 use Rattle.geo_model.specs.Order.{is_at_rest, first_bio, is_to_take, take_step}
 use Rattle.geo_model.specs.Step.{reap_next, wash_next}
 use Rattle.geo_bio.specs.declared.bio.Held.{Held}
-use Rattle.geo_bio.specs.BioTable.{AreInOrder}
 use Rattle.geo_log.specs.Places.{delivered_at}
 use Rattle.geo_state.specs.Traffic.{first_in}
 use Rattle.geo_state.specs.Shown.{shown_bio}
@@ -85,6 +86,11 @@ some_first : (o : Option (BioOf Held)) (bio : ℕ) → option_map (λ (x : BioOf
 some_first None bio e = absurd (let no : ⊥ = cc in no)
 some_first (Some x) bio e = (x, refl, let same : x.number ≡ bio = cc in same)
 
+-- a number, or 0 where there is none
+or_none : (o : Option ℕ) → unwrap_or o 0 ≡ option_map_or (λ d. d) o 0
+or_none None = refl
+or_none (Some d) = refl
+
 -- whether nothing is in a list
 pub no_items : {X : Type 0} (xs : List X) → is_none (slice_get xs 0) ≡ (length xs == 0)
 no_items [] = refl
@@ -119,6 +125,12 @@ module _ {r : Running} {v : MeshView} (it : Reads r v) where
       ≡ option_map (λ (x : Bio). x.number) (find (λ (x : Bio). nat_le from x.number) w.bios)
   next_shown = told.next_shown (left_of r.plan.commands r.left) r.log.items r.state shows
 
+  -- bios stand in order of their numbers
+  numbers : AreNumbers (map (λ (x : BioOf Held). x.number) bios) r.state.traffic.next
+  numbers =
+      subst (λ ns. AreNumbers ns r.state.traffic.next) (map-map (λ (x : Bio). x.number) (shown_bio log) bios)
+      (mesh_firm r it.is).bios.numbers
+
   module _ (none : NoneBusy w) where
     -- the first that can be taken is the first that is Sent
     first_of : find (is_to_take w) w.bios
@@ -132,18 +144,19 @@ module _ {r : Running} {v : MeshView} (it : Reads r v) where
         let o = none-mapped (λ (x : BioOf Held). x.number) (find (λ (x : BioOf Held). is_sent x.phase) bios) e in
         sym (ap (option_map (take_step w)) (first_of ∙ ap (option_map (shown_bio log)) o))
 
-    pub take_some : AreInOrder r.state.traffic → (bio disk : ℕ) → first_in is_sent bios ≡ Some bio
-        → IfSome (bio_among bios bio)
-        (λ x. disk ≡ option_map_or (λ d. d) (disk_at r.state.topo.topology x.target) 0)
+    pub take_some : (bio disk : ℕ) → first_in is_sent bios ≡ Some bio
+        → disk ≡ unwrap_or (option_and_then (λ (x : BioOf Held). disk_at r.state.topo.topology x.target)
+        (bio_among bios bio)) 0
         → Some (steps.Take disk bio) ≡ first_bio w (is_to_take w) (take_step w)
-    take_some order bio disk e at =
+    take_some bio disk e at =
         let first = some_first (find (λ (x : BioOf Held). is_sent x.phase) bios) bio e in
         let x : BioOf Held = first.0 in
         let here : Contains bios x = find-Contains (λ (y : BioOf Held). is_sent y.phase) bios x first.1 in
         let itself : bio_among bios x.number ≡ Some x =
-        found_itself (λ (y : BioOf Held). y.number) r.state.traffic.next bios x order.numbers here in
+        found_itself (λ (y : BioOf Held). y.number) r.state.traffic.next bios x numbers here in
         let named : bio_among bios bio ≡ Some x = subst (λ n. bio_among bios n ≡ Some x) first.2 itself in
-        let to : disk ≡ option_map_or (λ d. d) (disk_at r.state.topo.topology x.target) 0 = rw named at at in
+        let to : disk ≡ option_map_or (λ d. d) (disk_at r.state.topo.topology x.target) 0 =
+        rw named at at ∙ or_none (disk_at r.state.topo.topology x.target) in
         let graph : disk ≡ option_map_or (λ d. d) (disk_at w.topology x.target) 0 =
         subst (λ (u : World). disk ≡ option_map_or (λ d. d) (disk_at u.topology x.target) 0) shows to in
         let P : ℕ → ℕ → Option Step = λ d n. Some (steps.Take d n) in

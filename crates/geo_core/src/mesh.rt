@@ -15,13 +15,13 @@ ghost use Rattle.geo_core.specs.Sent.{spot_of};
 use crate::apply::{advance, apply, begin};
 use crate::found::found_against;
 use crate::refusal::ApplyRefusal;
-use crate::rest::{disk_of, is_idle};
+use crate::rest::is_idle;
 use crate::running::Running;
 use crate::sent::sent;
 use geo_base::{BioId, NoMemory};
 use geo_log::{DiskFacts, Log};
 use geo_model::{MeshList, Outcome, Step};
-use geo_moves::{Spot, bytes_read, listing, reap_found, wash_found};
+use geo_moves::{Spot, bytes_read, disk_of, listing, reap_found, wash_found};
 use geo_script::Plan;
 use std::alloc::Global;
 use std::marker::{Brand, Model};
@@ -126,9 +126,10 @@ impl Mesh {
             ≡ first_bio (world_of self.now) (is_to_take (world_of self.now)) (take_step (world_of self.now)) }
     {
         let running = &*self.running;
-        match running.state.traffic.first_sent() {
+        let state = &running.state;
+        match state.traffic.first_sent() {
             Some(bio) => Some(Step::Take {
-                disk: disk_of(running, bio),
+                disk: disk_of(&state.topo, &state.traffic, bio).unwrap_or(0),
                 bio,
             }),
             None => None,

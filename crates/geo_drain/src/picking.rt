@@ -78,7 +78,7 @@ pub fn earliest(mesh: &Mesh) -> Option<u32>
 {
     let mut best: Option<(u32, u32)> = None;
     for actor in (0..mesh.actors()).rev() {
-        best = earlier(ready(mesh, actor), best);
+        best = earlier(mesh, actor, best);
     }
     match best {
         Some((actor, _)) => Some(actor),
@@ -86,25 +86,19 @@ pub fn earliest(mesh: &Mesh) -> Option<u32>
     }
 }
 
-// An actor with the line of its next command, if that is enabled.
-fn ready(mesh: &Mesh, actor: u32) -> Option<(u32, u32)>
-    ensures { result ≡ ready_at (world_of mesh.now) actor }
+// Of an actor and one that comes later, the one whose line is smaller, or the actor where both have the same: with that
+// line, and the actor only if its next command is enabled.
+fn earlier(mesh: &Mesh, actor: u32, later: Option<(u32, u32)>) -> Option<(u32, u32)>
+    ensures { result ≡ earlier_of (ready_at (world_of mesh.now) actor) later }
 {
-    let line = mesh.next_line(actor)?;
-    if mesh.enabled(0, &Step::Go { actor }) {
-        Some((actor, line))
-    } else {
-        None
+    let Some(line) = mesh.next_line(actor) else {
+        return later;
+    };
+    if !mesh.enabled(0, &Step::Go { actor }) {
+        return later;
     }
-}
-
-// Of two actors with their lines the one with the smaller line, the first if both have the same.
-fn earlier(first: Option<(u32, u32)>, second: Option<(u32, u32)>) -> Option<(u32, u32)>
-    ensures { result ≡ earlier_of first second }
-{
-    match (first, second) {
-        (Some(one), Some(other)) if other.1 < one.1 => Some(other),
-        (Some(one), _) => Some(one),
-        (None, rest) => rest,
+    match later {
+        Some(other) if other.1 < line => Some(other),
+        _ => Some((actor, line)),
     }
 }

@@ -28,8 +28,8 @@ use std::sync::atomic::Ordering::SeqCst;
 // parks on its low half.
 const LOW_HALF: u64 = 1 << 32;
 
-// How often a thread looks at the word before it parks.
-const LOOKS: u32 = 100;
+// How often a thread looks at the word before it parks: as long as a few steps take.
+const LOOKS: u32 = 1000;
 
 /// A state that threads share, with one turn at a time.
 ///

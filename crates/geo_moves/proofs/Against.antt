@@ -25,6 +25,8 @@ use Rattle.geo_laws_graph.proofs.Members.{find-Contains, Contains-cases, at_cont
 use Rattle.geo_bio.specs.declared.bio.Held.{Held}
 use Rattle.geo_log.specs.Places.{delivered_at}
 use Rattle.geo_state.specs.Shown.{shown_bio, shown_bios, errno_of, held_of, AreLogged}
+use Rattle.geo_state.specs.Seats.{with_busy_at}
+use Rattle.geo_state.proofs.Fields.{Answers, holds-taken, holds-answered, only-taken}
 use Rattle.geo_state.proofs.ShownLemmas.{shown_are_found}
 use Rattle.geo_state.proofs.StepLemmas.{world_shows_bios, deliveries_are_shown, place_is_answer}
 use Rattle.geo_state.specs.declared.state.State.{State}
@@ -35,7 +37,7 @@ use Rattle.geo_state.specs.World.{world, disk_of_seat, HasBytes}
 use Rattle.geo_state.specs.Steps.{IsFirm, Stands, against, SameWorld, IsAgainst, Makes}
 use Rattle.geo_moves.specs.Founds.{phase_found, seat_found, way_found, sent_found, take_against, busy_found, deliver_against}
 use Rattle.geo_base.proofs.Options.{is_some-map, there_with_fact, none-mapped, some_of}
-use Rattle.geo_bio.specs.BioTable.{has_phase, BioTableView, with_phase, delivered, delivered_result}
+use Rattle.geo_bio.specs.BioTable.{has_phase, AreInOrder, BioTableView, with_phase, delivered, delivered_result}
 use Rattle.geo_state.specs.Bios.{OnlyBios, GoesTo, IsFree, IsAloneAt}
 use Rattle.std.specs.List.{AllByRecursion}
 use Rattle.std.proofs.lemmas.Simd.{map-map}
@@ -390,6 +392,36 @@ module _ (s : State) (firm : IsFirm s) (b : ℕ) where
         (recursion-from_pairs (NotBothBusy w.topology) (shown_bios l s.traffic.bios) firm.1.1.bios.disks.one_busy)
         (here s firm b x is))
 
+-- What the change of a bio at its disk and of the disk's seat leaves
+
+-- only the bio and the seat are others, and all is kept
+pub record IsMoved (s new : State) (b : ℕ) (f : BioOf Held → BioOf Held) : Type 0 where
+  pub only : OnlyBios s new
+  pub kept : Holds new
+  pub turned : new.traffic ≡ record s.traffic { bios = change_number b f s.traffic.bios }
+
+module _ (s new : State) (v : BioTableView) (b disk : ℕ) (holds : Holds s) (order : AreInOrder s.traffic)
+    (goes : GoesTo s b disk) (rest : new ≡ record s { traffic = v; disks = new.disks }) where
+  -- the bio is taken
+  pub moved_taken : (seat : ℕ) → IsTrue (has_phase is_sent s.traffic.bios b) → IsFree s disk
+      → v ≡ record s.traffic { bios = change_number b (with_phase (phases.Busy seat)) s.traffic.bios }
+      → new.disks.items ≡ with_busy_at s.disks.items disk (Some b) → IsMoved s new b (with_phase (phases.Busy seat))
+  moved_taken seat sent free turned seats = record {
+    only = only-taken s new v s.traffic.next b disk order.numbers goes rest holds (Some b) seats;
+    kept = holds-taken s new v s.traffic.next b disk order.numbers goes rest holds seat sent free turned seats;
+    turned = ap (λ (z : State). z.traffic) rest ∙ turned;
+  }
+
+  -- its disk has answered
+  pub moved_answered : (f : BioOf Held → BioOf Held) → Answers f → IsTrue (has_phase is_busy s.traffic.bios b)
+      → IsAloneAt s b disk → v ≡ record s.traffic { bios = change_number b f s.traffic.bios }
+      → new.disks.items ≡ with_busy_at s.disks.items disk None → IsMoved s new b f
+  moved_answered f answers busy alone turned seats = record {
+    only = only-taken s new v s.traffic.next b disk order.numbers goes rest holds None seats;
+    kept = holds-answered s new v s.traffic.next b disk order.numbers goes rest holds f answers busy alone turned seats;
+    turned = ap (λ (z : State). z.traffic) rest ∙ turned;
+  }
+
 -- A Take
 
 module _ (s new : State) (b seat disk : ℕ) (x : BioOf Held) (is : bio_among s.traffic.bios b ≡ Some x)
@@ -508,6 +540,12 @@ module _ (s : State) (stands : Stands s) (b seat disk : ℕ)
   pub take_free : IsFree s disk
   take_free = is_free s stands.firm b stands.kept disk taken_bio.bio.target taken_bio.fact.disk_is taken_bio.fact.free
 
+  pub take_seat : disk < length s.disks.items
+  take_seat =
+      let seat = some_of (slice_get s.disks.items disk)
+      (has_seat s stands.firm taken_bio.bio.target disk taken_bio.fact.disk_is) in
+      slice_get_within s.disks.items disk seat.0 seat.1
+
 -- a Deliver of a bio at its disk
 pub record DeliversAt (s : State) (b disk : ℕ) (got : DeviceResult) : Type 0 where
   pub bio : BioOf Held
@@ -554,7 +592,7 @@ pub record IsDelivering (s : State) (b disk : ℕ) : Type 0 where
   pub seat : disk < length s.disks.items
   pub alone : IsAloneAt s b disk
 
-pub deliver_requires : (s : State) → Stands s → (b disk : ℕ) (got : DeviceResult) → DeliversAt s b disk got
+deliver_requires : (s : State) → Stands s → (b disk : ℕ) (got : DeviceResult) → DeliversAt s b disk got
     → IsDelivering s b disk
 deliver_requires s stands b disk got at =
     let is = at.found in
@@ -566,6 +604,14 @@ deliver_requires s stands b disk got at =
           slice_get_within s.disks.items disk seat.0 seat.1;
       alone = is_alone s stands.firm b stands.kept disk at.bio is at.busy at.goes;
     }
+
+-- so what it asks holds where nothing is against the Deliver
+pub delivering_requires : (s : State) → Stands s → (b seat : ℕ) (got : DeviceResult)
+    → IsAgainst (λ v. deliver_of v seat got (bio_at v b)) s None → (disk : ℕ)
+    → option_and_then (λ (x : BioOf Held). disk_at s.topo.topology x.target) (bio_among s.traffic.bios b) ≡ Some disk
+    → IsDelivering s b disk
+delivering_requires s stands b seat got none disk goes =
+    deliver_requires s stands b disk got (delivers_at s stands.firm b seat got none disk goes)
 
 -- the bios after a Deliver
 pub deliver_bios : (s new : State) (b place : ℕ) (errno : Option Errno) (got : DeviceResult) (log : List Entry)

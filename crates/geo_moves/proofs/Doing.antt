@@ -254,11 +254,12 @@ module _ (w : World) (line actor : ℕ) where
     decided_owes c = let same = command_owes w line actor order c in omega (arith, same)
 
 -- so by what is kept
-pub owes_after : (s : State) → Holds s → (d : Decision) (actors : List (List LineCommand)) (log : List Entry)
-    (line actor : ℕ) (c : Command) → IsDecided s actor c d
-    → owed_by (places_owed s) d ≡ owed (do_command (world actors log s) line actor c).0
-owes_after s kept d actors log line actor c decided =
-    ap (λ n. owed_by n d) (sym (owed_is s actors log))
+pub owes_after : (s : State) → Holds s → (n : ℕ) → n ≡ places_owed s → (d e : Decision) → d ≡ e
+    → (actors : List (List LineCommand)) (log : List Entry) (line actor : ℕ) (c : Command) → IsDecided s actor c d
+    → owed_by n e ≡ owed (do_command (world actors log s) line actor c).0
+owes_after s kept n are d e is actors log line actor c decided =
+    (λ i. owed_by (are i) (sym is i))
+    ∙ ap (λ m. owed_by m d) (sym (owed_is s actors log))
     ∙ ap (owed_by (owed (world actors log s))) (decided actors log)
     ∙ decided_owes (world actors log s) line actor kept.numbers c
 

@@ -20,11 +20,6 @@ abbrev pub not_whole : ℕ → ℕ → ℕ → Bool
 not_whole sector offset len =
     not (offset % sector == 0) || (not (len % sector == 0) || ((len == 0) || nat_lt MAX_REQUEST_BYTES len))
 
--- what refuses a range of a provider of a size, with sectors of so many bytes
-abbrev pub range_refusal : ℕ → ℕ → ℕ → ℕ → Option Errno
-range_refusal size sector offset len =
-    first_error ((not_whole sector offset len, EINVAL) ∷ (nat_lt size (offset + len), EIO) ∷ [])
-
 -- what refuses a request to a provider by what was granted
 abbrev pub refusal_by_grant : Counts → Provider → Asking → Option Errno
 refusal_by_grant grant p a =

@@ -12,7 +12,7 @@ ghost use Rattle.geo_life.specs.Life.{is_out};
 ghost use Rattle.geo_state.specs.Holds.{Holds};
 ghost use Rattle.geo_state.specs.Steps.{Stands};
 ghost use Rattle.geo_state.specs.World.{world};
-ghost use Rattle.geo_moves.specs.Decisions.{IsDecided, deciding_steps, is_closed, owed_by, places_owed};
+ghost use Rattle.geo_moves.specs.Decisions.{IsDecided, deciding_steps, is_closed, places_owed};
 
 use crate::opens::open_refusal;
 use geo_access::Steps;
@@ -116,7 +116,13 @@ pub fn owed_after(state: &State, decision: &Decision) -> u64
         → IsDecided state.now actor command decision.now
         → result ≡ owed (do_command (world actors log state.now) line actor command).0 }
 {
-    owed_by(places_owed(state), decision)
+    let owed = places_owed(state);
+    match decision {
+        Decision::Opens(None) => owed + 1,
+        Decision::Opens(Some(_)) => owed,
+        Decision::Closes => owed.saturating_sub(1),
+        Decision::Other => owed,
+    }
 }
 
 /// How many places of the log are owed: one for the close of each handle, one for the Deliver of each Busy bio.
@@ -126,16 +132,4 @@ pub fn places_owed(state: &State) -> u64
     ensures few { result < 2 ^ 63 }
 {
     state.handles.len() + state.traffic.busy()
-}
-
-// How many are owed after what was decided, where so many are before.
-fn owed_by(owed: u64, decision: &Decision) -> u64
-    requires { owed < 2 ^ 63 }
-    ensures { result ≡ owed_by owed decision.now }
-{
-    match decision {
-        Decision::Opens(None) => owed + 1,
-        Decision::Closes => owed.saturating_sub(1),
-        Decision::Opens(Some(_)) | Decision::Other => owed,
-    }
 }

@@ -5,7 +5,7 @@ ghost use Rattle.geo_model.specs.Requests.{is_allowed};
 ghost use Rattle.geo_model.specs.Topology.{consumer_at};
 ghost use Rattle.geo_mesh.specs.Cells.{provider_seen};
 ghost use Rattle.geo_handles.specs.Handles.{handle_seen, named_handle};
-ghost use Rattle.geo_moves.specs.Asked.{IsGatesAnswer, IsHandlesAnswer, attached, not_whole, range_refusal, refusal_by_grant};
+ghost use Rattle.geo_moves.specs.Asked.{IsGatesAnswer, IsHandlesAnswer, attached, not_whole, refusal_by_grant};
 
 use geo_base::{BioCmd, ConsId, Counts, Errno, HandleId, MAX_REQUEST_BYTES, Name, ProvId};
 use geo_class::Config;
@@ -95,7 +95,15 @@ fn refusal(grant: Counts, prov: &ProvRec, cmd: BioCmd, span: Span) -> Option<Err
     }
     match cmd {
         BioCmd::Flush => None,
-        _ => range_refusal(prov, span),
+        _ => {
+            if is_invalid_range(u64::from(prov.sector), span) {
+                return Some(Errno::EINVAL);
+            }
+            if is_past_end(prov.size, span) {
+                return Some(Errno::EIO);
+            }
+            None
+        }
     }
 }
 
@@ -107,20 +115,6 @@ fn is_allowed(grant: Counts, cmd: BioCmd) -> bool
         BioCmd::Read => grant.r != 0,
         _ => grant.w != 0,
     }
-}
-
-// What refuses a range of a provider.
-fn range_refusal(prov: &ProvRec, span: Span) -> Option<Errno>
-    requires { 0 < prov.now.sector }
-    ensures { result ≡ range_refusal prov.now.size prov.now.sector span.offset span.len }
-{
-    if is_invalid_range(u64::from(prov.sector), span) {
-        return Some(Errno::EINVAL);
-    }
-    if is_past_end(prov.size, span) {
-        return Some(Errno::EIO);
-    }
-    None
 }
 
 // Whether a range isn't one or more whole sectors of at most the longest request.

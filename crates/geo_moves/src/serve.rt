@@ -15,7 +15,7 @@ use geo_base::{BioId, Errno, NoMemory};
 use geo_bio::Held;
 use geo_log::Log;
 use geo_model::{DeviceResult, Outcome};
-use geo_state::State;
+use geo_state::{State, set_busy};
 use std::alloc::Global;
 
 /// A seat takes a bio for its disk, against which nothing is, and learns what is asked. Where memory is wanting all
@@ -36,7 +36,8 @@ pub fn take(
     ensures logged { (log : List Entry) → HasBytes log state.old → HasBytes log state.new }
 {
     let request = request_of(alloc, &state.topo, &state.traffic, disk, bio)?;
-    geo_state::take(state, disk, bio, seat);
+    state.traffic.take(bio, seat);
+    set_busy(state, disk, Some(bio));
     Ok(Outcome::Asked(request))
 }
 
@@ -54,7 +55,10 @@ pub fn deliver(state: &mut State, log: &Log, seat: u32, bio: BioId, got: &Device
     ensures logged { (e : Entry) → HasBytes (log.now.items ++ e ∷ []) state.new }
 {
     match disk_of(&state.topo, &state.traffic, bio) {
-        Some(disk) => geo_state::deliver(state, disk, bio, log.len(), errno_of(got)),
+        Some(disk) => {
+            state.traffic.deliver(bio, log.len(), errno_of(got));
+            set_busy(state, disk, None);
+        }
         None => {}
     }
 }
@@ -70,7 +74,10 @@ pub fn deliver_kept(state: &mut State, seat: u32, bio: BioId, got: DeviceResult)
     ensures logged { (log : List Entry) → HasBytes log state.old → HasBytes log state.new }
 {
     match disk_of(&state.topo, &state.traffic, bio) {
-        Some(disk) => geo_state::end(state, disk, bio, held_of(got)),
+        Some(disk) => {
+            state.traffic.end(bio, held_of(got));
+            set_busy(state, disk, None);
+        }
         None => {}
     }
 }

@@ -19,7 +19,7 @@ use crate::cut::Cut;
 use crate::way::{Way, way_of};
 use geo_base::{BioId, Errno, GeomId, NoMemory};
 use geo_model::Outcome;
-use geo_state::{State, bounce, send, split};
+use geo_state::{State, bounce, split};
 use std::alloc::Global;
 
 /// A bio that is Down goes its way: back with an error, to its disk, or in pieces to those below. What can't be
@@ -49,7 +49,7 @@ pub fn start(alloc: Global, state: &mut State, bio: BioId) -> Result<Outcome, No
             Ok(Outcome::Bounced)
         }
         Way::Sends(disk) => {
-            send(state, bio);
+            state.traffic.send(bio);
             Ok(Outcome::Queued { disk })
         }
         Way::Splits(cut) => split_by(alloc, state, bio, &cut),

@@ -1,5 +1,5 @@
 -- What is found against a step and a command, and what they lead to.
-use Rattle.std.specs.Prelude.{◌≡◌, ℕ, ◌+◌, ◌<◌, ◌≤◌, ◌==◌, ◌%◌, ◌^◌, ◌⊎◌, filter, true, false, Bool, List, [], ◌∷◌, Option, Some, None, Result, Ok, Err, IsOk, IsErrAnd, IfOk, slice_get, All, if◌then◌else◌, option_and_then}
+use Rattle.std.specs.Prelude.{◌≡◌, ℕ, ◌+◌, ◌<◌, ◌≤◌, ◌==◌, ◌%◌, ◌^◌, ◌⊎◌, ◌&&◌, ◌||◌, filter, true, false, Bool, List, [], ◌∷◌, Option, Some, None, Result, Ok, Err, IsOk, IsErrAnd, IfOk, slice_get, All, if◌then◌else◌, option_and_then}
 use Rattle.std.specs.List.{AllByRecursion}
 use Rattle.std.specs.Option.{option_map_or}
 use Rattle.std.proofs.Common.{refl, ap, sym, subst, ◌∙◌, inl, inr}
@@ -38,9 +38,10 @@ use Rattle.geo_state.specs.Steps.{against, Does, Makes, SameWorld, Stands}
 use Rattle.geo_state.specs.World.{world, HasBytes}
 use Rattle.geo_session.specs.declared.live.Live.{Live}
 use Rattle.geo_session.specs.declared.refusal.SessionRefusal.{SessionRefusal}
+use Rattle.geo_session.specs.Generation.{is_graph_command, is_graph_step, is_of_graph, is_taste_back, next_generation}
 use Rattle.geo_session.specs.Growth.{more_left, with_command}
 use Rattle.geo_session.specs.Live.{session_view, IsSession}
-use Rattle.geo_session.specs.Moves.{IsFoundAgainst, IsFoundGiven, IsEnabledDeliver, Leads, SurelyCloses}
+use Rattle.geo_session.specs.Moves.{IsFoundAgainst, IsFoundGiven, IsEnabledDeliver, Leads, SurelyCloses, is_up_step}
 use Rattle.geo_session.specs.Session.{SessionView, HistoryOf, AnswersFrom, Made, IsRefusedFor, none_left}
 use Rattle.geo_session.proofs.Histories.{commands_go_on, history_names, names_prop, steps_go_on}
 use Rattle.geo_session.proofs.Lists.{get_more, more_from}
@@ -85,65 +86,66 @@ session_stands l is =
 pub session_names : (l : Live) → IsSession l → HaveNames l.state.topo.topology
 session_names l is = ∥∥₁_elim is.history (names_prop (session_view l).world) (λ h. history_names h)
 
+-- one to which a step led: it is a live mesh, and the step was made
+pub record Ends (next : Live) (before : World) (old : SessionView) (seat : ℕ) (st : Step) (o : Outcome) : Type 0 where
+  pub session : IsSession next
+  pub made : Made before old (session_view next) seat st o
+
 -- after a step from a firm world it is one again
-module _ (l : Live) (s : State) (count : ℕ) (is : IsSession l) (before : World) (firm : Firm before) (seat : ℕ)
-    (st : Step) (o : Outcome) (holds : Holds s) (bytes : HasBytes [] s)
+module _ (l : Live) (s : State) (count generation : ℕ) (is : IsSession l) (before : World) (firm : Firm before)
+    (seat : ℕ) (st : Step) (o : Outcome) (holds : Holds s) (bytes : HasBytes [] s)
     (does : step before seat st ≡ Ok (world (none_left l.actors) [] s, o))
-    (counted : count ≡ (l.steps + 1) % 2 ^ 64) where
+    (counted : count ≡ (l.steps + 1) % 2 ^ 64)
+    (raised : generation ≡ next_generation l.generation (is_of_graph before st o)) where
   abbrev next : Live
-  next = record l { state = s; steps = count }
+  next = record l { state = s; steps = count; generation = generation }
 
-  pub next_made : Made before (session_view l) (session_view next) seat st o
-  next_made = record { does = does; counted = counted }
+  next_made : Made before (session_view l) (session_view next) seat st o
+  next_made = record { does = does; counted = counted; generation = raised }
 
-  pub next_session : (HistoryOf (session_view l) → HistoryOf (session_view next)) → IsSession next
-  next_session goes_on = record {
-    holds = holds;
-    bytes = bytes;
-    firm = subst Firm (ap (λ (a : Answer). world_after before a) does) (steps_stay_firm before seat st firm);
-    history = ∥∥₁_map is.history goes_on;
+  pub next_ends : (Made before (session_view l) (session_view next) seat st o
+      → HistoryOf (session_view l) → HistoryOf (session_view next))
+      → Ends next before (session_view l) seat st o
+  next_ends goes_on = record {
+    session = record {
+      holds = holds;
+      bytes = bytes;
+      firm = subst Firm (ap (λ (a : Answer). world_after before a) does) (steps_stay_firm before seat st firm);
+      history = ∥∥₁_map is.history (goes_on next_made);
+    };
+    made = next_made;
   }
 
 -- so it is after a step
-module _ (l : Live) (s : State) (count : ℕ) (is : IsSession l) (seat : ℕ) (st : Step) (o : Outcome) (holds : Holds s)
-    (bytes : HasBytes [] s)
-    (does : step (session_view l).world seat st ≡ Ok (world (none_left l.actors) [] s, o))
-    (counted : count ≡ (l.steps + 1) % 2 ^ 64) where
-  pub step_session : IsSession (record l { state = s; steps = count })
-  step_session =
-      next_session l s count is (session_view l).world is.firm seat st o holds bytes does counted
-      (λ h. (steps_go_on seat st o
-      (next_made l s count is (session_view l).world is.firm seat st o holds bytes does counted) h).next)
-
-  pub step_made : Made (session_view l).world (session_view l) (session_view (record l { state = s; steps = count }))
-      seat st o
-  step_made = next_made l s count is (session_view l).world is.firm seat st o holds bytes does counted
+pub step_ends : (l : Live) (s : State) (count generation : ℕ) → IsSession l → (seat : ℕ) (st : Step) (o : Outcome)
+    → Holds s → HasBytes [] s → step (session_view l).world seat st ≡ Ok (world (none_left l.actors) [] s, o)
+    → count ≡ (l.steps + 1) % 2 ^ 64
+    → generation ≡ next_generation l.generation (is_of_graph (session_view l).world st o)
+    → Ends (record l { state = s; steps = count; generation = generation }) (session_view l).world (session_view l) seat
+    st o
+step_ends l s count generation is seat st o holds bytes does counted raised =
+    next_ends l s count generation is (session_view l).world is.firm seat st o holds bytes does counted raised
+    (λ made h. (steps_go_on seat st o made h).next)
 
 -- and after a command
-module _ (l : Live) (s : State) (count : ℕ) (is : IsSession l) (c : LineCommand) (is_command : IsCommand c.command)
-    (o : Outcome) (holds : Holds s) (bytes : HasBytes [] s)
-    (does : step (with_command c (session_view l).world) 0 (steps.Go c.actor) ≡ Ok (world (none_left l.actors) [] s, o))
-    (counted : count ≡ (l.steps + 1) % 2 ^ 64) where
-  abbrev given_world : World
-  given_world = with_command c (session_view l).world
-
-  given_firm : Firm given_world
-  given_firm = firm_with c is_command (session_view l).world is.firm
-
-  pub command_made : Made given_world (session_view l) (session_view (record l { state = s; steps = count })) 0
-      (steps.Go c.actor) o
-  command_made = next_made l s count is given_world given_firm 0 (steps.Go c.actor) o holds bytes does counted
-
-  pub command_session : IsSession (record l { state = s; steps = count })
-  command_session =
-      next_session l s count is given_world given_firm 0 (steps.Go c.actor) o holds bytes does counted
-      (λ h. (commands_go_on c o is_command command_made h).next)
+pub command_ends : (l : Live) (s : State) (count generation : ℕ) → IsSession l → (c : LineCommand)
+    → IsCommand c.command → (o : Outcome) → Holds s → HasBytes [] s
+    → step (with_command c (session_view l).world) 0 (steps.Go c.actor) ≡ Ok (world (none_left l.actors) [] s, o)
+    → count ≡ (l.steps + 1) % 2 ^ 64
+    → generation ≡ next_generation l.generation
+    (is_of_graph (with_command c (session_view l).world) (steps.Go c.actor) o)
+    → Ends (record l { state = s; steps = count; generation = generation }) (with_command c (session_view l).world)
+    (session_view l) 0 (steps.Go c.actor) o
+command_ends l s count generation is c is_command o holds bytes does counted raised =
+    next_ends l s count generation is (with_command c (session_view l).world)
+    (firm_with c is_command (session_view l).world is.firm) 0 (steps.Go c.actor) o holds bytes does counted raised
+    (λ made h. (commands_go_on c o is_command made h).next)
 
 -- where memory was wanting it is the one that it was
 module _ (l : Live) (s : State) (is : IsSession l) (same : SameWorld l.state s) where
   pub same_seen : session_view (record l { state = s }) ≡ session_view l
   same_seen =
-      ap (λ (w : World). let v : SessionView = record { world = w; steps = l.steps } in v)
+      ap (λ (w : World). let v : SessionView = record { world = w; steps = l.steps; generation = l.generation } in v)
       (same (none_left l.actors) [])
 
   pub same_session : Holds s → HasBytes [] s → IsSession (record l { state = s })
@@ -235,6 +237,30 @@ never_none actors s seat actor is = by (none_or_less actors actor) where
   by (inl less) = none (no_command actors actor s less)
   by (inr less) = none (no_actor actors actor s less)
 
+-- What is of the graph
+
+-- a step against which nothing is: it works on it, or is an Up that brings a taste's read back
+pub told_graph : (actors : ℕ) (s : State) (seat : ℕ) (st : Step) (o : Outcome)
+    → IsFoundAgainst actors s seat st None
+    → (is_graph_step st || (is_up_step st && is_taste_back o)) ≡ is_of_graph (world (none_left actors) [] s) st o
+told_graph actors s seat (steps.Go actor) o none = absurd (never_none actors s seat actor none)
+told_graph actors s seat steps.Event o none = refl
+told_graph actors s seat steps.Judge o none = refl
+told_graph actors s seat steps.Reap o none = refl
+told_graph actors s seat steps.Wash o none = refl
+told_graph actors s seat st o none = refl
+
+pub raised_by : (l : Live) (seat : ℕ) (st : Step) (o : Outcome) {f : Option Found} → f ≡ None
+    → IsFoundAgainst l.actors l.state seat st f → (generation : ℕ) (works rises is : Bool)
+    → works ≡ is_graph_step st → rises ≡ is_up_step st → is ≡ (works || (rises && is_taste_back o))
+    → generation ≡ next_generation l.generation is
+    → generation ≡ next_generation l.generation (is_of_graph (session_view l).world st o)
+raised_by l seat st o none found generation works rises is w r i g =
+    g ∙ ap (next_generation l.generation)
+    (i ∙ ap (λ x. x || (rises && is_taste_back o)) w ∙ ap (λ x. is_graph_step st || (x && is_taste_back o)) r
+    ∙ told_graph l.actors l.state seat st o
+    (subst (λ (x : Option Found). IsFoundAgainst l.actors l.state seat st x) none found))
+
 -- A close that is answered ok has no request out
 closed_ok : (w : World) (line : ℕ) (o : Option Handle) (after : World)
     → close_handle w line o ≡ (after, outcomes.Replied line replies.Ok) → is_closed w o ≡ true
@@ -277,6 +303,12 @@ module _ (actors : ℕ) (s : State) (c : LineCommand) where
     has =
         get_more c (none_left actors) c.actor [] (none_at actors c.actor there)
         ∙ ap (λ (l : List LineCommand). let o : Option (List LineCommand) = Some l in o) (given c)
+
+    -- so it is of the graph by its command
+    pub given_graph : (o : Outcome) → is_of_graph before (steps.Go c.actor) o ≡ is_graph_command c.command
+    given_graph o =
+        ap (λ l. option_map_or (λ (x : LineCommand). is_graph_command x.command) (option_and_then first_command l)
+        false) has
 
     abbrev gone_world : World
     gone_world = with_commands before c.actor []
@@ -381,6 +413,12 @@ module _ (l : Live) (c : LineCommand) where
 
     waits_not : None ≡ waits_for given_to c.actor c.command
     waits_not = sym none ∙ waiting l.actors l.state c has_actor
+
+    pub raised_given : (generation : ℕ) (o : Outcome)
+        → generation ≡ next_generation l.generation (is_graph_command c.command)
+        → generation ≡ next_generation l.generation (is_of_graph given_to (steps.Go c.actor) o)
+    raised_given generation o raised =
+        raised ∙ sym (ap (next_generation l.generation) (given_graph l.actors l.state c has_actor o))
 
     pub done_given : (s : State) (o : Outcome) → Does (λ w. do_command w c.line c.actor c.command) [] l.state s o
         → step given_to 0 (steps.Go c.actor) ≡ Ok (world (none_left l.actors) [] s, o)

@@ -62,7 +62,7 @@ no_bytes s none =
 module _ (plan : Plan) (facts : List (ℕ × ℕ)) (s : State) (actors : ℕ) (is : IsPlan plan)
     (fit : FactsFit plan facts) (opens : IsOpened (opening plan facts) s) (each : actors ≡ length plan.actors) where
   abbrev first : Live
-  first = record { state = s; actors = actors; steps = 0 }
+  first = record { state = s; actors = actors; steps = 0; generation = 0 }
 
   first_world : world (none_left actors) [] s ≡ opening (without_commands plan) facts
   first_world =
@@ -70,8 +70,10 @@ module _ (plan : Plan) (facts : List (ℕ × ℕ)) (s : State) (actors : ℕ) (i
       ∙ ap (λ (w : World). record w { actors = none_left (length plan.actors) }) (opens.world [])
       ∙ sym (opening_without plan facts)
 
-  pub first_seen : session_view first ≡ record { world = opening (without_commands plan) facts; steps = 0 }
-  first_seen = ap (λ (w : World). let v : SessionView = record { world = w; steps = 0 } in v) first_world
+  pub first_seen : session_view first
+      ≡ record { world = opening (without_commands plan) facts; steps = 0; generation = 0 }
+  first_seen =
+      ap (λ (w : World). let v : SessionView = record { world = w; steps = 0; generation = 0 } in v) first_world
 
   first_history : HistoryOf (session_view first)
   first_history = record {

@@ -1,4 +1,5 @@
 pub mod Growth
+pub mod Generation
 pub mod Session
 pub mod Live
 pub mod Moves

@@ -6,9 +6,14 @@ use Rattle.geo_state.specs.World.{world, HasBytes}
 use Rattle.geo_session.specs.declared.live.Live.{Live}
 use Rattle.geo_session.specs.Session.{SessionView, HistoryOf, none_left}
 
--- what is seen of it: the world for which its state stands, where no actor has a command left, and the count of steps
+-- what is seen of it: the world for which its state stands, where no actor has a command left, and the counts of
+-- steps and of those of the graph
 abbrev pub session_view : Live → SessionView
-session_view l = record { world = world (none_left l.actors) [] l.state; steps = l.steps }
+session_view l = record {
+  world = world (none_left l.actors) [] l.state;
+  steps = l.steps;
+  generation = l.generation;
+}
 
 -- what is kept beside its parts is kept, no bio names a place of a log, and it is firm; and there are a plan, sizes of
 -- its disks and a legal log that lead from the opening to its world

@@ -1,5 +1,5 @@
--- What is found against a step where no actor has a command left, and which step is never refused.
-use Rattle.std.specs.Prelude.{◌≡◌, ℕ, [], Option, Ok, IsOk}
+-- What is found against a step where no actor has a command left, which step is never refused, and which is an Up.
+use Rattle.std.specs.Prelude.{◌≡◌, ℕ, [], Bool, true, false, Option, Ok, IsOk}
 use Rattle.geo_model.specs.declared.command.Command.{Command}
 use Rattle.geo_model.specs.declared.command.LineCommand.{LineCommand}
 use Rattle.geo_model.specs.declared.step.Found.{Found}
@@ -36,6 +36,11 @@ SurelyCloses s actor command = (d : Decision) → IsDecided s actor command d �
 abbrev pub IsEnabledDeliver : World → ℕ → Step → Type 0
 IsEnabledDeliver w seat (steps.Deliver bio got) = IsOk (step w seat (steps.Deliver bio got))
 IsEnabledDeliver w seat st = ⊥
+
+-- the step is an Up
+abbrev pub is_up_step : Step → Bool
+is_up_step (steps.Up bio) = true
+is_up_step _ = false
 
 -- the step leads from one world to the other, with this outcome
 abbrev pub Leads : World → ℕ → Step → World → Outcome → Type 0

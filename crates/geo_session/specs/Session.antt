@@ -14,12 +14,15 @@ use Rattle.geo_model.specs.Step.{step}
 use Rattle.geo_model.specs.Log.{Legal, replay}
 use Rattle.geo_session.specs.declared.refusal.SessionRefusal.{SessionRefusal}
 use Rattle.geo_session.specs.declared.refusal.SessionRefusal.TheVariants as refusals
+use Rattle.geo_session.specs.Generation.{is_of_graph, next_generation}
 use Rattle.geo_session.specs.Growth.{with_command}
 
--- what is seen of a live mesh: its world, and how many steps it has made, counted up to 2^64 and then from 0 again
+-- what is seen of a live mesh: its world, and how many steps it has made, counted up to 2^64 and then from 0 again; so
+-- are those that are of the graph
 pub record SessionView : Type 0 where
   pub world : World
   pub steps : ℕ
+  pub generation : ℕ
 
 -- the plan without its commands
 abbrev pub without_commands : Plan → Plan
@@ -45,10 +48,12 @@ pub record HistoryOf (v : SessionView) : Type 0 where
 abbrev pub HasHistory : SessionView → Type 0
 HasHistory v = ∥ ((h : HistoryOf v) × KeepsHistory (opening h.plan h.facts) h.log) ∥₁
 
--- a step was made: it is the definitions' step, and one more is counted
+-- a step was made: it is the definitions' step, and one more is counted; and one more of the graph exactly if it is of
+-- the graph
 pub record Made (before : World) (old new : SessionView) (seat : ℕ) (s : Step) (outcome : Outcome) : Type 0 where
   pub does : step before seat s ≡ Ok (new.world, outcome)
   pub counted : new.steps ≡ (old.steps + 1) % 2 ^ 64
+  pub generation : new.generation ≡ next_generation old.generation (is_of_graph before s outcome)
 
 -- a step was refused, and the mesh is as before: for what was found, exactly where the step isn't enabled; or for want
 -- of memory, where it is

@@ -1,9 +1,9 @@
 //! A live mesh: its commands are given one at a time, as they come, and it keeps neither a plan nor a log (geom(4),
 //! g_bio(9), g_event(9)).
 //!
-//! Contracts see a [`Session`] as its world, in which no actor has a command left, and how many steps it has made
-//! (`SessionView`). The world is the one for which its state stands over an empty log; a bio holds itself the bytes
-//! that it waits to hand up.
+//! Contracts see a [`Session`] as its world, in which no actor has a command left, how many steps it has made, and how
+//! many of them were of the graph (`SessionView`). The world is the one for which its state stands over an empty log; a
+//! bio holds itself the bytes that it waits to hand up.
 //!
 //! - [`Session::begin`]: the opening of a plan's header (its disks, its actors), whose commands aren't made.
 //! - [`Session::step`]: on Ok it is the model's step and outcome, and one step more is counted (`answer`: `Answers`).
@@ -26,6 +26,10 @@
 //! - [`Session::next_bio`]: the bio with the smallest number from a given one on. [`Session::sent`]: where a bio goes
 //!   that waits for its disk. [`Session::room`]: how many bytes a READ of a bio gives. [`Session::bios`],
 //!   [`Session::handles`], [`Session::actors`], [`Session::steps`]: how many there are.
+//! - [`Session::generation`]: how many steps were of the graph (`is_of_graph`), that is, may have changed geoms,
+//!   providers, consumers, their counts or handles. It is counted by kind of step: events, judgments, reaps and washes
+//!   are of the graph, so are all commands but requests, sync, settle and mesh, and the Up that brings a taste's read
+//!   back. That no other step changes the listing no clause says.
 //!
 //! Laws: [`plans_may_grow`], with one more command at its end a plan opens as before, but that the command's actor has
 //! it left too, and each legal log stays legal and leads to the same world but for that. [`histories_go_on`], what is
@@ -40,6 +44,7 @@ ghost use Rattle.geo_session.specs.Growth.{PlansMayGrow};
 ghost use Rattle.geo_session.specs.Going.{HistoriesGoOn};
 
 mod found;
+mod generation;
 mod live;
 mod making;
 mod opened;

@@ -10,4 +10,6 @@ pub struct Live {
     pub actors: u32,
     /// How many steps were made, counted up to 2^64 and then from 0 again.
     pub steps: u64,
+    /// How many of them were of the graph, counted the same way.
+    pub generation: u64,
 }

@@ -17,6 +17,7 @@ ghost use Rattle.geo_session.specs.Moves.{IsFoundAgainst, IsEnabledDeliver, Lead
 ghost use Rattle.geo_session.specs.Session.{none_left, Answers, Commands};
 
 use crate::found::{found_against, found_given};
+use crate::generation::{is_graph_command, is_graph_step, is_of_graph, is_up, next_generation};
 use crate::live::Live;
 use crate::refusal::SessionRefusal;
 use geo_access::Steps;
@@ -48,8 +49,11 @@ pub fn make<L: Ledger>(
         return Err(SessionRefusal::NotEnabled { found });
     }
     let mut steps: Steps<L> = Steps::new(blank);
+    let works = is_graph_step(&step);
+    let rises = is_up(&step);
     let outcome = turn(alloc, live.actors, &mut live.state, seat, step, &mut steps)?;
     live.steps = one_more(live.steps);
+    live.generation = next_generation(live.generation, is_of_graph(works, rises, &outcome));
     Ok(outcome)
 }
 
@@ -137,6 +141,7 @@ pub fn command<L: Ledger>(
     let mut steps: Steps<L> = Steps::new(blank);
     let outcome = go(alloc, &mut live.state, line, &mut steps)?;
     live.steps = one_more(live.steps);
+    live.generation = next_generation(live.generation, is_graph_command(&line.command));
     Ok(outcome)
 }
 

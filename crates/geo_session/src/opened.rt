@@ -16,7 +16,7 @@ use std::alloc::Global;
 pub fn begin(alloc: Global, plan: &Plan, disks: &DiskFacts) -> Result<Live, NoMemory>
     requires { FactsFit plan.now disks.now.items }
     ensures began { IfOk result (λ l. session_view l
-        ≡ record { world = opening (without_commands plan.now) disks.now.items; steps = 0 }) }
+        ≡ record { world = opening (without_commands plan.now) disks.now.items; steps = 0; generation = 0 }) }
     ensures session { IfOk result IsSession }
 {
     let actors = count_of(plan);
@@ -25,6 +25,7 @@ pub fn begin(alloc: Global, plan: &Plan, disks: &DiskFacts) -> Result<Live, NoMe
         state,
         actors,
         steps: 0,
+        generation: 0,
     })
 }
 

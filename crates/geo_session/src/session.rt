@@ -32,7 +32,8 @@ use std::alloc::Global;
 use std::marker::{Brand, Model};
 use std::sync::ledger::Blank;
 
-/// A live mesh. Contracts see its world, in which no actor has a command left, and how many steps it has made.
+/// A live mesh. Contracts see its world, in which no actor has a command left, how many steps it has made, and how many
+/// of them were of the graph.
 #[derive(Drop)]
 pub struct Session {
     alloc: Global,
@@ -57,7 +58,7 @@ impl Session {
     pub fn begin(alloc: Global, plan: &Plan, disks: &DiskFacts) -> Result<Session, NoMemory>
         requires { FactsFit plan.now disks.now.items }
         ensures { IfOk result (λ session. session
-            ≡ record { world = opening (without_commands plan.now) disks.now.items; steps = 0 }) }
+            ≡ record { world = opening (without_commands plan.now) disks.now.items; steps = 0; generation = 0 }) }
     {
         let live = Box::new(alloc, begin(alloc, plan, disks)?)?;
         Ok(Session { alloc, live })
@@ -193,6 +194,14 @@ impl Session {
         ensures { result ≡ self.now.steps }
     {
         self.live.steps
+    }
+
+    /// How many of its steps were of the graph, counted up to 2^64 and then from 0 again: by their kind they may have
+    /// changed geoms, providers, consumers, their counts or handles.
+    pub fn generation(&self) -> u64
+        ensures { result ≡ self.now.generation }
+    {
+        self.live.generation
     }
 
     /// How it came to be, at any moment: there is a legal history from an opening to it, which keeps all that the

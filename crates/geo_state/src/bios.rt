@@ -1,22 +1,19 @@
 //! What becomes of requests (g_bio(9)), with what is kept of them.
-ghost use Rattle.std.specs.Prelude.{◌≡◌, ◌+◌, ◌-◌, ◌<◌, ◌≤◌, ◌^◌, true, None, [], ◌∷◌, ◌++◌, length, IsOk, IsSome, IfSome, IfOk, OnOk, OnErr, IsTrue, slice_get};
+ghost use Rattle.std.specs.Prelude.{◌≡◌, ◌+◌, ◌-◌, ◌<◌, ◌≤◌, ◌^◌, true, None, [], ◌∷◌, ◌++◌, length, IsOk, IsSome, IfSome, IfOk, OnOk, OnErr, IsTrue};
 ghost use Rattle.geo_model.specs.declared.step.Owner.TheVariants as owners;
-ghost use Rattle.geo_model.specs.declared.step.Phase.TheVariants as phases;
 ghost use Rattle.geo_model.specs.Words.{is_write};
 ghost use Rattle.geo_model.specs.Topology.{consumer_at};
-ghost use Rattle.geo_model.specs.World.{change_number, is_down, is_sent, is_busy, is_root, bio_among};
+ghost use Rattle.geo_model.specs.World.{change_number, is_down, is_root, bio_among};
 ghost use Rattle.geo_model.specs.Bios.{new_bio, up_with};
 ghost use Rattle.geo_bio.specs.declared.bio.Held.TheVariants as held;
-ghost use Rattle.geo_bio.specs.BioTable.{has_phase, with_phase, delivered};
+ghost use Rattle.geo_bio.specs.BioTable.{has_phase};
 ghost use Rattle.geo_slots.specs.Slots.{value_at};
 ghost use Rattle.geo_mesh.specs.Topo.{with_active};
 ghost use Rattle.geo_state.specs.Holds.{Holds};
-ghost use Rattle.geo_state.specs.Bios.{OnlyBios, GoesTo, IsFree, IsAloneAt, IsAsking, IsNoHandles};
+ghost use Rattle.geo_state.specs.Bios.{OnlyBios, IsAsking, IsNoHandles};
 
-use crate::Held;
 use crate::own::enter;
-use crate::seats::set_busy;
-use crate::state::{OwnBios, State};
+use crate::state::State;
 use geo_base::{BioCmd, BioId, ConsId, Errno, HandleId, NoMemory, ProvId, SharedBytes};
 use geo_class::Config;
 use geo_mesh::Topo;
@@ -60,7 +57,13 @@ pub fn submit_line(
         return Err(NoMemory);
     };
     let actor = found.actor;
-    if !has_count(&state.topo, bio.from) || !has_own_count(&state.own, actor) {
+    if !has_count(&state.topo, bio.from) {
+        return Err(NoMemory);
+    }
+    let Some(own) = state.own.get(actor as usize) else {
+        return Err(NoMemory);
+    };
+    if own.count >= MOST_OUT {
         return Err(NoMemory);
     }
     let number = submit(state, bio, Owner::Line { handle, line })?;
@@ -111,70 +114,6 @@ pub fn bounce(state: &mut State, bio: BioId, errno: Errno)
     state.traffic.bounce(bio, errno);
 }
 
-/// A bio goes to its disk.
-pub fn send(state: &mut State, bio: BioId)
-    requires kept { Holds state.old }
-    requires down { IsTrue (has_phase is_down state.old.traffic.bios bio) }
-    ensures sent { state.new ≡ record state.old {
-      traffic = record state.old.traffic {
-        bios = change_number bio (with_phase phases.Sent) state.old.traffic.bios;
-      };
-    } }
-    ensures kept { Holds state.new }
-{
-    state.traffic.send(bio);
-}
-
-/// A seat takes a bio for its disk, at which nothing is.
-pub fn take(state: &mut State, disk: u32, bio: BioId, seat: u32)
-    requires kept { Holds state.old }
-    requires sent { IsTrue (has_phase is_sent state.old.traffic.bios bio) }
-    requires goes { GoesTo state.old bio disk }
-    requires free { IsFree state.old disk }
-    ensures taken { state.new.traffic ≡ record state.old.traffic {
-      bios = change_number bio (with_phase (phases.Busy seat)) state.old.traffic.bios;
-    } }
-    ensures only { OnlyBios state.old state.new }
-    ensures kept { Holds state.new }
-{
-    state.traffic.take(bio, seat);
-    set_busy(state, disk, Some(bio));
-}
-
-/// A bio's disk has answered: it goes up with the bytes at this place of the log, with success, or with an error.
-pub fn deliver(state: &mut State, disk: u32, bio: BioId, place: u64, errno: Option<Errno>)
-    requires kept { Holds state.old }
-    requires busy { IsTrue (has_phase is_busy state.old.traffic.bios bio) }
-    requires goes { GoesTo state.old bio disk }
-    requires seat { disk < length state.old.disks.items }
-    requires alone { IsAloneAt state.old bio disk }
-    ensures delivered { state.new.traffic ≡ record state.old.traffic {
-      bios = change_number bio (delivered place errno) state.old.traffic.bios;
-    } }
-    ensures only { OnlyBios state.old state.new }
-    ensures kept { Holds state.new }
-{
-    state.traffic.deliver(bio, place, errno);
-    set_busy(state, disk, None);
-}
-
-/// A bio's disk has answered: it goes up with this, which it holds itself.
-pub fn end(state: &mut State, disk: u32, bio: BioId, held: Held)
-    requires kept { Holds state.old }
-    requires busy { IsTrue (has_phase is_busy state.old.traffic.bios bio) }
-    requires goes { GoesTo state.old bio disk }
-    requires seat { disk < length state.old.disks.items }
-    requires alone { IsAloneAt state.old bio disk }
-    ensures ended { state.new.traffic ≡ record state.old.traffic {
-      bios = change_number bio (up_with held) state.old.traffic.bios;
-    } }
-    ensures only { OnlyBios state.old state.new }
-    ensures kept { Holds state.new }
-{
-    state.traffic.end(bio, held);
-    set_busy(state, disk, None);
-}
-
 // A new request, which is out through its consumer.
 fn submit(state: &mut State, bio: NewBio, owner: Owner) -> Result<BioId, NoMemory>
     requires root { IsTrue (is_root owner) }
@@ -210,16 +149,6 @@ pub fn has_count(topo: &Topo<Config>, cons: ConsId) -> bool
 {
     match topo.consumer(cons) {
         Some(consumer) => consumer.active < MOST_OUT,
-        None => true,
-    }
-}
-
-// Whether one more request of the actor can be counted.
-fn has_own_count(own: &Vec<OwnBios>, actor: u32) -> bool
-    ensures { result ≡ true → IfSome (slice_get own.now.items actor) (λ x. x.count < 2 ^ 63) }
-{
-    match own.get(actor as usize) {
-        Some(bios) => bios.count < MOST_OUT,
         None => true,
     }
 }

@@ -22,25 +22,18 @@ pub struct Cursor {
     pub first: Option<u64>,
 }
 
-// Whether a phase is the one that waits for this step.
-fn is_due(due: Due, phase: Phase) -> bool
-    ensures { result ≡ is_due due phase }
-{
-    match (due, phase) {
-        (Due::Start, Phase::Down) => true,
-        (Due::Take, Phase::Sent) => true,
-        (Due::Up, Phase::Up) => true,
-        _ => false,
-    }
-}
-
 // Whether the bio of a number is there, and waits for this step.
 fn waits(bios: &BioTable, due: Due, bio: BioId) -> bool
     ensures waits { result ≡ has_phase (is_due due) bios.now.bios bio }
     ensures bound { bios.now.next < 2 ^ 64 }
 {
     match bios.get(bio) {
-        Some(found) => is_due(due, found.phase),
+        Some(found) => match (due, found.phase) {
+            (Due::Start, Phase::Down) => true,
+            (Due::Take, Phase::Sent) => true,
+            (Due::Up, Phase::Up) => true,
+            _ => false,
+        },
         None => false,
     }
 }

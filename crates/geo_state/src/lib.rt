@@ -5,10 +5,11 @@
 //! be reaped, and each actor's own requests. Of each disk it keeps the geom and the request at it, and besides the
 //! taste's read and how many providers there are. And the queue has a place for each event that may not fail.
 //!
-//! Requests are submitted, bounced, sent, split, taken, delivered and go up ([`submit_line`], [`bounce`], [`send`],
-//! [`split`], [`take`], [`deliver`], [`up`]); [`end`] is a delivery of which the bio holds the bytes itself, where no
-//! log keeps them. Each call keeps `Holds` and changes these parts alone (`OnlyBios`);
-//! after want of memory they are as before. [`empty`] is the state before any disk stands. [`reserve_events`] makes
+//! Requests are submitted, bounced, split and go up ([`submit_line`], [`bounce`], [`split`], [`up`]). Each call keeps
+//! `Holds` and changes these parts alone (`OnlyBios`); after want of memory they are as before. So does
+//! [`Traffic::send`] by itself. [`Traffic::take`], [`Traffic::deliver`] and [`Traffic::end`] keep it together with
+//! [`set_busy`], which notes what is at the disk; by `end` the bio holds a READ's bytes itself, where no log keeps
+//! them. [`empty`] is the state before any disk stands. [`reserve_events`] makes
 //! room for a step's events, [`reserve_bio`] for one more request. [`own_bio`] is the request for which a sync waits.
 //!
 //! [`Traffic`] is seen as geo_bio's table is, with its clauses. [`Traffic::first_up`], [`Traffic::first_sent`] and
@@ -49,7 +50,7 @@ mod state;
 mod traffic;
 mod ups;
 
-pub use bios::{NewBio, bounce, deliver, end, send, submit_line, submit_read, take};
+pub use bios::{NewBio, bounce, submit_line, submit_read};
 pub use geo_bio::{Bio, Held, LogBytes, Risen, Targets};
 pub use geo_class::Config;
 pub use geo_model::{BioResult, Owner, Phase, Span};

@@ -224,7 +224,7 @@ impl Traffic {
         ensures in_order { AreInOrder self.old }
     {
         self.down = without_one(self.down, &self.bios, Due::Start, bio);
-        self.bios.send(bio);
+        self.bios.set_phase(bio, Phase::Sent);
         self.sent = with_one(self.sent, bio.number());
     }
 
@@ -237,7 +237,7 @@ impl Traffic {
         ensures in_order { AreInOrder self.old }
     {
         self.sent = without_one(self.sent, &self.bios, Due::Take, bio);
-        self.bios.take(bio, seat);
+        self.bios.set_phase(bio, Phase::Busy(seat));
         self.busy += 1;
     }
 
@@ -281,8 +281,9 @@ impl Traffic {
         let up = without_one(self.up, &self.bios, Due::Up, bio);
         let family = family_size(&self.bios, bio);
         let risen = self.bios.up(alloc, bio, log)?;
-        self.up = up_after(up, &risen);
-        self.live -= gone_by(family, &risen);
+        let after = up_after(up, family, &risen);
+        self.up = after.0;
+        self.live -= after.1;
         Ok(risen)
     }
 
@@ -340,27 +341,18 @@ fn family_size(bios: &BioTable, bio: BioId) -> u32
     }
 }
 
-// What becomes of the cursor of those that are Up.
-fn up_after(cursor: Cursor, risen: &Risen) -> Cursor
+// What becomes of the cursor of those that are Up, and how many bios are gone.
+fn up_after(cursor: Cursor, family: u32, risen: &Risen) -> (Cursor, u64)
     requires { cursor.count + 1 < 2 ^ 64 }
-    ensures { result ≡ up_after cursor risen.now }
+    ensures up { result.0 ≡ up_after cursor risen.now }
+    ensures gone { result.1 ≡ gone_by family risen.now }
 {
     match risen {
+        Risen::Root(_) => (cursor, 1),
         Risen::InParent {
             parent,
             complete: true,
-        } => with_one(cursor, parent.number()),
-        _ => cursor,
-    }
-}
-
-// How many bios are gone.
-fn gone_by(family: u32, risen: &Risen) -> u64
-    ensures { result ≡ gone_by family risen.now }
-{
-    match risen {
-        Risen::Root(_) => 1,
-        Risen::InParent { complete: true, .. } => family as u64,
-        Risen::InParent { .. } => 0,
+        } => (with_one(cursor, parent.number()), family as u64),
+        Risen::InParent { .. } => (cursor, 0),
     }
 }

@@ -1,5 +1,5 @@
 -- What is due after a step, by what it makes.
-use Rattle.std.specs.Prelude.{◌≡◌, ◌≢◌, ℕ, ◌+◌, ◌≤◌, Option, Some, None, Ok, IsSome}
+use Rattle.std.specs.Prelude.{◌≡◌, ◌≢◌, ℕ, ◌+◌, ◌<◌, ◌≤◌, ◌^◌, length, Option, Some, None, Ok, IsSome, if◌then◌else◌}
 use Rattle.std.proofs.Common.{refl, sym, ap, subst, ◌∙◌, arith}
 use Rattle.slab.specs.Slab.{Slab, get, ContainsKey}
 use Rattle.geo_model.specs.declared.step.DeviceResult.{DeviceResult}
@@ -16,20 +16,22 @@ use Rattle.geo_model.specs.Steady.{Steady}
 use Rattle.geo_model.proofs.FirmLemmas.{firm_of}
 use Rattle.geo_laws_replies.specs.ReplyLaws.{counts_reply, unanswered}
 use Rattle.geo_laws_replies.proofs.AnsweringSteps.{steps_answer}
-use Rattle.geo_session.specs.Session.{SessionView, Made}
+use Rattle.geo_session.specs.Generation.{is_of_graph}
+use Rattle.geo_session.specs.Session.{SessionView, Made, none_left}
 use Rattle.geo_tags.specs.declared.due.Due.{Due}
 use Rattle.geo_tags.specs.declared.due.Due.TheVariants as dues
-use Rattle.geo_tags.specs.Calls.{Delivers, IsDueBy, Nexts}
-use Rattle.geo_tags.specs.Tokens.{taken_by, HandsOut, IsExpected}
+use Rattle.geo_tags.specs.Calls.{Delivers, IsDueBy, Nexts, is_changed}
+use Rattle.geo_tags.specs.Tokens.{changed_to, taken_by, HandsOut, IsExpected}
 use Rattle.geo_tags.specs.Tags.{tagged_view, EachWaits}
 use Rattle.geo_tags.proofs.Outcomes.{Tells, outcome_tells}
+use Rattle.geo_tags.proofs.Raised.{changed_is, changes, reply_quiet, told_change, unchanged}
 use Rattle.geo_tags.proofs.Waits.{weight, has_token, others_count, quiet_counts, reply_counts, turned, waits_still, waits_where}
 
 -- what asks is a Take
 asking_takes : (s : Step) (request : Request) → Tells s (outcomes.Asked request) → IsSome (taken_by s)
 asking_takes (steps.Take disk bio) request tells = refl
 asking_takes (steps.Deliver bio got) request tells = absurd (let no : ⊥ = cc in no)
-asking_takes _ request tells = absurd (let no : ⊥ = cc in no)
+asking_takes _ request tells = absurd (let no : ⊥ = cc tells.0 in no)
 
 -- the step that takes a bio for a disk
 taking : (s : Step) (disk bio : ℕ) → taken_by s ≡ Some (disk, bio) → s ≡ steps.Take disk bio
@@ -92,35 +94,60 @@ module _ (old new : SessionView) (slots : Slab ℕ) (waits : EachWaits (tagged_v
       (waits_still old new slots waits (none_answered none))
 
   -- what is handed out
-  pub handed_waits : (due : Due) (later : Slab ℕ) → HandsOut due (taken_by s) o slots later
-      → EachWaits (tagged_view new later)
-  handed_waits (dues.Ask disk bio request) later (taken, is, same) =
-      quietly later same (λ tag. ap (counts_reply tag) is)
-  handed_waits (dues.Reply token reply) later (line, is, has, updates) =
-      waits_where old new slots waits later line None updates (now_answered line reply is token has)
-      (others_stay line reply is)
-  handed_waits dues.Moved later (quiet, same) = quietly later same (λ tag. quiet_counts tag o quiet)
-  handed_waits dues.Idle later out = absurd out
+  module _ (changed : Option ℕ) (later : Slab ℕ) where
+    pub handed_waits : (due : Due) → HandsOut due (taken_by s) o changed slots later → EachWaits (tagged_view new later)
+    handed_waits (dues.Ask disk bio request) (taken, is, same) = quietly later same (λ tag. ap (counts_reply tag) is)
+    handed_waits (dues.Reply token reply) (line, is, has, updates) =
+        waits_where old new slots waits later line None updates (now_answered line reply is token has)
+        (others_stay line reply is)
+    handed_waits dues.Moved (quiet, none, same) = quietly later same (λ tag. quiet_counts tag o quiet)
+    handed_waits (dues.Changed generation) (quiet, some, same) = quietly later same (λ tag. quiet_counts tag o quiet)
+    handed_waits dues.Idle out = absurd out
 
-  handed_due : (due : Due) (later : Slab ℕ) → HandsOut due (taken_by s) o slots later
-      → IsDueBy due s o (tagged_view old slots) (tagged_view new later)
-  handed_due (dues.Ask disk bio request) later (taken, is, same) =
-      (taking s disk bio taken, is, ap (tagged_view new) same)
-  handed_due (dues.Reply token reply) later (line, is, has, updates) =
-      (line, is, has, turned old new slots later line None updates)
-  handed_due dues.Moved later (quiet, same) = (quiet, ap (tagged_view new) same)
-  handed_due dues.Idle later out = out
+    module _ (none : (old.world).actors ≡ none_left (length (old.world).actors)) (bound : old.generation < 2 ^ 64)
+        (is_change : changed ≡ changed_to old.generation new.generation) where
+      handed_due : (due : Due) → HandsOut due (taken_by s) o changed slots later
+          → IsDueBy due s o (tagged_view old slots) (tagged_view new later)
+      handed_due (dues.Ask disk bio request) (taken, is, same) =
+          (taking s disk bio taken, is, ap (tagged_view new) same)
+      handed_due (dues.Reply token reply) (line, is, has, updates) =
+          (line, is, has, turned old new slots later line None updates)
+      handed_due dues.Moved (quiet, unmoved, same) = (quiet, ap (tagged_view new) same)
+      handed_due (dues.Changed generation) (quiet, some, same) =
+          (quiet, changed_is old.generation new.generation generation (sym is_change ∙ some), ap (tagged_view new) same)
+      handed_due dues.Idle out = out
 
-  pub handed_next : pick old.world ≡ Some s → (due : Due) (later : Slab ℕ) → HandsOut due (taken_by s) o slots later
-      → Nexts (Ok due) (tagged_view old slots) (tagged_view new later)
-  handed_next picked dues.Idle later out = absurd out
-  handed_next picked due later out = record {
-    step = s;
-    picked = picked;
-    outcome = o;
-    made = made;
-    is_due = handed_due due later out;
-  }
+      -- the generation is another one exactly where the step is of the graph
+      by_step : (if is_of_graph old.world s o then Some new.generation else None) ≡ changed
+      by_step =
+          sym (is_change
+          ∙ told_change old.generation new.generation (is_of_graph old.world s o) bound made.generation)
+
+      handed_told : (due : Due) → HandsOut due (taken_by s) o changed slots later
+          → is_of_graph old.world s o ≡ is_changed due
+      handed_told (dues.Ask disk bio request) (taken, is, same) =
+          ap (λ (x : Step). is_of_graph old.world x o) (taking s disk bio taken)
+      handed_told (dues.Reply token reply) (line, is, has, updates) =
+          ap (is_of_graph old.world s) is
+          ∙ reply_quiet old.world s line reply none
+          (subst (Tells s) is (outcome_tells old.world 0 s new.world o made.does))
+      handed_told dues.Moved (quiet, unmoved, same) =
+          unchanged (is_of_graph old.world s o) new.generation (by_step ∙ unmoved)
+      handed_told (dues.Changed generation) (quiet, some, same) =
+          changes (is_of_graph old.world s o) new.generation generation (by_step ∙ some)
+      handed_told dues.Idle out = absurd out
+
+      pub handed_next : pick old.world ≡ Some s → (due : Due) → HandsOut due (taken_by s) o changed slots later
+          → Nexts (Ok due) (tagged_view old slots) (tagged_view new later)
+      handed_next picked dues.Idle out = absurd out
+      handed_next picked due out = record {
+        step = s;
+        picked = picked;
+        outcome = o;
+        made = made;
+        is_due = handed_due due out;
+        is_told = handed_told due out;
+      }
 
 -- The step that was picked, and the disk and the bio that were read of it before
 
@@ -148,17 +175,19 @@ module _ {old new : SessionView} {slots : Slab ℕ} {s : Step} {o : Outcome} {ta
       subst (λ (t : Option (ℕ × ℕ)). IsExpected slots t o) (sym it.taken_is)
       (expected old new slots it.waits it.firm s o it.made)
 
-  as_taken : (due : Due) (later : Slab ℕ) → HandsOut due taken o slots later → HandsOut due (taken_by s) o slots later
-  as_taken due later out = subst (λ (t : Option (ℕ × ℕ)). HandsOut due t o slots later) it.taken_is out
+  module _ (due : Due) (changed : Option ℕ) (later : Slab ℕ) (out : HandsOut due taken o changed slots later) where
+    as_taken : HandsOut due (taken_by s) o changed slots later
+    as_taken = subst (λ (t : Option (ℕ × ℕ)). HandsOut due t o changed slots later) it.taken_is out
 
-  pub leaves_waits : (due : Due) (later : Slab ℕ) → HandsOut due taken o slots later → EachWaits (tagged_view new later)
-  leaves_waits due later out =
-      handed_waits old new slots it.waits it.firm s o it.made due later (as_taken due later out)
+    pub leaves_waits : EachWaits (tagged_view new later)
+    leaves_waits = handed_waits old new slots it.waits it.firm s o it.made changed later due as_taken
 
-  pub leaves_next : pick old.world ≡ Some s → (due : Due) (later : Slab ℕ) → HandsOut due taken o slots later
-      → Nexts (Ok due) (tagged_view old slots) (tagged_view new later)
-  leaves_next picked due later out =
-      handed_next old new slots it.waits it.firm s o it.made picked due later (as_taken due later out)
+    -- the generations are read before and after
+    pub leaves_next : pick old.world ≡ Some s → (old.world).actors ≡ none_left (length (old.world).actors)
+        → old.generation < 2 ^ 64 → changed ≡ changed_to old.generation new.generation
+        → Nexts (Ok due) (tagged_view old slots) (tagged_view new later)
+    leaves_next picked none bound is_change =
+        handed_next old new slots it.waits it.firm s o it.made changed later none bound is_change picked due as_taken
 
 -- What a disk answers
 

@@ -1,5 +1,5 @@
--- Which steps ask a disk, and what a Deliver makes.
-use Rattle.std.specs.Prelude.{◌≡◌, ℕ, Bool, true, false, Ok, Err, ⊤}
+-- Which steps ask a disk or reply, and what a Deliver makes.
+use Rattle.std.specs.Prelude.{◌≡◌, ℕ, Bool, true, false, ◌&&◌, Ok, Err, ⊤}
 use Rattle.std.proofs.Common.{refl, subst}
 use Rattle.geo_model.specs.declared.class.Judged.{Judged}
 use Rattle.geo_model.specs.declared.class.Judged.TheVariants.{Read, Next, Made, Ended}
@@ -15,6 +15,7 @@ use Rattle.geo_model.specs.Step.{Answer, step, with_commands}
 use Rattle.geo_model.specs.Tasting.{Judging, judged_world}
 use Rattle.geo_model.specs.World.{World, Bio}
 use Rattle.geo_model.proofs.StepWalk.{step_by}
+use Rattle.geo_session.specs.Generation.{is_graph_step}
 use Rattle.geo_tags.proofs.OwnLines.{IsOwn, own_line}
 
 -- whether a disk is asked
@@ -22,11 +23,16 @@ abbrev pub asks : Outcome → Bool
 asks (outcomes.Asked request) = true
 asks _ = false
 
--- a Deliver is delivered, and but for a Take no step asks
+-- whether a line is replied to
+abbrev pub replies : Outcome → Bool
+replies (outcomes.Replied line reply) = true
+replies _ = false
+
+-- a Deliver is delivered; but for a Take no step asks, and what works on the graph doesn't reply
 abbrev pub Tells : Step → Outcome → Type 0
 Tells (steps.Take disk bio) o = ⊤
 Tells (steps.Deliver bio got) o = o ≡ outcomes.Delivered
-Tells _ o = asks o ≡ false
+Tells s o = (asks o ≡ false) × ((is_graph_step s && replies o) ≡ false)
 
 abbrev AnswerTells : Step → Answer → Type 0
 AnswerTells s (Ok made) = Tells s made.1
@@ -37,11 +43,11 @@ own_asks : (line : ℕ) (o : Outcome) → IsOwn line o → asks o ≡ false
 own_asks line (outcomes.Asked request) own = absurd own
 own_asks line _ own = refl
 
-judging_asks : (w : World) (x : Judging) (j : Judged) → asks (judged_world w x j).1 ≡ false
-judging_asks w x (Read sector) = refl
-judging_asks w x Next = refl
-judging_asks w x Made = refl
-judging_asks w x Ended = refl
+judging_tells : (w : World) (x : Judging) (j : Judged) → Tells steps.Judge (judged_world w x j).1
+judging_tells w x (Read sector) = (refl, refl)
+judging_tells w x Next = (refl, refl)
+judging_tells w x Made = (refl, refl)
+judging_tells w x Ended = (refl, refl)
 
 way_asks : (w : World) (x : Bio) (way : Way) → asks (start_by w x way).1 ≡ false
 way_asks w x (Bounces e) = refl
@@ -60,17 +66,19 @@ each_tells : (w : World) (seat : ℕ) (s : Step) → AnswerTells s (step w seat 
 each_tells w seat =
     step_by w seat AnswerTells (record {
       refuses = λ s f. tt;
-      goes = λ actor c rest is.
-          own_asks c.line (do_command (with_commands w actor rest) c.line actor c.command).1
-          (own_line (with_commands w actor rest) c.line actor c.command);
-      runs = λ e rest is. refl;
-      judges = λ t x j is. judging_asks w x j;
-      reaps = λ h c is. refl;
-      washes = λ work is. refl;
-      starts = λ b x way is. way_asks w x way;
+      goes = λ actor c rest is. (
+        own_asks c.line (do_command (with_commands w actor rest) c.line actor c.command).1
+            (own_line (with_commands w actor rest) c.line actor c.command),
+        refl,
+      );
+      runs = λ e rest is. (refl, refl);
+      judges = λ t x j is. judging_tells w x j;
+      reaps = λ h c is. (refl, refl);
+      washes = λ work is. (refl, refl);
+      starts = λ b x way is. (way_asks w x way, refl);
       takes = λ disk b x is. tt;
       delivers = λ b got x is. refl;
-      rises = λ b x o is. owner_asks w x o;
+      rises = λ b x o is. (owner_asks w x o, refl);
     })
 
 pub outcome_tells : (w : World) (seat : ℕ) (s : Step) (after : World) (o : Outcome) → step w seat s ≡ Ok (after, o)

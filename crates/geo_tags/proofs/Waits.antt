@@ -28,10 +28,15 @@ none_begin tag plan [] = refl
 none_begin tag plan (a ∷ actors) = none_begin tag plan actors
 
 -- so nothing is unanswered, and no tag waits
-pub opening_waits : (plan : Plan) (facts : List (ℕ × ℕ)) (steps : ℕ) (slots : Slab ℕ) → slots.slots ≡ []
-    → EachWaits (tagged_view (record { world = opening (without_commands plan) facts; steps = steps }) slots)
+pub opening_waits : (plan : Plan) (facts : List (ℕ × ℕ)) (steps generation : ℕ) (slots : Slab ℕ)
+    → slots.slots ≡ []
+    → EachWaits (tagged_view (record {
+      world = opening (without_commands plan) facts;
+      steps = steps;
+      generation = generation;
+    }) slots)
 unfolding opening
-opening_waits plan facts steps slots none tag =
+opening_waits plan facts steps generation slots none tag =
     stands_leave tag
     (filter (λ item. not item.1.0.later) (enumerate_from 0 (zip plan.disks facts)))
     (bare_world (without_commands plan) facts)

@@ -1,5 +1,5 @@
 -- What each call answers, and what it leaves.
-use Rattle.std.specs.Prelude.{◌≡◌, ◌<◌, ◌^◌, ℕ, Option, Some, None, Result, Ok, Err, IsSome, ⊤}
+use Rattle.std.specs.Prelude.{◌≡◌, ◌<◌, ◌^◌, ℕ, Bool, true, false, Option, Some, None, Result, Ok, Err, IsSome, ⊤}
 use Rattle.geo_base.specs.declared.block.NoMemory.{NoMemory}
 use Rattle.geo_model.specs.declared.command.Command.{Command}
 use Rattle.geo_model.specs.declared.command.LineCommand.{LineCommand}
@@ -15,6 +15,7 @@ use Rattle.geo_model.specs.Order.{pick}
 use Rattle.geo_model.specs.Step.{step}
 use Rattle.geo_session.specs.declared.refusal.SessionRefusal.{SessionRefusal}
 use Rattle.geo_session.specs.declared.refusal.SessionRefusal.TheVariants as refusals
+use Rattle.geo_session.specs.Generation.{is_of_graph}
 use Rattle.geo_session.specs.Growth.{with_command}
 use Rattle.geo_session.specs.Session.{Answers, Commands}
 use Rattle.geo_tags.specs.declared.due.Due.{Due}
@@ -57,15 +58,23 @@ IsDueBy (dues.Ask disk bio request) s outcome old new =
 IsDueBy (dues.Reply token reply) s outcome old new =
     (tag : ℕ) × (outcome ≡ outcomes.Replied tag reply) × (token_at old tag ≡ Some token) × Turns old new tag None
 IsDueBy dues.Moved s outcome old new = StaysInside outcome × SameTokens old new
+IsDueBy (dues.Changed generation) s outcome old new =
+    StaysInside outcome × (generation ≡ (new.session).generation) × SameTokens old new
 IsDueBy dues.Idle s outcome old new = ⊥
 
--- the step that is picked was made
+-- the graph may have changed
+abbrev pub is_changed : Due → Bool
+is_changed (dues.Changed generation) = true
+is_changed _ = false
+
+-- the step that is picked was made, and the graph is said to have changed exactly where the step is of the graph
 pub record Moves (due : Due) (old new : TaggedView) : Type 0 where
   pub step : Step
   pub picked : pick (old.session).world ≡ Some step
   pub outcome : Outcome
   pub made : Answers (Ok outcome) old.session new.session 0 step
   pub is_due : IsDueBy due step outcome old new
+  pub is_told : is_of_graph (old.session).world step outcome ≡ is_changed due
 
 -- it is idle exactly where no step is picked; where memory is wanting for the one that is, all is as before
 abbrev pub Nexts : Result Due NoMemory → TaggedView → TaggedView → Type 0

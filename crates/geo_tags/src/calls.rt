@@ -6,7 +6,7 @@ ghost use Rattle.geo_tags.specs.Calls.{Delivers, Nexts, Submits, SurelyCloses};
 ghost use Rattle.geo_tags.specs.Tags.{tagged_view, EachWaits};
 
 use crate::due::Due;
-use crate::tokens::{hand_out, make_room, next_tag, taken_by};
+use crate::tokens::{changed_to, hand_out, make_room, next_tag, taken_by};
 use geo_base::{BioId, NoMemory};
 use geo_model::{Command, DeviceResult, Found, LineCommand, Outcome, Reply, Step};
 use geo_session::{Session, SessionRefusal};
@@ -60,8 +60,13 @@ pub fn next(session: &mut Session, tokens: &mut Slab<u64>) -> Result<Due, NoMemo
         return Ok(Due::Idle);
     };
     let taken = taken_by(&step);
+    let before = session.generation();
     match session.step(0, step) {
-        Ok(outcome) => Ok(hand_out(tokens, taken, outcome)),
+        Ok(outcome) => {
+            let after = session.generation();
+            let changed = changed_to(before, after);
+            Ok(hand_out(tokens, taken, outcome, changed))
+        }
         Err(SessionRefusal::NoMemory) => Err(NoMemory),
         Err(SessionRefusal::NotEnabled { .. }) => unreachable!(),
     }

@@ -17,8 +17,13 @@ pub enum Due {
         token: u64,
         reply: Reply,
     },
-    /// A step was made inside the mesh.
+    /// A step of requests was made inside the mesh: its graph is as before.
     Moved,
+    /// A step was made inside the mesh that may have changed its geoms, providers, consumers, their counts or handles.
+    /// This is the generation of its graph now.
+    Changed {
+        generation: u64,
+    },
     /// No step is due, and none was made: disks have to answer, or commands to come.
     Idle,
 }

@@ -10,8 +10,9 @@
 //!   token (`Submits`). After a refusal all is as before. A close that is answered ok is never refused while there is a
 //!   next tag, since it needs no room for a token (`sure`).
 //! - [`TaggedSession::next`]: the step that is due in the fixed order is made, and nothing else (`Nexts`): a disk is
-//!   asked, a reply is handed out with the token of its tag, which has none then, or the mesh moved. Idle exactly where
-//!   no step is due.
+//!   asked, a reply is handed out with the token of its tag, which has none then, the mesh moved, or its graph may have
+//!   changed, with its generation then: that exactly after a step that the session counts as one of the graph. Idle
+//!   exactly where no step is due.
 //! - [`TaggedSession::answer`]: what a disk answers is delivered exactly where that is enabled (`Delivers`).
 //! - [`TaggedSession::each_waits`]: a line is unanswered once where its tag has a token, and else not at all
 //!   (`EachWaits`). So no reply is lost, and none comes twice or with another's token.

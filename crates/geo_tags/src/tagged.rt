@@ -42,7 +42,11 @@ impl TaggedSession {
         requires { FactsFit plan.now disks.now.items }
         ensures { IfOk result (λ tagged. tagged
             ≡ record {
-              session = record { world = opening (without_commands plan.now) disks.now.items; steps = 0 };
+              session = record {
+                world = opening (without_commands plan.now) disks.now.items;
+                steps = 0;
+                generation = 0;
+              };
               tokens = [];
               next_tag = 0;
             }) }
@@ -73,8 +77,9 @@ impl TaggedSession {
     }
 
     /// Makes the step that is due in the fixed order, and says what is due then: a disk is asked, or a request is
-    /// replied to, whose tag then has no token. `Idle` exactly where no step is due. Where memory is wanting all is as
-    /// before; nothing else is refused.
+    /// replied to, whose tag then has no token; the mesh moved, or its graph may have `Changed`: that exactly after a
+    /// step that is of the graph. `Idle` exactly where no step is due. Where memory is wanting all is as before;
+    /// nothing else is refused.
     pub fn next(&mut self) -> Result<Due, NoMemory>
         ensures { Nexts result self.old self.new }
     {

@@ -1,8 +1,8 @@
 //! The slots of tokens: a tag is a key of a slab.
-ghost use Rattle.std.specs.Prelude.{◌≡◌, ◌≤◌, ◌^◌, true, false, None, IfNone, IfSome, IsOk, OnOk};
+ghost use Rattle.std.specs.Prelude.{◌≡◌, ◌<◌, ◌≤◌, ◌^◌, true, false, None, IfNone, IfSome, IsOk, OnOk};
 ghost use Rattle.slab.specs.Slab.{get, HasRoomFor};
 ghost use Rattle.geo_laws_owed.specs.OwedLaws.{is_close};
-ghost use Rattle.geo_tags.specs.Tokens.{taken_by, HandsOut, IsExpected};
+ghost use Rattle.geo_tags.specs.Tokens.{changed_to, taken_by, HandsOut, IsExpected};
 
 use crate::due::Due;
 use geo_base::{BioId, NoMemory};
@@ -46,10 +46,24 @@ pub fn taken_by(step: &Step) -> Option<(u32, BioId)>
     }
 }
 
-/// What is due by the outcome of a step. A reply takes the token of its tag.
-pub fn hand_out(tokens: &mut Slab<u64>, taken: Option<(u32, BioId)>, outcome: Outcome) -> Due
+/// The generation after a step, if it is another one than before.
+pub fn changed_to(before: u64, after: u64) -> Option<u64>
+    ensures changed { result ≡ changed_to before after }
+    ensures fits { before < 2 ^ 64 }
+{
+    if before == after { None } else { Some(after) }
+}
+
+/// What is due by the outcome of a step, and by the generation if it is another one. A reply takes the token of its
+/// tag.
+pub fn hand_out(
+    tokens: &mut Slab<u64>,
+    taken: Option<(u32, BioId)>,
+    outcome: Outcome,
+    changed: Option<u64>,
+) -> Due
     requires { IsExpected tokens.old taken outcome }
-    ensures { HandsOut result taken outcome tokens.old tokens.new }
+    ensures { HandsOut result taken outcome changed tokens.old tokens.new }
 {
     match outcome {
         Outcome::Asked(request) => match taken {
@@ -62,7 +76,10 @@ pub fn hand_out(tokens: &mut Slab<u64>, taken: Option<(u32, BioId)>, outcome: Ou
         },
         other => {
             drop(other);
-            Due::Moved
+            match changed {
+                Some(generation) => Due::Changed { generation },
+                None => Due::Moved,
+            }
         }
     }
 }

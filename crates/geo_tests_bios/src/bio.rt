@@ -1,7 +1,7 @@
 //! What no clause says: that there is memory, and the table with a log of its own.
 ghost use Rattle.std.specs.Prelude.{◌≡◌, ◌^◌, ◌<◌, length, IfOk};
-ghost use Rattle.geo_model.specs.World.{is_down, is_sent, is_busy, is_up};
-ghost use Rattle.geo_bio.specs.BioTable.{has_phase};
+ghost use Rattle.geo_model.specs.World.{is_down, is_busy, is_up};
+ghost use Rattle.geo_bio.specs.BioTable.{has_phase, is_going};
 
 use crate::same::assert_same;
 use geo_base::{BioCmd, BioId, Block, ConsId, Errno, HandleId, NoMemory, ProvId, SharedBytes};
@@ -110,11 +110,12 @@ fn is_down(table: &BioTable, bio: BioId) -> bool
     }
 }
 
-fn is_sent(table: &BioTable, bio: BioId) -> bool
-    ensures { result ≡ has_phase is_sent table.now.bios bio }
+// Whether the bio is on its way to its disk: it waits for no children, and isn't Done.
+fn is_going(table: &BioTable, bio: BioId) -> bool
+    ensures { result ≡ has_phase is_going table.now.bios bio }
 {
     match table.get(bio) {
-        Some(found) => matches!(found.phase, Phase::Sent),
+        Some(found) => !matches!(found.phase, Phase::Waiting | Phase::Done),
         None => false,
     }
 }
@@ -139,14 +140,14 @@ fn is_up(table: &BioTable, bio: BioId) -> bool
 
 // The bio's disk answers with the page of this place.
 fn answer(table: &mut BioTable, bio: BioId, place: u64) -> Result<(), Fail> {
-    if !is_down(table, bio) {
-        return Err("not down".into());
+    if !is_going(table, bio) {
+        return Err("not on its way".into());
     }
-    table.send(bio);
-    if !is_sent(table, bio) {
-        return Err("not sent".into());
+    table.set_phase(bio, Phase::Sent);
+    if !is_going(table, bio) {
+        return Err("not on its way to its disk".into());
     }
-    table.take(bio, 0);
+    table.set_phase(bio, Phase::Busy(0));
     if !is_busy(table, bio) {
         return Err("not busy".into());
     }

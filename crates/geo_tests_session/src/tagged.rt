@@ -21,11 +21,12 @@ pub struct Answer {
 }
 
 /// What is out at the disks, in the order in which they were asked, and the replies: each token, with the first byte
-/// that was read, or none.
+/// that was read, or none; and the generations of the graph that were told, in their order.
 #[derive(Drop)]
 pub struct Seen {
     pub out: Vec<Answer>,
     pub replies: Vec<(u64, u64)>,
+    pub generations: Vec<u64>,
 }
 
 // The live mesh of a plan's header.
@@ -52,6 +53,7 @@ pub fn none_seen(alloc: Global) -> Seen {
     Seen {
         out: Vec::new(alloc),
         replies: Vec::new(alloc),
+        generations: Vec::new(alloc),
     }
 }
 
@@ -156,6 +158,10 @@ fn note(alloc: Global, seen: &mut Seen, due: Due) -> Result<bool, Fail> {
             Ok(true)
         }
         Due::Moved => Ok(true),
+        Due::Changed { generation } => {
+            seen.generations.push(generation)?;
+            Ok(true)
+        }
         Due::Idle => Ok(false),
     }
 }

@@ -13,8 +13,8 @@ ram md1 512 16
 actor a
 ";
 
-// Opens a disk under a handle's name.
-fn open_disk(tagged: &mut TaggedSession, name: &[u8], disk: &[u8]) -> Result<(), Fail> {
+/// Opens a disk under a handle's name.
+pub fn open_disk(tagged: &mut TaggedSession, name: &[u8], disk: &[u8]) -> Result<(), Fail> {
     let command = open(handle(name)?, handle(disk)?);
     match tagged.submit(0, command, 0) {
         Ok(Some(Reply::Ok)) => Ok(()),
@@ -26,15 +26,15 @@ fn open_disk(tagged: &mut TaggedSession, name: &[u8], disk: &[u8]) -> Result<(),
     }
 }
 
-// Reads a sector, and its token is what the sector's bytes tell.
-fn read_sector(
+/// Reads a sector, with a token.
+pub fn read_as(
     tagged: &mut TaggedSession,
     name: &[u8],
-    disk: u64,
     sector: u64,
+    token: u64,
 ) -> Result<(), Fail> {
     let command = read(handle(name)?, sector % 16 * 512);
-    match tagged.submit(0, command, disk % 8 * 16 + sector % 16) {
+    match tagged.submit(0, command, token) {
         Ok(None) => Ok(()),
         Ok(reply) => {
             drop(reply);
@@ -42,6 +42,16 @@ fn read_sector(
         }
         Err(_) => Err("a read is refused".into()),
     }
+}
+
+// Reads a sector, and its token is what the sector's bytes tell.
+fn read_sector(
+    tagged: &mut TaggedSession,
+    name: &[u8],
+    disk: u64,
+    sector: u64,
+) -> Result<(), Fail> {
+    read_as(tagged, name, sector, disk % 8 * 16 + sector % 16)
 }
 
 // Whether a sync has to wait.

@@ -1,3 +1,4 @@
+pub mod NumbersRead
 pub mod Marks
 pub mod SizesRead
 pub mod StepsRead

@@ -1,3 +1,5 @@
+pub mod Numbers
+pub mod Shorts
 pub mod Tables
 pub mod Forms
 pub mod Written

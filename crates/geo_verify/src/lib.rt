@@ -19,6 +19,9 @@
 //! first that isn't enabled. [`trace_text`] gives the text of a log's trace (`text`), and that text is a trace
 //! (`trace`). What a yes means is a law (geo_laws_traces).
 //!
+//! Why so: most lines are those of a Start, a Take or an Up. They are read in one pass (`src/short.rt`), and all others
+//! word by word.
+//!
 //! geo_run calls [`verify`] for the word `verify` and [`trace_text`] for `trace`. Read `src/finding.rt` and
 //! `src/write.rt` first.
 #![tactic(auto)]
@@ -28,9 +31,11 @@ mod cut;
 mod finding;
 mod line;
 mod make;
+mod number;
 mod place;
 mod refusal;
 mod replaying;
+mod short;
 mod sizes;
 mod step;
 mod steps;

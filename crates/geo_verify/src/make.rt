@@ -4,10 +4,12 @@ ghost use Rattle.geo_base.specs.declared.limits.TheConstants.{MAX_TRACE_BYTES};
 ghost use Rattle.geo_core.specs.Mesh.{IsHistory};
 ghost use Rattle.geo_verify.specs.Forms.{IsFormFault, IsLineFault, steps_from};
 ghost use Rattle.geo_verify.specs.Making.{MakesFront, Tries, TriesLine};
+ghost use Rattle.geo_verify.specs.Shorts.{step_of};
 
 use crate::cut::ended_line;
 use crate::place::Place;
 use crate::refusal::VerifyRefusal;
+use crate::short::{Short, short_of_line, step_of};
 use crate::steps::{REPORT_MARK, read_step};
 use geo_base::NoMemory;
 use geo_core::{ApplyRefusal, Mesh};
@@ -53,6 +55,16 @@ fn try_step(mesh: &mut Mesh, seat: u32, step: Step) -> Result<bool, NoMemory>
     }
 }
 
+/// The same of a step of a short form.
+fn try_short(mesh: &mut Mesh, seat: u32, short: Short) -> Result<bool, NoMemory>
+    requires history { IsHistory mesh.old }
+    requires few { length mesh.old.log ≤ MAX_TRACE_BYTES + 1 }
+    ensures made { IfOk result (λ was. Tries was mesh.old mesh.new seat (step_of short)) }
+    ensures history { IsHistory mesh.new }
+{
+    try_step(mesh, seat, step_of(short))
+}
+
 /// Reads the line of a number and makes its step, if it is enabled, and tells whether it was.
 fn try_line(
     alloc: Global,
@@ -67,6 +79,9 @@ fn try_line(
     ensures made { MatchResult result (λ was. TriesLine was mesh.old mesh.new line.now) (IsLineFault number line.now) }
     ensures history { IsHistory mesh.new }
 {
+    if let Some((seat, short)) = short_of_line(line) {
+        return Ok(try_short(mesh, seat, short)?);
+    }
     let (seat, step) = read_step(alloc, number, line)?;
     match try_step(mesh, seat, pooled(pool, step)) {
         Ok(was) => Ok(was),

@@ -12,7 +12,6 @@ loop-actor-preserved c =
     let next : k + 1 ≡ c.loop-actor.actor = omega arith in
     let below : k < length (world_of c.args.mesh.now).actors = omega arith in
     c.earlier-best.ensures
-    ∙ ap (λ r. earlier_of r c.loop-actor.best) c.ready.ensures
     ∙ ap (λ b. earlier_of (ready_at (world_of c.args.mesh.now) k) b)
     (c.loop-actor.invariant ∙ ap (λ n. earliest_from (world_of c.args.mesh.now) n) (sym next))
     ∙ sym (earliest_more (world_of c.args.mesh.now) k below)

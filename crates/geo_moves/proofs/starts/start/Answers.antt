@@ -1,13 +1,15 @@
-use Rattle.std.proofs.Common.{Option, sym, ◌∙◌, ap, subst}
+use Rattle.std.proofs.Common.{Option, refl, sym, ◌∙◌, ap, subst}
 use Rattle.std.specs.Option.{option_copied, option_map}
 use Rattle.std.specs.Prelude.{IsTrue}
 use Rattle.geo_model.specs.declared.step.Outcome.TheVariants as outcomes
+use Rattle.geo_model.specs.declared.step.Phase.TheVariants as phases
 use Rattle.geo_model.specs.World.{is_down}
 use Rattle.geo_model.specs.Bios.{Bounces, Fails, Sends, Splits, Passes}
-use Rattle.geo_bio.specs.BioTable.{has_phase}
+use Rattle.geo_bio.specs.BioTable.{BioTableView, has_phase, with_phase}
 use Rattle.geo_bio.specs.declared.bio.Bio.{Bio}
 use Rattle.geo_bio.specs.Rows.{as_bio}
 use Rattle.geo_state.specs.declared.state.State.{State}
+use Rattle.geo_state.proofs.Fields.{holds-turned, send-unseen}
 use Rattle.geo_state.proofs.OrderLemmas.{bio_stands}
 use Rattle.geo_moves.proofs.Started.{can_go_down, went, went_by, split_well, pass_well, bounced_started, failed_started, sent_started}
 use Rattle.geo_moves.proofs.starts.start.Goals as goal
@@ -58,14 +60,25 @@ returns-in-Fails c =
     c.note_started.ensures.noted c.bounce-in-Fails.ensures.bounced) in
     record { made = made.made; kept = c.bounce-in-Fails.ensures.kept; same = tt; logged = made.logged }
 
+-- a bio that goes from Down to Sent was at no disk, is at none, and is out through its consumer still
 pub returns-in-Sends : goal.returns-in-Sends
 returns-in-Sends c =
     let s = c.args.state.now in
     let row = c.in-Some.found.now in
-    let made = went s c.args.bio row (sym c.in-Some.ensures.found) c.send.new.state c.requires.down
+    let new : State = record s { traffic = c.send.new.self } in
+    let sent : BioTableView → State = λ v. record s { traffic = v } in
+    let made = went s c.args.bio row (sym c.in-Some.ensures.found) new c.requires.down
     (Sends c.in-Sends.disk) (outcomes.Queued c.in-Sends.disk) (rw c.in-Sends.is at c.in_ok-way.ensures)
-    (sent_started s c.send.new.state c.args.bio (as_bio c.args.bio row) c.in-Sends.disk c.send.ensures.sent) in
-    record { made = made.made; kept = c.send.ensures.kept; same = tt; logged = made.logged }
+    (sent_started s new c.args.bio (as_bio c.args.bio row) c.in-Sends.disk (ap sent c.send.ensures.sent)) in
+    record {
+      made = made.made;
+      kept =
+          holds-turned s new s.traffic.next c.args.bio is_down (with_phase phases.Sent) c.send.ensures.in_order.numbers
+          c.requires.down send-unseen refl (ap (λ (v : BioTableView). v.bios) c.send.ensures.sent)
+          c.requires.stands.kept;
+      same = tt;
+      logged = made.logged;
+    }
 
 -- for both cuts: the model's has a piece at least, a target for each, and goes through no handle's consumer
 pub split_by-requires : goal.split_by-requires

@@ -1,9 +1,10 @@
-use Rattle.std.proofs.Common.{refl, []}
+use Rattle.std.proofs.Common.{refl, [], ap, ◌∙◌}
 use Rattle.geo_model.specs.declared.step.Step.TheVariants as steps
 use Rattle.geo_session.specs.declared.refusal.SessionRefusal.TheVariants as refusals
+use Rattle.geo_session.specs.Generation.{next_generation}
 use Rattle.geo_session.specs.Growth.{with_command}
 use Rattle.geo_session.specs.Live.{session_view}
-use Rattle.geo_session.proofs.Answered.{answers_refusal, closes_enabled, closes_given, command_made, command_session, done_given, enabled_given, none_given_by, not_ok, refused_given, same_seen, same_session, session_names, session_stands}
+use Rattle.geo_session.proofs.Answered.{answers_refusal, closes_enabled, closes_given, command_ends, done_given, enabled_given, none_given_by, not_ok, raised_given, refused_given, same_seen, same_session, session_names, session_stands}
 use Rattle.geo_session.proofs.making.command.Goals as goal
 
 pub found_given-requires : goal.found_given-requires
@@ -51,20 +52,18 @@ returns-in_err-outcome-clause-sure g c = λ sure.
     (not_ok _ _ c.in_err-outcome.was (c.go.ensures.sure (closes_given c.args.live.now c.args.line.now none sure)))
 
 -- the command was made, and is counted
-pub returns-clause-session : goal.returns-clause-session
-returns-clause-session g c =
+pub returns : goal.returns
+returns g c =
     let none = none_given_by c.args.live.now c.args.line.now c.in_default.is c.found_given.ensures in
-    command_session c.args.live.now c.go.new.state c.one_more-live.result c.requires.session c.args.line.now
-    c.requires.is_command c.in_ok-outcome.outcome c.go.ensures.kept (c.go.ensures.logged [] c.requires.session.bytes)
-    (done_given c.args.live.now c.args.line.now none c.go.new.state c.in_ok-outcome.outcome
-    (c.in_ok-outcome.ensures.does []))
-    c.one_more-live.ensures
-
-pub returns-clause-answer : goal.returns-clause-answer
-returns-clause-answer g c =
-    let none = none_given_by c.args.live.now c.args.line.now c.in_default.is c.found_given.ensures in
-    command_made c.args.live.now c.go.new.state c.one_more-live.result c.requires.session c.args.line.now
-    c.requires.is_command c.in_ok-outcome.outcome c.go.ensures.kept (c.go.ensures.logged [] c.requires.session.bytes)
-    (done_given c.args.live.now c.args.line.now none c.go.new.state c.in_ok-outcome.outcome
-    (c.in_ok-outcome.ensures.does []))
-    c.one_more-live.ensures
+    let done =
+    done_given c.args.live.now c.args.line.now none c.go.new.state c.in_ok-outcome.outcome
+    (c.in_ok-outcome.ensures.does []) in
+    let raised =
+    raised_given c.args.live.now c.args.line.now none c.next_generation-live.result c.in_ok-outcome.outcome
+    (c.next_generation-live.ensures
+    ∙ ap (next_generation c.args.live.now.generation) c.is_graph_command.ensures) in
+    let it =
+    command_ends c.args.live.now c.go.new.state c.one_more-live.result c.next_generation-live.result
+    c.requires.session c.args.line.now c.requires.is_command c.in_ok-outcome.outcome c.go.ensures.kept
+    (c.go.ensures.logged [] c.requires.session.bytes) done c.one_more-live.ensures raised in
+    record { session = it.session; answer = it.made; sure = λ sure. refl }

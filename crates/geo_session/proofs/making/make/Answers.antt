@@ -4,7 +4,7 @@ use Rattle.geo_model.specs.declared.step.Found.{Found}
 use Rattle.geo_session.specs.declared.refusal.SessionRefusal.TheVariants as refusals
 use Rattle.geo_session.specs.Live.{session_view}
 use Rattle.geo_session.specs.Moves.{IsFoundAgainst}
-use Rattle.geo_session.proofs.Answered.{answers_refusal, enabled_found, never_refused, not_ok, refused_found, same_seen, same_session, session_stands, step_made, step_session}
+use Rattle.geo_session.proofs.Answered.{answers_refusal, enabled_found, never_refused, not_ok, refused_found, same_seen, raised_by, same_session, session_stands, step_ends}
 use Rattle.geo_session.proofs.making.make.Goals as goal
 
 pub found_against-requires : goal.found_against-requires
@@ -56,14 +56,14 @@ pub returns-in_err-outcome-clause-sure : goal.returns-in_err-outcome-clause-sure
 returns-in_err-outcome-clause-sure g c = λ sure. absurd (not_ok _ _ c.in_err-outcome.was (c.turn.ensures.sure sure))
 
 -- the step was made, and is counted
-pub returns-clause-session : goal.returns-clause-session
-returns-clause-session g c =
-    step_session c.args.live.now c.turn.new.state c.one_more-live.result c.requires.session c.args.seat c.args.step
-    c.in_ok-outcome.outcome c.turn.ensures.kept c.turn.ensures.bytes c.in_ok-outcome.ensures.made
-    c.one_more-live.ensures
-
-pub returns-clause-answer : goal.returns-clause-answer
-returns-clause-answer g c =
-    step_made c.args.live.now c.turn.new.state c.one_more-live.result c.requires.session c.args.seat c.args.step
-    c.in_ok-outcome.outcome c.turn.ensures.kept c.turn.ensures.bytes c.in_ok-outcome.ensures.made
-    c.one_more-live.ensures
+pub returns : goal.returns
+returns g c =
+    let raised =
+    raised_by c.args.live.now c.args.seat c.args.step c.in_ok-outcome.outcome c.in_default.is c.found_against.ensures
+    c.next_generation-live.result c.is_graph_step-works.result c.is_up-rises.result c.is_of_graph.result
+    c.is_graph_step-works.ensures c.is_up-rises.ensures c.is_of_graph.ensures c.next_generation-live.ensures in
+    let it =
+    step_ends c.args.live.now c.turn.new.state c.one_more-live.result c.next_generation-live.result c.requires.session
+    c.args.seat c.args.step c.in_ok-outcome.outcome c.turn.ensures.kept c.turn.ensures.bytes
+    c.in_ok-outcome.ensures.made c.one_more-live.ensures raised in
+    record { session = it.session; answer = it.made; sure = λ sure. refl }

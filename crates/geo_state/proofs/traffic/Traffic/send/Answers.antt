@@ -1,12 +1,19 @@
 use Rattle.std.proofs.Common.{◌∙◌, ap, refl, arith}
 use Rattle.geo_model.proofs.BioLemmas.{phase_down}
 use Rattle.geo_model.specs.declared.step.Phase.TheVariants as phases
-use Rattle.geo_bio.specs.BioTable.{with_phase}
+use Rattle.geo_bio.specs.BioTable.{with_phase, is_going}
 use Rattle.geo_model.specs.World.{is_down, is_sent}
 use Rattle.geo_state.specs.Cursors.{with_one}
 use Rattle.geo_state.proofs.OrderLemmas.{table_rises}
 use Rattle.geo_state.proofs.TrafficLemmas.{from_down_sent, bio_seen, kept_turned, room_in_phase}
 use Rattle.geo_state.proofs.traffic.Traffic.send.Goals as goal
+
+-- the bio is on its way
+pub set_phase-requires-clause-was : goal.set_phase-requires-clause-was
+set_phase-requires-clause-was c =
+    let x = bio_seen is_down c.self.inside.bios c.self.view_is c.args.bio c.requires in
+    let there = x.1 in
+    rw there (ap is_going (phase_down x.0.phase x.2))
 
 -- this bio isn't Sent yet, so those Sent with it are fewer than the numbers
 pub with_one-self-inside-requires : goal.with_one-self-inside-requires
@@ -26,5 +33,5 @@ invariant_of-self c =
     now.down now.sent now.up now.busy now.live c.self.invariant.counted (with_phase phases.Sent) refl
     c.without_one-self-inside.result (phase_down x.0.phase x.2) refl c.without_one-self-inside.ensures in
     let sent = c.with_one-self-inside.ensures ∙ ap (with_one now.sent) c.number.ensures in
-    kept_turned now.bios _ c.send.ensures.sent c.send.ensures.in_order c.self.invariant.bound
+    kept_turned now.bios _ c.set_phase.ensures.set c.set_phase.ensures.in_order c.self.invariant.bound
     (rw sent counted)

@@ -2,10 +2,17 @@ use Rattle.std.proofs.Common.{ap, refl, arith}
 use Rattle.geo_model.proofs.BioLemmas.{phase_sent}
 use Rattle.geo_model.specs.World.{is_sent, is_busy}
 use Rattle.geo_model.specs.declared.step.Phase.TheVariants as phases
-use Rattle.geo_bio.specs.BioTable.{with_phase}
+use Rattle.geo_bio.specs.BioTable.{with_phase, is_going}
 use Rattle.geo_state.proofs.OrderLemmas.{table_rises}
 use Rattle.geo_state.proofs.TrafficLemmas.{from_sent_busy, bio_seen, kept_turned, room_in_phase}
 use Rattle.geo_state.proofs.traffic.Traffic.take.Goals as goal
+
+-- the bio is on its way
+pub set_phase-requires-clause-was : goal.set_phase-requires-clause-was
+set_phase-requires-clause-was c =
+    let x = bio_seen is_sent c.self.inside.bios c.self.view_is c.args.bio c.requires in
+    let there = x.1 in
+    rw there (ap is_going (phase_sent x.0.phase x.2))
 
 -- this bio isn't Busy yet, so those Busy with it are fewer than the numbers
 pub overflow_add-self : goal.overflow_add-self
@@ -24,4 +31,4 @@ invariant_of-self c =
     let counted = from_sent_busy now.bios.bios c.args.bio x.0 (table_rises now.bios c.self.invariant.in_order) x.1
     now.down now.sent now.up now.busy now.live c.self.invariant.counted (with_phase (phases.Busy c.args.seat)) refl
     c.without_one-self-inside.result c.args.seat (phase_sent x.0.phase x.2) refl c.without_one-self-inside.ensures in
-    kept_turned now.bios _ c.take.ensures.taken c.take.ensures.in_order c.self.invariant.bound counted
+    kept_turned now.bios _ c.set_phase.ensures.set c.set_phase.ensures.in_order c.self.invariant.bound counted

@@ -9,8 +9,8 @@ use Rattle.geo_state.proofs.TrafficLemmas.{bio_seen, kept_same, up_counted, up_f
 use Rattle.geo_state.proofs.traffic.Traffic.up.Goals as goal
 
 -- the bio itself leaves those that are Up, so there is room in the count for its parent
-pub up_after-self-inside-requires : goal.up_after-self-inside-requires
-up_after-self-inside-requires g c =
+pub up_after-after-requires : goal.up_after-after-requires
+up_after-after-requires g c =
     let now = c.self.inside in
     let x = bio_seen is_up now.bios c.self.view_is c.args.bio c.requires in
     let order = c.self.invariant.in_order in
@@ -31,7 +31,7 @@ up_after-self-inside-requires g c =
 -- a root that is gone, or the children of a family that is complete, were counted
 pub overflow_sub-self : goal.overflow_sub-self
 overflow_sub-self g c =
-    subst (λ k. k ≤ c.self.inside.live) (sym c.gone_by.ensures)
+    subst (λ k. k ≤ c.self.inside.live) (sym c.up_after-after.ensures.gone)
     (up_fewer c.self.inside.bios c.self.view_is c.self.invariant.in_order c.args.bio c.requires
     c.self.invariant.counted c.without_one-up.ensures (g.B.LogBytes.place_bytes c.args.log.now)
     c.family_size-family.result c.family_size-family.ensures.parent c.family_size-family.ensures.size
@@ -51,7 +51,7 @@ invariant_of-self-2 g c =
     record {
       in_order = c.up.ensures.in_order;
       bound = omega (arith, c.up.ensures.next_stays, c.self.invariant.bound);
-      counted = rw (c.up_after-self-inside.ensures, c.gone_by.ensures) counted;
+      counted = rw (c.up_after-after.ensures.up, c.up_after-after.ensures.gone) counted;
     }
 
 pub invariant_of-self : goal.invariant_of-self
