@@ -73,6 +73,7 @@ abbrev pub AfterStep : Due → Turn → ServiceView → ServiceView → Type 0
 AfterStep (dues.Ask disk bio request) turn old new = (turn ≡ turns.Asks disk bio request) × (new ≡ old)
 AfterStep (dues.Reply token reply) turn old new = TurnsBy turn old new token reply
 AfterStep dues.Moved turn old new = (turn ≡ turns.Moved) × (new ≡ old)
+AfterStep (dues.Changed generation) turn old new = (turn ≡ turns.Moved) × (new ≡ old)
 AfterStep dues.Idle turn old new = (turn ≡ turns.Idle) × (new ≡ old)
 
 -- the step that was due was made, and nothing else was

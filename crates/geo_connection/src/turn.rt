@@ -79,7 +79,7 @@ pub fn next(
     match mesh.next()? {
         Due::Ask { disk, bio, request } => Ok(Turn::Asks { disk, bio, request }),
         Due::Reply { token, reply } => turn_by(alloc, service, token, reply),
-        Due::Moved => Ok(Turn::Moved),
+        Due::Moved | Due::Changed { .. } => Ok(Turn::Moved),
         Due::Idle => Ok(Turn::Idle),
     }
 }

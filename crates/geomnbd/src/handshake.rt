@@ -1,15 +1,33 @@
 //! The handshake over the streams.
-ghost use Rattle.std.specs.Prelude.{IfOk, IfSome};
+ghost use Rattle.std.specs.Prelude.{◌≡◌, IfOk, IfSome, OnOk, length};
+ghost use Rattle.geo_io.specs.Sink.{Takes};
+ghost use Rattle.geo_connection.specs.Stages.{awaited, hear};
 ghost use Rattle.geomnbd.specs.Talks.{Exchanges, Talked};
 
 use crate::stop::Stop;
-use crate::streams::{read_full, say};
-use geo_base::Block;
+use crate::streams::{read_message, say};
 use geo_connection::{Heard, Stage, awaited, hear};
 use geo_io::{Sink, Source};
 use geo_nbd::Export;
 use std::alloc::Global;
 use std::sync::Wait;
+
+/// Sends what is said for a message, and gives the next stage.
+fn answer_message<K: Sink>(
+    alloc: Global,
+    exports: &[Export],
+    stage: Stage,
+    message: &[u8],
+    sink: &mut K,
+) -> Result<Stage, Stop>
+    requires { length message.now ≡ awaited stage }
+    ensures said { OnOk result (Takes (K.view sink.old) (hear exports.now stage message.now).sent (K.view sink.new)) }
+    ensures leads { IfOk result (λ next. next ≡ (hear exports.now stage message.now).next) }
+{
+    let Heard { sent, next } = hear(alloc, exports, stage, message)?;
+    say(sink, sent.into_block().bytes())?;
+    Ok(next)
+}
 
 /// Reads what is awaited, and sends what is said for it. None where the client is gone.
 fn exchange<S: Source, K: Sink>(
@@ -22,12 +40,11 @@ fn exchange<S: Source, K: Sink>(
     ensures { IfOk result (λ next. IfSome next (λ after. Exchanges exports.now stage
         (S.view source.old) (K.view sink.old) after (S.view source.new) (K.view sink.new))) }
 {
-    let mut block = Block::zeros(alloc, awaited(&stage))?;
-    if !read_full(source, block.bytes_mut())? {
+    let Some(message) = read_message(alloc, source, awaited(&stage))? else {
         return Ok(None);
-    }
-    let Heard { sent, next } = hear(alloc, exports, stage, block.bytes())?;
-    say(sink, sent.into_block().bytes())?;
+    };
+    let next = answer_message(alloc, exports, stage, message.bytes(), sink)?;
+    drop(message);
     Ok(Some(next))
 }
 

@@ -1,17 +1,18 @@
 //! The requests of a client over the streams.
 ghost use Rattle.std.specs.Prelude.{◌≡◌, Some, IfOk, IfSome, length};
 ghost use Rattle.geo_server.specs.Judging.{data_len};
-ghost use Rattle.geo_connection.specs.Turns.{IsTurn};
+ghost use Rattle.geo_connection.specs.Turns.{IsMet, IsTurn};
 
 use crate::desk::{Desk, ask_disk};
 use crate::stop::Stop;
-use crate::streams::{read_full, say};
-use geo_base::{Block, SharedBytes};
+use crate::streams::{read_message, say};
+use geo_base::SharedBytes;
 use geo_connection::{Met, Service, Turn, give, meet, next};
 use geo_disk::Disk;
 use geo_io::{Sink, Source};
 use geo_nbd::Request;
 use geo_server::data_len;
+use std::alloc::Global;
 use std::sync::Wait;
 
 /// Does what is to be done after a turn, and takes the next one. None where no step is due.
@@ -56,44 +57,45 @@ fn finish<R: Wait, D: Disk, K: Sink>(
     unreachable!()
 }
 
-/// The next request with its bytes. None where the client is gone, or where the session ends by what it sent.
-fn next_request<D: Disk, S: Source>(
-    desk: &Desk<D>,
-    source: &mut S,
-) -> Result<Option<(Request, SharedBytes)>, Stop>
-    ensures { IfOk result (λ read. IfSome read (λ came. data_len came.0 ≡ Some (length came.1))) }
-{
+/// The next request. None where the client is gone, or where it isn't one.
+fn next_head<S: Source>(alloc: Global, source: &mut S) -> Result<Option<Request>, Stop> {
+    let Some(message) = read_message(alloc, source, 28)? else {
+        return Ok(None);
+    };
     let mut head = [0u8; 28];
-    if !read_full(source, &mut head)? {
-        return Ok(None);
-    }
-    let Some(request) = Request::read(&head) else {
-        return Ok(None);
-    };
-    let Some(len) = data_len(&request) else {
-        return Ok(None);
-    };
-    let mut block = Block::zeros(desk.alloc, len)?;
-    if !read_full(source, block.bytes_mut())? {
-        return Ok(None);
-    }
-    Ok(Some((request, SharedBytes::from_block(block).share(desk.alloc))))
+    head.copy_from_slice(message.bytes());
+    drop(message);
+    Ok(Request::read(&head))
 }
 
-/// Serves the next request to an export of so many bytes, until all that it sets going is done. Whether the session
-/// goes on.
-fn serve_request<R: Wait, D: Disk, S: Source, K: Sink>(
+/// The bytes that come behind a request. None where the client is gone, or where they are too many.
+fn next_bytes<S: Source>(
+    alloc: Global,
+    source: &mut S,
+    request: &Request,
+) -> Result<Option<SharedBytes>, Stop>
+    ensures { IfOk result (λ read. IfSome read (λ bytes. data_len request.now ≡ Some (length bytes))) }
+{
+    let Some(len) = data_len(request) else {
+        return Ok(None);
+    };
+    match read_message(alloc, source, len)? {
+        Some(message) => Ok(Some(SharedBytes::from_block(message).share(alloc))),
+        None => Ok(None),
+    }
+}
+
+/// Does what is to be done for a request that came with its bytes. Whether the session goes on.
+fn serve_request<R: Wait, D: Disk, K: Sink>(
     rt: &R,
     desk: &mut Desk<D>,
     service: &mut Service,
-    size: u64,
-    source: &mut S,
     sink: &mut K,
-) -> Result<bool, Stop> {
-    let Some((request, bytes)) = next_request(desk, source)? else {
-        return Ok(false);
-    };
-    match meet(desk.alloc, service, size, &request, bytes)? {
+    met: Met,
+) -> Result<bool, Stop>
+    requires { IsMet met }
+{
+    match met {
         Met::Ends => Ok(false),
         Met::Says(sent) => {
             say(sink, sent.into_block().bytes())?;
@@ -106,6 +108,26 @@ fn serve_request<R: Wait, D: Disk, S: Source, K: Sink>(
     }
 }
 
+/// Serves the next request to an export of so many bytes, until all that it sets going is done. Whether the session
+/// goes on.
+fn serve_next<R: Wait, D: Disk, S: Source, K: Sink>(
+    rt: &R,
+    desk: &mut Desk<D>,
+    service: &mut Service,
+    size: u64,
+    source: &mut S,
+    sink: &mut K,
+) -> Result<bool, Stop> {
+    let Some(request) = next_head(desk.alloc, source)? else {
+        return Ok(false);
+    };
+    let Some(bytes) = next_bytes(desk.alloc, source, &request)? else {
+        return Ok(false);
+    };
+    let met = meet(desk.alloc, service, size, &request, bytes)?;
+    serve_request(rt, desk, service, sink, met)
+}
+
 /// Serves a client's requests to an export of so many bytes, until the session ends.
 pub fn serve_client<R: Wait, D: Disk, S: Source, K: Sink>(
     rt: &R,
@@ -116,7 +138,7 @@ pub fn serve_client<R: Wait, D: Disk, S: Source, K: Sink>(
     sink: &mut K,
 ) -> Result<(), Stop> {
     for _ in rt.forever() {
-        if !serve_request(rt, desk, service, size, source, sink)? {
+        if !serve_next(rt, desk, service, size, source, sink)? {
             return Ok(());
         }
     }

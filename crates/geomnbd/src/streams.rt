@@ -1,13 +1,15 @@
 //! Bytes that are read and written whole.
-ghost use Rattle.std.specs.Prelude.{◌≡◌, length, IfOk, IsTrue, OnOk};
+ghost use Rattle.std.specs.Prelude.{◌≡◌, length, IfOk, IfSome, IsTrue, OnOk};
 ghost use Rattle.geo_io.specs.Sink.{Takes};
 ghost use Rattle.geo_io.specs.Source.{Gives};
 
 use crate::stop::Stop;
+use geo_base::Block;
 use geo_io::{Sink, Source, write_out};
+use std::alloc::Global;
 
 /// Reads until all of `out` was read. False where the source ended before.
-pub fn read_full<S: Source>(source: &mut S, out: &mut [u8]) -> Result<bool, Stop>
+fn read_full<S: Source>(source: &mut S, out: &mut [u8]) -> Result<bool, Stop>
     ensures len { length out.new ≡ length out.old }
     ensures full { IfOk result (λ full. IsTrue full → Gives (S.view source.old) out.new (S.view source.new)) }
 {
@@ -20,6 +22,24 @@ pub fn read_full<S: Source>(source: &mut S, out: &mut [u8]) -> Result<bool, Stop
         }
     }
     Ok(true)
+}
+
+/// A message of so many bytes. None where the source ended before.
+pub fn read_message<S: Source>(
+    alloc: Global,
+    source: &mut S,
+    len: u32,
+) -> Result<Option<Block>, Stop>
+    ensures whole { IfOk result (λ found. IfSome found (λ message. length message ≡ len)) }
+    ensures gives { IfOk result (λ found. IfSome found (λ message.
+        Gives (S.view source.old) message (S.view source.new))) }
+{
+    let mut block = Block::zeros(alloc, len)?;
+    if read_full(source, block.bytes_mut())? {
+        Ok(Some(block))
+    } else {
+        Ok(None)
+    }
 }
 
 /// Writes all the bytes.
