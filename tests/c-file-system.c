@@ -197,7 +197,7 @@ static void try_read(void)
 
 static void try_again(void)
 {
-    char check[MOST_PATH + 40];
+    char check[3 * MOST_PATH];
     memset(disks, 0, sizeof disks);
     disks[0].writes_left = 1;
     CHECK(!copies(in_path, uri));

@@ -100,7 +100,7 @@ class FileSystem(unittest.TestCase):
         self.addCleanup(folder.cleanup)
         self.folder = pathlib.Path(folder.name)
         subprocess.run([TOOLS['mke2fs'], '-q', '-F', '-b', '1024', '-d', pathlib.Path(__file__).parent,
-                        self.folder / 'in.raw', f'{SIZE >> 10}k'], check=True)
+                        self.folder / 'in.raw', f'{SIZE >> 10}k'], check=True, capture_output=True)
         self.image = (self.folder / 'in.raw').read_bytes()
         self.disks = [FailingDisk(SIZE // 1024), FailingDisk(SIZE // 1024)]
         mesh = tazbrev.Mesh(HEADER, self.disks)

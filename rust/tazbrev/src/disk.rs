@@ -34,7 +34,7 @@ pub trait Disk {
         512
     }
 
-    /// Fills `bytes` from the first sector on.
+    /// Fills all of `bytes`, from the first sector on; what stands there before is no zeros.
     fn read(&mut self, asked: &Asked, bytes: &mut [u8]) -> Result<(), Fault>;
 
     /// Writes `bytes` from the first sector on.

@@ -361,7 +361,7 @@ impl<D: Disk> Mesh<D> {
         let disk = self.slots[asked.disk].disk();
         match asked.op {
             Op::Read => {
-                self.room.clear();
+                // What was there is written over, so it isn't made zeros before.
                 self.room.resize(asked.count as usize * disk.sector() as usize, 0);
                 disk.read(asked, &mut self.room)
             }

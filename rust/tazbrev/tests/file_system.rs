@@ -226,8 +226,8 @@ fn make_file_system(folder: &Path) -> bool {
         .args(["-q", "-F", "-b", "1024", "-d", sources])
         .arg(folder.join("in.raw"))
         .arg(format!("{}k", SIZE / 1024))
-        .status();
-    made.is_ok_and(|it| it.success())
+        .output();
+    made.is_ok_and(|it| it.status.success())
 }
 
 #[test]
