@@ -195,7 +195,7 @@ fn step<D: Disk, S: Source, K: Sink>(
         Doing::Awaits => read_head(source),
         Doing::Follows(request) => follow(desk.alloc, client, &request, source),
         Doing::Does(turn) => take_turn(desk, client, turn, sink),
-        Doing::Over => unreachable!(),
+        Doing::Over => Ok(Doing::Over),
     }
 }
 
