@@ -37,7 +37,7 @@ pub followed : (client after : Client) (mesh : TaggedView) (r : Request) (bytes 
     (t : SinkView) (result : Result Doing Halt) → data_len r ≡ Some n → length bytes ≡ n → Gives f bytes s
     → MatchResult result (λ next. Meets client mesh r bytes (point_of after mesh next)) (λ halt. halt ≡ halts.NoMemory)
     → MatchResult result (λ next. Makes (follows client mesh r) f t (point_of after mesh next) s t)
-      (λ halt. HaltsAt (follows client mesh r) halt f t s t)
+    (λ halt. HaltsAt (follows client mesh r) halt f t s t)
 followed client after mesh r bytes n f s t (Ok next) e len g m =
     record {
       bytes = bytes;
@@ -64,13 +64,19 @@ gives_turn client after mesh next turn following b f t e size g =
     (record {
       bytes = [];
       said = [];
-      step = (refl, (refl, record {
-        turn = following;
-        service = after.service;
-        after = next;
-        gives = g;
-        leads = ap (λ (c : Client). does c next following) (same_client client after size);
-      }));
+      step = (
+        refl,
+        (
+          refl,
+          record {
+            turn = following;
+            service = after.service;
+            after = next;
+            gives = g;
+            leads = ap (λ (c : Client). does c next following) (same_client client after size);
+          },
+        ),
+      );
       gives = gives_none f;
       takes = takes_none t;
     })
@@ -85,13 +91,19 @@ goes_turn client after mesh next turn following f t e size g =
     (record {
       bytes = [];
       said = [];
-      step = (refl, (refl, record {
-        turn = following;
-        service = after.service;
-        after = next;
-        goes = g;
-        leads = ap (λ (c : Client). does c next following) (same_client client after size);
-      }));
+      step = (
+        refl,
+        (
+          refl,
+          record {
+            turn = following;
+            service = after.service;
+            after = next;
+            goes = g;
+            leads = ap (λ (c : Client). does c next following) (same_client client after size);
+          },
+        ),
+      );
       gives = gives_none f;
       takes = takes_none t;
     })
@@ -109,9 +121,9 @@ says_short client mesh turn sent bytes halt f t w e same h =
 pub does_step : (client after : Client) (mesh next : TaggedView) (doing : Doing) (turn : Turn) (f : SourceView)
     (t w : SinkView) (result : Result Doing Halt) → doing ≡ doings.Does turn
     → MatchResult result (λ later. Makes (does client mesh turn) f t (point_of after next later) f w)
-      (λ halt. HaltsAt (does client mesh turn) halt f t f w)
+    (λ halt. HaltsAt (does client mesh turn) halt f t f w)
     → MatchResult result (λ later. Makes (point_of client mesh doing) f t (point_of after next later) f w)
-      (λ halt. HaltsAt (point_of client mesh doing) halt f t f w)
+    (λ halt. HaltsAt (point_of client mesh doing) halt f t f w)
 does_step client after mesh next doing turn f t w result e m =
     subst (λ (x : Doing). MatchResult result
     (λ later. Makes (point_of client mesh x) f t (point_of after next later) f w)
@@ -121,7 +133,7 @@ does_step client after mesh next doing turn f t w result e m =
 pub steps_ok : (client after : Client) (mesh next : TaggedView) (doing later : Doing) (f r : SourceView) (t w : SinkView)
     (result : Result Doing Halt) → result ≡ Ok later
     → MatchResult result (λ x. Makes (point_of client mesh doing) f t (point_of after next x) r w)
-      (λ halt. HaltsAt (point_of client mesh doing) halt f t r w)
+    (λ halt. HaltsAt (point_of client mesh doing) halt f t r w)
     → Makes (point_of client mesh doing) f t (point_of after next later) r w
 steps_ok client after mesh next doing later f r t w result e m =
     MatchResult-at_ok (λ (x : Doing). Makes (point_of client mesh doing) f t (point_of after next x) r w)
