@@ -27,6 +27,18 @@ struct request {
     void *arg;
     uint8_t *bytes; /* where a read's bytes go, or NULL */
     size_t len;
+    uint64_t line; /* its line in the trace, where one is told */
+};
+
+/* A command that is being given. */
+struct giving {
+    struct request *request;
+    uint64_t token;
+    uint32_t actor;
+    uint32_t error;
+    const char *text;     /* for a trace: what stands behind its words, or NULL, */
+    const uint8_t *bytes; /* and the bytes of a write */
+    size_t bytes_len;
 };
 
 enum { ANSWER_BYTES, ANSWER_DONE, ANSWER_FAILED };
@@ -50,6 +62,7 @@ struct tzb_mesh {
     uint32_t set_count;
     uint32_t places[MOST_DISKS]; /* the disk of each place in the header */
     struct tzb_size sizes[MOST_DISKS];
+    bool is_ram[MOST_DISKS]; /* the header says their size */
     uint32_t disk_count;
     char actors[MOST_ACTORS][MOST_NAME + 1];
     uint32_t actor_count;
@@ -61,6 +74,9 @@ struct tzb_mesh {
     struct room *kept;      /* answers for which memory was wanting */
     uint32_t fault_line;
     char fault[96];
+    tzb_listener *listener; /* who is told of each step, or NULL */
+    void *listener_arg;
+    uint64_t lines; /* of the script that it was told */
 };
 
 /* The functions that give memory. */
@@ -80,6 +96,15 @@ static inline const uint8_t *text_of(const char *word)
 
 /* The mesh is closed, and what was made for it by opening it is freed. */
 void undo_open(struct tzb_mesh *mesh);
+
+/* What the listener is told, if there is one: the header with the sizes of disks; a command that was given and what it
+ * was answered; the reply to one; a step that was made; a disk's answer that was delivered. */
+void tell_header(struct tzb_mesh *mesh);
+__attribute__((format(printf, 4, 5))) void tell_command(struct tzb_mesh *mesh, const struct giving *it, int32_t code,
+                                                        const char *format, ...);
+void tell_reply(struct tzb_mesh *mesh, const struct request *request, uint32_t error, const uint8_t *bytes, size_t len);
+void tell_step(struct tzb_mesh *mesh, const struct tzb_step *step);
+void tell_answer(struct tzb_mesh *mesh, uint64_t bio, int answer, uint32_t done, const uint8_t *bytes, size_t len);
 
 #pragma GCC visibility pop
 

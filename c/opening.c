@@ -99,6 +99,7 @@ static int place_disk(struct tzb_mesh *mesh, const char *name, unsigned sector, 
         return -1;
     }
     mesh->places[mesh->disk_count] = at;
+    mesh->is_ram[mesh->disk_count] = is_ram;
     mesh->sizes[mesh->disk_count].sector = sector;
     mesh->sizes[mesh->disk_count++].sectors = sector != 0 ? bytes / sector : 0;
     return 1;
@@ -195,6 +196,8 @@ int32_t tzb_mesh_open(struct tzb_mesh *mesh, const char *header)
                                        : "a disk has no sectors or too many, or the text is too long");
     if (code != TZB_OK)
         undo_open(mesh);
+    else
+        tell_header(mesh);
     return code;
 }
 

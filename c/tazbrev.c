@@ -7,6 +7,7 @@
  */
 #include "mesh.h"
 
+#include <inttypes.h>
 #include <string.h>
 
 static void take_lock(struct tzb_mesh *mesh)
@@ -34,14 +35,6 @@ static void unlink_from_ring(struct request *request)
 }
 
 /* ---- Commands ---- */
-
-/* A command that is being given. */
-struct giving {
-    struct request *request;
-    uint64_t token;
-    uint32_t actor;
-    uint32_t error;
-};
 
 /* Takes the lock for a command. After anything but TZB_OK it is free. */
 static int32_t begin(struct tzb_mesh *mesh, const char *actor, tzb_done *done, void *arg, struct giving *giving)
@@ -83,6 +76,7 @@ int32_t tzb_mesh_open_handle(struct tzb_mesh *mesh, const char *actor, const cha
         return code;
     code = tzb_core_open_handle(&mesh->core, it.actor, text_of(handle), strlen(handle), text_of(provider),
                                 strlen(provider), r, w, e, it.token, &it.error);
+    tell_command(mesh, &it, code, "open %s %s r%uw%ue%u", handle, provider, (unsigned)r, (unsigned)w, (unsigned)e);
     return end(mesh, code, &it);
 }
 
@@ -90,34 +84,36 @@ int32_t tzb_mesh_open_handle(struct tzb_mesh *mesh, const char *actor, const cha
 typedef int32_t core_call(struct tzb_core *core, uint32_t actor, const uint8_t *name, size_t len, uint64_t token,
                           uint32_t *error);
 
-static int32_t give_name(struct tzb_mesh *mesh, const char *actor, const char *name, core_call *call, tzb_done *done,
-                         void *arg)
+static int32_t give_name(struct tzb_mesh *mesh, const char *actor, const char *word, const char *name, core_call *call,
+                         tzb_done *done, void *arg)
 {
     struct giving it;
     int32_t code = begin(mesh, actor, done, arg, &it);
     if (code != TZB_OK)
         return code;
-    return end(mesh, call(&mesh->core, it.actor, text_of(name), strlen(name), it.token, &it.error), &it);
+    code = call(&mesh->core, it.actor, text_of(name), strlen(name), it.token, &it.error);
+    tell_command(mesh, &it, code, "%s %s", word, name);
+    return end(mesh, code, &it);
 }
 
 int32_t tzb_mesh_close_handle(struct tzb_mesh *mesh, const char *actor, const char *handle)
 {
-    return give_name(mesh, actor, handle, tzb_core_close_handle, NULL, NULL);
+    return give_name(mesh, actor, "close", handle, tzb_core_close_handle, NULL, NULL);
 }
 
 int32_t tzb_mesh_insert(struct tzb_mesh *mesh, const char *actor, const char *disk)
 {
-    return give_name(mesh, actor, disk, tzb_core_insert, NULL, NULL);
+    return give_name(mesh, actor, "insert", disk, tzb_core_insert, NULL, NULL);
 }
 
 int32_t tzb_mesh_pull(struct tzb_mesh *mesh, const char *actor, const char *disk)
 {
-    return give_name(mesh, actor, disk, tzb_core_pull, NULL, NULL);
+    return give_name(mesh, actor, "pull", disk, tzb_core_pull, NULL, NULL);
 }
 
 int32_t tzb_mesh_flush(struct tzb_mesh *mesh, const char *actor, const char *handle, tzb_done *done, void *arg)
 {
-    return give_name(mesh, actor, handle, tzb_core_submit_flush, done, arg);
+    return give_name(mesh, actor, "flush", handle, tzb_core_submit_flush, done, arg);
 }
 
 /* The header, and behind it the line of the command. */
@@ -143,7 +139,12 @@ int32_t tzb_mesh_command(struct tzb_mesh *mesh, const char *actor, const char *c
 {
     struct giving it;
     int32_t code = begin(mesh, actor, done, arg, &it);
-    return code != TZB_OK ? code : end(mesh, give_line(mesh, actor, command, &it), &it);
+    if (code != TZB_OK)
+        return code;
+    code = give_line(mesh, actor, command, &it);
+    it.text = command;
+    tell_command(mesh, &it, code, "%s", "");
+    return end(mesh, code, &it);
 }
 
 int32_t tzb_mesh_read(struct tzb_mesh *mesh, const char *actor, const char *handle, uint64_t offset, void *bytes,
@@ -157,6 +158,7 @@ int32_t tzb_mesh_read(struct tzb_mesh *mesh, const char *actor, const char *hand
     it.request->len = len;
     code = tzb_core_submit_read(&mesh->core, it.actor, text_of(handle), strlen(handle), offset, len, it.token,
                                 &it.error);
+    tell_command(mesh, &it, code, "read %s %" PRIu64 " %zu", handle, offset, len);
     return end(mesh, code, &it);
 }
 
@@ -169,6 +171,9 @@ int32_t tzb_mesh_write(struct tzb_mesh *mesh, const char *actor, const char *han
         return code;
     code = tzb_core_submit_write(&mesh->core, it.actor, text_of(handle), strlen(handle), offset, bytes, len, it.token,
                                  &it.error);
+    it.bytes = bytes;
+    it.bytes_len = len;
+    tell_command(mesh, &it, code, "write %s %" PRIu64, handle, offset);
     return end(mesh, code, &it);
 }
 
@@ -181,6 +186,7 @@ int32_t tzb_mesh_delete(struct tzb_mesh *mesh, const char *actor, const char *ha
         return code;
     code = tzb_core_submit_delete(&mesh->core, it.actor, text_of(handle), strlen(handle), offset, len, it.token,
                                   &it.error);
+    tell_command(mesh, &it, code, "delete %s %" PRIu64 " %" PRIu64, handle, offset, len);
     return end(mesh, code, &it);
 }
 
@@ -192,16 +198,23 @@ static void free_room(struct tzb_mesh *mesh, struct room *room)
     mesh->rooms = room;
 }
 
-/* Gives the mesh a disk's answer. One that doesn't fit what was asked is a failure of the whole. */
+/* Gives the mesh a disk's answer. */
+static int32_t answer(struct tzb_mesh *mesh, uint64_t bio, int how, uint32_t done, const uint8_t *bytes, size_t len)
+{
+    int32_t code = how == ANSWER_BYTES  ? tzb_core_answer_bytes(&mesh->core, bio, bytes, len)
+                   : how == ANSWER_DONE ? tzb_core_answer_done(&mesh->core, bio)
+                                        : tzb_core_answer_failed(&mesh->core, bio, done);
+    if (code == TZB_OK)
+        tell_answer(mesh, bio, how, done, bytes, len);
+    return code;
+}
+
+/* The same of what a function said. What doesn't fit what was asked is a failure of the whole. */
 static int32_t deliver(struct tzb_mesh *mesh, const struct room *room)
 {
-    int32_t code;
-    if (room->answer == ANSWER_BYTES)
-        return tzb_core_answer_bytes(&mesh->core, room->bio, room->bytes, room->len);
-    if (room->answer == ANSWER_DONE)
-        return tzb_core_answer_done(&mesh->core, room->bio);
-    code = tzb_core_answer_failed(&mesh->core, room->bio, room->done);
-    return code == TZB_UNFIT ? tzb_core_answer_failed(&mesh->core, room->bio, 0) : code;
+    int32_t code = answer(mesh, room->bio, room->answer, room->done, room->bytes, room->len);
+    return code == TZB_UNFIT && room->answer == ANSWER_FAILED ? answer(mesh, room->bio, ANSWER_FAILED, 0, NULL, 0)
+                                                              : code;
 }
 
 /* Gives the mesh an answer, or keeps it until there is memory. */
@@ -244,16 +257,16 @@ static int32_t ask_disk(struct tzb_mesh *mesh, const struct tzb_event *event, st
                           .sector = mesh->sizes[event->disk].sector};
 
     mesh->unlock(mesh->lock_arg);
-    int32_t answer = call_disk(disk, event->op, &ask, room);
+    int32_t said = call_disk(disk, event->op, &ask, room);
     take_lock(mesh);
-    if (answer == TZB_LATER) {
+    if (said == TZB_LATER) {
         free_room(mesh, room);
         return TZB_ASK;
     }
     room->bio = event->bio;
     room->len = (size_t)ask.count * ask.sector;
     room->done = ask.done;
-    room->answer = answer != 0 ? ANSWER_FAILED : event->op == TZB_READ ? ANSWER_BYTES : ANSWER_DONE;
+    room->answer = said != 0 ? ANSWER_FAILED : event->op == TZB_READ ? ANSWER_BYTES : ANSWER_DONE;
     int32_t code = deliver_or_keep(mesh, room);
     return code == TZB_OK ? TZB_ASK : code;
 }
@@ -276,6 +289,20 @@ static int32_t reply(struct tzb_mesh *mesh, const struct tzb_event *event, struc
     return TZB_REPLY;
 }
 
+/* Makes the step that is due, and has it told. */
+static int32_t turn(struct tzb_mesh *mesh, struct tzb_event *event, struct room *room)
+{
+    struct tzb_step step = {0};
+    if (mesh->listener != NULL)
+        tzb_core_due(&mesh->core, &step);
+    int32_t code = tzb_core_next(&mesh->core, event, room->bytes, sizeof room->bytes);
+    if (code == TZB_OK)
+        tell_step(mesh, &step);
+    if (code == TZB_OK && event->kind == TZB_REPLY)
+        tell_reply(mesh, (const struct request *)(uintptr_t)event->token, event->error, room->bytes, event->len);
+    return code;
+}
+
 /* What is due, with the lock taken. TZB_MOVED, TZB_CHANGED and TZB_IDLE have no room. */
 static int32_t due(struct tzb_mesh *mesh, struct tzb_event *event, struct room **room)
 {
@@ -294,7 +321,7 @@ static int32_t due(struct tzb_mesh *mesh, struct tzb_event *event, struct room *
         *event = (struct tzb_event){.token = (uint64_t)(uintptr_t)mesh->ready.next};
         return TZB_REPLY;
     }
-    int32_t code = tzb_core_next(&mesh->core, event, (*room)->bytes, sizeof(*room)->bytes);
+    int32_t code = turn(mesh, event, *room);
     if (code == TZB_OK && (event->kind == TZB_ASK || event->kind == TZB_REPLY))
         return (int32_t)event->kind;
     free_room(mesh, *room);
@@ -329,19 +356,19 @@ int32_t tzb_mesh_run(struct tzb_mesh *mesh)
 int32_t tzb_mesh_answer_read(struct tzb_mesh *mesh, uint64_t bio, const void *bytes, size_t len)
 {
     take_lock(mesh);
-    return unlocked(mesh, tzb_core_answer_bytes(&mesh->core, bio, bytes, len));
+    return unlocked(mesh, answer(mesh, bio, ANSWER_BYTES, 0, bytes, len));
 }
 
 int32_t tzb_mesh_answer_done(struct tzb_mesh *mesh, uint64_t bio)
 {
     take_lock(mesh);
-    return unlocked(mesh, tzb_core_answer_done(&mesh->core, bio));
+    return unlocked(mesh, answer(mesh, bio, ANSWER_DONE, 0, NULL, 0));
 }
 
 int32_t tzb_mesh_answer_failed(struct tzb_mesh *mesh, uint64_t bio, uint32_t done)
 {
     take_lock(mesh);
-    return unlocked(mesh, tzb_core_answer_failed(&mesh->core, bio, done));
+    return unlocked(mesh, answer(mesh, bio, ANSWER_FAILED, done, NULL, 0));
 }
 
 /* ---- How it stands, and its end ---- */

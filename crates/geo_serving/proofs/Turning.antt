@@ -145,3 +145,16 @@ pub steps_ok : (client after : Client) (mesh next : TaggedView) (doing later : D
 steps_ok client after mesh next doing later f r t w result e m =
     MatchResult-at_ok (λ (x : Doing). Makes (point_of client mesh doing) f t (point_of after next x) r w)
     (λ (halt : Halt). HaltsAt (point_of client mesh doing) halt f t r w) later e m
+
+-- a session that is over stays so
+pub over_step : (client : Client) (mesh : TaggedView) (doing : Doing) (f : SourceView) (t : SinkView)
+    → doing ≡ doings.Over → Makes (point_of client mesh doing) f t over f t
+over_step client mesh doing f t e =
+    subst (λ (x : Doing). Makes (point_of client mesh x) f t over f t) (sym e)
+    (record {
+      bytes = [];
+      said = [];
+      step = (refl, (refl, refl));
+      gives = gives_none f;
+      takes = takes_none t;
+    })

@@ -9,7 +9,7 @@ returns-in-Does-clause-makes g c =
     (g.K.Sink.view c.take_turn.new.sink) c.take_turn.result c.in-Does.is
     (c.take_turn.ensures.makes (g.S.Source.view c.args.source.now))
 
--- nothing more comes
+-- the end
 pub returns-in-Over-clause-makes : goal.returns-in-Over-clause-makes
 returns-in-Over-clause-makes g c =
     over_step c.args.client.now c.args.desk.now.mesh c.args.doing (g.S.Source.view c.args.source.now)
