@@ -129,13 +129,6 @@ does_step client after mesh next doing turn f t w result e m =
     (λ later. Makes (point_of client mesh x) f t (point_of after next later) f w)
     (λ halt. HaltsAt (point_of client mesh x) halt f t f w)) (sym e) m
 
--- it is over, and stays so
-pub over_step : (client : Client) (mesh : TaggedView) (doing : Doing) (f : SourceView) (t : SinkView)
-    → doing ≡ doings.Over → Makes (point_of client mesh doing) f t over f t
-over_step client mesh doing f t e =
-    subst (λ (x : Doing). Makes (point_of client mesh x) f t over f t) (sym e)
-    (record { bytes = []; said = []; step = (refl, refl, refl); gives = gives_none f; takes = takes_none t })
-
 -- the step that was made
 pub steps_ok : (client after : Client) (mesh next : TaggedView) (doing later : Doing) (f r : SourceView) (t w : SinkView)
     (result : Result Doing Halt) → result ≡ Ok later
