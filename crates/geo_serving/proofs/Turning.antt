@@ -147,7 +147,7 @@ over_step client mesh doing f t e =
     (record {
       bytes = [];
       said = [];
-      step = (refl, (refl, refl));
+      step = (refl, refl, refl);
       gives = gives_none f;
       takes = takes_none t;
     })
