@@ -104,10 +104,8 @@ pub fn offered<R: Wait, D: Disk>(
 ) -> Result<Offer<D>, Stop> {
     let mut desk = desk;
     let mut exports = Vec::new(desk.alloc);
-    let mut place = 0;
-    for name in names {
-        exports.push(offer_next(rt, &mut desk, place, name.as_str().as_bytes())?)?;
-        place += 1;
+    for place in 0..names.len() {
+        exports.push(offer_next(rt, &mut desk, place, names[place].as_str().as_bytes())?)?;
     }
     Ok(Offer { desk, exports })
 }
