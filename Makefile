@@ -34,7 +34,7 @@ libdir = $(DESTDIR)$(PREFIX)/lib
 plugindir = $(DESTDIR)$(shell pkg-config --variable=plugindir nbdkit)
 
 # The C library: its files beside the archive, and what is made of them.
-LAYER = tazbrev opening numbers memory
+LAYER = tazbrev numbers
 OBJECTS = $(LAYER:%=$(OUT)/c/%.o)
 SHARED = libtazbrev.so.0
 PLUGIN = nbdkit-tazbrev-plugin.so
@@ -85,7 +85,7 @@ install-tazbrev: fits
 
 lib: $(OUT)/$(SHARED) $(OUT)/libtazbrev.a
 
-$(OUT)/c/%.o: c/%.c c/mesh.h c/tazbrev.h
+$(OUT)/c/%.o: c/%.c c/tazbrev.h
 	@mkdir -p $(OUT)/c
 	$(CC) $(WARNINGS) $(CFLAGS) -fPIC -c -o $@ $<
 
