@@ -1,17 +1,18 @@
 # make install [DESTDIR=] [PREFIX=/usr/local]   installs program, manual page, tools, completion, examples
 # make uninstall [DESTDIR=] [PREFIX=/usr/local] removes what that installed
-# make deb [OUT=out]                            makes a Debian package of each part
+# make deb [OUT=out] [PARTS=tazbrev]            makes a Debian package of each part
 # make lib [OUT=out]                            makes the C library of the released archive and of c/
 # make plugin [OUT=out]                         makes the plugin for nbdkit
 # make install-lib [DESTDIR=] [PREFIX=..]       installs the C library, its header and tazbrev.pc
 # make install-plugin [DESTDIR=]                installs the plugin where nbdkit looks for it
-# make uninstall-lib, make uninstall-plugin     remove what these installed
+# make install-python [DESTDIR=] [PREFIX=..]    installs the package for Python, which looks for the C library
+# make uninstall-lib, -plugin, -python          remove what these installed
 # make clean [OUT=out]                          removes what these made there
 #
 # The program is the release. PROGRAM=FILE installs another one, as crates/geomrun/out/geomrun, which ./prove builds.
 # The archive is the released one. ARCHIVE=FILE takes another one, which `rt lib` makes in crates/geo_exports.
-# Each part, a line of PARTS, has a rule install-PART; with a folder packaging/PART it is a Debian package too.
-PARTS = tazbrev
+# Each part has a rule install-PART and a folder packaging/PART. VERSION is the version of them all.
+PARTS = tazbrev libtazbrev0 libtazbrev-dev nbdkit-plugin-tazbrev python3-tazbrev
 
 PREFIX = /usr/local
 DESTDIR =
@@ -23,6 +24,7 @@ CFLAGS = -O2
 WARNINGS = -std=c11 -Wall -Wextra
 VERSION := $(shell cat VERSION)
 ARCHITECTURE = amd64
+TRIPLE = x86_64-linux-gnu
 
 bindir = $(DESTDIR)$(PREFIX)/bin
 libexecdir = $(DESTDIR)$(PREFIX)/libexec/tazbrev
@@ -31,10 +33,12 @@ datadir = $(sharedir)/tazbrev
 docdir = $(sharedir)/doc/tazbrev
 zshdir = $(sharedir)/zsh/site-functions
 libdir = $(DESTDIR)$(PREFIX)/lib
+includedir = $(DESTDIR)$(PREFIX)/include
+pythondir = $(DESTDIR)$(PREFIX)/lib/python3/dist-packages
 plugindir = $(DESTDIR)$(shell pkg-config --variable=plugindir nbdkit)
 
 # The C library: its files beside the archive, and what is made of them.
-LAYER = tazbrev numbers
+LAYER = tazbrev trace numbers
 OBJECTS = $(LAYER:%=$(OUT)/c/%.o)
 SHARED = libtazbrev.so.0
 PLUGIN = nbdkit-tazbrev-plugin.so
@@ -42,8 +46,11 @@ PLUGIN = nbdkit-tazbrev-plugin.so
 # What is installed of a folder, as find is asked for it.
 FILES = -type f ! -name '.*' ! -name '*.pyc' ! -name '*.img'
 DOCUMENTS = README.md CHANGELOG.md LICENSE NOTICE SECURITY.md docs/PROFILE.md docs/TOOLS.md docs/RECIPES.md docs/view.png
+# Where a Debian package has its documents and its examples.
+documents = $(DESTDIR)$(PREFIX)/share/doc
 
-.PHONY: all install uninstall deb clean fits fits-lib lib plugin install-lib install-plugin uninstall-lib uninstall-plugin $(PARTS:%=install-%) $(PARTS:%=deb-%)
+.PHONY: all install uninstall deb clean fits fits-lib lib plugin install-lib install-plugin install-python uninstall-lib \
+    uninstall-plugin uninstall-python $(PARTS:%=install-%) $(PARTS:%=deb-%)
 
 all:
 	@sed -n 's/^# \(make\)/\1/p' Makefile
@@ -66,7 +73,7 @@ ifeq ($(ARCHIVE),release/library/libgeo_exports.a)
 	    { echo "make: $(ARCHIVE) isn't the recorded file" >&2; exit 1; }
 endif
 
-install: $(PARTS:%=install-%)
+install: install-tazbrev
 
 install-tazbrev: fits
 	install -d $(bindir) $(libexecdir) $(datadir) $(docdir) $(sharedir)/man/man8 $(zshdir)
@@ -85,7 +92,7 @@ install-tazbrev: fits
 
 lib: $(OUT)/$(SHARED) $(OUT)/libtazbrev.a
 
-$(OUT)/c/%.o: c/%.c c/tazbrev.h
+$(OUT)/c/%.o: c/%.c c/mesh.h c/tazbrev.h
 	@mkdir -p $(OUT)/c
 	$(CC) $(WARNINGS) $(CFLAGS) -fPIC -c -o $@ $<
 
@@ -107,19 +114,52 @@ $(OUT)/$(PLUGIN): c/nbdkit-plugin.c c/tazbrev.h $(OUT)/libtazbrev.a
 	$(CC) $(WARNINGS) $(CFLAGS) -Ic $$(pkg-config --cflags nbdkit) -fPIC -shared -pthread -o $@ c/nbdkit-plugin.c \
 	    $(OUT)/libtazbrev.a
 
-install-lib: fits-lib lib
-	install -d $(libdir)/pkgconfig $(DESTDIR)$(PREFIX)/include
-	install -m 644 $(OUT)/$(SHARED) $(OUT)/libtazbrev.a $(libdir)
+install-shared: fits-lib lib
+	install -d $(libdir)
+	install -m 644 $(OUT)/$(SHARED) $(libdir)
+
+# What programs in C are built with, beside the shared library.
+install-headers: fits-lib lib
+	install -d $(libdir)/pkgconfig $(includedir)
+	install -m 644 $(OUT)/libtazbrev.a $(libdir)
 	ln -sf $(SHARED) $(libdir)/libtazbrev.so
-	sed 's,@PREFIX@,$(PREFIX),; s,@VERSION@,$(VERSION),' c/tazbrev.pc.in >$(libdir)/pkgconfig/tazbrev.pc
-	install -m 644 c/tazbrev.h $(DESTDIR)$(PREFIX)/include
+	sed 's,@PREFIX@,$(PREFIX),; s,@LIBDIR@,$(libdir:$(DESTDIR)%=%),; s,@VERSION@,$(VERSION),' c/tazbrev.pc.in \
+	    >$(libdir)/pkgconfig/tazbrev.pc
+	install -m 644 c/tazbrev.h $(includedir)
+
+install-lib: install-shared install-headers
 
 install-plugin: fits-lib plugin
 	install -d $(plugindir)
 	install -m 644 $(OUT)/$(PLUGIN) $(plugindir)
 
+install-python:
+	install -d $(pythondir)/tazbrev
+	install -m 644 python/tazbrev/*.py python/tazbrev/py.typed $(pythondir)/tazbrev
+	python3 -B python/build_wheel.py --metadata $(pythondir)
+
+# The packages beside the program's: a library, a plugin, or a package for Python, with its examples and its page.
+install-libtazbrev0: install-shared
+
+install-libtazbrev-dev: install-headers
+	install -d $(documents)/libtazbrev-dev/examples
+	install -m 644 docs/LIVE.md docs/LIVE-C.md $(documents)/libtazbrev-dev
+	install -m 644 c/examples/*.c c/examples/*.out $(documents)/libtazbrev-dev/examples
+	rm $(documents)/libtazbrev-dev/examples/stripe-over-nbd.out
+
+install-nbdkit-plugin-tazbrev: install-plugin
+	install -d $(documents)/nbdkit-plugin-tazbrev/examples
+	install -m 644 docs/LIVE-C.md $(documents)/nbdkit-plugin-tazbrev
+	install -m 644 c/examples/stripe.geom c/examples/stripe-over-nbd.out $(documents)/nbdkit-plugin-tazbrev/examples
+	install -m 755 c/examples/stripe-over-nbd $(documents)/nbdkit-plugin-tazbrev/examples
+
+install-python3-tazbrev: install-python
+	install -d $(documents)/python3-tazbrev/examples
+	install -m 644 docs/LIVE-PYTHON.md $(documents)/python3-tazbrev
+	install -m 755 python/examples/*.py $(documents)/python3-tazbrev/examples
+
 # What stands there was installed by the same rules, so these are run once more, aside, to know the names.
-uninstall uninstall-lib uninstall-plugin:
+uninstall uninstall-lib uninstall-plugin uninstall-python:
 	rm -rf $(OUT)/uninstall
 	$(MAKE) -s $(subst uninstall,install,$@) DESTDIR=$(abspath $(OUT))/uninstall PREFIX=$(PREFIX) PROGRAM=VERSION
 	cd $(OUT)/uninstall && find . ! -type d | while read -r file; do rm -f "$(abspath $(DESTDIR))/$$file"; done
@@ -132,7 +172,8 @@ deb: $(PARTS:%=deb-%)
 # A package: its files as they are installed, and the fields of packaging/PART/control.
 $(PARTS:%=deb-%): deb-%:
 	rm -rf $(OUT)/deb/$*
-	$(MAKE) -s install-$* DESTDIR=$(abspath $(OUT))/deb/$* PREFIX=/usr PROGRAM=$(PROGRAM) \
+	$(MAKE) -s install-$* DESTDIR=$(abspath $(OUT))/deb/$* PREFIX=/usr PROGRAM=$(PROGRAM) ARCHIVE=$(ARCHIVE) \
+	    libdir=$(abspath $(OUT))/deb/$*/usr/lib/$(TRIPLE) \
 	    zshdir=$(abspath $(OUT))/deb/$*/usr/share/zsh/vendor-completions
 	packaging/debian $* $(OUT)/deb/$* $(VERSION) $(ARCHITECTURE)
 	dpkg-deb --root-owner-group -Zxz --build $(OUT)/deb/$* $(OUT)/$*_$(VERSION)_$(ARCHITECTURE).deb

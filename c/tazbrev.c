@@ -6,59 +6,17 @@
  * goes to the function that waits for it: a token is the address of a `struct request`.
  */
 #define _XOPEN_SOURCE 700
-#include "tazbrev.h"
+#include "mesh.h"
 
+#include <inttypes.h>
 #include <search.h>
 #include <stdatomic.h>
 #include <stdio.h>
 #include <stdlib.h>
 #include <string.h>
 
-enum { MOST_DISKS = 16, MOST_ACTORS = 16, MOST_NAME = 16, MOST_LINE = 8192 };
-
 /* A text as the proved calls have it. */
 #define TEXT(word) (const uint8_t *)(word), strlen(word)
-
-struct disk {
-    char name[MOST_NAME + 1];
-    struct tzb_disk_ops ops;
-    void *arg;
-    uint64_t bytes;
-};
-
-/* A command, and who waits for its reply: an element of a ring. */
-struct request {
-    struct request *next, *previous;
-    tzb_done *done;
-    void *arg;
-    uint8_t *bytes; /* where a read's bytes go, or NULL */
-    uint32_t actor, error;
-};
-
-/* What is due, and what a disk answered. */
-struct step {
-    struct step *next;
-    struct tzb_event event;
-    struct tzb_ask ask;
-    int32_t answer;
-    size_t len;
-    uint8_t bytes[TZB_MOST_BYTES];
-};
-
-struct tzb_mesh {
-    struct tzb_core core;
-    void (*lock)(void *arg);
-    void (*unlock)(void *arg);
-    void *lock_arg;
-    struct disk set[MOST_DISKS];   /* as they were set, */
-    struct disk disks[MOST_DISKS]; /* and those of the header, by their places */
-    struct tzb_size sizes[MOST_DISKS];
-    char actors[MOST_ACTORS][MOST_NAME + 1];
-    uint32_t set_count, disk_count, actor_count, fault_line;
-    char fault[80];
-    struct request waiting, ready; /* heads of rings: on their way, and replied to at once */
-    struct step *spare, *kept;     /* `kept` have answers for which memory was wanting */
-};
 
 /* ---- Memory, for which the proved part asks by three names ---- */
 
@@ -189,14 +147,15 @@ static const char *place_disk(struct tzb_mesh *mesh, const char *name, bool is_r
     if (!is_set && !is_ram)
         return "the disk %s has no functions";
     *disk = is_set ? *set : (struct disk){.ops = ram_ops, .bytes = (uint64_t)sectors * sector};
+    disk->is_ram = is_ram;
     if (sector == 0 || disk->bytes % sector != 0)
         return "the disk %s isn't of whole sectors";
     mesh->sizes[mesh->disk_count++] = (struct tzb_size){disk->bytes / sector, sector, 0};
     return NULL;
 }
 
-/* Finds disks and actors in the lines of a header. What isn't one the proved part refuses. */
-static bool scan(struct tzb_mesh *mesh, const char *line)
+/* Finds disks and actors in lines, up to their end. What isn't a header the proved part refuses. */
+static const char *scan(struct tzb_mesh *mesh, const char *line)
 {
     char word[8] = "", name[MOST_NAME + 1] = "";
     const char *fault = NULL;
@@ -215,7 +174,7 @@ static bool scan(struct tzb_mesh *mesh, const char *line)
             break;
     }
     snprintf(mesh->fault, sizeof mesh->fault, fault != NULL ? fault : "", name);
-    return fault == NULL;
+    return line;
 }
 
 /* Disks in memory get theirs, of zeros. */
@@ -247,7 +206,8 @@ int32_t tzb_mesh_open(struct tzb_mesh *mesh, const char *header)
     if (mesh->core.is_open)
         return TZB_OPEN;
     mesh->fault_line = 0;
-    if (scan(mesh, header))
+    const char *end = scan(mesh, header);
+    if (mesh->fault[0] == '\0')
         code = tzb_core_open(&mesh->core, TEXT(header), mesh->sizes, mesh->disk_count,
                              &mesh->fault_line);
     if (code == TZB_OK)
@@ -255,7 +215,9 @@ int32_t tzb_mesh_open(struct tzb_mesh *mesh, const char *header)
     if (code == TZB_WRONG && mesh->fault[0] == '\0')
         strcpy(mesh->fault, mesh->fault_line != 0 ? "that isn't a line of a script, or not there"
                             : "a disk has no sectors or too many, or the text is too long");
-    if (code != TZB_OK)
+    if (code == TZB_OK)
+        tell_header(mesh, header, (size_t)(end - header));
+    else
         undo_open(mesh);
     return code;
 }
@@ -279,21 +241,34 @@ static int32_t unlocked(struct tzb_mesh *mesh, int32_t code)
 }
 
 /* Takes the lock for a command. NULL: memory was wanting. */
-static struct request *begin(struct tzb_mesh *mesh, const char *actor, tzb_done *done, void *arg)
+static struct request *begin(struct tzb_mesh *mesh, const char *actor, tzb_done *done, void *arg,
+                             void *bytes)
 {
     struct request *it = take(sizeof *it);
     if (it == NULL)
         return NULL;
-    *it = (struct request){.done = done, .arg = arg};
+    *it = (struct request){.done = done, .arg = arg, .bytes = bytes};
     mesh->lock(mesh->lock_arg);
     while (it->actor < mesh->actor_count && strcmp(mesh->actors[it->actor], actor) != 0)
         it->actor++;
     return it;
 }
 
-/* Keeps the request while it waits, and lets the lock go. */
-static int32_t end(struct tzb_mesh *mesh, struct request *it, int32_t code)
+/* What a proved call says to a request. */
+#define GIVE(it, call, ...) ((it) == NULL ? TZB_NO_MEMORY : call(&mesh->core, (it)->actor, \
+    __VA_ARGS__, (uint64_t)(uintptr_t)(it), &(it)->error))
+
+/* Tells the command, keeps its request while it waits, and lets the lock go. */
+__attribute__((format(printf, 6, 7))) static int32_t end(
+    struct tzb_mesh *mesh, struct request *it, int32_t code, const uint8_t *data, size_t len,
+    const char *format, ...)
 {
+    if (it == NULL)
+        return code;
+    va_list words;
+    va_start(words, format);
+    tell_command(mesh, it, code, data, len, format, words);
+    va_end(words);
     int32_t answer = code == TZB_REPLIED ? (int32_t)it->error : code;
     if (code == TZB_OK)
         insque(it, mesh->waiting.previous);
@@ -304,66 +279,69 @@ static int32_t end(struct tzb_mesh *mesh, struct request *it, int32_t code)
     return unlocked(mesh, answer);
 }
 
-/* What a proved call says to a request. */
-#define GIVE(it, call, ...) ((it) == NULL ? TZB_NO_MEMORY : end(mesh, it, \
-    call(&mesh->core, (it)->actor, __VA_ARGS__, (uint64_t)(uintptr_t)(it), &(it)->error)))
-
 int32_t tzb_mesh_open_handle(struct tzb_mesh *mesh, const char *actor, const char *handle,
                              const char *provider, uint32_t r, uint32_t w, uint32_t e)
 {
-    struct request *it = begin(mesh, actor, NULL, NULL);
-    return GIVE(it, tzb_core_open_handle, TEXT(handle), TEXT(provider), r, w, e);
+    struct request *it = begin(mesh, actor, NULL, NULL, NULL);
+    int32_t code = GIVE(it, tzb_core_open_handle, TEXT(handle), TEXT(provider), r, w, e);
+    return end(mesh, it, code, NULL, 0, "open %s %s r%uw%ue%u", handle, provider, (unsigned)r,
+               (unsigned)w, (unsigned)e);
 }
 
 int32_t tzb_mesh_close_handle(struct tzb_mesh *mesh, const char *actor, const char *handle)
 {
-    struct request *it = begin(mesh, actor, NULL, NULL);
-    return GIVE(it, tzb_core_close_handle, TEXT(handle));
+    struct request *it = begin(mesh, actor, NULL, NULL, NULL);
+    int32_t code = GIVE(it, tzb_core_close_handle, TEXT(handle));
+    return end(mesh, it, code, NULL, 0, "close %s", handle);
 }
 
 int32_t tzb_mesh_insert(struct tzb_mesh *mesh, const char *actor, const char *disk)
 {
-    struct request *it = begin(mesh, actor, NULL, NULL);
-    return GIVE(it, tzb_core_insert, TEXT(disk));
+    struct request *it = begin(mesh, actor, NULL, NULL, NULL);
+    int32_t code = GIVE(it, tzb_core_insert, TEXT(disk));
+    return end(mesh, it, code, NULL, 0, "insert %s", disk);
 }
 
 int32_t tzb_mesh_pull(struct tzb_mesh *mesh, const char *actor, const char *disk)
 {
-    struct request *it = begin(mesh, actor, NULL, NULL);
-    return GIVE(it, tzb_core_pull, TEXT(disk));
+    struct request *it = begin(mesh, actor, NULL, NULL, NULL);
+    int32_t code = GIVE(it, tzb_core_pull, TEXT(disk));
+    return end(mesh, it, code, NULL, 0, "pull %s", disk);
 }
 
 int32_t tzb_mesh_flush(struct tzb_mesh *mesh, const char *actor, const char *handle,
                        tzb_done *done, void *arg)
 {
-    struct request *it = begin(mesh, actor, done, arg);
-    return GIVE(it, tzb_core_submit_flush, TEXT(handle));
+    struct request *it = begin(mesh, actor, done, arg, NULL);
+    int32_t code = GIVE(it, tzb_core_submit_flush, TEXT(handle));
+    return end(mesh, it, code, NULL, 0, "flush %s", handle);
 }
 
 int32_t tzb_mesh_read(struct tzb_mesh *mesh, const char *actor, const char *handle, uint64_t offset,
                       void *bytes, size_t len, tzb_done *done, void *arg)
 {
-    struct request *it = begin(mesh, actor, done, arg);
-    if (it != NULL)
-        it->bytes = bytes;
-    return GIVE(it, tzb_core_submit_read, TEXT(handle), offset, len);
+    struct request *it = begin(mesh, actor, done, arg, bytes);
+    int32_t code = GIVE(it, tzb_core_submit_read, TEXT(handle), offset, len);
+    return end(mesh, it, code, NULL, 0, "read %s %" PRIu64 " %zu", handle, offset, len);
 }
 
 int32_t tzb_mesh_write(struct tzb_mesh *mesh, const char *actor, const char *handle,
                        uint64_t offset, const void *bytes, size_t len, tzb_done *done, void *arg)
 {
-    struct request *it = begin(mesh, actor, done, arg);
-    return GIVE(it, tzb_core_submit_write, TEXT(handle), offset, bytes, len);
+    struct request *it = begin(mesh, actor, done, arg, NULL);
+    int32_t code = GIVE(it, tzb_core_submit_write, TEXT(handle), offset, bytes, len);
+    return end(mesh, it, code, bytes, len, "write %s %" PRIu64, handle, offset);
 }
 
 int32_t tzb_mesh_delete(struct tzb_mesh *mesh, const char *actor, const char *handle,
                         uint64_t offset, uint64_t len, tzb_done *done, void *arg)
 {
-    struct request *it = begin(mesh, actor, done, arg);
-    return GIVE(it, tzb_core_submit_delete, TEXT(handle), offset, len);
+    struct request *it = begin(mesh, actor, done, arg, NULL);
+    int32_t code = GIVE(it, tzb_core_submit_delete, TEXT(handle), offset, len);
+    return end(mesh, it, code, NULL, 0, "delete %s %" PRIu64 " %" PRIu64, handle, offset, len);
 }
 
-/* Any command, as the one line of a script with the actors, where `actor` is one of them. */
+/* Any command, as the one line of a script with the actors. */
 static int32_t give_line(struct tzb_core *core, uint32_t actor, const struct tzb_mesh *mesh,
                          const char *command, uint64_t token, uint32_t *error)
 {
@@ -380,119 +358,140 @@ static int32_t give_line(struct tzb_core *core, uint32_t actor, const struct tzb
 int32_t tzb_mesh_command(struct tzb_mesh *mesh, const char *actor, const char *command,
                          tzb_done *done, void *arg)
 {
-    struct request *it = begin(mesh, actor, done, arg);
-    return GIVE(it, give_line, mesh, command);
+    struct request *it = begin(mesh, actor, done, arg, NULL);
+    int32_t code = GIVE(it, give_line, mesh, command);
+    return end(mesh, it, code, NULL, 0, "%s", command);
 }
 
 /* ---- Steps ---- */
 
-static void free_step(struct tzb_mesh *mesh, struct step *step)
+static void free_turn(struct tzb_mesh *mesh, struct turn *turn)
 {
     memory.release(mesh->spare);
-    mesh->spare = step;
+    mesh->spare = turn;
 }
 
 /* What a disk says. */
-static int32_t call_disk(const struct disk *disk, struct step *step)
+static int32_t call_disk(const struct disk *disk, struct turn *turn)
 {
-    switch (step->event.op) {
+    switch (turn->event.op) {
     case TZB_READ:
-        return disk->ops.on_read(disk->arg, &step->ask, step->bytes, step->len);
+        return disk->ops.on_read(disk->arg, &turn->ask, turn->bytes, turn->len);
     case TZB_FLUSH:
-        return disk->ops.on_flush != NULL ? disk->ops.on_flush(disk->arg, &step->ask) : 0;
+        return disk->ops.on_flush != NULL ? disk->ops.on_flush(disk->arg, &turn->ask) : 0;
     case TZB_DELETE:
         if (disk->ops.on_delete != NULL)
-            return disk->ops.on_delete(disk->arg, &step->ask);
-        memset(step->bytes, 0, step->len);
+            return disk->ops.on_delete(disk->arg, &turn->ask);
+        memset(turn->bytes, 0, turn->len);
     }
     if (disk->ops.on_write == NULL)
         return TZB_EIO;
-    return disk->ops.on_write(disk->arg, &step->ask, step->bytes, step->len);
+    return disk->ops.on_write(disk->arg, &turn->ask, turn->bytes, turn->len);
 }
 
-/* Gives the mesh what a disk answered, or keeps it until there is memory. */
-static int32_t answer(struct tzb_mesh *mesh, struct step *step)
+/* Gives the mesh a disk's answer. */
+static int32_t answer(struct tzb_mesh *mesh, uint64_t bio, enum how how, uint32_t done,
+                      const uint8_t *bytes, size_t len)
 {
-    int32_t code;
-    if (step->answer != 0)
-        code = tzb_core_answer_failed(&mesh->core, step->event.bio, step->ask.done);
-    else if (step->event.op == TZB_READ)
-        code = tzb_core_answer_bytes(&mesh->core, step->event.bio, step->bytes, step->len);
-    else
-        code = tzb_core_answer_done(&mesh->core, step->event.bio);
-    if (code == TZB_UNFIT && step->answer != 0) /* so many sectors weren't asked for */
-        code = tzb_core_answer_failed(&mesh->core, step->event.bio, 0);
+    int32_t code = how == BYTES  ? tzb_core_answer_bytes(&mesh->core, bio, bytes, len)
+                   : how == DONE ? tzb_core_answer_done(&mesh->core, bio)
+                                 : tzb_core_answer_failed(&mesh->core, bio, done);
+    if (code == TZB_OK)
+        tell_answer(mesh, bio, how, done, bytes, len);
+    return code;
+}
+
+/* The same of what a function said, which is kept until there is memory. */
+static int32_t deliver(struct tzb_mesh *mesh, struct turn *turn)
+{
+    enum how how = turn->said != 0 ? FAILED : turn->event.op == TZB_READ ? BYTES : DONE;
+    int32_t code = answer(mesh, turn->event.bio, how, turn->ask.done, turn->bytes, turn->len);
+    if (code == TZB_UNFIT && how == FAILED) /* so many sectors weren't asked for */
+        code = answer(mesh, turn->event.bio, FAILED, 0, NULL, 0);
     if (code == TZB_NO_MEMORY) {
-        step->next = mesh->kept;
-        mesh->kept = step;
+        turn->next = mesh->kept;
+        mesh->kept = turn;
         return code;
     }
-    free_step(mesh, step);
+    free_turn(mesh, turn);
     return code == TZB_OK ? TZB_ASK : code;
 }
 
 /* Asks a disk, without the lock. */
-static int32_t ask_disk(struct tzb_mesh *mesh, struct step *step)
+static int32_t ask_disk(struct tzb_mesh *mesh, struct turn *turn)
 {
-    uint32_t sector = mesh->sizes[step->event.disk].sector;
-    step->ask = (struct tzb_ask){.bio = step->event.bio, .first = step->event.first,
-                                 .count = step->event.count, .sector = sector};
-    step->len = (size_t)sector * step->event.count;
+    uint32_t sector = mesh->sizes[turn->event.disk].sector;
+    turn->ask = (struct tzb_ask){.bio = turn->event.bio, .first = turn->event.first,
+                                 .count = turn->event.count, .sector = sector};
+    turn->len = (size_t)sector * turn->event.count;
     mesh->unlock(mesh->lock_arg);
-    step->answer = call_disk(&mesh->disks[step->event.disk], step);
+    turn->said = call_disk(&mesh->disks[turn->event.disk], turn);
     mesh->lock(mesh->lock_arg);
-    if (step->answer != TZB_LATER)
-        return answer(mesh, step);
-    free_step(mesh, step);
+    if (turn->said != TZB_LATER)
+        return deliver(mesh, turn);
+    free_turn(mesh, turn);
     return TZB_ASK;
 }
 
 /* Hands a reply to who waits for it, without the lock. */
-static int32_t reply(struct tzb_mesh *mesh, struct step *step)
+static int32_t reply(struct tzb_mesh *mesh, struct request *it, struct turn *turn)
 {
-    struct request *it = (struct request *)(uintptr_t)step->event.token;
-    size_t len = it->bytes == NULL ? step->event.len : 0;
+    size_t len = it->bytes == NULL ? turn->event.len : 0;
     remque(it);
     mesh->unlock(mesh->lock_arg);
     if (it->bytes != NULL)
-        memcpy(it->bytes, step->bytes, step->event.len);
+        memcpy(it->bytes, turn->bytes, turn->event.len);
     if (it->done != NULL)
-        it->done(it->arg, (int32_t)step->event.error, len > 0 ? step->bytes : NULL, len);
+        it->done(it->arg, (int32_t)turn->event.error, len > 0 ? turn->bytes : NULL, len);
     memory.release(it);
     mesh->lock(mesh->lock_arg);
-    free_step(mesh, step);
+    free_turn(mesh, turn);
     return TZB_REPLY;
 }
 
-/* Does what is due, with the lock taken. */
-static int32_t do_step(struct tzb_mesh *mesh)
+/* Makes the step that is due, with the lock taken. */
+static int32_t make_step(struct tzb_mesh *mesh, struct turn *turn)
 {
-    struct step *step = mesh->kept;
-    if (step != NULL) {
-        mesh->kept = step->next;
-        return answer(mesh, step);
+    struct tzb_step step = {0};
+    if (mesh->listener != NULL)
+        tzb_core_due(&mesh->core, &step);
+    int32_t code = tzb_core_next(&mesh->core, &turn->event, turn->bytes, sizeof turn->bytes);
+    struct request *waits = (struct request *)(uintptr_t)turn->event.token;
+    if (code == TZB_OK)
+        tell_step(mesh, &step);
+    if (turn->event.kind == TZB_ASK)
+        return ask_disk(mesh, turn);
+    if (turn->event.kind == TZB_REPLY) {
+        tell_reply(mesh, waits, turn->event.error, turn->bytes, turn->event.len);
+        return reply(mesh, waits, turn);
     }
-    step = mesh->spare != NULL ? mesh->spare : take(sizeof *step);
-    mesh->spare = NULL;
-    if (step == NULL)
-        return TZB_NO_MEMORY;
-    int32_t code = TZB_OK;
-    step->event = (struct tzb_event){.kind = TZB_REPLY, .token = (uintptr_t)mesh->ready.next};
-    if (mesh->ready.next == &mesh->ready)
-        code = tzb_core_next(&mesh->core, &step->event, step->bytes, sizeof step->bytes);
-    if (step->event.kind == TZB_ASK)
-        return ask_disk(mesh, step);
-    if (step->event.kind == TZB_REPLY)
-        return reply(mesh, step);
-    code = code == TZB_OK ? (int32_t)step->event.kind : code;
-    free_step(mesh, step);
+    code = code == TZB_OK ? (int32_t)turn->event.kind : code;
+    free_turn(mesh, turn);
     return code;
+}
+
+/* Does what is due, with the lock taken. */
+static int32_t take_turn(struct tzb_mesh *mesh)
+{
+    struct turn *turn = mesh->kept;
+    if (turn != NULL) {
+        mesh->kept = turn->next;
+        return deliver(mesh, turn);
+    }
+    turn = mesh->spare != NULL ? mesh->spare : take(sizeof *turn);
+    mesh->spare = NULL;
+    if (turn == NULL)
+        return TZB_NO_MEMORY;
+    if (mesh->ready.next == &mesh->ready)
+        return make_step(mesh, turn);
+    turn->event = (struct tzb_event){.kind = TZB_REPLY};
+    return reply(mesh, mesh->ready.next, turn);
 }
 
 int32_t tzb_mesh_step(struct tzb_mesh *mesh)
 {
     mesh->lock(mesh->lock_arg);
-    return unlocked(mesh, do_step(mesh));
+    return unlocked(mesh, take_turn(mesh));
 }
 
 int32_t tzb_mesh_run(struct tzb_mesh *mesh)
@@ -507,19 +506,19 @@ int32_t tzb_mesh_run(struct tzb_mesh *mesh)
 int32_t tzb_mesh_answer_read(struct tzb_mesh *mesh, uint64_t bio, const void *bytes, size_t len)
 {
     mesh->lock(mesh->lock_arg);
-    return unlocked(mesh, tzb_core_answer_bytes(&mesh->core, bio, bytes, len));
+    return unlocked(mesh, answer(mesh, bio, BYTES, 0, bytes, len));
 }
 
 int32_t tzb_mesh_answer_done(struct tzb_mesh *mesh, uint64_t bio)
 {
     mesh->lock(mesh->lock_arg);
-    return unlocked(mesh, tzb_core_answer_done(&mesh->core, bio));
+    return unlocked(mesh, answer(mesh, bio, DONE, 0, NULL, 0));
 }
 
 int32_t tzb_mesh_answer_failed(struct tzb_mesh *mesh, uint64_t bio, uint32_t done)
 {
     mesh->lock(mesh->lock_arg);
-    return unlocked(mesh, tzb_core_answer_failed(&mesh->core, bio, done));
+    return unlocked(mesh, answer(mesh, bio, FAILED, done, NULL, 0));
 }
 
 /* ---- How it stands, and its end ---- */
@@ -572,9 +571,9 @@ void tzb_mesh_close(struct tzb_mesh *mesh)
     tell_closed(&mesh->waiting);
     tell_closed(&mesh->ready);
     while (mesh->kept != NULL) {
-        struct step *step = mesh->kept;
-        mesh->kept = step->next;
-        memory.release(step);
+        struct turn *turn = mesh->kept;
+        mesh->kept = turn->next;
+        memory.release(turn);
     }
     memory.release(mesh->spare);
     memory.release(mesh);

@@ -207,6 +207,27 @@ int32_t tzb_core_command(struct tzb_core *core, const uint8_t *script, size_t sc
  */
 int32_t tzb_core_next(struct tzb_core *core, struct tzb_event *event, uint8_t *bytes, size_t len);
 
+/* A step that is due, for whoever writes a trace (docs/LIVE.md). Fields that the kind doesn't speak of are 0. */
+struct tzb_step {
+    uint32_t kind;  /* TZB_STEP_NONE .. TZB_STEP_WASH */
+    uint32_t place; /* TAKE: the disk's place in the header */
+    uint64_t bio;   /* UP, TAKE, START */
+};
+
+enum {
+    TZB_STEP_NONE = 0,  /* nothing is due */
+    TZB_STEP_UP = 1,    /* a bio that is done goes up */
+    TZB_STEP_TAKE = 2,  /* a disk takes a bio */
+    TZB_STEP_START = 3, /* a bio begins its way down */
+    TZB_STEP_JUDGE = 4, /* the taste under way goes on */
+    TZB_STEP_EVENT = 5, /* the oldest event is done */
+    TZB_STEP_REAP = 6,  /* a dead handle is let go */
+    TZB_STEP_WASH = 7   /* a part of a withering geom goes */
+};
+
+/* The step that `tzb_core_next` would make now. Nothing is made. TZB_CLOSED: then it is TZB_STEP_NONE. */
+int32_t tzb_core_due(struct tzb_core *core, struct tzb_step *step);
+
 /*
  * A disk's answer for a bio that it was asked for. TZB_UNFIT: the bio wasn't asked or is answered, or the answer isn't
  * one to what was asked. TZB_CLOSED. TZB_NO_MEMORY. After each nothing has changed, and the answer may be given again.
@@ -259,6 +280,7 @@ struct tzb_mesh;
 #define TZB_HAVE_MESH 1
 #define TZB_HAVE_MESH_COMMAND 1
 #define TZB_HAVE_MESH_LIST 1
+#define TZB_HAVE_MESH_LISTENER 1
 
 /* What a function of a disk says that answers later. */
 #define TZB_LATER 1
@@ -296,6 +318,20 @@ struct tzb_disk_ops {
  */
 typedef void tzb_done(void *arg, int32_t error, const uint8_t *bytes, size_t len);
 
+/* The parts of a trace. */
+enum {
+    TZB_TOLD_SCRIPT = 0, /* the header, and each command as a line behind it */
+    TZB_TOLD_STEP = 1,   /* the sizes of disks, and each step as a line */
+    TZB_TOLD_REPLY = 2   /* each reply as a line, with the number of the command's line in front */
+};
+
+/*
+ * Told what a mesh does, as text of a trace that `geomrun verify` judges (docs/LIVE.md). `len` bytes of text, without a
+ * NUL, go behind what came before of the same part; they may be a piece of a line. It is called with the lock, where
+ * the thing is done, so it makes no call of the mesh.
+ */
+typedef void tzb_listener(void *arg, int32_t part, const char *text, size_t len);
+
 /* The version of the library, as TZB_VERSION. */
 const char *tzb_version(void);
 
@@ -323,6 +359,12 @@ struct tzb_mesh *tzb_mesh_create(void);
  * TZB_OPEN). That a mesh goes from thread to thread is tested; the proofs speak of one.
  */
 int32_t tzb_mesh_set_lock(struct tzb_mesh *mesh, void (*lock)(void *arg), void (*unlock)(void *arg), void *arg);
+
+/*
+ * Has a listener told of all that the mesh does, or nobody for NULL. Call it before `tzb_mesh_open` (else TZB_OPEN).
+ * Give no command `mesh` then, since its lines aren't told.
+ */
+int32_t tzb_mesh_set_listener(struct tzb_mesh *mesh, tzb_listener *listener, void *arg);
 
 /*
  * Says what a disk of the header does, by its name, and how many bytes it has: whole sectors. The functions are copied,

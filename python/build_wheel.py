@@ -1,9 +1,12 @@
 #!/usr/bin/env python3
 """build_wheel LIBRARY FOLDER
+build_wheel --metadata FOLDER
 
 Makes the wheel of the package into a folder, with this shared library inside: `tazbrev-VERSION-py3-none-TAG.whl`. TAG
 names the oldest C library with which that one runs. It is what `pip wheel` calls too, which takes the library that
 `TAZBREV_LIBRARY` names. Nothing but Python is needed, and no network.
+
+With --metadata it makes the folder alone by which Python knows of a package that is installed, without a library.
 """
 import base64, hashlib, io, os, pathlib, re, sys, zipfile
 
@@ -35,16 +38,22 @@ def metadata():
             'Requires-Python: >=3.9\nDescription-Content-Type: text/markdown\n\n' + (HERE / 'README.md').read_text())
 
 
+def described():
+    """The files that tell Python of the package, by their names."""
+    inside = f'tazbrev-{version()}.dist-info'
+    return {f'{inside}/METADATA': metadata().encode(),
+            f'{inside}/entry_points.txt': b'[pytest11]\ntazbrev = tazbrev.pytest_plugin\n'}
+
+
 def contents(library, platform):
     """The files of the wheel by their names in it."""
     inside = f'tazbrev-{version()}.dist-info'
     files = {f'tazbrev/{it.name}': it.read_bytes() for it in sorted(PACKAGE.iterdir())
              if it.suffix == '.py' or it.name == 'py.typed'}
     files[f'tazbrev/{LIBRARY}'] = library.read_bytes()
-    files[f'{inside}/METADATA'] = metadata().encode()
     files[f'{inside}/WHEEL'] = (f'Wheel-Version: 1.0\nGenerator: build_wheel\nRoot-Is-Purelib: false\n'
                                 f'Tag: py3-none-{platform}\n').encode()
-    files[f'{inside}/entry_points.txt'] = b'[pytest11]\ntazbrev = tazbrev.pytest_plugin\n'
+    files.update(described())
     for name in ('LICENSE', 'NOTICE'):
         files[f'{inside}/{name}'] = (HERE.parent / name).read_bytes()
     rows = [f'{name},sha256={digest(data)},{len(data)}\n' for name, data in files.items()]
@@ -85,7 +94,17 @@ def get_requires_for_build_wheel(config_settings=None):
     return []
 
 
+def describe(folder):
+    """Writes what tells Python of the package into a folder of packages."""
+    for name, data in described().items():
+        (folder / name).parent.mkdir(exist_ok=True)
+        (folder / name).write_bytes(data)
+
+
 def main(argv):
+    if argv[:1] == ['--metadata'] and len(argv) == 2 and pathlib.Path(argv[1]).is_dir():
+        describe(pathlib.Path(argv[1]))
+        return 0
     if len(argv) != 2 or not pathlib.Path(argv[0]).is_file() or not pathlib.Path(argv[1]).is_dir():
         print(__doc__, file=sys.stderr)
         return 2

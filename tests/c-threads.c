@@ -1,6 +1,7 @@
 /*
  * c-threads: threads share a mesh under a lock. Each writes its own sectors and reads them, over two disks that let the
- * others run in between. Prints how many requests there were, if each was well and read what was written.
+ * others run in between. Prints how many requests there were, if each was well and read what was written. What a
+ * listener heard goes to four files in the folder that is named: script, steps, replies, mesh.
  */
 #define _GNU_SOURCE
 #include <tazbrev.h>
@@ -26,6 +27,40 @@ static void lock(void *arg)
 static void unlock(void *arg)
 {
     pthread_mutex_unlock(arg);
+}
+
+static FILE *parts[4];
+
+static void told(void *arg, int32_t part, const char *text, size_t len)
+{
+    (void)arg;
+    fwrite(text, 1, len, parts[part]);
+}
+
+/* The files of the parts are opened in a folder. */
+static int begin_parts(const char *folder)
+{
+    static const char *const names[] = {"script", "steps", "replies", "mesh"};
+    for (int part = 0; part < 4; part++) {
+        char path[4096];
+        snprintf(path, sizeof path, "%s/%s", folder, names[part]);
+        if ((parts[part] = fopen(path, "w")) == NULL)
+            return 1;
+    }
+    return tzb_mesh_set_listener(mesh, told, NULL);
+}
+
+static int end_parts(void)
+{
+    static char list[4096];
+    size_t need;
+    if (tzb_mesh_run(mesh) != 0 || tzb_mesh_list(mesh, list, sizeof list, &need) != 0)
+        return 1;
+    fputs(list, parts[3]);
+    int failed = 0;
+    for (int part = 0; part < 4; part++)
+        failed |= fclose(parts[part]) != 0;
+    return failed;
 }
 
 static int32_t on_read(void *arg, struct tzb_ask *ask, uint8_t *bytes, size_t len)
@@ -84,13 +119,13 @@ static void *work(void *arg)
     return NULL;
 }
 
-int main(void)
+int main(int count, char **words)
 {
     static const struct tzb_disk_ops ops = {sizeof ops, on_read, on_write, NULL, NULL};
     pthread_t threads[THREADS];
     unsigned places[THREADS];
     mesh = tzb_mesh_create();
-    if (mesh == NULL || tzb_mesh_set_lock(mesh, lock, unlock, &mutex) != 0 ||
+    if (count != 2 || mesh == NULL || begin_parts(words[1]) != 0 || tzb_mesh_set_lock(mesh, lock, unlock, &mutex) != 0 ||
         tzb_mesh_set_disk(mesh, "d0", &ops, disks[0], LEN) != 0 ||
         tzb_mesh_set_disk(mesh, "d1", &ops, disks[1], LEN) != 0 ||
         tzb_mesh_open(mesh, "disk d0 512\ndisk d1 512\nactor a\n") != 0 || tzb_mesh_run(mesh) != 0 ||
@@ -103,6 +138,8 @@ int main(void)
     }
     for (unsigned i = 0; i < THREADS; i++)
         pthread_join(threads[i], NULL);
+    if (end_parts() != 0)
+        return 1;
     tzb_mesh_close(mesh);
     printf("%u requests, %s\n", requests, faults == 0 ? "all well" : "not all well");
     return faults != 0;

@@ -57,14 +57,14 @@ def library_of(argv, page, room):
     return room / 'libtazbrev.so.0'
 
 
-def run(*words, cwd=TOP, **env):
+def run(*words, cwd=TOP, longest=LONGEST, **env):
     """A run with these variables more; its output is text. One that takes too long ends with status 124."""
     words = [str(it) for it in words]
     try:
-        return subprocess.run(words, capture_output=True, text=True, errors='replace', timeout=LONGEST, check=False,
+        return subprocess.run(words, capture_output=True, text=True, errors='replace', timeout=longest, check=False,
                               cwd=cwd, env={**os.environ, 'PATH': PATH, **env})
     except subprocess.TimeoutExpired:
-        return subprocess.CompletedProcess(words, 124, '', f'it takes more than {LONGEST} seconds')
+        return subprocess.CompletedProcess(words, 124, '', f'it takes more than {longest} seconds')
 
 
 def examples(library):

@@ -19,6 +19,7 @@ from .errors import (AccessError, BusyError, CallError, ClosedError, CountError,
                      ThreadError, TransferError, UnfitError)
 from .mesh import Handle, Mesh, Request
 from .rows import Consumer, Counts, Geom, Provider
+from .trace import Trace
 
 __version__ = '1.0.0'
 
@@ -27,5 +28,5 @@ __all__ = [
     'Counts', 'DepthError', 'Disk', 'DiskError', 'FileDisk', 'FormError', 'Geom', 'GeomError', 'GoneError', 'Handle',
     'HandleError', 'HeaderError', 'LibraryError', 'LoopError', 'MemoryDisk', 'MemoryWantingError', 'Mesh',
     'NameInUseError', 'NotFoundError', 'OpenError', 'Pending', 'Provider', 'RangeError', 'Request', 'RoomError',
-    'StuckError', 'TazbrevError', 'ThreadError', 'TransferError', 'UnfitError',
+    'StuckError', 'TazbrevError', 'ThreadError', 'Trace', 'TransferError', 'UnfitError',
 ]

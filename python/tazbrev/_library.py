@@ -12,7 +12,7 @@ import threading
 import warnings
 from typing import Any, List, Optional, Sequence, Tuple
 
-from . import errors
+from . import errors, trace
 
 NAME = 'libtazbrev.so.0'
 # What is due, what a disk is asked for, and the most bytes of a request.
@@ -52,6 +52,14 @@ class Event(ctypes.Structure):
     ]
 
 
+class Step(ctypes.Structure):
+    """A step that is due."""
+    kind: int
+    place: int
+    bio: int
+    _fields_ = [('kind', ctypes.c_uint32), ('place', ctypes.c_uint32), ('bio', ctypes.c_uint64)]
+
+
 _I, _L, _Z, _B, _P = ctypes.c_uint32, ctypes.c_uint64, ctypes.c_size_t, ctypes.c_char_p, ctypes.c_void_p
 _NAMED = [_P, _I, _B, _Z]
 # The arguments of each call; the answer is an int32_t, where `_COUNTS` doesn't say otherwise.
@@ -68,6 +76,7 @@ _CALLS = {
     'pull': [*_NAMED, _L, _P],
     'command': [_P, _B, _Z, _L, _P],
     'list': [_P, _P, _Z, _P],
+    'due': [_P, _P],
     'next': [_P, _P, _P, _Z],
     'answer_bytes': [_P, _L, _B, _Z],
     'answer_done': [_P, _L],
@@ -140,6 +149,8 @@ class Core:
         self._at = ctypes.addressof(self._handle)
         self.event = Event()
         self._event_at = ctypes.addressof(self.event)
+        self._step = Step()
+        self._step_at = ctypes.addressof(self._step)
         self._room = ctypes.create_string_buffer(MOST_BYTES)
         self._room_at = ctypes.addressof(self._room)
         self._error = ctypes.c_uint32()
@@ -250,6 +261,13 @@ class Core:
             _number('an offset or a length', it, 64)
 
     # Steps and answers.
+
+    def due(self) -> Optional[str]:
+        """The step that `next` makes then, as a trace has it. None where none is due."""
+        code = self._calls.due(self.own(), self._step_at)
+        if code:
+            raise _refusal(code)
+        return trace.step_text(self._step.kind, self._step.place, self._step.bio)
 
     def next(self) -> int:
         """Makes the step that is due. Gives the kind of what is due then; `event` has the rest of it."""

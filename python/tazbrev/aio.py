@@ -10,6 +10,7 @@ from . import rows
 from .disks import Data, Disk
 from .headers import Header
 from .mesh import Disks, Handle, Mesh, Request, _placed
+from .trace import Trace
 
 Value = TypeVar('Value', bytes, None)
 
@@ -45,12 +46,12 @@ class AsyncMesh:
                 data = await handle.read(0, 512)
     """
 
-    def __init__(self, header: Union[str, bytes], disks: Disks = ()) -> None:
+    def __init__(self, header: Union[str, bytes], disks: Disks = (), trace: Optional[Trace] = None) -> None:
         self._loop = asyncio.get_running_loop()
         self._is_called = False
         placed = _placed(Header(header), disks)
         named = {line.name: _Awaited(disk) for line, disk in zip(Header(header).disks, placed)}
-        self.mesh = Mesh(header, named)
+        self.mesh = Mesh(header, named, trace)
         self._disks = dict(zip(named, placed))
         self.mesh.on_late_answer = lambda: self._loop.call_soon_threadsafe(self._go_on)
         self._go_on()

@@ -12,6 +12,7 @@ from . import errors, rows
 from ._library import ASK, DELETE, FLUSH, IDLE, READ, REPLY, WRITE, Core
 from .disks import Data, Disk, MemoryDisk
 from .headers import Header
+from .trace import Trace, runs
 
 Disks = Union[Sequence[Disk], Mapping[str, Disk]]
 Value = TypeVar('Value', bytes, None)
@@ -90,23 +91,27 @@ class Handle:
     def submit_read(self, offset: int, length: int) -> 'Request[bytes]':
         """Whole sectors, 32,768 bytes at most."""
         mesh = self.mesh
-        return mesh._given(mesh._core.submit_read(self._actor, self._name, offset, length, mesh._token), self)
+        return mesh._given(mesh._core.submit_read(self._actor, self._name, offset, length, mesh._token), self.actor,
+                           ('read', self.name, offset, length), self)
 
     def submit_write(self, offset: int, data: Data) -> 'Request[None]':
         """Whole sectors, 32,768 bytes at most. The data may be changed afterwards."""
         mesh = self.mesh
         data = data if type(data) is bytes else bytes(memoryview(data))
-        return mesh._given(mesh._core.submit_write(self._actor, self._name, offset, data, mesh._token), self)
+        return mesh._given(mesh._core.submit_write(self._actor, self._name, offset, data, mesh._token), self.actor,
+                           ('write', self.name, offset, data), self)
 
     def submit_delete(self, offset: int, length: int) -> 'Request[None]':
         """The bytes read as zeros then."""
         mesh = self.mesh
-        return mesh._given(mesh._core.submit_delete(self._actor, self._name, offset, length, mesh._token), self)
+        return mesh._given(mesh._core.submit_delete(self._actor, self._name, offset, length, mesh._token), self.actor,
+                           ('delete', self.name, offset, length), self)
 
     def submit_flush(self) -> 'Request[None]':
         """The disks keep what was written."""
         mesh = self.mesh
-        return mesh._given(mesh._core.submit_flush(self._actor, self._name, mesh._token), self)
+        return mesh._given(mesh._core.submit_flush(self._actor, self._name, mesh._token), self.actor,
+                           ('flush', self.name), self)
 
     def read(self, offset: int, length: int) -> bytes:
         return self.submit_read(offset, length).result()
@@ -123,7 +128,8 @@ class Handle:
     def close(self) -> None:
         """Closes the handle. BusyError while one of its requests is out: wait for them first."""
         mesh = self.mesh
-        mesh._now(mesh._given(mesh._core.close_handle(self._actor, self._name, mesh._token)))
+        mesh._now(mesh._given(mesh._core.close_handle(self._actor, self._name, mesh._token), self.actor,
+                              ('close', self.name)))
 
     def __enter__(self) -> 'Handle':
         return self
@@ -147,11 +153,12 @@ class Mesh:
     """A mesh over disks. It makes steps while it is called, in the thread that made it, and has no thread of its own.
 
     `disks` are those of the header's `disk` lines, in their order or by their names. For a `ram` line a `MemoryDisk` is
-    made, unless `disks` has one of its name.
+    made, unless `disks` has one of its name. A `trace` is told of each step.
     """
 
-    def __init__(self, header: Union[str, bytes], disks: Disks = ()) -> None:
+    def __init__(self, header: Union[str, bytes], disks: Disks = (), trace: Optional[Trace] = None) -> None:
         self._header = Header(header)
+        self._trace = trace
         self._disks = _placed(self._header, disks)
         self._requests: Dict[int, Request[Any]] = {}
         self._token = 1
@@ -164,6 +171,9 @@ class Mesh:
         self.last_fault: Optional[Exception] = None
         self._core = Core()
         self._core.open(self._header.text, [(it.sectors, it.sector) for it in self._disks])
+        if trace is not None:
+            trace._begin(self._header.text, [disk.sectors for line, disk in zip(self._header.disks, self._disks)
+                                             if line.sectors is None])
         self.run()
 
     # What there is.
@@ -218,20 +228,24 @@ class Mesh:
         """Opens a provider under a name of the actor's, with so many rights, 0 to 9 each and not all 0."""
         handle = Handle(self, actor, name, provider)
         self._now(self._given(self._core.open_handle(handle._actor, handle._name, _bytes_of(provider), r, w, e,
-                                                     self._token)))
+                                                     self._token), actor, ('open', name, provider, f'r{r}w{w}e{e}')))
         return handle
 
     def insert(self, disk: str, actor: Optional[str] = None) -> None:
         """Lets a disk of the header stand that comes `later`, or that was pulled."""
-        self._now(self._given(self._core.insert(self._actor(actor), _bytes_of(disk), self._token)))
+        self._now(self._given(self._core.insert(self._actor(actor), _bytes_of(disk), self._token), actor,
+                              ('insert', disk)))
 
     def pull(self, disk: str, actor: Optional[str] = None) -> None:
         """Takes a disk away: its geom withers, and is let go once nothing uses it."""
-        self._now(self._given(self._core.pull(self._actor(actor), _bytes_of(disk), self._token)))
+        self._now(self._given(self._core.pull(self._actor(actor), _bytes_of(disk), self._token), actor,
+                              ('pull', disk)))
 
     def submit_command(self, line: str) -> 'Request[Any]':
         """Gives a line of a script, with its actor in front. UnfitError for a `sync` or `settle` that has to wait."""
-        return self._given(self._core.command(self._header.text + _bytes_of(line) + b'\n', self._token))
+        actor, _, command = line.partition(' ')
+        return self._given(self._core.command(self._header.text + _bytes_of(line) + b'\n', self._token), actor,
+                           (command,))
 
     def command(self, line: str) -> Optional[bytes]:
         """Gives a line of a script, waits for its reply, and gives the bytes of a read."""
@@ -250,15 +264,25 @@ class Mesh:
             raise errors.UnfitError(f'the header has no actor {name}')
         return actors[name]
 
-    def _given(self, error: Optional[int], handle: Optional[Handle] = None) -> 'Request[Any]':
+    def _given(self, error: Optional[int], actor: Optional[str], words: Sequence[object],
+               handle: Optional[Handle] = None) -> 'Request[Any]':
         """The request that was just given with the next token; `error` is None where it is on its way."""
         request: 'Request[Any]' = Request(self, self._token, handle)
         self._token += 1
+        if self._trace is not None:
+            self._tell_given(self._trace, request.token, error, actor, words)
         if error is None:
             self._requests[request.token] = request
         else:
             request._settle(None, errors.reply(error))
         return request
+
+    def _tell_given(self, trace: Trace, token: int, error: Optional[int], actor: Optional[str],
+                    words: Sequence[object]) -> None:
+        name = self.actors[0] if actor is None else actor
+        trace._given(token, (name, self._actor(name)), words)
+        if error is not None:
+            trace._replied(token, None, errors.reply(error), self._core.text().decode() if words == ('mesh',) else '')
 
     def _now(self, request: 'Request[Any]') -> Any:
         """The result of a command, after which the mesh goes on as far as it can."""
@@ -314,14 +338,20 @@ class Mesh:
 
     def _turn(self) -> bool:
         """Makes one step. False where nothing is due."""
-        core = self._core
+        core, trace = self._core, self._trace
+        step = None if trace is None else core.due()
         kind = core.next()
+        if trace is not None and step is not None:
+            trace._made(step)
         if kind == ASK:
             self._ask()
         elif kind == REPLY:
             event = core.event
             request = self._requests.pop(event.token)
-            request._settle(core.brought() if event.len else None, errors.reply(event.error))
+            value, error = core.brought() if event.len else None, errors.reply(event.error)
+            if trace is not None:
+                trace._replied(event.token, value, error)
+            request._settle(value, error)
         return kind != IDLE
 
     # Disks.
@@ -385,8 +415,10 @@ class Mesh:
                 self._failed(asked, fault)
             elif asked.op == READ:
                 self._core.answer_bytes(asked.bio, data)
+                self._tell_delivered(asked.bio, 'bytes', data)
             else:
                 self._core.answer_done(asked.bio)
+                self._tell_delivered(asked.bio, 'done')
         except errors.MemoryWantingError:
             self._late.put((asked, (got, fault)))
             raise
@@ -401,6 +433,11 @@ class Mesh:
             _log.warning('disk %s failed after %r of %d sectors, which is taken as 0', name, done, asked.sectors)
             done = 0
         self._core.answer_failed(asked.bio, done)
+        self._tell_delivered(asked.bio, f'failed {done}')
+
+    def _tell_delivered(self, bio: int, answer: str, data: bytes = b'') -> None:
+        if self._trace is not None:
+            self._trace._delivered(bio, f'{answer} {runs(data)}' if data else answer)
 
     # The end.
 

@@ -4,5 +4,6 @@ pub mod Numbers
 pub mod Forms
 pub mod Events
 pub mod Calls
+pub mod Steps
 pub mod Texts
 pub mod Opening

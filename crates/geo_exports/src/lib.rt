@@ -19,6 +19,7 @@
 //! - `tzb_core_next`: clause `turned`: the step that is due is made and told, and its bytes stand at the front of the
 //!   buffer if there is room for them (`Turned`). Clause `room`: a buffer of less than a request's most bytes is
 //!   refused.
+//! - `tzb_core_due`: clause `told`: the step that the next turn makes, if one is due (`TellsDue`). Clause `same`.
 //! - `tzb_core_answer_bytes`, `_done`, `_failed`: what a disk answered is delivered exactly where it may be
 //!   (`Answered`, for bytes `AnsweredBytes`).
 //! - `tzb_core_list`: clause `lists`: the text of the mesh stands in front of the buffer, or its length is told where
@@ -43,9 +44,11 @@ mod numbers;
 mod opening;
 mod refusal;
 mod sizes;
+mod steps;
 mod texts;
 mod turns;
 
 pub use event::TzbEvent;
 pub use held::TzbCore;
 pub use sizes::TzbSize;
+pub use steps::TzbStep;

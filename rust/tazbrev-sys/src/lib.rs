@@ -77,6 +77,24 @@ pub struct TzbEvent {
     pub generation: u64,
 }
 
+/// A step that is due.
+#[repr(C)]
+#[derive(Debug, Clone, Copy, Default)]
+pub struct TzbStep {
+    pub kind: u32,
+    pub place: u32,
+    pub bio: u64,
+}
+
+pub const TZB_STEP_NONE: u32 = 0;
+pub const TZB_STEP_UP: u32 = 1;
+pub const TZB_STEP_TAKE: u32 = 2;
+pub const TZB_STEP_START: u32 = 3;
+pub const TZB_STEP_JUDGE: u32 = 4;
+pub const TZB_STEP_EVENT: u32 = 5;
+pub const TZB_STEP_REAP: u32 = 6;
+pub const TZB_STEP_WASH: u32 = 7;
+
 extern "C" {
     pub fn tzb_core_open(
         core: *mut TzbCore,
@@ -171,6 +189,7 @@ extern "C" {
         error: *mut u32,
     ) -> i32;
     pub fn tzb_core_list(core: *mut TzbCore, bytes: *mut u8, len: usize, need: *mut u64) -> i32;
+    pub fn tzb_core_due(core: *mut TzbCore, step: *mut TzbStep) -> i32;
     pub fn tzb_core_next(core: *mut TzbCore, event: *mut TzbEvent, bytes: *mut u8, len: usize) -> i32;
     pub fn tzb_core_answer_bytes(core: *mut TzbCore, bio: u64, bytes: *const u8, len: usize) -> i32;
     pub fn tzb_core_answer_done(core: *mut TzbCore, bio: u64) -> i32;

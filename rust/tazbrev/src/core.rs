@@ -5,7 +5,7 @@
 #![allow(unsafe_code)]
 
 use crate::error::{Errno, Error, Refusal};
-use std::ptr;
+use std::{fmt, ptr};
 use tazbrev_sys as sys;
 
 /// How large a disk is.
@@ -66,6 +66,40 @@ pub enum Due {
         /// How many steps of this sort there were.
         generation: u64,
     },
+}
+
+/// A step that is due. As text it is as a trace has it.
+#[derive(Debug, Clone, Copy, PartialEq, Eq)]
+#[non_exhaustive]
+pub enum Step {
+    /// A bio that is done goes up.
+    Up(u64),
+    /// A disk, by its place in the header, takes a bio.
+    Take(u32, u64),
+    /// A bio begins its way down.
+    Start(u64),
+    /// The taste under way goes on.
+    Judge,
+    /// The oldest event is done.
+    Event,
+    /// A dead handle is let go.
+    Reap,
+    /// A part of a withering geom goes.
+    Wash,
+}
+
+impl fmt::Display for Step {
+    fn fmt(&self, out: &mut fmt::Formatter<'_>) -> fmt::Result {
+        match self {
+            Step::Up(bio) => write!(out, "up {bio}"),
+            Step::Take(disk, bio) => write!(out, "take {disk} {bio}"),
+            Step::Start(bio) => write!(out, "start {bio}"),
+            Step::Judge => out.write_str("judge"),
+            Step::Event => out.write_str("event"),
+            Step::Reap => out.write_str("reap"),
+            Step::Wash => out.write_str("wash"),
+        }
+    }
 }
 
 /// What comes of a command: None where it is on its way, else its reply.
@@ -256,6 +290,23 @@ impl Core {
                 _ => return Err(refusal(code)),
             }
         }
+    }
+
+    /// The step that [`Core::next`] would make now. Nothing is made.
+    pub fn due(&mut self) -> Result<Option<Step>, Refusal> {
+        let mut step = sys::TzbStep::default();
+        // SAFETY: as the module says.
+        done(unsafe { sys::tzb_core_due(&mut self.raw, &mut step) })?;
+        Ok(match step.kind {
+            sys::TZB_STEP_UP => Some(Step::Up(step.bio)),
+            sys::TZB_STEP_TAKE => Some(Step::Take(step.place, step.bio)),
+            sys::TZB_STEP_START => Some(Step::Start(step.bio)),
+            sys::TZB_STEP_JUDGE => Some(Step::Judge),
+            sys::TZB_STEP_EVENT => Some(Step::Event),
+            sys::TZB_STEP_REAP => Some(Step::Reap),
+            sys::TZB_STEP_WASH => Some(Step::Wash),
+            _ => None,
+        })
     }
 
     /// Makes the step that is due, and says what is due then.

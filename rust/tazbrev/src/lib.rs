@@ -27,12 +27,14 @@ mod error;
 mod header;
 mod mesh;
 mod rows;
+mod trace;
 
-pub use crate::core::{Asked, Core, Due, Op, Size};
+pub use crate::core::{Asked, Core, Due, Op, Size, Step};
 pub use crate::disk::{Disk, Fault, FileDisk, MemoryDisk};
 pub use crate::error::{Errno, Error, Refusal};
 pub use crate::mesh::{Answer, Handle, Mesh, Reply, Request};
 pub use crate::rows::{parse, Consumer, Counts, Geom, Provider};
+pub use crate::trace::Trace;
 
 /// The blocks of code of the guide, which are run as tests.
 #[cfg(doctest)]

@@ -5,6 +5,7 @@ use crate::disk::{Disk, Fault, MemoryDisk};
 use crate::error::{Errno, Error, Refusal};
 use crate::header::Header;
 use crate::rows::{self, Counts, Geom};
+use crate::trace::{Runs, Trace};
 use std::collections::HashMap;
 
 /// A handle of an actor at a provider. It borrows nothing: calls take it beside the mesh.
@@ -76,6 +77,7 @@ pub struct Mesh<D = Box<dyn Disk + Send>> {
     // The bytes that a disk fills.
     room: Vec<u8>,
     token: u64,
+    trace: Option<Trace>,
 }
 
 impl Mesh {
@@ -88,6 +90,15 @@ impl Mesh {
 impl<D: Disk> Mesh<D> {
     /// A mesh over the disks of the header's `disk` lines, in their order. For a `ram` line a [`MemoryDisk`] is made.
     pub fn new(header: &str, disks: Vec<D>) -> Result<Mesh<D>, Error> {
+        Mesh::made(header, disks, false)
+    }
+
+    /// The same, with a [`Trace`] that hears of each step.
+    pub fn traced(header: &str, disks: Vec<D>) -> Result<Mesh<D>, Error> {
+        Mesh::made(header, disks, true)
+    }
+
+    fn made(header: &str, disks: Vec<D>, is_traced: bool) -> Result<Mesh<D>, Error> {
         let header = Header::new(header)?;
         let mut slots = placed(&header, disks)?;
         let sizes: Vec<Size> = slots
@@ -98,7 +109,9 @@ impl<D: Disk> Mesh<D> {
             })
             .collect();
         let core = Core::open(header.text.as_bytes(), &sizes)?;
+        let sectors: Vec<u64> = sizes.iter().map(|size| size.sectors).collect();
         let mut mesh = Mesh {
+            trace: is_traced.then(|| Trace::begun(&header, &sectors)),
             core,
             header,
             slots,
@@ -127,6 +140,11 @@ impl<D: Disk> Mesh<D> {
             Slot::Memory(_) => None,
         };
         self.slots.into_iter().filter_map(given).collect()
+    }
+
+    /// What was heard so far, of a mesh that is [`Mesh::traced`].
+    pub fn trace(&self) -> Option<&Trace> {
+        self.trace.as_ref()
     }
 
     /// How many requests wait for their reply.
@@ -165,6 +183,8 @@ impl<D: Disk> Mesh<D> {
         };
         let (token, rights) = (self.token, (counts.r, counts.w, counts.e));
         let given = self.core.open_handle(handle.actor, name, provider, rights, token);
+        let Counts { r, w, e } = counts;
+        self.hear(&given, actor, || format!("open {name} {provider} r{r}w{w}e{e}"));
         self.at_once(given)?;
         Ok(handle)
     }
@@ -172,18 +192,21 @@ impl<D: Disk> Mesh<D> {
     /// Closes a handle. `Busy` while one of its requests is out: it stays open then.
     pub fn close(&mut self, handle: &Handle) -> Result<(), Error> {
         let given = self.core.close_handle(handle.actor, &handle.name, self.token);
+        self.hear_at(&given, handle.actor, || format!("close {}", handle.name));
         self.at_once(given)
     }
 
     /// Lets a disk of the header stand that comes `later`, or that was pulled. It is the first actor's command.
     pub fn insert(&mut self, disk: &str) -> Result<(), Error> {
         let given = self.core.insert(0, disk, self.token);
+        self.hear_at(&given, 0, || format!("insert {disk}"));
         self.at_once(given)
     }
 
     /// Takes a disk away: its geom withers, and is let go once nothing uses it. It is the first actor's command.
     pub fn pull(&mut self, disk: &str) -> Result<(), Error> {
         let given = self.core.pull(0, disk, self.token);
+        self.hear_at(&given, 0, || format!("pull {disk}"));
         self.at_once(given)
     }
 
@@ -200,6 +223,9 @@ impl<D: Disk> Mesh<D> {
     pub fn submit_command(&mut self, line: &str) -> Result<Request, Error> {
         let script = format!("{}{line}\n", self.header.text);
         let given = self.core.command(script.as_bytes(), self.token);
+        if let Some((actor, command)) = line.split_once(' ') {
+            self.hear(&given, actor, || command.to_owned());
+        }
         self.on_its_way(given)
     }
 
@@ -210,6 +236,7 @@ impl<D: Disk> Mesh<D> {
         let given = self
             .core
             .submit_read(handle.actor, &handle.name, offset, len, self.token);
+        self.hear_at(&given, handle.actor, || format!("read {} {offset} {len}", handle.name));
         self.on_its_way(given)
     }
 
@@ -218,6 +245,9 @@ impl<D: Disk> Mesh<D> {
         let given = self
             .core
             .submit_write(handle.actor, &handle.name, offset, bytes, self.token);
+        self.hear_at(&given, handle.actor, || {
+            format!("write {} {offset} {}", handle.name, Runs(bytes))
+        });
         self.on_its_way(given)
     }
 
@@ -226,12 +256,16 @@ impl<D: Disk> Mesh<D> {
         let given = self
             .core
             .submit_delete(handle.actor, &handle.name, offset, len, self.token);
+        self.hear_at(&given, handle.actor, || {
+            format!("delete {} {offset} {len}", handle.name)
+        });
         self.on_its_way(given)
     }
 
     /// Gives a flush: the disks keep what was written.
     pub fn submit_flush(&mut self, handle: &Handle) -> Result<Request, Error> {
         let given = self.core.submit_flush(handle.actor, &handle.name, self.token);
+        self.hear_at(&given, handle.actor, || format!("flush {}", handle.name));
         self.on_its_way(given)
     }
 
@@ -306,6 +340,7 @@ impl<D: Disk> Mesh<D> {
             Answer::Done => self.core.answer_done(asked.bio)?,
             Answer::Failed(done) => self.core.answer_failed(asked.bio, done)?,
         }
+        self.hear_answer(asked.bio, answer);
         self.later.remove(&asked.bio);
         Ok(())
     }
@@ -344,7 +379,7 @@ impl<D: Disk> Mesh<D> {
         if let Some((asked, got)) = self.kept.take() {
             self.tell(asked, got)?;
         }
-        let due = self.core.next()?;
+        let due = self.next()?;
         if let Due::Ask(asked) = due {
             match self.ask(&asked) {
                 Ok(()) => self.tell(asked, Ok(()))?,
@@ -355,6 +390,22 @@ impl<D: Disk> Mesh<D> {
             }
         }
         Ok(Some(due).filter(|it| *it != Due::Idle))
+    }
+
+    /// Makes one step, of which the trace hears.
+    fn next(&mut self) -> Result<Due, Refusal> {
+        let Some(trace) = &mut self.trace else {
+            return self.core.next();
+        };
+        let step = self.core.due()?;
+        let due = self.core.next()?;
+        if let Some(step) = step {
+            trace.made(step);
+        }
+        if let Due::Reply { token, error } = due {
+            trace.replied(token, error, self.core.bytes(), "");
+        }
+        Ok(due)
     }
 
     fn ask(&mut self, asked: &Asked) -> Result<(), Fault> {
@@ -376,15 +427,72 @@ impl<D: Disk> Mesh<D> {
         let told = match (got, asked.op) {
             (Ok(()), Op::Read) => self.core.answer_bytes(asked.bio, &self.room),
             (Ok(()), _) => self.core.answer_done(asked.bio),
-            (Err(done), _) => match self.core.answer_failed(asked.bio, done) {
-                Err(Refusal::Unfit) => self.core.answer_failed(asked.bio, 0),
-                other => other,
-            },
+            (Err(done), _) => self.tell_failed(asked.bio, done),
         };
         if told == Err(Refusal::NoMemory) {
             self.kept = Some((asked, got));
         }
-        Ok(told?)
+        told?;
+        let room = std::mem::take(&mut self.room);
+        match (got, asked.op) {
+            (Ok(()), Op::Read) => self.hear_answer(asked.bio, Answer::Bytes(&room)),
+            (Ok(()), _) => self.hear_answer(asked.bio, Answer::Done),
+            // It was heard as it was taken.
+            (Err(_), _) => {}
+        }
+        self.room = room;
+        Ok(())
+    }
+
+    fn tell_failed(&mut self, bio: u64, done: u32) -> Result<(), Refusal> {
+        let taken = match self.core.answer_failed(bio, done) {
+            Err(Refusal::Unfit) => self.core.answer_failed(bio, 0).map(|()| 0),
+            other => other.map(|()| done),
+        };
+        taken.map(|done| self.hear_answer(bio, Answer::Failed(done)))
+    }
+
+    // What the trace hears, if there is one.
+
+    /// A command of an actor was given.
+    fn hear(&mut self, given: &Result<Given, Refusal>, actor: &str, command: impl FnOnce() -> String) {
+        if self.trace.is_none() {
+            return;
+        }
+        let place = self.header.actors.iter().position(|it| it == actor);
+        if let (Some(trace), Ok(reply), Some(place)) = (&mut self.trace, given, place) {
+            let command = command();
+            trace.given(self.token, (actor, place as u32), &command);
+            if let Some(reply) = reply {
+                let listing = if command == "mesh" {
+                    self.core.text()
+                } else {
+                    Ok(String::new())
+                };
+                trace.replied(self.token, reply.err(), &[], &listing.unwrap_or_default());
+            }
+        }
+    }
+
+    /// The same by the actor's place.
+    fn hear_at(&mut self, given: &Result<Given, Refusal>, place: u32, command: impl FnOnce() -> String) {
+        if self.trace.is_some() {
+            if let Some(actor) = self.header.actors.get(place as usize).cloned() {
+                self.hear(given, &actor, command);
+            }
+        }
+    }
+
+    /// A disk's answer was delivered.
+    fn hear_answer(&mut self, bio: u64, answer: Answer<'_>) {
+        if let Some(trace) = &mut self.trace {
+            let said = match answer {
+                Answer::Bytes(bytes) => format!("bytes {}", Runs(bytes)),
+                Answer::Done => "done".to_owned(),
+                Answer::Failed(done) => format!("failed {done}"),
+            };
+            trace.delivered(bio, &said);
+        }
     }
 
     fn actor(&self, name: &str) -> Result<u32, Error> {

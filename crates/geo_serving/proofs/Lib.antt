@@ -1,0 +1,4 @@
+pub mod Nothing
+pub mod Running
+pub mod Halting
+pub mod Reading
