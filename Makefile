@@ -38,7 +38,7 @@ pythondir = $(DESTDIR)$(PREFIX)/lib/python3/dist-packages
 plugindir = $(DESTDIR)$(shell pkg-config --variable=plugindir nbdkit)
 
 # The C library: its files beside the archive, and what is made of them.
-LAYER = tazbrev opening trace numbers memory
+LAYER = tazbrev trace numbers
 OBJECTS = $(LAYER:%=$(OUT)/c/%.o)
 SHARED = libtazbrev.so.0
 PLUGIN = nbdkit-tazbrev-plugin.so

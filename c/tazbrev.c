@@ -1,19 +1,238 @@
 /*
- * tazbrev: commands and steps of a mesh with functions for its disks, over the proved calls.
+ * tazbrev: a mesh with names, and with functions for its disks, over the proved calls.
  *
- * UNPROVED. Which disk is asked for what, and what is replied to whom, is the proved part's. Here names become numbers,
- * a disk's functions are called, and each reply is handed to the function that waits for it: the token of a request is
- * the address of its `struct request`.
+ * UNPROVED. What is a script, which disk is asked for what, and what is replied to whom, is the
+ * proved part's to say. Here names become numbers, a disk's functions are called, and each reply
+ * goes to the function that waits for it: a token is the address of a `struct request`.
  */
+#define _XOPEN_SOURCE 700
 #include "mesh.h"
 
 #include <inttypes.h>
+#include <search.h>
+#include <stdatomic.h>
+#include <stdio.h>
+#include <stdlib.h>
 #include <string.h>
 
-static void take_lock(struct tzb_mesh *mesh)
+/* A text as the proved calls have it. */
+#define TEXT(word) (const uint8_t *)(word), strlen(word)
+
+/* ---- Memory, for which the proved part asks by three names ---- */
+
+static struct {
+    void *(*alloc)(size_t size);
+    void *(*resize)(void *at, size_t size);
+    void (*release)(void *at);
+    atomic_bool is_used;
+} memory = {malloc, realloc, free, false};
+
+int32_t tzb_set_alloc(void *(*alloc)(size_t size), void *(*resize)(void *at, size_t size),
+                      void (*release)(void *at))
 {
-    mesh->lock(mesh->lock_arg);
+    if (memory.is_used)
+        return TZB_OPEN;
+    memory.alloc = alloc;
+    memory.resize = resize;
+    memory.release = release;
+    return TZB_OK;
 }
+
+static void *take(size_t size)
+{
+    atomic_store_explicit(&memory.is_used, true, memory_order_relaxed);
+    return memory.alloc(size);
+}
+
+struct got {
+    uint64_t is_there;
+    void *at; /* never NULL */
+};
+static uint8_t nothing;
+
+struct got rattle_alloc(size_t size, size_t align)
+{
+    void *at = take(size != 0 ? size : align);
+    return (struct got){at != NULL, at != NULL ? at : &nothing};
+}
+
+struct got rattle_realloc(void *at, size_t old_size, size_t size, size_t align)
+{
+    (void)old_size;
+    at = memory.resize(at, size != 0 ? size : align);
+    return (struct got){at != NULL, at != NULL ? at : &nothing};
+}
+
+void rattle_dealloc(void *at)
+{
+    memory.release(at);
+}
+
+/* ---- Opening ---- */
+
+static void no_lock(void *arg)
+{
+    (void)arg;
+}
+
+struct tzb_mesh *tzb_mesh_create(void)
+{
+    struct tzb_mesh *mesh = take(sizeof *mesh);
+    if (mesh == NULL)
+        return NULL;
+    *mesh = (struct tzb_mesh){.lock = no_lock, .unlock = no_lock};
+    mesh->waiting.next = mesh->waiting.previous = &mesh->waiting;
+    mesh->ready.next = mesh->ready.previous = &mesh->ready;
+    return mesh;
+}
+
+int32_t tzb_mesh_set_lock(struct tzb_mesh *mesh, void (*lock)(void *arg), void (*unlock)(void *arg),
+                          void *arg)
+{
+    if (mesh->core.is_open)
+        return TZB_OPEN;
+    mesh->lock = lock;
+    mesh->unlock = unlock;
+    mesh->lock_arg = arg;
+    return TZB_OK;
+}
+
+/* The disk that was set under this name, or the first one that wasn't set. */
+static struct disk *disk_set(struct tzb_mesh *mesh, const char *name)
+{
+    struct disk *it = mesh->set;
+    while (it < mesh->set + mesh->set_count && strcmp(it->name, name) != 0)
+        it++;
+    return it;
+}
+
+int32_t tzb_mesh_set_disk(struct tzb_mesh *mesh, const char *disk, const struct tzb_disk_ops *ops,
+                          void *arg, uint64_t bytes)
+{
+    struct disk *it = disk_set(mesh, disk);
+    if (mesh->core.is_open)
+        return TZB_OPEN;
+    if (strlen(disk) > MOST_NAME || ops->size < sizeof *ops || ops->on_read == NULL)
+        return TZB_WRONG;
+    if (it == mesh->set + MOST_DISKS)
+        return TZB_UNFIT;
+    mesh->set_count += it == mesh->set + mesh->set_count;
+    *it = (struct disk){.ops = *ops, .arg = arg, .bytes = bytes};
+    strcpy(it->name, disk);
+    return TZB_OK;
+}
+
+/* A disk in memory, which is its `arg`. */
+static int32_t ram_read(void *arg, struct tzb_ask *ask, uint8_t *bytes, size_t len)
+{
+    memcpy(bytes, (uint8_t *)arg + ask->first * ask->sector, len);
+    return 0;
+}
+
+static int32_t ram_write(void *arg, struct tzb_ask *ask, const uint8_t *bytes, size_t len)
+{
+    memcpy((uint8_t *)arg + ask->first * ask->sector, bytes, len);
+    return 0;
+}
+
+static const struct tzb_disk_ops ram_ops = {sizeof ram_ops, ram_read, ram_write, NULL, NULL};
+
+/* A disk of the header gets its place. Answers what is against it, or NULL. */
+static const char *place_disk(struct tzb_mesh *mesh, const char *name, bool is_ram, uint32_t sector,
+                              uint32_t sectors)
+{
+    struct disk *disk = &mesh->disks[mesh->disk_count];
+    const struct disk *set = disk_set(mesh, name);
+    bool is_set = set < mesh->set + mesh->set_count;
+    if (!is_set && !is_ram)
+        return "the disk %s has no functions";
+    *disk = is_set ? *set : (struct disk){.ops = ram_ops, .bytes = (uint64_t)sectors * sector};
+    disk->is_ram = is_ram;
+    if (sector == 0 || disk->bytes % sector != 0)
+        return "the disk %s isn't of whole sectors";
+    mesh->sizes[mesh->disk_count++] = (struct tzb_size){disk->bytes / sector, sector, 0};
+    return NULL;
+}
+
+/* Finds disks and actors in lines, up to their end. What isn't a header the proved part refuses. */
+static const char *scan(struct tzb_mesh *mesh, const char *line)
+{
+    char word[8] = "", name[MOST_NAME + 1] = "";
+    const char *fault = NULL;
+    for (; *line != '\0' && fault == NULL; line += strcspn(line, "\n"), line += *line == '\n') {
+        unsigned sector, sectors = 0;
+        mesh->fault_line++;
+        if (*line == '\n' || *line == '#')
+            continue;
+        int count = sscanf(line, "%7s %16s %4u %6u", word, name, &sector, &sectors);
+        bool is_ram = strcmp(word, "ram") == 0, is_disk = is_ram || strcmp(word, "disk") == 0;
+        if (count >= 2 && strcmp(word, "actor") == 0 && mesh->actor_count < MOST_ACTORS)
+            strcpy(mesh->actors[mesh->actor_count++], name);
+        else if (count >= 3 && is_disk && mesh->disk_count < MOST_DISKS)
+            fault = place_disk(mesh, name, is_ram, sector, sectors);
+        else
+            break;
+    }
+    snprintf(mesh->fault, sizeof mesh->fault, fault != NULL ? fault : "", name);
+    return line;
+}
+
+/* Disks in memory get theirs, of zeros. */
+static int32_t give_ram(struct tzb_mesh *mesh)
+{
+    for (struct disk *disk = mesh->disks; disk < mesh->disks + mesh->disk_count; disk++) {
+        if (disk->ops.on_read != ram_read)
+            continue;
+        disk->arg = take(disk->bytes);
+        if (disk->arg == NULL)
+            return TZB_NO_MEMORY;
+        memset(disk->arg, 0, disk->bytes);
+    }
+    return TZB_OK;
+}
+
+static void undo_open(struct tzb_mesh *mesh)
+{
+    tzb_core_close(&mesh->core);
+    while (mesh->disk_count > 0)
+        if (mesh->disks[--mesh->disk_count].ops.on_read == ram_read)
+            memory.release(mesh->disks[mesh->disk_count].arg);
+    mesh->actor_count = 0;
+}
+
+int32_t tzb_mesh_open(struct tzb_mesh *mesh, const char *header)
+{
+    int32_t code = TZB_WRONG;
+    if (mesh->core.is_open)
+        return TZB_OPEN;
+    mesh->fault_line = 0;
+    const char *end = scan(mesh, header);
+    if (mesh->fault[0] == '\0')
+        code = tzb_core_open(&mesh->core, TEXT(header), mesh->sizes, mesh->disk_count,
+                             &mesh->fault_line);
+    if (code == TZB_OK)
+        code = give_ram(mesh);
+    if (code == TZB_WRONG && mesh->fault[0] == '\0')
+        strcpy(mesh->fault, mesh->fault_line != 0 ? "that isn't a line of a script, or not there"
+                            : "a disk has no sectors or too many, or the text is too long");
+    if (code == TZB_OK)
+        tell_header(mesh, header, (size_t)(end - header));
+    else
+        undo_open(mesh);
+    return code;
+}
+
+const char *tzb_mesh_fault(const struct tzb_mesh *mesh)
+{
+    return mesh->fault;
+}
+
+uint32_t tzb_mesh_fault_line(const struct tzb_mesh *mesh)
+{
+    return mesh->fault_line;
+}
+
+/* ---- Commands ---- */
 
 static int32_t unlocked(struct tzb_mesh *mesh, int32_t code)
 {
@@ -21,327 +240,258 @@ static int32_t unlocked(struct tzb_mesh *mesh, int32_t code)
     return code;
 }
 
-static void link_to(struct request *ring, struct request *request)
+/* Takes the lock for a command. NULL: memory was wanting. */
+static struct request *begin(struct tzb_mesh *mesh, const char *actor, tzb_done *done, void *arg,
+                             void *bytes)
 {
-    request->previous = ring->previous;
-    request->next = ring;
-    request->previous->next = ring->previous = request;
+    struct request *it = take(sizeof *it);
+    if (it == NULL)
+        return NULL;
+    *it = (struct request){.done = done, .arg = arg, .bytes = bytes};
+    mesh->lock(mesh->lock_arg);
+    while (it->actor < mesh->actor_count && strcmp(mesh->actors[it->actor], actor) != 0)
+        it->actor++;
+    return it;
 }
 
-static void unlink_from_ring(struct request *request)
-{
-    request->previous->next = request->next;
-    request->next->previous = request->previous;
-}
+/* What a proved call says to a request. */
+#define GIVE(it, call, ...) ((it) == NULL ? TZB_NO_MEMORY : call(&mesh->core, (it)->actor, \
+    __VA_ARGS__, (uint64_t)(uintptr_t)(it), &(it)->error))
 
-/* ---- Commands ---- */
-
-/* Takes the lock for a command. After anything but TZB_OK it is free. */
-static int32_t begin(struct tzb_mesh *mesh, const char *actor, tzb_done *done, void *arg, struct giving *giving)
+/* Tells the command, keeps its request while it waits, and lets the lock go. */
+__attribute__((format(printf, 6, 7))) static int32_t end(
+    struct tzb_mesh *mesh, struct request *it, int32_t code, const uint8_t *data, size_t len,
+    const char *format, ...)
 {
-    uint32_t at = 0;
-    take_lock(mesh);
-    if (!mesh->core.is_open)
-        return unlocked(mesh, TZB_CLOSED);
-    while (at < mesh->actor_count && strcmp(mesh->actors[at], actor) != 0)
-        at++;
-    if (at == mesh->actor_count)
-        return unlocked(mesh, TZB_UNFIT);
-    struct request *request = memory.alloc(sizeof *request);
-    if (request == NULL)
-        return unlocked(mesh, TZB_NO_MEMORY);
-    *request = (struct request){.done = done, .arg = arg};
-    *giving = (struct giving){.request = request, .token = (uint64_t)(uintptr_t)request, .actor = at};
-    return TZB_OK;
-}
-
-/* Keeps the request while it waits, and lets the lock go. */
-static int32_t end(struct tzb_mesh *mesh, int32_t code, struct giving *giving)
-{
+    if (it == NULL)
+        return code;
+    va_list words;
+    va_start(words, format);
+    tell_command(mesh, it, code, data, len, format, words);
+    va_end(words);
+    int32_t answer = code == TZB_REPLIED ? (int32_t)it->error : code;
     if (code == TZB_OK)
-        link_to(&mesh->waiting, giving->request);
-    else if (code == TZB_REPLIED && giving->error == 0 && giving->request->done != NULL)
-        link_to(&mesh->ready, giving->request);
+        insque(it, mesh->waiting.previous);
+    else if (answer == TZB_OK && it->done != NULL)
+        insque(it, mesh->ready.previous);
     else
-        memory.release(giving->request);
-    return unlocked(mesh, code == TZB_REPLIED ? (int32_t)giving->error : code);
+        memory.release(it);
+    return unlocked(mesh, answer);
 }
 
-int32_t tzb_mesh_open_handle(struct tzb_mesh *mesh, const char *actor, const char *handle, const char *provider,
-                             uint32_t r, uint32_t w, uint32_t e)
+int32_t tzb_mesh_open_handle(struct tzb_mesh *mesh, const char *actor, const char *handle,
+                             const char *provider, uint32_t r, uint32_t w, uint32_t e)
 {
-    struct giving it;
-    int32_t code = begin(mesh, actor, NULL, NULL, &it);
-    if (code != TZB_OK)
-        return code;
-    code = tzb_core_open_handle(&mesh->core, it.actor, text_of(handle), strlen(handle), text_of(provider),
-                                strlen(provider), r, w, e, it.token, &it.error);
-    tell_command(mesh, &it, code, "open %s %s r%uw%ue%u", handle, provider, (unsigned)r, (unsigned)w, (unsigned)e);
-    return end(mesh, code, &it);
-}
-
-/* A proved call that wants a name alone. */
-typedef int32_t core_call(struct tzb_core *core, uint32_t actor, const uint8_t *name, size_t len, uint64_t token,
-                          uint32_t *error);
-
-static int32_t give_name(struct tzb_mesh *mesh, const char *actor, const char *word, const char *name, core_call *call,
-                         tzb_done *done, void *arg)
-{
-    struct giving it;
-    int32_t code = begin(mesh, actor, done, arg, &it);
-    if (code != TZB_OK)
-        return code;
-    code = call(&mesh->core, it.actor, text_of(name), strlen(name), it.token, &it.error);
-    tell_command(mesh, &it, code, "%s %s", word, name);
-    return end(mesh, code, &it);
+    struct request *it = begin(mesh, actor, NULL, NULL, NULL);
+    int32_t code = GIVE(it, tzb_core_open_handle, TEXT(handle), TEXT(provider), r, w, e);
+    return end(mesh, it, code, NULL, 0, "open %s %s r%uw%ue%u", handle, provider, (unsigned)r,
+               (unsigned)w, (unsigned)e);
 }
 
 int32_t tzb_mesh_close_handle(struct tzb_mesh *mesh, const char *actor, const char *handle)
 {
-    return give_name(mesh, actor, "close", handle, tzb_core_close_handle, NULL, NULL);
+    struct request *it = begin(mesh, actor, NULL, NULL, NULL);
+    int32_t code = GIVE(it, tzb_core_close_handle, TEXT(handle));
+    return end(mesh, it, code, NULL, 0, "close %s", handle);
 }
 
 int32_t tzb_mesh_insert(struct tzb_mesh *mesh, const char *actor, const char *disk)
 {
-    return give_name(mesh, actor, "insert", disk, tzb_core_insert, NULL, NULL);
+    struct request *it = begin(mesh, actor, NULL, NULL, NULL);
+    int32_t code = GIVE(it, tzb_core_insert, TEXT(disk));
+    return end(mesh, it, code, NULL, 0, "insert %s", disk);
 }
 
 int32_t tzb_mesh_pull(struct tzb_mesh *mesh, const char *actor, const char *disk)
 {
-    return give_name(mesh, actor, "pull", disk, tzb_core_pull, NULL, NULL);
+    struct request *it = begin(mesh, actor, NULL, NULL, NULL);
+    int32_t code = GIVE(it, tzb_core_pull, TEXT(disk));
+    return end(mesh, it, code, NULL, 0, "pull %s", disk);
 }
 
-int32_t tzb_mesh_flush(struct tzb_mesh *mesh, const char *actor, const char *handle, tzb_done *done, void *arg)
+int32_t tzb_mesh_flush(struct tzb_mesh *mesh, const char *actor, const char *handle,
+                       tzb_done *done, void *arg)
 {
-    return give_name(mesh, actor, "flush", handle, tzb_core_submit_flush, done, arg);
+    struct request *it = begin(mesh, actor, done, arg, NULL);
+    int32_t code = GIVE(it, tzb_core_submit_flush, TEXT(handle));
+    return end(mesh, it, code, NULL, 0, "flush %s", handle);
 }
 
-/* The header, and behind it the line of the command. */
-static int32_t give_line(struct tzb_mesh *mesh, const char *actor, const char *command, struct giving *it)
+int32_t tzb_mesh_read(struct tzb_mesh *mesh, const char *actor, const char *handle, uint64_t offset,
+                      void *bytes, size_t len, tzb_done *done, void *arg)
 {
-    size_t actor_len = strlen(actor), len = strlen(command);
-    size_t most = mesh->header_len + actor_len + len + 2;
-    char *script = memory.alloc(most);
-    if (script == NULL)
-        return TZB_NO_MEMORY;
-    char *at = script + mesh->header_len;
-    memcpy(script, mesh->header, mesh->header_len);
-    memcpy(at, actor, actor_len);
-    at[actor_len] = ' ';
-    memcpy(at + actor_len + 1, command, len);
-    at[actor_len + 1 + len] = '\n';
-    int32_t code = tzb_core_command(&mesh->core, text_of(script), most, it->token, &it->error);
-    memory.release(script);
-    return code;
+    struct request *it = begin(mesh, actor, done, arg, bytes);
+    int32_t code = GIVE(it, tzb_core_submit_read, TEXT(handle), offset, len);
+    return end(mesh, it, code, NULL, 0, "read %s %" PRIu64 " %zu", handle, offset, len);
 }
 
-int32_t tzb_mesh_command(struct tzb_mesh *mesh, const char *actor, const char *command, tzb_done *done, void *arg)
+int32_t tzb_mesh_write(struct tzb_mesh *mesh, const char *actor, const char *handle,
+                       uint64_t offset, const void *bytes, size_t len, tzb_done *done, void *arg)
 {
-    struct giving it;
-    int32_t code = begin(mesh, actor, done, arg, &it);
-    if (code != TZB_OK)
-        return code;
-    code = give_line(mesh, actor, command, &it);
-    it.text = command;
-    tell_command(mesh, &it, code, "%s", "");
-    return end(mesh, code, &it);
+    struct request *it = begin(mesh, actor, done, arg, NULL);
+    int32_t code = GIVE(it, tzb_core_submit_write, TEXT(handle), offset, bytes, len);
+    return end(mesh, it, code, bytes, len, "write %s %" PRIu64, handle, offset);
 }
 
-int32_t tzb_mesh_read(struct tzb_mesh *mesh, const char *actor, const char *handle, uint64_t offset, void *bytes,
-                      size_t len, tzb_done *done, void *arg)
+int32_t tzb_mesh_delete(struct tzb_mesh *mesh, const char *actor, const char *handle,
+                        uint64_t offset, uint64_t len, tzb_done *done, void *arg)
 {
-    struct giving it;
-    int32_t code = begin(mesh, actor, done, arg, &it);
-    if (code != TZB_OK)
-        return code;
-    it.request->bytes = bytes;
-    it.request->len = len;
-    code = tzb_core_submit_read(&mesh->core, it.actor, text_of(handle), strlen(handle), offset, len, it.token,
-                                &it.error);
-    tell_command(mesh, &it, code, "read %s %" PRIu64 " %zu", handle, offset, len);
-    return end(mesh, code, &it);
+    struct request *it = begin(mesh, actor, done, arg, NULL);
+    int32_t code = GIVE(it, tzb_core_submit_delete, TEXT(handle), offset, len);
+    return end(mesh, it, code, NULL, 0, "delete %s %" PRIu64 " %" PRIu64, handle, offset, len);
 }
 
-int32_t tzb_mesh_write(struct tzb_mesh *mesh, const char *actor, const char *handle, uint64_t offset, const void *bytes,
-                       size_t len, tzb_done *done, void *arg)
+/* Any command, as the one line of a script with the actors. */
+static int32_t give_line(struct tzb_core *core, uint32_t actor, const struct tzb_mesh *mesh,
+                         const char *command, uint64_t token, uint32_t *error)
 {
-    struct giving it;
-    int32_t code = begin(mesh, actor, done, arg, &it);
-    if (code != TZB_OK)
-        return code;
-    code = tzb_core_submit_write(&mesh->core, it.actor, text_of(handle), strlen(handle), offset, bytes, len, it.token,
-                                 &it.error);
-    it.bytes = bytes;
-    it.bytes_len = len;
-    tell_command(mesh, &it, code, "write %s %" PRIu64, handle, offset);
-    return end(mesh, code, &it);
+    char script[(MOST_ACTORS + 1) * (MOST_NAME + 8) + MOST_LINE];
+    int len = 0;
+    if (actor == mesh->actor_count || strlen(command) > MOST_LINE)
+        return !core->is_open ? TZB_CLOSED : actor == mesh->actor_count ? TZB_UNFIT : TZB_WRONG;
+    for (uint32_t at = 0; at < mesh->actor_count; at++)
+        len += sprintf(script + len, "actor %s\n", mesh->actors[at]);
+    sprintf(script + len, "%s %s\n", mesh->actors[actor], command);
+    return tzb_core_command(core, TEXT(script), token, error);
 }
 
-int32_t tzb_mesh_delete(struct tzb_mesh *mesh, const char *actor, const char *handle, uint64_t offset, uint64_t len,
-                        tzb_done *done, void *arg)
+int32_t tzb_mesh_command(struct tzb_mesh *mesh, const char *actor, const char *command,
+                         tzb_done *done, void *arg)
 {
-    struct giving it;
-    int32_t code = begin(mesh, actor, done, arg, &it);
-    if (code != TZB_OK)
-        return code;
-    code = tzb_core_submit_delete(&mesh->core, it.actor, text_of(handle), strlen(handle), offset, len, it.token,
-                                  &it.error);
-    tell_command(mesh, &it, code, "delete %s %" PRIu64 " %" PRIu64, handle, offset, len);
-    return end(mesh, code, &it);
+    struct request *it = begin(mesh, actor, done, arg, NULL);
+    int32_t code = GIVE(it, give_line, mesh, command);
+    return end(mesh, it, code, NULL, 0, "%s", command);
 }
 
 /* ---- Steps ---- */
 
-static void free_room(struct tzb_mesh *mesh, struct room *room)
+static void free_turn(struct tzb_mesh *mesh, struct turn *turn)
 {
-    room->next = mesh->rooms;
-    mesh->rooms = room;
+    memory.release(mesh->spare);
+    mesh->spare = turn;
+}
+
+/* What a disk says. */
+static int32_t call_disk(const struct disk *disk, struct turn *turn)
+{
+    switch (turn->event.op) {
+    case TZB_READ:
+        return disk->ops.on_read(disk->arg, &turn->ask, turn->bytes, turn->len);
+    case TZB_FLUSH:
+        return disk->ops.on_flush != NULL ? disk->ops.on_flush(disk->arg, &turn->ask) : 0;
+    case TZB_DELETE:
+        if (disk->ops.on_delete != NULL)
+            return disk->ops.on_delete(disk->arg, &turn->ask);
+        memset(turn->bytes, 0, turn->len);
+    }
+    if (disk->ops.on_write == NULL)
+        return TZB_EIO;
+    return disk->ops.on_write(disk->arg, &turn->ask, turn->bytes, turn->len);
 }
 
 /* Gives the mesh a disk's answer. */
-static int32_t answer(struct tzb_mesh *mesh, uint64_t bio, int how, uint32_t done, const uint8_t *bytes, size_t len)
+static int32_t answer(struct tzb_mesh *mesh, uint64_t bio, enum how how, uint32_t done,
+                      const uint8_t *bytes, size_t len)
 {
-    int32_t code = how == ANSWER_BYTES  ? tzb_core_answer_bytes(&mesh->core, bio, bytes, len)
-                   : how == ANSWER_DONE ? tzb_core_answer_done(&mesh->core, bio)
-                                        : tzb_core_answer_failed(&mesh->core, bio, done);
+    int32_t code = how == BYTES  ? tzb_core_answer_bytes(&mesh->core, bio, bytes, len)
+                   : how == DONE ? tzb_core_answer_done(&mesh->core, bio)
+                                 : tzb_core_answer_failed(&mesh->core, bio, done);
     if (code == TZB_OK)
         tell_answer(mesh, bio, how, done, bytes, len);
     return code;
 }
 
-/* The same of what a function said. What doesn't fit what was asked is a failure of the whole. */
-static int32_t deliver(struct tzb_mesh *mesh, const struct room *room)
+/* The same of what a function said, which is kept until there is memory. */
+static int32_t deliver(struct tzb_mesh *mesh, struct turn *turn)
 {
-    int32_t code = answer(mesh, room->bio, room->answer, room->done, room->bytes, room->len);
-    return code == TZB_UNFIT && room->answer == ANSWER_FAILED ? answer(mesh, room->bio, ANSWER_FAILED, 0, NULL, 0)
-                                                              : code;
-}
-
-/* Gives the mesh an answer, or keeps it until there is memory. */
-static int32_t deliver_or_keep(struct tzb_mesh *mesh, struct room *room)
-{
-    int32_t code = deliver(mesh, room);
+    enum how how = turn->said != 0 ? FAILED : turn->event.op == TZB_READ ? BYTES : DONE;
+    int32_t code = answer(mesh, turn->event.bio, how, turn->ask.done, turn->bytes, turn->len);
+    if (code == TZB_UNFIT && how == FAILED) /* so many sectors weren't asked for */
+        code = answer(mesh, turn->event.bio, FAILED, 0, NULL, 0);
     if (code == TZB_NO_MEMORY) {
-        room->next = mesh->kept;
-        mesh->kept = room;
-    } else {
-        free_room(mesh, room);
+        turn->next = mesh->kept;
+        mesh->kept = turn;
+        return code;
     }
-    return code;
-}
-
-/* What a disk says to what it is asked. */
-static int32_t call_disk(const struct disk *disk, uint32_t op, struct tzb_ask *ask, struct room *room)
-{
-    size_t len = (size_t)ask->count * ask->sector;
-    switch (op) {
-    case TZB_READ:
-        return disk->ops.on_read(disk->arg, ask, room->bytes, len);
-    case TZB_DELETE:
-        if (disk->ops.on_delete != NULL)
-            return disk->ops.on_delete(disk->arg, ask);
-        memset(room->bytes, 0, len);
-        /* fall through */
-    case TZB_WRITE:
-        return disk->ops.on_write != NULL ? disk->ops.on_write(disk->arg, ask, room->bytes, len) : TZB_EIO;
-    default:
-        return disk->ops.on_flush != NULL ? disk->ops.on_flush(disk->arg, ask) : 0;
-    }
-}
-
-/* Asks a disk, without the lock. What it answers now is given to the mesh. */
-static int32_t ask_disk(struct tzb_mesh *mesh, const struct tzb_event *event, struct room *room)
-{
-    const struct disk *disk = &mesh->disks[mesh->places[event->disk]];
-    struct tzb_ask ask = {.bio = event->bio, .first = event->first, .count = event->count,
-                          .sector = mesh->sizes[event->disk].sector};
-
-    mesh->unlock(mesh->lock_arg);
-    int32_t said = call_disk(disk, event->op, &ask, room);
-    take_lock(mesh);
-    if (said == TZB_LATER) {
-        free_room(mesh, room);
-        return TZB_ASK;
-    }
-    room->bio = event->bio;
-    room->len = (size_t)ask.count * ask.sector;
-    room->done = ask.done;
-    room->answer = said != 0 ? ANSWER_FAILED : event->op == TZB_READ ? ANSWER_BYTES : ANSWER_DONE;
-    int32_t code = deliver_or_keep(mesh, room);
+    free_turn(mesh, turn);
     return code == TZB_OK ? TZB_ASK : code;
 }
 
-/* Hands a reply to who waits for it, without the lock. */
-static int32_t reply(struct tzb_mesh *mesh, const struct tzb_event *event, struct room *room)
+/* Asks a disk, without the lock. */
+static int32_t ask_disk(struct tzb_mesh *mesh, struct turn *turn)
 {
-    struct request *request = (struct request *)(uintptr_t)event->token;
-    bool has_bytes = request->bytes == NULL && event->len > 0;
-
-    unlink_from_ring(request);
+    uint32_t sector = mesh->sizes[turn->event.disk].sector;
+    turn->ask = (struct tzb_ask){.bio = turn->event.bio, .first = turn->event.first,
+                                 .count = turn->event.count, .sector = sector};
+    turn->len = (size_t)sector * turn->event.count;
     mesh->unlock(mesh->lock_arg);
-    if (request->bytes != NULL && event->len <= request->len)
-        memcpy(request->bytes, room->bytes, event->len);
-    if (request->done != NULL)
-        request->done(request->arg, (int32_t)event->error, has_bytes ? room->bytes : NULL, has_bytes ? event->len : 0);
-    memory.release(request);
-    take_lock(mesh);
-    free_room(mesh, room);
+    turn->said = call_disk(&mesh->disks[turn->event.disk], turn);
+    mesh->lock(mesh->lock_arg);
+    if (turn->said != TZB_LATER)
+        return deliver(mesh, turn);
+    free_turn(mesh, turn);
+    return TZB_ASK;
+}
+
+/* Hands a reply to who waits for it, without the lock. */
+static int32_t reply(struct tzb_mesh *mesh, struct request *it, struct turn *turn)
+{
+    size_t len = it->bytes == NULL ? turn->event.len : 0;
+    remque(it);
+    mesh->unlock(mesh->lock_arg);
+    if (it->bytes != NULL)
+        memcpy(it->bytes, turn->bytes, turn->event.len);
+    if (it->done != NULL)
+        it->done(it->arg, (int32_t)turn->event.error, len > 0 ? turn->bytes : NULL, len);
+    memory.release(it);
+    mesh->lock(mesh->lock_arg);
+    free_turn(mesh, turn);
     return TZB_REPLY;
 }
 
-/* Makes the step that is due, and has it told. */
-static int32_t turn(struct tzb_mesh *mesh, struct tzb_event *event, struct room *room)
+/* Makes the step that is due, with the lock taken. */
+static int32_t make_step(struct tzb_mesh *mesh, struct turn *turn)
 {
     struct tzb_step step = {0};
     if (mesh->listener != NULL)
         tzb_core_due(&mesh->core, &step);
-    int32_t code = tzb_core_next(&mesh->core, event, room->bytes, sizeof room->bytes);
+    int32_t code = tzb_core_next(&mesh->core, &turn->event, turn->bytes, sizeof turn->bytes);
+    struct request *waits = (struct request *)(uintptr_t)turn->event.token;
     if (code == TZB_OK)
         tell_step(mesh, &step);
-    if (code == TZB_OK && event->kind == TZB_REPLY)
-        tell_reply(mesh, (const struct request *)(uintptr_t)event->token, event->error, room->bytes, event->len);
+    if (turn->event.kind == TZB_ASK)
+        return ask_disk(mesh, turn);
+    if (turn->event.kind == TZB_REPLY) {
+        tell_reply(mesh, waits, turn->event.error, turn->bytes, turn->event.len);
+        return reply(mesh, waits, turn);
+    }
+    code = code == TZB_OK ? (int32_t)turn->event.kind : code;
+    free_turn(mesh, turn);
     return code;
 }
 
-/* What is due, with the lock taken. TZB_MOVED, TZB_CHANGED and TZB_IDLE have no room. */
-static int32_t due(struct tzb_mesh *mesh, struct tzb_event *event, struct room **room)
+/* Does what is due, with the lock taken. */
+static int32_t take_turn(struct tzb_mesh *mesh)
 {
-    if (mesh->kept != NULL) {
-        struct room *kept = mesh->kept;
-        mesh->kept = kept->next;
-        int32_t code = deliver_or_keep(mesh, kept);
-        return code == TZB_OK ? TZB_MOVED : code;
+    struct turn *turn = mesh->kept;
+    if (turn != NULL) {
+        mesh->kept = turn->next;
+        return deliver(mesh, turn);
     }
-    *room = mesh->rooms;
-    if (*room != NULL)
-        mesh->rooms = (*room)->next;
-    else if ((*room = memory.alloc(sizeof **room)) == NULL)
+    turn = mesh->spare != NULL ? mesh->spare : take(sizeof *turn);
+    mesh->spare = NULL;
+    if (turn == NULL)
         return TZB_NO_MEMORY;
-    if (mesh->ready.next != &mesh->ready) {
-        *event = (struct tzb_event){.token = (uint64_t)(uintptr_t)mesh->ready.next};
-        return TZB_REPLY;
-    }
-    int32_t code = turn(mesh, event, *room);
-    if (code == TZB_OK && (event->kind == TZB_ASK || event->kind == TZB_REPLY))
-        return (int32_t)event->kind;
-    free_room(mesh, *room);
-    return code == TZB_OK ? (int32_t)event->kind : code;
+    if (mesh->ready.next == &mesh->ready)
+        return make_step(mesh, turn);
+    turn->event = (struct tzb_event){.kind = TZB_REPLY};
+    return reply(mesh, mesh->ready.next, turn);
 }
 
 int32_t tzb_mesh_step(struct tzb_mesh *mesh)
 {
-    struct tzb_event event;
-    struct room *room = NULL;
-
-    take_lock(mesh);
-    if (!mesh->core.is_open)
-        return unlocked(mesh, TZB_CLOSED);
-    int32_t kind = due(mesh, &event, &room);
-    if (kind == TZB_ASK)
-        kind = ask_disk(mesh, &event, room);
-    else if (kind == TZB_REPLY)
-        kind = reply(mesh, &event, room);
-    return unlocked(mesh, kind);
+    mesh->lock(mesh->lock_arg);
+    return unlocked(mesh, take_turn(mesh));
 }
 
 int32_t tzb_mesh_run(struct tzb_mesh *mesh)
@@ -355,72 +505,61 @@ int32_t tzb_mesh_run(struct tzb_mesh *mesh)
 
 int32_t tzb_mesh_answer_read(struct tzb_mesh *mesh, uint64_t bio, const void *bytes, size_t len)
 {
-    take_lock(mesh);
-    return unlocked(mesh, answer(mesh, bio, ANSWER_BYTES, 0, bytes, len));
+    mesh->lock(mesh->lock_arg);
+    return unlocked(mesh, answer(mesh, bio, BYTES, 0, bytes, len));
 }
 
 int32_t tzb_mesh_answer_done(struct tzb_mesh *mesh, uint64_t bio)
 {
-    take_lock(mesh);
-    return unlocked(mesh, answer(mesh, bio, ANSWER_DONE, 0, NULL, 0));
+    mesh->lock(mesh->lock_arg);
+    return unlocked(mesh, answer(mesh, bio, DONE, 0, NULL, 0));
 }
 
 int32_t tzb_mesh_answer_failed(struct tzb_mesh *mesh, uint64_t bio, uint32_t done)
 {
-    take_lock(mesh);
-    return unlocked(mesh, answer(mesh, bio, ANSWER_FAILED, done, NULL, 0));
+    mesh->lock(mesh->lock_arg);
+    return unlocked(mesh, answer(mesh, bio, FAILED, done, NULL, 0));
 }
 
 /* ---- How it stands, and its end ---- */
 
 int32_t tzb_mesh_list(struct tzb_mesh *mesh, char *text, size_t room, size_t *need)
 {
+    char none;
+    char *to = room > 0 ? text : &none;
     uint64_t len;
-    uint8_t none;
-    take_lock(mesh);
-    int32_t code = room > 0 ? tzb_core_list(&mesh->core, (uint8_t *)text, room - 1, &len)
-                            : tzb_core_list(&mesh->core, &none, 0, &len);
-    if (code == TZB_OK && room > 0)
-        text[len] = '\0';
+    mesh->lock(mesh->lock_arg);
+    int32_t code = tzb_core_list(&mesh->core, (uint8_t *)to, room > 0 ? room - 1 : 0, &len);
+    if (code == TZB_OK)
+        to[len] = '\0';
     *need = code == TZB_OK || code == TZB_ROOM ? (size_t)len + 1 : 0;
     return unlocked(mesh, code == TZB_OK && room == 0 ? TZB_ROOM : code);
 }
 
-static uint64_t counted(struct tzb_mesh *mesh, uint64_t (*count)(struct tzb_core *core))
-{
-    take_lock(mesh);
-    uint64_t got = count(&mesh->core);
-    mesh->unlock(mesh->lock_arg);
-    return got;
-}
-
 uint64_t tzb_mesh_waiting(struct tzb_mesh *mesh)
 {
-    return counted(mesh, tzb_core_waiting);
+    mesh->lock(mesh->lock_arg);
+    uint64_t count = tzb_core_waiting(&mesh->core);
+    mesh->unlock(mesh->lock_arg);
+    return count;
 }
 
 uint64_t tzb_mesh_generation(struct tzb_mesh *mesh)
 {
-    return counted(mesh, tzb_core_generation);
+    mesh->lock(mesh->lock_arg);
+    uint64_t count = tzb_core_generation(&mesh->core);
+    mesh->unlock(mesh->lock_arg);
+    return count;
 }
 
 static void tell_closed(struct request *ring)
 {
     while (ring->next != ring) {
-        struct request *request = ring->next;
-        unlink_from_ring(request);
-        if (request->done != NULL)
-            request->done(request->arg, TZB_CLOSED, NULL, 0);
-        memory.release(request);
-    }
-}
-
-static void release_rooms(struct room *room)
-{
-    while (room != NULL) {
-        struct room *next = room->next;
-        memory.release(room);
-        room = next;
+        struct request *it = ring->next;
+        remque(it);
+        if (it->done != NULL)
+            it->done(it->arg, TZB_CLOSED, NULL, 0);
+        memory.release(it);
     }
 }
 
@@ -431,7 +570,11 @@ void tzb_mesh_close(struct tzb_mesh *mesh)
     undo_open(mesh);
     tell_closed(&mesh->waiting);
     tell_closed(&mesh->ready);
-    release_rooms(mesh->rooms);
-    release_rooms(mesh->kept);
+    while (mesh->kept != NULL) {
+        struct turn *turn = mesh->kept;
+        mesh->kept = turn->next;
+        memory.release(turn);
+    }
+    memory.release(mesh->spare);
     memory.release(mesh);
 }

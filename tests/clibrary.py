@@ -5,7 +5,7 @@ TOP = pathlib.Path(__file__).resolve().parent.parent
 ARCHIVE = TOP / 'release' / 'library' / 'libgeo_exports.a'
 STRICT = ['-std=c11', '-Wall', '-Wextra', '-Werror']
 SANITIZED = ['-g', '-O1', '-fsanitize=address,undefined', '-fno-sanitize-recover=all']
-LAYER = [str(TOP / 'c' / f'{it}.c') for it in ('tazbrev', 'opening', 'trace', 'numbers', 'memory')]
+LAYER = [str(TOP / 'c' / f'{it}.c') for it in ('tazbrev', 'trace', 'numbers')]
 # The system's own programs first, as nbdsh wants the system's Python.
 PATH = f'/usr/bin:{os.environ.get("PATH", "")}:/usr/sbin:/sbin'
 

@@ -1,7 +1,7 @@
 /*
- * failing: each allocation of a small mesh fails in turn, and the call that was refused is made again.
+ * c-core-refused: the same as c-refused by the proved calls alone, where malloc and realloc fail in turn.
  *
- *     cc -O2 -I c -Wl,--wrap=malloc,--wrap=realloc -o failing c/failing.c libgeo_exports.a liblibc_c.a
+ *     cc -I c -Wl,--wrap=malloc,--wrap=realloc -o refused tests/c-core-refused.c out/libtazbrev.a
  *
  * Prints for how many allocations the outcome was the same as with none that failed, and else which one differed.
  */
