@@ -97,7 +97,7 @@ fn offer_next<R: Wait, D: Disk>(
 }
 
 /// The mesh with the exports of these names.
-pub fn offered<R: Wait, D: Disk>(
+pub fn offered<R: Wait, D: Disk + Drop>(
     rt: &R,
     desk: Desk<D>,
     names: &[String],

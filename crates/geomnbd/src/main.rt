@@ -72,7 +72,7 @@ where
 }
 
 /// Serves a client over a source and a sink.
-fn serve_offer<R: Wait, D: Disk, S: Source, K: Sink>(
+fn serve_offer<R: Wait, D: Disk + Drop, S: Source, K: Sink>(
     rt: &R,
     offer: Offer<D>,
     source: &mut S,
