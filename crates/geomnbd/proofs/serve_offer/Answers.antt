@@ -4,5 +4,5 @@ use Rattle.geomnbd.proofs.serve_offer.Goals as goal
 pub returns-in-Ok : goal.returns-in-Ok
 returns-in-Ok g c = is_over c.in-Ok.ensures
 
-pub returns-in-Err : goal.returns-in-Err
-returns-in-Err g c = it_halts c.in-Err.ensures
+pub returns : goal.returns
+returns g c = it_halts c.in-Err.ensures
