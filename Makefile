@@ -123,7 +123,7 @@ install-headers: fits-lib lib
 	install -d $(libdir)/pkgconfig $(includedir)
 	install -m 644 $(OUT)/libtazbrev.a $(libdir)
 	ln -sf $(SHARED) $(libdir)/libtazbrev.so
-	sed 's,@PREFIX@,$(PREFIX),; s,@LIBDIR@,$(libdir:$(DESTDIR)%=%),; s,@VERSION@,$(VERSION),' c/tazbrev.pc.in \
+	sed 's,@PREFIX@,$(PREFIX),; s,@LIBDIR@,$${prefix}$(libdir:$(DESTDIR)$(PREFIX)%=%),; s,@VERSION@,$(VERSION),' c/tazbrev.pc.in \
 	    >$(libdir)/pkgconfig/tazbrev.pc
 	install -m 644 c/tazbrev.h $(includedir)
 

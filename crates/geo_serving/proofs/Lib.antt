@@ -1,4 +1,7 @@
 pub mod Nothing
+pub mod Reading
 pub mod Running
 pub mod Halting
-pub mod Reading
+pub mod Talking
+pub mod Turning
+pub mod Sessions

@@ -90,7 +90,7 @@ Step (awaits client mesh) read said next =
     (length read ≡ 28) × (said ≡ []) × (next ≡ point_of client mesh (headed (request_of read)))
 Step (follows client mesh r) read said next = (said ≡ []) × ComesWith (data_len r) client mesh r read next
 Step (does client mesh turn) read said next = (read ≡ []) × Turns turn client mesh said next
-Step over read said next = ⊥
+Step over read said next = (read ≡ []) × (said ≡ []) × (next ≡ over)
 
 -- how many bytes are read at the next step
 abbrev pub count_of : Option ℕ → ℕ

@@ -65,11 +65,7 @@ fn met_doing(met: Met) -> Doing
 }
 
 /// Reads what comes behind the head of a request, of which so many bytes do.
-fn read_bytes<S: Source>(
-    alloc: Global,
-    source: &mut S,
-    len: u32,
-) -> Result<SharedBytes, Halt>
+fn read_bytes<S: Source>(alloc: Global, source: &mut S, len: u32) -> Result<SharedBytes, Halt>
     ensures len { IfOk result (λ bytes. length bytes ≡ len) }
     ensures reads { MatchResult result (λ bytes. Gives (S.view source.old) bytes (S.view source.new))
         (λ halt. ReadsShort halt len (S.view source.old) (S.view source.new)) }
@@ -195,7 +191,7 @@ fn step<D: Disk, S: Source, K: Sink>(
         Doing::Awaits => read_head(source),
         Doing::Follows(request) => follow(desk.alloc, client, &request, source),
         Doing::Does(turn) => take_turn(desk, client, turn, sink),
-        Doing::Over => unreachable!(),
+        Doing::Over => Ok(Doing::Over),
     }
 }
 

@@ -1,6 +1,6 @@
 //! A whole session.
-ghost use Rattle.std.specs.Prelude.{List, MatchResult};
-ghost use Rattle.geo_serving.specs.Courses.{Course, Halted, HaltsAt, Makes};
+ghost use Rattle.std.specs.Prelude.{List, MatchResult, Some};
+ghost use Rattle.geo_serving.specs.Courses.{Course, Halted};
 ghost use Rattle.geo_serving.specs.Points.{chosen_point, greets, hears, over};
 ghost use Rattle.geo_connection.specs.declared.stage.Stage.TheVariants as stages;
 ghost use Rattle.geo_io.specs.Source.{SourceView};
@@ -27,7 +27,37 @@ fn greet<K: Sink>(sink: &mut K) -> Result<(), Halt>
         (K.view sink.new))
         (λ halt. Halted (greets exports mesh) source (K.view sink.old) halt source (K.view sink.new)) }
 {
-    say(sink, &GREETING)
+    match say(sink, &GREETING) {
+        Ok(()) => Ok(()),
+        Err(halt) => Err(halt),
+    }
+}
+
+/// Serves the export that was chosen.
+fn serve_export<R: Wait, D: Disk, S: Source, K: Sink>(
+    rt: &R,
+    desk: &mut Desk<D>,
+    exports: &[Export],
+    chosen: Chosen,
+    source: &mut S,
+    sink: &mut K,
+) -> Result<(), Halt>
+    ensures { MatchResult result
+        (λ _. Course (chosen_point exports.now desk.old.mesh (Some chosen)) (S.view source.old) (K.view sink.old) over
+        (S.view source.new) (K.view sink.new))
+        (λ halt. Halted (chosen_point exports.now desk.old.mesh (Some chosen)) (S.view source.old) (K.view sink.old) halt
+        (S.view source.new) (K.view sink.new)) }
+{
+    match handle_at(exports, &chosen.export) {
+        Some(handle) => {
+            let mut client = Client {
+                size: chosen.export.size,
+                service: Service::new(desk.alloc, handle, chosen.structured),
+            };
+            serve_client(rt, desk, &mut client, source, sink)
+        }
+        None => Ok(()),
+    }
 }
 
 /// Serves the export that was chosen, if one was.
@@ -45,17 +75,10 @@ fn serve_chosen<R: Wait, D: Disk, S: Source, K: Sink>(
         (λ halt. Halted (chosen_point exports.now desk.old.mesh chosen) (S.view source.old) (K.view sink.old) halt
         (S.view source.new) (K.view sink.new)) }
 {
-    let Some(Chosen { export, structured }) = chosen else {
-        return Ok(());
-    };
-    let Some(handle) = handle_at(exports, &export) else {
-        return Ok(());
-    };
-    let mut client = Client {
-        size: export.size,
-        service: Service::new(desk.alloc, handle, structured),
-    };
-    serve_client(rt, desk, &mut client, source, sink)
+    match chosen {
+        Some(export) => serve_export(rt, desk, exports, export, source, sink),
+        None => Ok(()),
+    }
 }
 
 /// What comes behind the greeting.

@@ -97,17 +97,15 @@ fn offer_next<R: Wait, D: Disk>(
 }
 
 /// The mesh with the exports of these names.
-pub fn offered<R: Wait, D: Disk>(
+pub fn offered<R: Wait, D: Disk + Drop>(
     rt: &R,
     desk: Desk<D>,
     names: &[String],
 ) -> Result<Offer<D>, Stop> {
     let mut desk = desk;
     let mut exports = Vec::new(desk.alloc);
-    let mut place = 0;
-    for name in names {
-        exports.push(offer_next(rt, &mut desk, place, name.as_str().as_bytes())?)?;
-        place += 1;
+    for place in 0..names.len() {
+        exports.push(offer_next(rt, &mut desk, place, names[place].as_str().as_bytes())?)?;
     }
     Ok(Offer { desk, exports })
 }

@@ -22,7 +22,7 @@ use crate::exports::{Offer, offered};
 use crate::setup::set_up;
 use crate::stop::{Stop, read_fault};
 use geo_base::Block;
-use geo_disk::Shelf;
+use geo_disk::{Disk, Shelf};
 use geo_file::FileShelf;
 use geo_io::{Sink, Source, StdSink, StdSource, read_all};
 use geo_serving::serve;
@@ -71,6 +71,23 @@ where
     offered(rt, desk, names)
 }
 
+/// Serves a client over a source and a sink.
+fn serve_offer<R: Wait, D: Disk + Drop, S: Source, K: Sink>(
+    rt: &R,
+    offer: Offer<D>,
+    source: &mut S,
+    sink: &mut K,
+) -> End
+    ensures { EndsAs result (S.view source.old) (K.view sink.old) (S.view source.new) (K.view sink.new) }
+{
+    let Offer { desk, exports } = offer;
+    let mut desk = desk;
+    match serve(rt, &mut desk, exports.as_slice(), source, sink) {
+        Ok(()) => End::Over,
+        Err(halt) => End::Halted(halt),
+    }
+}
+
 /// The whole session: a client over a source and a sink is served the exports of these names, of the mesh of a script.
 fn run<R: Wait, S: Source, K: Sink, H: Shelf>(
     rt: &R,
@@ -87,12 +104,7 @@ where
     ensures { EndsAs result (S.view source.old) (K.view sink.old) (S.view source.new) (K.view sink.new) }
 {
     match prepared(rt, alloc, script, names, shelf) {
-        Ok(Offer { mut desk, exports }) => {
-            match serve(rt, &mut desk, exports.as_slice(), source, sink) {
-                Ok(()) => End::Over,
-                Err(halt) => End::Halted(halt),
-            }
-        }
+        Ok(offer) => serve_offer(rt, offer, source, sink),
         Err(stop) => End::Stopped(stop),
     }
 }

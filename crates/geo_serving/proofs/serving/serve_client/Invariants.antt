@@ -7,6 +7,6 @@ use Rattle.geo_serving.proofs.serving.serve_client.Given as goal
 abbrev pub invariant-steps : goal.invariant-steps
 invariant-steps g l = record {
   course : Course (awaits l.fn.client l.fn.desk.mesh) (g.S.Source.view l.fn.source) (g.K.Sink.view l.fn.sink)
-    (point_of l.client l.desk.mesh l.doing) (g.S.Source.view l.source) (g.K.Sink.view l.sink);
+      (point_of l.client l.desk.mesh l.doing) (g.S.Source.view l.source) (g.K.Sink.view l.sink);
   is_doing : IsDoing l.doing;
 }
