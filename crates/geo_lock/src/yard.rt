@@ -21,9 +21,8 @@ use std::hint;
 use std::marker::Model;
 use std::snapshot::Snapshot;
 use std::sync::Wait;
+use std::sync::atomic::AtomicU64;
 use std::sync::atomic::Ordering::SeqCst;
-use std::sync::atomic::{AtomicBool, AtomicU64};
-use std::time::Duration;
 
 // The word is twice the length of the log, and one more while a pass has the turn. A thread that waits
 // parks on its low half.
@@ -31,9 +30,6 @@ const LOW_HALF: u64 = 1 << 32;
 
 // How often a thread looks at the word before it parks: as long as a few steps take.
 const LOOKS: u32 = 1000;
-
-// The longest park. A refused step leaves the word as it was, so a thread that parks then can miss a wake.
-const PARK_MILLIS: u64 = 1;
 
 /// A state that threads share, with one turn at a time.
 ///
@@ -43,8 +39,6 @@ pub struct Yard<L: Logged> {
     table: Table<Option<L>, View<L::Start, L::Entry>, Snapshot<L>, Turns<L>, Global>,
     // How many threads may be parked. No rule speaks of it: where it is 0 nobody needs to be woken.
     parked: AtomicU64,
-    // Whether one that was woken is on its way: until it runs nobody else is woken.
-    waking: AtomicBool,
 }
 
 /// There was no memory for a yard. The state comes back as it was.
@@ -95,7 +89,6 @@ impl<L: Logged> Yard<L> {
                 Yard {
                     table,
                     parked: AtomicU64::new(0),
-                    waking: AtomicBool::new(false),
                 },
                 Pass {
                     number: 0,
@@ -175,16 +168,11 @@ impl<L: Logged> Yard<L> {
         unreachable!()
     }
 
-    // Parks for as long as the word is the same, but for a millisecond at most, or until it is woken. The count rises
-    // before the word is compared, and `leave` reads it behind its store: either it wakes this thread, or this thread
-    // finds another word, or the flag says that one is on its way. If that wake met nobody, the limit ends the park.
+    // Parks for as long as the word is the same, or until it is woken. The count rises before the word is compared, and
+    // `leave` reads it behind its store: either it wakes this thread, or this thread finds another word.
     fn park<R: Wait>(&self, rt: &R, word: u64) {
         self.parked.fetch_add(1, SeqCst);
-        let low = (word % LOW_HALF) as u32;
-        self.table
-            .shared
-            .park_timeout(rt, 0, low, Duration::from_millis(PARK_MILLIS));
-        self.waking.store(false, SeqCst);
+        self.table.shared.park(rt, 0, (word % LOW_HALF) as u32);
         self.parked.fetch_sub(1, SeqCst);
     }
 
@@ -205,7 +193,7 @@ impl<L: Logged> Yard<L> {
         let left = shared.exchange(seat, 0, Some(state));
         let None = left else { unreachable!() };
         shared.store::<GiveTurn<L>>(seat, 0, word);
-        if self.parked.load(SeqCst) > 0 && !self.waking.swap(true, SeqCst) {
+        if self.parked.load(SeqCst) > 0 {
             shared.wake_one(0);
         }
     }
@@ -268,11 +256,7 @@ impl<L: Logged> Yard<L> {
     {
         let mut seat = passes.remove(0).into_seat();
         self.join_all(&mut seat, passes);
-        let Yard {
-            table,
-            parked: _,
-            waking: _,
-        } = self;
+        let Yard { table, parked: _ } = self;
         let mut closed = table.close_with(seat);
         let left = closed.take(0);
         closed.free();
